@@ -1,0 +1,5 @@
+use Rattle.base_types.proofs.Grains.{puts_end}
+use Rattle.base_types.proofs.stores.Ends.put.Goals as goal
+
+pub returns-clause-ok : goal.returns-clause-ok
+returns-clause-ok c = puts_end c.args.self.now (record { ends = c.insert.new.self }) c.args.grain c.args.end c.in_ok-insert.ensures.updates

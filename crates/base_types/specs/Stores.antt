@@ -1,0 +1,31 @@
+-- What is kept of each grain.
+use Rattle.std.specs.Prelude.{◌≡◌, ◌≢◌, ℕ, List, Option, Some}
+use Rattle.std.specs.declared.cmp.Ordering.{Ordering}
+use Rattle.std.specs.Ordering.{nat_cmp, then_cmp, on}
+use Rattle.std.specs.BTreeMap.{get}
+use Rattle.base_types.specs.declared.calls.Value.{Value}
+use Rattle.base_types.specs.declared.calls.GrainId.{GrainId}
+use Rattle.base_types.specs.declared.stores.Store.{Store}
+use Rattle.base_types.specs.declared.stores.Ends.{Ends}
+
+-- the order of grains: by type, then key
+abbrev pub grain_cmp : GrainId → GrainId → Ordering
+grain_cmp = then_cmp (on (λ g. g.kind) nat_cmp) (on (λ g. g.key) nat_cmp)
+
+-- the state of a grain, none where it isn't there
+abbrev pub state_in : Store → GrainId → Option (List Value)
+state_in store grain = get grain_cmp store.states grain
+
+-- the end in a grain's file, none where no place in it is named
+abbrev pub end_in : Ends → GrainId → Option ℕ
+end_in ends grain = get grain_cmp ends.ends grain
+
+-- this grain has this state now, and every other grain what it had
+pub record PutsState (old new : Store) (grain : GrainId) (state : List Value) : Type 0 where
+  pub put : state_in new grain ≡ Some state
+  pub others : (other : GrainId) → other ≢ grain → state_in new other ≡ state_in old other
+
+-- this grain's file has this end now, and every other what it had
+pub record PutsEnd (old new : Ends) (grain : GrainId) (end : ℕ) : Type 0 where
+  pub put : end_in new grain ≡ Some end
+  pub others : (other : GrainId) → other ≢ grain → end_in new other ≡ end_in old other

@@ -1,0 +1,35 @@
+use crate::calls::{GrainId, Outcome, UnitNo};
+
+/// Why a request line isn't carried.
+#[derive(Clone, Copy, Debug, PartialEq, Eq)]
+pub enum BadRequest {
+    /// The line isn't a request of the counter program that adds a number.
+    Early,
+}
+
+/// What became of a request line.
+#[derive(Drop)]
+pub enum Settled {
+    /// The unit ended with this outcome, which is no abort.
+    Done(Outcome),
+    /// Aborted, since the older unit `by` held a lock of the grain in a conflicting mode.
+    Lock { by: UnitNo, grain: GrainId },
+    /// Aborted, since the file of the grain couldn't be written.
+    Vote { grain: GrainId },
+    /// Aborted, since the unit read what the unit `on` had written, which aborted.
+    Dependency { on: UnitNo },
+    /// Aborted, since the manager file couldn't be written.
+    Disk,
+    /// Nobody knows whether the commit is on disk.
+    InDoubt,
+    /// The line is no request.
+    Bad(BadRequest),
+}
+
+/// The answer to one request line: its number from 1, its unit (0 for a bad line), and what became of it.
+#[derive(Drop)]
+pub struct Entry {
+    pub line: u32,
+    pub unit: UnitNo,
+    pub what: Settled,
+}

@@ -1,0 +1,24 @@
+//! The types that every layer speaks of: grains, values, calls, outcomes, shapes of programs, stored
+//! states, and the entries that answer request lines.
+//!
+//! Each is plain data. Contracts see a [`List`], a [`State`] and a [`Text`] as lists.
+#![tactic(auto)]
+
+mod calls;
+mod entries;
+mod list;
+mod shapes;
+mod state;
+mod stores;
+mod text;
+
+pub use calls::{Call, GrainId, Mode, Origin, Outcome, UnitNo, Value};
+pub use entries::{BadRequest, Entry, Settled};
+pub use list::{List, TryCopy};
+pub use shapes::{Shape, TypeShape};
+pub use state::{STATE_LIMIT, State};
+pub use stores::{Ends, Place, Store, Version};
+pub use text::{TEXT_LIMIT, Text};
+
+#[cfg(test)]
+mod tests;

@@ -1,0 +1,89 @@
+ghost use Rattle.std.specs.Prelude.{◌≡◌, [], Some, None, OnOk, OnErr};
+ghost use Rattle.std.specs.Option.{option_copied};
+ghost use Rattle.base_types.specs.Stores.{state_in, end_in, PutsState, PutsEnd};
+ghost use Rattle.base_types.specs.declared.calls.GrainId.{GrainId};
+
+use crate::calls::{GrainId, UnitNo};
+use crate::state::State;
+use std::alloc::{AllocError, Global};
+use std::collections::BTreeMap;
+
+/// Where a version stands in its grain's file: the offset of its first byte, and its length in bytes.
+#[derive(Clone, Copy, Debug, PartialEq, Eq)]
+pub struct Place {
+    pub offset: u64,
+    pub len: u32,
+}
+
+/// A state that a unit wrote.
+#[derive(Drop)]
+pub struct Version {
+    pub unit: UnitNo,
+    pub state: State,
+}
+
+/// The grains' states. A grain that isn't there has its type's initial fields.
+#[derive(Drop)]
+pub struct Store {
+    states: BTreeMap<GrainId, State>,
+}
+
+impl Store {
+    /// No grain. Takes no memory.
+    pub fn new(alloc: Global) -> Store
+        ensures { (grain : GrainId) → state_in result grain ≡ None }
+    {
+        Store {
+            states: BTreeMap::new(alloc),
+        }
+    }
+
+    /// The grain's state, none where it isn't there.
+    pub fn get(&self, grain: GrainId) -> Option<&State>
+        ensures { option_copied result ≡ state_in self.now grain }
+    {
+        self.states.get(&grain)
+    }
+
+    /// Gives a grain a state. Without memory the store stays as it was.
+    pub fn put(&mut self, grain: GrainId, state: State) -> Result<(), AllocError>
+        ensures ok { OnOk result (PutsState self.old self.new grain state) }
+        ensures kept { OnErr result ((other : GrainId) → state_in self.new other ≡ state_in self.old other) }
+    {
+        self.states.insert(grain, state)?;
+        Ok(())
+    }
+}
+
+/// Where the places that a log names end, per grain file, in bytes. A file in which none is named isn't there.
+#[derive(Drop)]
+pub struct Ends {
+    ends: BTreeMap<GrainId, u64>,
+}
+
+impl Ends {
+    /// No file. Takes no memory.
+    pub fn new(alloc: Global) -> Ends
+        ensures { (grain : GrainId) → end_in result grain ≡ None }
+    {
+        Ends {
+            ends: BTreeMap::new(alloc),
+        }
+    }
+
+    /// The end in the grain's file, none where no place in it is named.
+    pub fn get(&self, grain: GrainId) -> Option<u64>
+        ensures { result ≡ end_in self.now grain }
+    {
+        self.ends.get(&grain).copied()
+    }
+
+    /// Gives a grain's file an end. Without memory the ends stay as they were.
+    pub fn put(&mut self, grain: GrainId, end: u64) -> Result<(), AllocError>
+        ensures ok { OnOk result (PutsEnd self.old self.new grain end) }
+        ensures kept { OnErr result ((other : GrainId) → end_in self.new other ≡ end_in self.old other) }
+    {
+        self.ends.insert(grain, end)?;
+        Ok(())
+    }
+}
