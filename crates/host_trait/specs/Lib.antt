@@ -1,0 +1,3 @@
+pub mod Faults
+pub mod World
+pub mod Outputs
