@@ -6,7 +6,8 @@ use Rattle.std.proofs.Math.Seq.{take-append-add}
 use Rattle.std.proofs.lemmas.List.{take-append-le, take_all}
 use Rattle.host_trait.specs.World.{World, Emitted}
 use Rattle.host_trait.specs.Outputs.{AppendsPart, AppendsSome, AppendsAll, StaysWithin}
-use Rattle.host_trait.proofs.Moments.{started, one, both}
+use Rattle.host_trait.proofs.Moments.{started, one, both, weaker}
+use Rattle.host_trait.proofs.Pulls.{IsQuiet}
 
 -- of all the texts those before `left` were emitted
 pub record HasEmitted (texts left : List (List ℕ)) (old now : World) : Type 0 where
@@ -60,3 +61,11 @@ some_emitted {texts} {left} {old} h = record {
   within = rw (h.split, length-append h.emitted left) (omega arith);
   appended = h.output ∙ ap (λ t. old.output ++ concat t) (sym (ap (take (length h.emitted)) h.split ∙ take-append-le (length h.emitted) h.emitted left (omega arith) ∙ take_all (length h.emitted) h.emitted (omega arith)));
 }
+
+-- while the output stands still, a first part of any texts has been appended: none
+pub quiet_within : (texts : List (List ℕ)) (old now : World) → IsQuiet old now → StaysWithin texts old now
+quiet_within texts old now quiet = weaker _ _ (λ m same. record { count = 0; within = omega arith; appended = same ∙ sym (append-nil old.output) }) quiet
+
+-- after a quiet time the texts are emitted
+pub within_after : (texts : List (List ℕ)) (old mid new : World) → IsQuiet old mid → mid.output ≡ old.output → StaysWithin texts mid new → StaysWithin texts old new
+within_after texts old mid new quiet same within = both _ (quiet_within texts old mid quiet) (weaker _ _ (λ m part. record { count = part.count; within = part.within; appended = part.appended ∙ ap (λ o. o ++ take part.count (concat texts)) same }) within)

@@ -47,3 +47,7 @@ pub record Emitted (n : ℕ) (bytes : List ℕ) (old new : World) : Type 0 where
   pub input : new.input ≡ old.input
   pub output : new.output ≡ old.output ++ take n bytes
   pub past : Ticks old new
+
+-- all of the bytes were appended to the output
+abbrev pub IsEmitted : List ℕ → World → World → Type 0
+IsEmitted bytes old new = Emitted (length bytes) bytes old new

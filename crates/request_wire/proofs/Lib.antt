@@ -1,0 +1,6 @@
+pub mod Arguments
+pub mod Cuts
+pub mod Floats
+pub mod Numerals
+pub mod OneLine
+pub mod Shapes

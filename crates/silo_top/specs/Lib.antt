@@ -1,0 +1,4 @@
+pub mod Statuses
+pub mod Counters
+pub mod Kept
+pub mod Runs
