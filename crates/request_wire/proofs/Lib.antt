@@ -1,0 +1,5 @@
+pub mod Arguments
+pub mod Cuts
+pub mod Floats
+pub mod Numerals
+pub mod Shapes

@@ -1,0 +1,16 @@
+-- What a program names, as far as a request line speaks of it.
+use Rattle.std.specs.Prelude.{ℕ, ◌+◌, List, [], ◌∷◌, codes, bytes_eq, if◌then◌else◌, Option, Some, None}
+
+-- a type: its name, and its methods in order, each by its name and number of parameters
+pub record TypeNames : Type 0 where
+  pub name : List ℕ
+  pub methods : List (List ℕ × ℕ)
+
+-- the counter program has one type, `counter`, with the methods `add` of one parameter and `read` of none
+abbrev pub counter_types : List TypeNames
+counter_types = record { name = codes "counter"; methods = (codes "add", 1) ∷ (codes "read", 0) ∷ [] } ∷ []
+
+-- the first item with this name, and its number where the list is counted from `start`
+abbrev pub named : {A : Type 0} → (A → List ℕ) → ℕ → List A → List ℕ → Option (ℕ × A)
+named name_of start [] name = None
+named name_of start (x ∷ xs) name = if bytes_eq name (name_of x) then Some (start, x) else named name_of (start + 1) xs name

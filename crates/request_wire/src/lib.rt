@@ -1,0 +1,17 @@
+//! Request lines and reply lines: how the input is cut into lines, which call a line asks for, and the
+//! line that answers it.
+//!
+//! Nothing here keeps state. The contracts cite the definitions in `specs/`: `Lines`, `Request`, `Reply`.
+#![tactic(auto)]
+
+mod calls;
+mod lines;
+mod replies;
+mod requests;
+
+pub use lines::first_line;
+pub use replies::reply_text;
+pub use requests::{Line, RequestFault, read_line, read_request};
+
+#[cfg(test)]
+mod tests;

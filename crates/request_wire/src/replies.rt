@@ -1,0 +1,143 @@
+ghost use Rattle.std.specs.Prelude.{◌≡◌, IfOk, string_bytes};
+ghost use Rattle.request_wire.specs.Reply.{type_name, grain_text, carried_data, fault_data, lock_data, vote_data, dependency_data, disk_data, doubt_data, outcome_data, bad_data, reply_data, reply_line};
+ghost use Rattle.serde_json.specs.View.{view};
+
+use base_types::{BadRequest, Entry, GrainId, List, Outcome, Settled, Shape, UnitNo, Value};
+use serde_json::{Value as Json, json};
+use std::alloc::{AllocError, Global};
+
+/// The name of a type, empty where the shape has no type of this number.
+fn type_name(shape: &Shape, kind: u16) -> &str
+    ensures { result.now ≡ type_name shape.now kind }
+{
+    match shape.types.get(kind as usize) {
+        Some(named) => named.name.as_str(),
+        None => "",
+    }
+}
+
+/// A grain as `type/key`.
+fn grain_text(alloc: Global, shape: &Shape, grain: GrainId) -> Result<String, AllocError>
+    ensures { IfOk result (λ text. string_bytes text ≡ grain_text shape.now grain) }
+{
+    let name = type_name(shape, grain.kind);
+    let key = grain.key;
+    format!(in alloc; "{name}/{key}")
+}
+
+fn number_reply(alloc: Global, line: u32, unit: u64, number: i64) -> Result<Json, AllocError>
+    ensures { IfOk result (λ v. view v ≡ carried_data line unit (Value.Int number)) }
+{
+    json!(in alloc; {"n": line, "reply": number, "unit": unit})
+}
+
+fn text_reply(alloc: Global, line: u32, unit: u64, text: &str) -> Result<Json, AllocError>
+    ensures { IfOk result (λ v. view v ≡ carried_data line unit (Value.Text text.now)) }
+{
+    json!(in alloc; {"n": line, "reply": text, "unit": unit})
+}
+
+fn fault_reply(alloc: Global, line: u32, unit: u64, text: &str) -> Result<Json, AllocError>
+    ensures { IfOk result (λ v. view v ≡ fault_data line unit text.now) }
+{
+    json!(in alloc; {"fault": text, "n": line, "unit": unit})
+}
+
+fn outcome_reply(alloc: Global, line: u32, unit: u64, outcome: &Outcome) -> Result<Json, AllocError>
+    ensures { IfOk result (λ v. view v ≡ outcome_data line unit outcome.now) }
+{
+    match outcome {
+        Outcome::Value(Value::Int(number)) => number_reply(alloc, line, unit, *number),
+        Outcome::Value(Value::Text(text)) => text_reply(alloc, line, unit, text.as_str()),
+        Outcome::Fault(text) => fault_reply(alloc, line, unit, text.as_str()),
+        Outcome::Aborted => fault_reply(alloc, line, unit, "aborted"),
+    }
+}
+
+fn lock_reply(
+    alloc: Global,
+    shape: &Shape,
+    line: u32,
+    unit: u64,
+    by: UnitNo,
+    grain: GrainId,
+) -> Result<Json, AllocError>
+    ensures { IfOk result (λ v. view v ≡ lock_data shape.now line unit by grain) }
+{
+    let by = by.0;
+    let text = grain_text(alloc, shape, grain)?;
+    let grain = text.as_str();
+    json!(in alloc; {"aborted": "lock", "by": by, "grain": grain, "n": line, "unit": unit})
+}
+
+fn vote_reply(
+    alloc: Global,
+    shape: &Shape,
+    line: u32,
+    unit: u64,
+    grain: GrainId,
+) -> Result<Json, AllocError>
+    ensures { IfOk result (λ v. view v ≡ vote_data shape.now line unit grain) }
+{
+    let text = grain_text(alloc, shape, grain)?;
+    let grain = text.as_str();
+    json!(in alloc; {"aborted": "vote", "grain": grain, "n": line, "unit": unit})
+}
+
+fn dependency_reply(alloc: Global, line: u32, unit: u64, on: UnitNo) -> Result<Json, AllocError>
+    ensures { IfOk result (λ v. view v ≡ dependency_data line unit on) }
+{
+    let on = on.0;
+    json!(in alloc; {"aborted": "dependency", "n": line, "on": on, "unit": unit})
+}
+
+fn disk_reply(alloc: Global, line: u32, unit: u64) -> Result<Json, AllocError>
+    ensures { IfOk result (λ v. view v ≡ disk_data line unit) }
+{
+    json!(in alloc; {"aborted": "disk", "n": line, "unit": unit})
+}
+
+fn doubt_reply(alloc: Global, line: u32, unit: u64) -> Result<Json, AllocError>
+    ensures { IfOk result (λ v. view v ≡ doubt_data line unit) }
+{
+    json!(in alloc; {"in_doubt": true, "n": line, "unit": unit})
+}
+
+fn bad_reply(alloc: Global, line: u32, why: BadRequest) -> Result<Json, AllocError>
+    ensures { IfOk result (λ v. view v ≡ bad_data line why) }
+{
+    let word = match why {
+        BadRequest::Early => "early",
+    };
+    json!(in alloc; {"bad": word, "n": line})
+}
+
+fn reply_value(alloc: Global, entry: &Entry, shape: &Shape) -> Result<Json, AllocError>
+    ensures { IfOk result (λ v. view v ≡ reply_data shape.now entry.now) }
+{
+    let line = entry.line;
+    let unit = entry.unit.0;
+    match &entry.what {
+        Settled::Done(outcome) => outcome_reply(alloc, line, unit, outcome),
+        Settled::Lock { by, grain } => lock_reply(alloc, shape, line, unit, *by, *grain),
+        Settled::Vote { grain } => vote_reply(alloc, shape, line, unit, *grain),
+        Settled::Dependency { on } => dependency_reply(alloc, line, unit, *on),
+        Settled::Disk => disk_reply(alloc, line, unit),
+        Settled::InDoubt => doubt_reply(alloc, line, unit),
+        Settled::Bad(why) => bad_reply(alloc, line, *why),
+    }
+}
+
+/// The line that answers an entry, with its line feed: compact JSON with its keys in byte order.
+///
+/// A grain's type is named by the shape; a type that the shape doesn't have is written with no name. Want of
+/// memory is the one error, and leaves what was lent as it was.
+#[tactic(auto, using(crate::proofs::Floats::no_floats))]
+pub fn reply_text(alloc: Global, entry: &Entry, shape: &Shape) -> Result<List<u8>, AllocError>
+    ensures { IfOk result (λ text. text ≡ reply_line shape.now entry.now) }
+{
+    let value = reply_value(alloc, entry, shape)?;
+    let mut text = value.to_string(alloc)?;
+    text.push('\n')?;
+    Ok(List::from_vec(text.into_bytes()))
+}
