@@ -2,4 +2,5 @@ pub mod Arguments
 pub mod Cuts
 pub mod Floats
 pub mod Numerals
+pub mod OneLine
 pub mod Shapes

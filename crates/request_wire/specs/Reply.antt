@@ -1,5 +1,5 @@
 -- The line that answers an entry.
-use Rattle.std.specs.Prelude.{ℕ, true, List, [], ◌∷◌, ◌++◌, slice_get, codes, decimal, option_map, unwrap_or}
+use Rattle.std.specs.Prelude.{◌≡◌, ℕ, true, List, [], ◌∷◌, ◌++◌, slice_get, codes, decimal, option_map, unwrap_or}
 use Rattle.base_types.specs.declared.calls.GrainId.{GrainId}
 use Rattle.base_types.specs.declared.calls.Outcome.{Outcome}
 use Rattle.base_types.specs.declared.calls.Outcome.TheVariants.{Value, Fault, Aborted}
@@ -12,6 +12,7 @@ use Rattle.base_types.specs.declared.entries.Entry.{Entry}
 use Rattle.base_types.specs.declared.entries.Settled.{Settled}
 use Rattle.base_types.specs.declared.entries.Settled.TheVariants.{Done, Lock, Vote, Dependency, Disk, InDoubt, Bad}
 use Rattle.base_types.specs.declared.shapes.Shape.{Shape}
+use Rattle.request_wire.specs.Lines.{lines_of}
 use Rattle.serde_json.specs.Data.{Data, boolean, number, unsigned, string, object, Members, member, no_members}
 use Rattle.serde_json.specs.Find.{of_integer}
 use Rattle.serde_json.specs.Written.{compact_text}
@@ -100,3 +101,7 @@ reply_data shape entry = settled_data shape entry.line entry.unit.0 entry.what
 -- compact JSON, and a line feed
 abbrev pub reply_line : Shape → Entry → List ℕ
 reply_line shape entry = compact_text (reply_data shape entry) ++ 10 ∷ []
+
+-- an entry's line is one line: whatever follows it, the first line is its JSON text and the rest are those that follow
+abbrev pub RepliesAreLines : Type 0
+RepliesAreLines = (shape : Shape) (entry : Entry) (rest : List ℕ) → lines_of (reply_line shape entry ++ rest) ≡ compact_text (reply_data shape entry) ∷ lines_of rest

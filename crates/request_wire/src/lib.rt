@@ -10,7 +10,7 @@ mod replies;
 mod requests;
 
 pub use lines::first_line;
-pub use replies::reply_text;
+pub use replies::{replies_are_lines, reply_text};
 pub use requests::{Line, RequestFault, read_line, read_request};
 
 #[cfg(test)]

@@ -1,5 +1,5 @@
 ghost use Rattle.std.specs.Prelude.{◌≡◌, IfOk, string_bytes};
-ghost use Rattle.request_wire.specs.Reply.{type_name, grain_text, carried_data, fault_data, lock_data, vote_data, dependency_data, disk_data, doubt_data, outcome_data, bad_data, reply_data, reply_line};
+ghost use Rattle.request_wire.specs.Reply.{type_name, grain_text, carried_data, fault_data, lock_data, vote_data, dependency_data, disk_data, doubt_data, outcome_data, bad_data, reply_data, reply_line, RepliesAreLines};
 ghost use Rattle.serde_json.specs.View.{view};
 
 use base_types::{BadRequest, Entry, GrainId, List, Outcome, Settled, Shape, UnitNo, Value};
@@ -141,3 +141,8 @@ pub fn reply_text(alloc: Global, entry: &Entry, shape: &Shape) -> Result<List<u8
     text.push('\n')?;
     Ok(List::from_vec(text.into_bytes()))
 }
+
+/// A law of the reply lines: each is one line, so that a text of them is cut into the entries' texts again.
+pub fn replies_are_lines()
+    ensures { RepliesAreLines }
+{}

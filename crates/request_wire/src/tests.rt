@@ -1,6 +1,297 @@
-use crate::first_line;
+use crate::calls::call_of;
+use crate::{RequestFault, first_line, read_line, read_request, reply_text};
+use base_types::{
+    BadRequest, Entry, GrainId, List, Outcome, Settled, Shape, State, Text, TypeShape, UnitNo,
+    Value,
+};
+use std::alloc::Global;
+use std::process::Abort;
+use std::test::Fail;
+
+/// The key and the number of a line that is carried, none where it is refused.
+fn added(alloc: Global, line: &[u8]) -> Result<Option<(u32, i64)>, Fail> {
+    match read_request(alloc, line) {
+        Ok(call) => match call.args.get(0) {
+            Some(Value::Int(number)) => Ok(Some((call.grain.key, *number))),
+            _ => Err("no number".into()),
+        },
+        Err(RequestFault::Bad(BadRequest::Early)) => Ok(None),
+        Err(RequestFault::Memory) => Err("no memory".into()),
+    }
+}
+
+const CARRIED: &[(&str, u32, i64)] = &[
+    ("{\"args\":[5],\"call\":\"counter/1.add\"}", 1, 5),
+    ("{\"call\":\"counter/1.add\",\"args\":[5]}", 1, 5),
+    (
+        "{\"args\":[5],\"args\":[6],\"call\":\"counter/1.add\"}",
+        1,
+        6,
+    ),
+    ("{\"call\":7,\"args\":[5],\"call\":\"counter/2.add\"}", 2, 5),
+    ("{\"args\":[-1],\"call\":\"counter/0.add\"}", 0, -1),
+    (
+        "{\"args\":[0],\"call\":\"counter/4294967295.add\"}",
+        4294967295,
+        0,
+    ),
+    (
+        "{\"args\":[9223372036854775807],\"call\":\"counter/1.add\"}",
+        1,
+        9223372036854775807,
+    ),
+    (
+        "{\"args\":[-9223372036854775808],\"call\":\"counter/1.add\"}",
+        1,
+        -9223372036854775808,
+    ),
+    (
+        " \t{ \"args\" : [ 5 ] , \"call\" : \"counter/1.add\" } \r",
+        1,
+        5,
+    ),
+    ("{\"args\":[5],\"call\":\"counter\\/1.\\u0061dd\"}", 1, 5),
+];
 
 #[test]
-fn an_empty_input_has_no_line(rt: HostRuntime) {
+fn a_line_that_adds_a_number_is_carried(rt: HostRuntime) -> Result<(), Fail> {
+    for (line, key, number) in CARRIED {
+        let found = added(rt.alloc(), line.as_bytes())?;
+        assert!(rt; found == Some((*key, *number)), "{line}");
+    }
+    Ok(())
+}
+
+const NO_OBJECT_OF_TWO: &[&str] = &[
+    "",
+    " ",
+    "{",
+    "[]",
+    "null",
+    "{}",
+    "{\"args\":[5],\"call\":\"counter/1.add\"}{}",
+    "{\"args\":[5],\"call\":\"counter/1.add\",}",
+    "{\"args\":[5]}",
+    "{\"call\":\"counter/1.add\"}",
+    "{\"args\":[5],\"call\":\"counter/1.add\",\"more\":1}",
+    "{\"args\":[5],\"more\":\"counter/1.add\"}",
+    "{\"args\":5,\"call\":\"counter/1.add\"}",
+    "{\"args\":[5],\"call\":7}",
+];
+
+const NO_METHOD_OF_A_GRAIN: &[&str] = &[
+    "{\"args\":[5],\"call\":\"\"}",
+    "{\"args\":[5],\"call\":\"counter\"}",
+    "{\"args\":[5],\"call\":\"counter/1\"}",
+    "{\"args\":[5],\"call\":\"counter.1/add\"}",
+    "{\"args\":[5],\"call\":\"counter/.add\"}",
+    "{\"args\":[5],\"call\":\"counter/01.add\"}",
+    "{\"args\":[5],\"call\":\"counter/00.add\"}",
+    "{\"args\":[5],\"call\":\"counter/+1.add\"}",
+    "{\"args\":[5],\"call\":\"counter/-1.add\"}",
+    "{\"args\":[5],\"call\":\"counter/ 1.add\"}",
+    "{\"args\":[5],\"call\":\"counter/1/2.add\"}",
+    "{\"args\":[5],\"call\":\"counter/4294967296.add\"}",
+    "{\"args\":[5],\"call\":\"bank/1.add\"}",
+    "{\"args\":[5],\"call\":\"Counter/1.add\"}",
+    "{\"args\":[5],\"call\":\"counter/1.x\"}",
+    "{\"args\":[5],\"call\":\"counter/1.\"}",
+    "{\"args\":[5],\"call\":\"counter/1.add.add\"}",
+];
+
+const NO_ARGUMENTS: &[&str] = &[
+    "{\"args\":[],\"call\":\"counter/1.add\"}",
+    "{\"args\":[1,2],\"call\":\"counter/1.add\"}",
+    "{\"args\":[5.0],\"call\":\"counter/1.add\"}",
+    "{\"args\":[1e2],\"call\":\"counter/1.add\"}",
+    "{\"args\":[-0],\"call\":\"counter/1.add\"}",
+    "{\"args\":[9223372036854775808],\"call\":\"counter/1.add\"}",
+    "{\"args\":[-9223372036854775809],\"call\":\"counter/1.add\"}",
+    "{\"args\":[null],\"call\":\"counter/1.add\"}",
+    "{\"args\":[true],\"call\":\"counter/1.add\"}",
+    "{\"args\":[[5]],\"call\":\"counter/1.add\"}",
+    "{\"args\":[5],\"call\":\"counter/1.read\"}",
+];
+
+#[test]
+fn a_line_that_fails_a_test_is_refused(rt: HostRuntime) -> Result<(), Fail> {
+    for lines in [NO_OBJECT_OF_TWO, NO_METHOD_OF_A_GRAIN, NO_ARGUMENTS] {
+        for line in lines {
+            assert!(rt; call_of(rt.alloc(), line.as_bytes())?.is_none(), "{line}");
+            assert!(rt; added(rt.alloc(), line.as_bytes())?.is_none(), "{line}");
+        }
+    }
+    let no_text = b"{\"args\":[5],\"call\":\"counter/1.add\xff\"}";
+    assert!(rt; added(rt.alloc(), no_text)?.is_none());
+    Ok(())
+}
+
+/// A call of `add` with a string of so many bytes.
+fn with_text(alloc: Global, len: usize) -> Result<String, Fail> {
+    let mut line = String::from_str(alloc, "{\"args\":[\"")?;
+    for _ in 0..len {
+        line.push('a')?;
+    }
+    line.push_str("\"],\"call\":\"counter/1.add\"}")?;
+    Ok(line)
+}
+
+#[test]
+fn a_call_that_passes_the_tests_and_adds_no_number_is_refused(rt: HostRuntime) -> Result<(), Fail> {
+    let alloc = rt.alloc();
+    let longest = with_text(alloc, 256)?;
+    let call = call_of(alloc, longest.as_bytes())?.ok_or("refused")?;
+    assert!(rt; matches!(call.args.get(0), Some(Value::Text(_))));
+    assert!(rt; added(alloc, longest.as_bytes())?.is_none());
+    let too_long = with_text(alloc, 257)?;
+    assert!(rt; call_of(alloc, too_long.as_bytes())?.is_none());
+    let read = b"{\"args\":[],\"call\":\"counter/7.read\"}";
+    let call = call_of(alloc, read)?.ok_or("refused")?;
+    assert_eq!(rt; call.grain, GrainId { kind: 0, key: 7 });
+    assert_eq!(rt; call.method, 1);
+    assert!(rt; added(alloc, read)?.is_none());
+    Ok(())
+}
+
+#[test]
+fn a_line_keeps_its_number(rt: HostRuntime) -> Result<(), Fail> {
+    let alloc = rt.alloc();
+    let line = read_line(alloc, 7, b"{\"args\":[5],\"call\":\"counter/1.add\"}")?;
+    assert_eq!(rt; line.number, 7);
+    let call = line.what.map_err(|_| "refused")?;
+    assert_eq!(rt; call.grain, GrainId { kind: 0, key: 1 });
+    assert_eq!(rt; call.method, 0);
+    let line = read_line(alloc, 8, b"{")?;
+    assert_eq!(rt; line.number, 8);
+    assert!(rt; line.what.is_err());
+    Ok(())
+}
+
+#[test]
+fn the_input_is_cut_at_each_line_feed(rt: HostRuntime) -> Result<(), Fail> {
+    for (input, first, rest) in [
+        ("a", "a", ""),
+        ("a\n", "a", ""),
+        ("\n", "", ""),
+        ("\n\n", "", "\n"),
+        ("a\n\nb", "a", "\nb"),
+        ("a\r\nb", "a\r", "b"),
+    ] {
+        let (line, left) = first_line(input.as_bytes()).ok_or("no line")?;
+        assert_eq!(rt; line, first.as_bytes(), "{input}");
+        assert_eq!(rt; left, rest.as_bytes(), "{input}");
+    }
     assert!(rt; first_line(b"").is_none());
+    Ok(())
+}
+
+fn type_of(alloc: Global, name: &str) -> Result<TypeShape, Fail> {
+    let name = Text::new(alloc, name)?.ok_or("too long")?;
+    Ok(TypeShape {
+        name,
+        initial: State::new(alloc),
+        params: List::new(alloc),
+    })
+}
+
+/// The types `bank` and `counter`.
+fn two_types(alloc: Global) -> Result<Shape, Fail> {
+    let mut types = List::new(alloc);
+    types.push(type_of(alloc, "bank")?)?;
+    types.push(type_of(alloc, "counter")?)?;
+    Ok(Shape { types })
+}
+
+fn expect_reply(
+    rt: &impl Abort,
+    alloc: Global,
+    line: u32,
+    what: Settled,
+    expected: &str,
+) -> Result<(), Fail> {
+    let shape = two_types(alloc)?;
+    let unit = UnitNo(line as u64 + 10);
+    let entry = Entry { line, unit, what };
+    let text = reply_text(alloc, &entry, &shape)?;
+    assert_eq!(rt; text.as_slice(), expected.as_bytes(), "{expected}");
+    Ok(())
+}
+
+#[test]
+fn a_unit_that_ended_has_its_value_or_fault(rt: HostRuntime) -> Result<(), Fail> {
+    let alloc = rt.alloc();
+    let least = Outcome::Value(Value::Int(-9223372036854775808));
+    let expected = "{\"n\":1,\"reply\":-9223372036854775808,\"unit\":11}\n";
+    expect_reply(&rt, alloc, 1, Settled::Done(least), expected)?;
+    let text = Text::new(alloc, "\"a\"\n\u{1}é")?.ok_or("too long")?;
+    let expected = "{\"n\":2,\"reply\":\"\\\"a\\\"\\n\\u0001é\",\"unit\":12}\n";
+    expect_reply(
+        &rt,
+        alloc,
+        2,
+        Settled::Done(Outcome::Value(Value::Text(text))),
+        expected,
+    )?;
+    let text = Text::new(alloc, "overflow")?.ok_or("too long")?;
+    let expected = "{\"fault\":\"overflow\",\"n\":3,\"unit\":13}\n";
+    expect_reply(&rt, alloc, 3, Settled::Done(Outcome::Fault(text)), expected)?;
+    let expected = "{\"fault\":\"aborted\",\"n\":4294967295,\"unit\":4294967305}\n";
+    expect_reply(
+        &rt,
+        alloc,
+        4294967295,
+        Settled::Done(Outcome::Aborted),
+        expected,
+    )
+}
+
+#[test]
+fn an_aborted_unit_has_its_cause(rt: HostRuntime) -> Result<(), Fail> {
+    let alloc = rt.alloc();
+    let by = UnitNo(18446744073709551615);
+    let grain = GrainId { kind: 1, key: 7 };
+    let expected =
+        "{\"aborted\":\"lock\",\"by\":18446744073709551615,\"grain\":\"counter/7\",\"n\":4,\"unit\":14}\n";
+    expect_reply(&rt, alloc, 4, Settled::Lock { by, grain }, expected)?;
+    let grain = GrainId {
+        kind: 0,
+        key: 4294967295,
+    };
+    let expected = "{\"aborted\":\"vote\",\"grain\":\"bank/4294967295\",\"n\":5,\"unit\":15}\n";
+    expect_reply(&rt, alloc, 5, Settled::Vote { grain }, expected)?;
+    let grain = GrainId { kind: 2, key: 0 };
+    let expected = "{\"aborted\":\"vote\",\"grain\":\"/0\",\"n\":6,\"unit\":16}\n";
+    expect_reply(&rt, alloc, 6, Settled::Vote { grain }, expected)?;
+    let expected = "{\"aborted\":\"dependency\",\"n\":7,\"on\":3,\"unit\":17}\n";
+    expect_reply(
+        &rt,
+        alloc,
+        7,
+        Settled::Dependency { on: UnitNo(3) },
+        expected,
+    )?;
+    let expected = "{\"aborted\":\"disk\",\"n\":8,\"unit\":18}\n";
+    expect_reply(&rt, alloc, 8, Settled::Disk, expected)
+}
+
+#[test]
+fn doubt_and_bad_lines_have_their_words(rt: HostRuntime) -> Result<(), Fail> {
+    let alloc = rt.alloc();
+    let expected = "{\"in_doubt\":true,\"n\":9,\"unit\":19}\n";
+    expect_reply(&rt, alloc, 9, Settled::InDoubt, expected)?;
+    let expected = "{\"bad\":\"early\",\"n\":10}\n";
+    expect_reply(&rt, alloc, 10, Settled::Bad(BadRequest::Early), expected)
+}
+
+#[test]
+fn a_fault_says_what_it_is(rt: HostRuntime) -> Result<(), Fail> {
+    let alloc = rt.alloc();
+    let bad = RequestFault::Bad(BadRequest::Early);
+    let memory = RequestFault::Memory;
+    let text = format!(in alloc; "{bad}; {memory}")?;
+    assert_eq!(rt;
+        text.as_str(),
+        "the line is no request that is carried; no memory"
+    );
+    Ok(())
 }
