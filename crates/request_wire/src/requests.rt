@@ -45,8 +45,9 @@ fn adds_number(call: &Call) -> bool
 ///
 /// A line is carried where it is a JSON object with exactly two keys: `call`, the text `counter/KEY.add`
 /// with a key from 0 to 4294967295 without a leading zero, and `args`, an array of one number that fits
-/// an `i64` and has neither a point nor an exponent. Every other line is `Bad`. `Memory` comes only where
-/// an allocation failed, and says nothing about the line.
+/// an `i64`, is not `-0`, and has neither a point nor an exponent. Of a key that comes twice the last
+/// value counts. Every other line is `Bad`. `Memory` comes only where an allocation failed, and says
+/// nothing about the line.
 pub fn read_request(alloc: Global, line: &[u8]) -> Result<Call, RequestFault>
     ensures ok { IfOk result (λ call. request_of line.now ≡ Ok call) }
     ensures bad { IfErr result (λ fault. (why : BadRequest) → fault ≡ RequestFault.Bad why
