@@ -1,5 +1,5 @@
 -- No reply has a float, so each has a compact text.
-use Rattle.std.proofs.Common.{◌≡◌, ℕ, false, refl, ℤ, pos, negsuc}
+use Rattle.std.proofs.Common.{◌≡◌, ℕ, false, refl, pos, negsuc}
 use Rattle.base_types.specs.declared.calls.Outcome.{Outcome}
 use Rattle.base_types.specs.declared.calls.Outcome.TheVariants.{Value, Fault, Aborted}
 use Rattle.base_types.specs.declared.calls.Value.TheVariants.{Int, Text}

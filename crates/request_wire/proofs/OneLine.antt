@@ -1,9 +1,9 @@
 -- An entry's line is one line: its JSON text holds no line feed.
-use Rattle.std.proofs.Common.{◌≡◌, ℕ, zero, suc, ◌+◌, ◌/◌, ◌%◌, ◌<◌, ◌==◌, nat_lt, List, [], ◌∷◌, ◌++◌, Bool, true, false, cond, ◌||◌, if◌then◌else◌, refl, ap, ◌∙◌, arith, ℤ, pos, negsuc, append_assoc, decimal}
+use Rattle.std.proofs.Common.{◌≡◌, ℕ, zero, suc, ◌/◌, ◌%◌, ◌==◌, nat_lt, List, [], ◌∷◌, ◌++◌, Bool, true, false, cond, if◌then◌else◌, refl, ap, ◌∙◌, arith, pos, negsuc, append_assoc, decimal}
 use Rattle.std.proofs.lemmas.Bool.Decides.{nat_tests}
 use Rattle.std.specs.Char.{digit_char}
-use Rattle.std.specs.Fmt.{digit_glyph, digits_onto, digits, signed_decimal}
-use Rattle.std.specs.List.{slice_split, flat_map}
+use Rattle.std.specs.Fmt.{digit_glyph, digits_onto, digits}
+use Rattle.std.specs.List.{slice_split}
 use Rattle.std.specs.Prelude.{⊤}
 use Rattle.base_types.specs.declared.entries.Entry.{Entry}
 use Rattle.base_types.specs.declared.shapes.Shape.{Shape}

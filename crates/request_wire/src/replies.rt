@@ -130,8 +130,9 @@ fn reply_value(alloc: Global, entry: &Entry, shape: &Shape) -> Result<Json, Allo
 
 /// The line that answers an entry, with its line feed: compact JSON with its keys in byte order.
 ///
-/// A grain's type is named by the shape; a type that the shape doesn't have is written with no name. Want of
-/// memory is the one error, and leaves what was lent as it was.
+/// A grain is written `type/key`, by the type's name in the shape, or by no name where the shape has no type
+/// of that number. An outcome that is an abort, which no settled entry has, is written as the fault
+/// `aborted`. The one error is want of memory; what was lent is as before.
 #[tactic(auto, using(crate::proofs::Floats::no_floats))]
 pub fn reply_text(alloc: Global, entry: &Entry, shape: &Shape) -> Result<List<u8>, AllocError>
     ensures { IfOk result (λ text. text ≡ reply_line shape.now entry.now) }

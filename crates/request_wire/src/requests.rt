@@ -41,9 +41,13 @@ fn adds_number(call: &Call) -> bool
     call.method == 0 && matches!(call.args.as_slice(), [Value::Int(_)])
 }
 
-/// The call that a line asks for. The line comes without its line feed.
+/// The call that a line asks for. The line comes without its line feed, and may have any length.
 ///
-/// `Bad` tells why it asks for none; `Memory` comes only where an allocation failed. The line is as before.
+/// A line is carried where it is a JSON object with exactly two keys: `call`, the text `counter/KEY.add`
+/// with a key from 0 to 4294967295 without a leading zero, and `args`, an array of one number that fits
+/// an `i64`, is not `-0`, and has neither a point nor an exponent. Of a key that comes twice the last
+/// value counts. Every other line is `Bad`. `Memory` comes only where an allocation failed, and says
+/// nothing about the line.
 pub fn read_request(alloc: Global, line: &[u8]) -> Result<Call, RequestFault>
     ensures ok { IfOk result (λ call. request_of line.now ≡ Ok call) }
     ensures bad { IfErr result (λ fault. (why : BadRequest) → fault ≡ RequestFault.Bad why
@@ -58,7 +62,8 @@ pub fn read_request(alloc: Global, line: &[u8]) -> Result<Call, RequestFault>
     Ok(call)
 }
 
-/// The line with this number, read. Only want of memory is an error here: a bad line is a line.
+/// The line with this number, read as by [`read_request`]. A line that is refused is a line too: the one
+/// error is want of memory, and says nothing about the line.
 pub fn read_line(alloc: Global, number: u32, line: &[u8]) -> Result<Line, AllocError>
     ensures number { IfOk result (λ read. read.number ≡ number) }
     ensures what { IfOk result (λ read. read.what ≡ request_of line.now) }
