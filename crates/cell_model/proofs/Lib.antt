@@ -1,0 +1,5 @@
+pub mod Units
+pub mod Stacks
+pub mod Asking
+pub mod Sources
+pub mod Decisions

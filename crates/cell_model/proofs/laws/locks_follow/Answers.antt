@@ -1,0 +1,5 @@
+use Rattle.cell_model.proofs.Asking.{locks-follow}
+use Rattle.cell_model.proofs.laws.locks_follow.Goals as goal
+
+pub returns : goal.returns
+returns c = λ holds unit mode. locks-follow holds unit mode

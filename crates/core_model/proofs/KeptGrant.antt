@@ -1,0 +1,271 @@
+-- A grant keeps the invariant.
+use Rattle.std.proofs.Common.{◌≡◌, ℕ, ◌<◌, List, [], ◌∷◌, ◌++◌, true, false, ◌⊎◌, inl, inr, refl, sym, ap, ◌∙◌, subst, arith, Some}
+use Rattle.cell_model.specs.Locks.{is_update, is_hold_of, holds_lock, conflicts}
+use Rattle.cell_model.proofs.Units.{same_unit-true, same_unit-false, cases_unit, any-true, any-false, Member-append, Member-left, Member-last}
+use Rattle.core_model.specs.World.{UnitNo, GrainId, nobody, put, put_grain, Member, Value, Unborn, Running, Finished, Read, top, Hold, Mode, Reading, World}
+use Rattle.core_model.specs.Tests.{is_good, written}
+use Rattle.core_model.specs.Dead.{Dead}
+use Rattle.core_model.specs.Chains.{Wrote, IsBottom, IsLink}
+use Rattle.core_model.proofs.Puts.{put-at, put-from, put-same, grain-at, grain-from, grain-is, grain-other}
+use Rattle.core_model.proofs.Basics.{Dead-more}
+use Rattle.core_model.proofs.Chained.{Chain-more, Chain-top}
+use Rattle.core_model.proofs.Invariant.{Inv}
+use Rattle.cell_model.specs.Locks.{granted}
+use Rattle.cell_model.specs.Cells.{with_reading}
+use Rattle.cell_model.proofs.Asking.{no_conflict, granted-member, granted-new, granted-stays}
+use Rattle.core_model.specs.Changes.{locked, raised, read_of}
+use Rattle.core_model.proofs.Readings.{with_reading-member, with_reading-stays, with_reading-has, with_reading-same}
+
+-- where a read came from
+abbrev Src : (GrainId → List Value) → World → UnitNo → Read → Type 0
+Src opening w x r = ((r.source ≡ nobody) × (r.state ≡ opening r.grain))
+    ⊎ ((w.units.phase r.source ≡ Finished) × (written r.grain (w.manager.writes r.source) ≡ Some r.state) × (w.units.phase x ≡ Finished → w.manager.place r.source < w.manager.place x))
+
+pub kept-locked : (opening : GrainId → List Value) (n : ℕ) (w : World) (u : UnitNo) (g : GrainId) (mode : Mode) → Inv opening n w →
+    w.units.phase u ≡ Running → ((h : Hold) → Member h (w.cells.holds g) → conflicts u mode h ≡ false) → holds_lock u (w.cells.holds g) ≡ false → w.cells.here g ≡ true → Inv opening n (locked w u g mode)
+kept-locked opening n w u g mode i running free first here_g =
+    record {
+      fresh = i.fresh;
+      unborn = i.unborn;
+      outside = i.outside;
+      origin = i.origin;
+      blank = λ x p. put-at w.units.reads u reads_u (λ t. t ≡ []) x (λ e. (let t : Unborn ≡ Running = sym p ∙ ap w.units.phase e ∙ running in cc)) (λ e. i.blank x p);
+      unwritten = i.unwritten;
+      undecided = i.undecided;
+      listed = i.listed;
+      placed = i.placed;
+      within = i.within;
+      early = i.early;
+      late = i.late;
+      alone = λ k h l. grain-at w.cells.holds g holds_g (λ hs. Member h hs → Member l hs → is_update h.mode ≡ true → l.unit ≡ h.unit) k (λ e. alone_at h l) (λ e. i.alone k h l);
+      keeps = λ x r p. put-from w.units.reads u reads_u (Member r) _ x
+          (λ e m. elim (Member-append r (w.units.reads u) (new ∷ []) m) [
+            | inl o ↦ more_holds x r (i.keeps x r p (subst (λ z. Member r (w.units.reads z)) (sym e) o))
+            | inr o ↦ elim o [
+              | inl q ↦ (hold, grain-at w.cells.holds g holds_g (Member hold) r.grain (λ z. granted-new (w.cells.holds g) u mode) (λ z. absurd (z (ap (λ (y : Read). y.grain) q))), sym e)
+              | inr q ↦ absurd q
+            ]
+          ])
+          (λ e m. more_holds x r (i.keeps x r p m));
+      strong = λ x k h f wr. grain-at w.cells.holds g holds_g (λ hs. Member h hs → h.unit ≡ x → (l : Hold) × Member l hs × (l.unit ≡ x) × (is_update l.mode ≡ true)) k
+          (λ e m q. elim (granted-member (w.cells.holds g) u mode h m) [
+            | inr a ↦ (let t : Running ≡ Finished = sym running ∙ ap w.units.phase (sym (ap (λ (z : Hold). z.unit) a) ∙ q) ∙ f in cc)
+            | inl a ↦ (let t = i.strong x k h f wr (subst (λ j. Member h (w.cells.holds j)) (sym e) a.0) q in (t.0, old_stays t.0 (subst (λ j. Member t.0 (w.cells.holds j)) e t.1), t.2, t.3))
+          ])
+          (λ e. i.strong x k h f wr);
+      told = λ k h. grain-from w.cells.holds g holds_g (Member h) ((s : Reading) × Member s (put_grain w.cells.readings g readings_g k) × (s.unit ≡ h.unit)) k
+          (λ e m. elim (granted-member (w.cells.holds g) u mode h m) [
+            | inr q ↦ (let t = with_reading-has (w.cells.readings g) u (top (w.cells.stack g)).unit in
+                (t.0, subst (Member t.0) (sym (grain-is w.cells.readings g readings_g k e)) t.1, t.2 ∙ sym (ap (λ (z : Hold). z.unit) q)))
+            | inl q ↦ (let t = i.told k h (subst (λ j. Member h (w.cells.holds j)) (sym e) q.0) in (t.0, more_reading k t.0 t.1, t.2))
+          ])
+          (λ e m. (let t = i.told k h m in (t.0, more_reading k t.0 t.1, t.2)));
+      seen = λ k s. grain-from w.cells.readings g readings_g (Member s) ((r : Read) × Member r (put w.units.reads u reads_u s.unit) × (r.grain ≡ k) × (r.source ≡ s.source)) k
+          (λ e m. elim (with_reading-member (w.cells.readings g) u (top (w.cells.stack g)).unit s m) [
+            | inl a ↦ more_seen k s (i.seen k s (subst (λ j. Member s (w.cells.readings j)) (sym e) a))
+            | inr q ↦ (new, subst (λ j. Member new (put w.units.reads u reads_u j)) (sym (ap (λ (z : Reading). z.unit) q)) mine, sym e, ap (λ (z : Reading). z.source) (sym q))
+          ])
+          (λ e m. more_seen k s (i.seen k s m));
+      kept = λ k s. grain-from w.cells.readings g readings_g (Member s) ((h : Hold) × Member h (put_grain w.cells.holds g holds_g k) × (h.unit ≡ s.unit)) k
+          (λ e m. elim (with_reading-member (w.cells.readings g) u (top (w.cells.stack g)).unit s m) [
+            | inl a ↦ (let t = i.kept k s (subst (λ j. Member s (w.cells.readings j)) (sym e) a) in (t.0, more_hold k t.0 t.1, t.2))
+            | inr q ↦ (hold, subst (Member hold) (sym (grain-is w.cells.holds g holds_g k e)) (granted-new (w.cells.holds g) u mode), sym (ap (λ (z : Reading). z.unit) q))
+          ])
+          (λ e m. (let t = i.kept k s m in (t.0, more_hold k t.0 t.1, t.2)));
+      view = λ k s. grain-from w.cells.readings g readings_g (Member s) ((s.source ≡ (top (w.cells.stack k)).unit) ⊎ Dead w.manager.verdict (put w.units.reads u reads_u) s.source) k
+          (λ e m. elim (with_reading-member (w.cells.readings g) u (top (w.cells.stack g)).unit s m) [
+            | inl a ↦ more_view s.source k (i.view k s (subst (λ j. Member s (w.cells.readings j)) (sym e) a))
+            | inr q ↦ inl (ap (λ (z : Reading). z.source) q ∙ ap (λ j. (top (w.cells.stack j)).unit) (sym e))
+          ])
+          (λ e m. more_view s.source k (i.view k s m));
+      source = λ x r. put-from w.units.reads u reads_u (Member r) _ x
+          (λ e m. elim (Member-append r (w.units.reads u) (new ∷ []) m) [
+            | inl o ↦ i.source x r (subst (λ z. Member r (w.units.reads z)) (sym e) o)
+            | inr o ↦ elim o [ inl q ↦ subst (λ z. Src opening w x z) (sym q) (new_source x e) | inr q ↦ absurd q ]
+          ])
+          (λ e m. i.source x r m);
+      gap = λ x r y m o f wr lt. more y (put-from w.units.reads u reads_u (Member r) (Dead w.manager.verdict w.units.reads y) x
+          (λ e m'. elim (Member-append r (w.units.reads u) (new ∷ []) m') [
+            | inl a ↦ i.gap x r y (subst (λ z. Member r (w.units.reads z)) (sym e) a) o f wr lt
+            | inr a ↦ elim a [
+              | inl q ↦ new_gap y f (subst (λ k. Wrote w.manager.writes y k) (ap (λ (z : Read). z.grain) q) wr) (subst (λ k. w.manager.place k < w.manager.place y) (ap (λ (z : Read). z.source) q) lt)
+              | inr q ↦ absurd q
+            ]
+          ])
+          (λ e m'. i.gap x r y m' o f wr lt) m);
+      chain = λ k. Chain-more (IsBottom opening w.units.phase w.manager.writes w.manager.verdict k) _ (IsLink w.units.phase w.manager.writes w.units.reads k) _
+          (λ x b. b)
+          (λ x y l. (l.0, (l.1.0, more_reads x.unit l.1.0 l.1.1, l.1.2, l.1.3))) (w.cells.stack k) (i.chain k);
+      latest = λ x k f wr no. elim (i.latest x k f wr (λ h m. no h (more_hold k h m))) [ inl d ↦ inl (more x d) | inr d ↦ inr d ];
+      good = λ x r q. put-from w.units.reads u reads_u (Member r) _ x (λ e m. absurd (undecided_u x e q)) (λ e m. i.good x r q m);
+      sure = λ x r q. put-from w.units.reads u reads_u (Member r) _ x (λ e m. absurd (undecided_u x e (ap is_good q))) (λ e m. i.sure x r q m);
+      sees = λ x r p. put-from w.units.reads u reads_u (Member r) _ x
+          (λ e m. elim (Member-append r (w.units.reads u) (new ∷ []) m) [
+            | inl o ↦ more_sees r (i.sees x r p (subst (λ z. Member r (w.units.reads z)) (sym e) o))
+            | inr o ↦ elim o [ inl q ↦ inl (ap (λ (z : Read). z.source) q ∙ ap (λ (z : Read). (top (w.cells.stack z.grain)).unit) (sym q)) | inr q ↦ absurd q ]
+          ])
+          (λ e m. more_sees r (i.sees x r p m));
+      away = λ k h. (let t = i.away k h in (grain-other w.cells.holds g holds_g k (λ e. (let z : true ≡ false = sym here_g ∙ ap w.cells.here (sym e) ∙ h in cc)) ∙ t.0, t.1));
+    }
+  where
+    new : Read
+    new = read_of g (top (w.cells.stack g))
+
+    reads_u : List Read
+    reads_u = w.units.reads u ++ new ∷ []
+
+    hold : Hold
+    hold = record { unit = u; mode = mode }
+
+    holds_g : List Hold
+    holds_g = granted (w.cells.holds g) u mode
+
+    readings_g : List Reading
+    readings_g = with_reading (w.cells.readings g) u (top (w.cells.stack g)).unit
+
+    old_stays : (h : Hold) → Member h (w.cells.holds g) → Member h holds_g
+    old_stays h m = granted-stays (w.cells.holds g) u mode h m (same_unit-false h.unit u (any-false (is_hold_of u) (w.cells.holds g) first h m))
+
+    more_reading : (k : GrainId) (s : Reading) → Member s (w.cells.readings k) → Member s (put_grain w.cells.readings g readings_g k)
+    more_reading k s m = grain-at w.cells.readings g readings_g (Member s) k (λ e. with_reading-stays (w.cells.readings g) u (top (w.cells.stack g)).unit s (subst (λ j. Member s (w.cells.readings j)) e m)) (λ e. m)
+
+    mine : Member new (put w.units.reads u reads_u u)
+    mine = subst (Member new) (sym (put-same w.units.reads u reads_u)) (Member-last new (w.units.reads u))
+
+    more_reads : (x : UnitNo) (r : Read) → Member r (w.units.reads x) → Member r (put w.units.reads u reads_u x)
+    more_reads x r m = put-at w.units.reads u reads_u (Member r) x (λ e. Member-left r (w.units.reads u) (new ∷ []) (subst (λ z. Member r (w.units.reads z)) e m)) (λ e. m)
+
+    more : (x : UnitNo) → Dead w.manager.verdict w.units.reads x → Dead w.manager.verdict (put w.units.reads u reads_u) x
+    more x d = Dead-more w.manager.verdict w.manager.verdict w.units.reads (put w.units.reads u reads_u) (λ k h. h) more_reads x d
+
+    more_sees : (r : Read) → (r.source ≡ (top (w.cells.stack r.grain)).unit) ⊎ Dead w.manager.verdict w.units.reads r.source → (r.source ≡ (top (w.cells.stack r.grain)).unit) ⊎ Dead w.manager.verdict (put w.units.reads u reads_u) r.source
+    more_sees r (inl a) = inl a
+    more_sees r (inr a) = inr (more _ a)
+
+    more_hold : (k : GrainId) (h : Hold) → Member h (w.cells.holds k) → Member h (put_grain w.cells.holds g holds_g k)
+    more_hold k h m = grain-at w.cells.holds g holds_g (Member h) k (λ e. old_stays h (subst (λ j. Member h (w.cells.holds j)) e m)) (λ e. m)
+
+    more_holds : (x : UnitNo) (r : Read) → (h : Hold) × Member h (w.cells.holds r.grain) × (h.unit ≡ x) → (h : Hold) × Member h (put_grain w.cells.holds g holds_g r.grain) × (h.unit ≡ x)
+    more_holds x r t = (t.0, more_hold r.grain t.0 t.1, t.2)
+
+    more_view : (source : UnitNo) (k : GrainId) → (source ≡ (top (w.cells.stack k)).unit) ⊎ Dead w.manager.verdict w.units.reads source → (source ≡ (top (w.cells.stack k)).unit) ⊎ Dead w.manager.verdict (put w.units.reads u reads_u) source
+    more_view source k (inl a) = inl a
+    more_view source k (inr a) = inr (more _ a)
+
+    more_seen : (k : GrainId) (s : Reading) → (r : Read) × Member r (w.units.reads s.unit) × (r.grain ≡ k) × (r.source ≡ s.source) → (r : Read) × Member r (put w.units.reads u reads_u s.unit) × (r.grain ≡ k) × (r.source ≡ s.source)
+    more_seen k s t = (t.0, more_reads s.unit t.0 t.1, t.2, t.3)
+
+    alone_at : (h l : Hold) → Member h holds_g → Member l holds_g → is_update h.mode ≡ true → l.unit ≡ h.unit
+    alone_at h l a b q = elim (granted-member (w.cells.holds g) u mode h a) [
+      | inr x ↦ elim (granted-member (w.cells.holds g) u mode l b) [
+        | inr y ↦ ap (λ (z : Hold). z.unit) y ∙ ap (λ (z : Hold). z.unit) (sym x)
+        | inl y ↦ no_conflict u mode l (free l y.0) (inl (ap (λ (z : Hold). is_update z.mode) (sym x) ∙ q)) ∙ ap (λ (z : Hold). z.unit) (sym x)
+      ]
+      | inl x ↦ elim (granted-member (w.cells.holds g) u mode l b) [
+        | inr y ↦ absurd (x.1 (no_conflict u mode h (free h x.0) (inr q)))
+        | inl y ↦ i.alone g h l x.0 y.0 q
+      ]
+    ]
+
+    not_finished : (x : UnitNo) → x ≡ u → w.units.phase x ≡ Finished → ⊥
+    not_finished x e f = (let t : Running ≡ Finished = sym running ∙ ap w.units.phase (sym e) ∙ f in cc)
+
+    new_source : (x : UnitNo) → x ≡ u → Src opening w x new
+    new_source x e =
+        elim (Chain-top (IsBottom opening w.units.phase w.manager.writes w.manager.verdict g) (IsLink w.units.phase w.manager.writes w.units.reads g) (w.cells.stack g) (i.chain g)) [
+          | inl b ↦ elim b [ inl o ↦ inl o | inr o ↦ inr (o.1.0, o.1.1, λ f. absurd (not_finished x e f)) ]
+          | inr l ↦ inr (l.1.0.0, l.1.0.1, λ f. absurd (not_finished x e f))
+        ]
+
+    new_gap : (y : UnitNo) → w.units.phase y ≡ Finished → Wrote w.manager.writes y g → w.manager.place (top (w.cells.stack g)).unit < w.manager.place y → Dead w.manager.verdict w.units.reads y
+    new_gap y f wr lt =
+        elim (i.latest y g f wr (λ h m q up. not_finished y (sym q ∙ no_conflict u mode h (free h m) (inr up)) f)) [
+          | inl d ↦ d
+          | inr le ↦ absurd (omega arith)
+        ]
+
+    undecided_u : (x : UnitNo) → x ≡ u → is_good (w.manager.verdict x) ≡ true → ⊥
+    undecided_u x e q = (let t : false ≡ true = sym (ap is_good (ap w.manager.verdict e ∙ i.undecided u (inr running))) ∙ q in cc)
+
+-- the unit's own lock becomes one for an update
+pub kept-raised : (opening : GrainId → List Value) (n : ℕ) (w : World) (u : UnitNo) (g : GrainId) (mode : Mode) → Inv opening n w →
+    w.units.phase u ≡ Running → ((h : Hold) → Member h (w.cells.holds g) → conflicts u mode h ≡ false) → holds_lock u (w.cells.holds g) ≡ true → w.cells.here g ≡ true → Inv opening n (raised w u g mode)
+kept-raised opening n w u g mode i running free held here_g =
+    record {
+      fresh = i.fresh;
+      unborn = i.unborn;
+      outside = i.outside;
+      origin = i.origin;
+      blank = i.blank;
+      unwritten = i.unwritten;
+      undecided = i.undecided;
+      listed = i.listed;
+      placed = i.placed;
+      within = i.within;
+      early = i.early;
+      late = i.late;
+      alone = λ k h l. grain-at w.cells.holds g holders_g (λ hs. Member h hs → Member l hs → is_update h.mode ≡ true → l.unit ≡ h.unit) k (λ e. alone_at h l) (λ e. i.alone k h l);
+      keeps = λ x r p m. (let t = i.keeps x r p m in keep x r.grain t.0 t.1 t.2);
+      strong = λ x k h f wr m q. (let t = i.strong x k (old_hold k h m).0 f wr (old_hold k h m).1 ((old_hold k h m).2 ∙ q) in
+          (t.0, stays k t.0 t.1 (λ e. not_finished x (sym t.2 ∙ e) f), t.2, t.3));
+      told = λ k h m. (let o = old_hold k h m in let t = i.told k o.0 o.1 in (t.0, subst (Member t.0) (sym (same_readings k)) t.1, t.2 ∙ o.2));
+      seen = λ k s m. i.seen k s (subst (Member s) (same_readings k) m);
+      kept = λ k s m. (let t = i.kept k s (subst (Member s) (same_readings k) m) in keep s.unit k t.0 t.1 t.2);
+      view = λ k s m. i.view k s (subst (Member s) (same_readings k) m);
+      source = i.source;
+      gap = i.gap;
+      chain = i.chain;
+      latest = λ x k f wr no. i.latest x k f wr (λ h m q up. no h (stays k h m (λ e. not_finished x (sym q ∙ e) f)) q up);
+      sees = i.sees;
+      away = λ k h. (let t = i.away k h in (grain-other w.cells.holds g holders_g k (λ e. (let z : true ≡ false = sym here_g ∙ ap w.cells.here (sym e) ∙ h in cc)) ∙ t.0, t.1));
+      good = i.good;
+      sure = i.sure;
+    }
+  where
+    hold : Hold
+    hold = record { unit = u; mode = mode }
+
+    holders_g : List Hold
+    holders_g = granted (w.cells.holds g) u mode
+
+    own_hold : (h : Hold) × Member h (w.cells.holds g) × (is_hold_of u h ≡ true)
+    own_hold = any-true (is_hold_of u) (w.cells.holds g) held
+
+    same_readings : (k : GrainId) → put_grain w.cells.readings g (with_reading (w.cells.readings g) u (top (w.cells.stack g)).unit) k ≡ w.cells.readings k
+    same_readings k = grain-at w.cells.readings g _ (λ rs. rs ≡ w.cells.readings k) k
+        (λ e. (let t = i.told g own_hold.0 own_hold.1 in
+        with_reading-same (w.cells.readings g) u (top (w.cells.stack g)).unit t.0 t.1 (t.2 ∙ same_unit-true _ _ own_hold.2) ∙ ap w.cells.readings (sym e)))
+        (λ e. refl)
+
+    not_finished : (x : UnitNo) → x ≡ u → w.units.phase x ≡ Finished → ⊥
+    not_finished x e f = (let t : Running ≡ Finished = sym running ∙ ap w.units.phase (sym e) ∙ f in cc)
+
+    alone_at : (h l : Hold) → Member h holders_g → Member l holders_g → is_update h.mode ≡ true → l.unit ≡ h.unit
+    alone_at h l a b q = elim (granted-member (w.cells.holds g) u mode h a) [
+      | inr x ↦ elim (granted-member (w.cells.holds g) u mode l b) [
+        | inr y ↦ ap (λ (z : Hold). z.unit) y ∙ ap (λ (z : Hold). z.unit) (sym x)
+        | inl y ↦ no_conflict u mode l (free l y.0) (inl (ap (λ (z : Hold). is_update z.mode) (sym x) ∙ q)) ∙ ap (λ (z : Hold). z.unit) (sym x)
+      ]
+      | inl x ↦ elim (granted-member (w.cells.holds g) u mode l b) [
+        | inr y ↦ absurd (x.1 (no_conflict u mode h (free h x.0) (inr q)))
+        | inl y ↦ i.alone g h l x.0 y.0 q
+      ]
+    ]
+
+    stays : (k : GrainId) (h : Hold) → Member h (w.cells.holds k) → (h.unit ≡ u → ⊥) → Member h (put_grain w.cells.holds g holders_g k)
+    stays k h m apart = grain-at w.cells.holds g holders_g (Member h) k (λ e. granted-stays (w.cells.holds g) u mode h (subst (λ j. Member h (w.cells.holds j)) e m) apart) (λ e. m)
+
+    keep : (x : UnitNo) (k : GrainId) (h : Hold) → Member h (w.cells.holds k) → h.unit ≡ x → (l : Hold) × Member l (put_grain w.cells.holds g holders_g k) × (l.unit ≡ x)
+    keep x k h m q = elim (cases_unit h.unit u) [
+      | inl e ↦ grain-at w.cells.holds g holders_g (λ hs. (l : Hold) × Member l hs × (l.unit ≡ x)) k
+          (λ z. (hold, granted-new (w.cells.holds g) u mode, sym e ∙ q)) (λ z. (h, m, q))
+      | inr n ↦ (h, stays k h m n, q)
+    ]
+
+    old_hold : (k : GrainId) (h : Hold) → Member h (put_grain w.cells.holds g holders_g k) → (l : Hold) × Member l (w.cells.holds k) × (l.unit ≡ h.unit)
+    old_hold k h = grain-from w.cells.holds g holders_g (Member h) ((l : Hold) × Member l (w.cells.holds k) × (l.unit ≡ h.unit)) k
+        (λ e m. elim (granted-member (w.cells.holds g) u mode h m) [
+          | inr q ↦ (own_hold.0, subst (λ j. Member own_hold.0 (w.cells.holds j)) (sym e) own_hold.1, same_unit-true _ _ own_hold.2 ∙ ap (λ (z : Hold). z.unit) (sym q))
+          | inl q ↦ (h, subst (λ j. Member h (w.cells.holds j)) (sym e) q.0, refl)
+        ])
+        (λ e m. (h, m, refl))

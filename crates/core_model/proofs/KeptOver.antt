@@ -1,0 +1,119 @@
+-- A unit that is over keeps the invariant.
+use Rattle.std.proofs.Common.{◌≡◌, ℕ, List, [], true, false, ◌⊎◌, inl, inr, refl, sym, ap, ◌∙◌}
+use Rattle.core_model.specs.World.{UnitNo, GrainId, nobody, put, Member, Value, Phase, Unborn, Running, Finished, Refused, Open, Committed, Aborted, Settled, World}
+use Rattle.core_model.specs.Tests.{is_bad, is_good}
+use Rattle.core_model.specs.Dead.{Dead}
+use Rattle.core_model.specs.Chains.{IsBottom, IsLink}
+use Rattle.core_model.proofs.Puts.{put-at, put-from, put-same, put-other}
+use Rattle.core_model.proofs.Basics.{Dead-more}
+use Rattle.core_model.proofs.Chained.{Chain-more}
+use Rattle.core_model.proofs.Invariant.{Inv}
+use Rattle.core_model.specs.Changes.{refused}
+
+-- a running unit that ends without an effect
+pub kept-over : (opening : GrainId → List Value) (n : ℕ) (w : World) (u : UnitNo) (end : Phase) → Inv opening n w → w.units.phase u ≡ Running →
+    (end ≡ Unborn → ⊥) → (end ≡ Running → ⊥) → (end ≡ Finished → ⊥) → Inv opening n (record w { units = record w.units { phase = put w.units.phase u end } })
+kept-over opening n w u end i running n0 n1 n2 =
+    record {
+      fresh = i.fresh;
+      unborn = λ x h. (let e = i.unborn x h in put-at w.units.phase u end (λ p. p ≡ Unborn) x (λ q. absurd (not_unborn x q e)) (λ q. e));
+      outside = put-at w.units.phase u end (λ p. p ≡ Unborn) nobody (λ q. absurd (not_unborn nobody q i.outside)) (λ q. i.outside);
+      origin = i.origin;
+      blank = λ x. put-at w.units.phase u end (λ p. p ≡ Unborn → w.units.reads x ≡ []) x (λ e h. absurd (n0 h)) (λ m. i.blank x);
+      unwritten = λ x h. i.unwritten x (λ f. h (back x f));
+      undecided = λ x. put-from w.units.phase u end (λ p. (p ≡ Unborn) ⊎ (p ≡ Running)) (w.manager.verdict x ≡ Open) x
+          (λ e o. elim o [ inl q ↦ absurd (n0 q) | inr q ↦ absurd (n1 q) ])
+          (λ e o. i.undecided x o);
+      listed = λ k h. (let t = i.listed k h in (back _ t.0, t.1));
+      placed = λ x f. i.placed x (fin x f);
+      within = i.within;
+      early = λ x f. i.early x (fin x f);
+      late = λ x f. i.late x (fin x f);
+      alone = i.alone;
+      keeps = λ x r p m. i.keeps x r (run x p) m;
+      strong = λ x g h f. i.strong x g h (fin x f);
+      told = i.told;
+      seen = i.seen;
+      kept = i.kept;
+      view = i.view;
+      source = λ x r m. elim (i.source x r m) [ inl a ↦ inl a | inr a ↦ inr (back _ a.0, a.1, λ f. a.2 (fin x f)) ];
+      gap = λ x r y m o f. i.gap x r y m (elim o [ inl a ↦ inl (run x a) | inr a ↦ inr (fin x a.0, a.1) ]) (fin y f);
+      chain = λ g. Chain-more (IsBottom opening w.units.phase w.manager.writes w.manager.verdict g) _ (IsLink w.units.phase w.manager.writes w.units.reads g) _
+          (λ x b. elim b [ inl a ↦ inl a | inr a ↦ inr (a.0, (back _ a.1.0, a.1.1)) ])
+          (λ x y l. ((back _ l.0.0, l.0.1), l.1)) (w.cells.stack g) (i.chain g);
+      latest = λ x g f. i.latest x g (fin x f);
+      good = i.good;
+      sure = i.sure;
+      sees = λ x r p m. i.sees x r (run x p) m;
+      away = i.away;
+    }
+  where
+    not_unborn : (x : UnitNo) → x ≡ u → w.units.phase x ≡ Unborn → ⊥
+    not_unborn x q e = (let t : Unborn ≡ Running = sym e ∙ ap w.units.phase q ∙ running in cc)
+
+    not_finished : (x : UnitNo) → x ≡ u → w.units.phase x ≡ Finished → ⊥
+    not_finished x q e = (let t : Finished ≡ Running = sym e ∙ ap w.units.phase q ∙ running in cc)
+
+    fin : (x : UnitNo) → put w.units.phase u end x ≡ Finished → w.units.phase x ≡ Finished
+    fin x = put-at w.units.phase u end (λ p. p ≡ Finished → w.units.phase x ≡ Finished) x (λ e h. absurd (n2 h)) (λ m h. h)
+
+    back : (x : UnitNo) → w.units.phase x ≡ Finished → put w.units.phase u end x ≡ Finished
+    back x f = put-at w.units.phase u end (λ p. p ≡ Finished) x (λ e. absurd (not_finished x e f)) (λ m. f)
+
+    run : (x : UnitNo) → put w.units.phase u end x ≡ Running → w.units.phase x ≡ Running
+    run x = put-at w.units.phase u end (λ p. p ≡ Running → w.units.phase x ≡ Running) x (λ e h. absurd (n1 h)) (λ k h. h)
+
+-- a unit that has no effect, and isn't decided, is aborted
+pub kept-aborted : (opening : GrainId → List Value) (n : ℕ) (w : World) (u : UnitNo) → Inv opening n w → w.units.phase u ≡ Refused → w.manager.verdict u ≡ Open →
+    Inv opening n (record w { manager = record w.manager { verdict = put w.manager.verdict u Aborted } })
+kept-aborted opening n w u i refused_u open_u =
+    record {
+      fresh = i.fresh;
+      unborn = i.unborn;
+      outside = i.outside;
+      origin = i.origin;
+      blank = i.blank;
+      unwritten = i.unwritten;
+      undecided = λ x o. put-other w.manager.verdict u Aborted x (λ e. elim o [
+        | inl q ↦ (let t : Unborn ≡ Refused = sym q ∙ ap w.units.phase e ∙ refused_u in cc)
+        | inr q ↦ (let t : Running ≡ Refused = sym q ∙ ap w.units.phase e ∙ refused_u in cc)
+      ]) ∙ i.undecided x o;
+      listed = i.listed;
+      placed = i.placed;
+      within = i.within;
+      early = λ x f le. put-at w.manager.verdict u Aborted (λ v. v ≡ Open → ⊥) x (λ e q. cc) (λ e. i.early x f le);
+      late = λ x f lt. put-other w.manager.verdict u Aborted x (λ e. not_finished x e f) ∙ i.late x f lt;
+      alone = i.alone;
+      keeps = i.keeps;
+      strong = i.strong;
+      told = i.told;
+      seen = i.seen;
+      kept = i.kept;
+      view = λ g s m. elim (i.view g s m) [ inl a ↦ inl a | inr a ↦ inr (more _ a) ];
+      source = i.source;
+      gap = λ x r y m o f wr lt. more y (i.gap x r y m o f wr lt);
+      chain = λ g. Chain-more (IsBottom opening w.units.phase w.manager.writes w.manager.verdict g) _ (IsLink w.units.phase w.manager.writes w.units.reads g) _
+          (λ x b. elim b [ inl a ↦ inl a | inr a ↦ inr (put-other w.manager.verdict u Aborted x.unit (λ e. not_finished x.unit e a.1.0) ∙ a.0, a.1) ])
+          (λ x y l. l) (w.cells.stack g) (i.chain g);
+      latest = λ x g f wr none. elim (i.latest x g f wr none) [ inl d ↦ inl (more x d) | inr d ↦ inr d ];
+      good = λ x r. put-from w.manager.verdict u Aborted (λ v. is_good v ≡ true) (Member r (w.units.reads x) → (r.source ≡ nobody) ⊎ (is_good (put w.manager.verdict u Aborted r.source) ≡ true)) x (λ e q. cc)
+          (λ e q m. elim (i.good x r q m) [ inl a ↦ inl a | inr a ↦ inr (put-at w.manager.verdict u Aborted (λ v. is_good v ≡ true) r.source (λ k. absurd (not_good r.source k a)) (λ k. a)) ]);
+      sure = λ x r. put-from w.manager.verdict u Aborted (λ v. v ≡ Committed) (Member r (w.units.reads x) → (r.source ≡ nobody) ⊎ (put w.manager.verdict u Aborted r.source ≡ Committed)) x (λ e q. cc)
+          (λ e q m. elim (i.sure x r q m) [ inl a ↦ inl a | inr a ↦ inr (put-at w.manager.verdict u Aborted (λ v. v ≡ Committed) r.source (λ k. absurd (not_good r.source k (ap is_good a))) (λ k. a)) ]);
+      sees = λ x r p m. elim (i.sees x r p m) [ inl a ↦ inl a | inr a ↦ inr (more _ a) ];
+      away = i.away;
+    }
+  where
+    not_finished : (x : UnitNo) → x ≡ u → w.units.phase x ≡ Finished → ⊥
+    not_finished x q e = (let t : Finished ≡ Refused = sym e ∙ ap w.units.phase q ∙ refused_u in cc)
+
+    not_good : (x : UnitNo) → x ≡ u → is_good (w.manager.verdict x) ≡ true → ⊥
+    not_good x q e = (let t : true ≡ false = sym e ∙ ap is_good (ap w.manager.verdict q ∙ open_u) in cc)
+
+    more : (x : UnitNo) → Dead w.manager.verdict w.units.reads x → Dead (put w.manager.verdict u Aborted) w.units.reads x
+    more = Dead-more w.manager.verdict (put w.manager.verdict u Aborted) w.units.reads w.units.reads (λ k h. put-at w.manager.verdict u Aborted (λ v. is_bad v ≡ true) k (λ e. refl) (λ e. h)) (λ k r m. m)
+
+pub kept-refused : (opening : GrainId → List Value) (n : ℕ) (w : World) (u : UnitNo) (why : Settled) → Inv opening n w → w.units.phase u ≡ Running → Inv opening n (refused w u why)
+kept-refused opening n w u why i running =
+    kept-aborted opening n (record w { units = record w.units { phase = put w.units.phase u Refused } }) u
+    (kept-over opening n w u Refused i running (λ e. cc) (λ e. cc) (λ e. cc)) (put-same w.units.phase u Refused) (i.undecided u (inr running))

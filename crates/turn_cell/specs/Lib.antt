@@ -1,0 +1,6 @@
+pub mod History
+pub mod Hands
+pub mod Places
+pub mod Passes
+pub mod Rule
+pub mod Carrying

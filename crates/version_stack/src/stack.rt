@@ -1,0 +1,125 @@
+ghost use Rattle.std.specs.Prelude.{◌≡◌, ◌<◌, ◌≤◌, ◌+◌, [], ◌∷◌, reverse, position, IfOk, OnOk, OnErr};
+ghost use Rattle.cell_model.specs.Units.{nobody};
+ghost use Rattle.cell_model.specs.Stacks.{is_of, top, pushed, committed, removed, has_version};
+
+use base_types::{State, UnitNo, Version};
+use std::alloc::{AllocError, Global};
+use std::marker::Model;
+
+/// The versions of one grain. Contracts see them newest first, with the spare: how many more fit without
+/// memory.
+#[derive(Drop)]
+pub struct Stack {
+    // The versions, oldest first.
+    entries: Vec<Version>,
+    // The state that an empty stack shows, which has no fields.
+    none: State,
+}
+
+impl Model for Stack {
+    ghost use Rattle.std.specs.Prelude.{◌≡◌, ◌-◌, [], reverse, vec_len, vec_capacity};
+    ghost use Rattle.version_stack.specs.Stacked.{Stacked};
+
+    ghost Value = { Stacked };
+
+    ghost view = { λ s. record { versions = reverse s.entries.items; spare = vec_capacity s.entries - vec_len s.entries } };
+
+    ghost invariant = { λ s. s.none ≡ [] };
+}
+
+impl Stack {
+    /// The stack of a grain that nobody has written: its opening state, as the version of unit 0.
+    pub fn new(alloc: Global, opening: State) -> Result<Stack, AllocError>
+        ensures { IfOk result (λ made. made.versions ≡ record { unit = nobody; state = opening } ∷ []) }
+    {
+        let mut entries = Vec::new(alloc);
+        entries.push(Version {
+            unit: UnitNo(0),
+            state: opening,
+        })?;
+        Ok(Stack {
+            entries,
+            none: State::new(alloc),
+        })
+    }
+
+    /// The newest version: its unit and its state. An empty stack shows unit 0 and no fields.
+    pub fn top(&self) -> (UnitNo, &State)
+        ensures unit { result.0 ≡ (top self.now.versions).unit }
+        ensures state { result.1.now ≡ (top self.now.versions).state }
+    {
+        match self.entries.last() {
+            Some(version) => (version.unit, &version.state),
+            None => (UnitNo(0), &self.none),
+        }
+    }
+
+    /// The versions, oldest first.
+    pub fn versions(&self) -> &[Version]
+        ensures { result.now ≡ reverse self.now.versions }
+    {
+        self.entries.as_slice()
+    }
+
+    /// Makes the spare at least 1. Without memory the stack stays as it was.
+    pub fn reserve(&mut self) -> Result<(), AllocError>
+        ensures versions { self.new.versions ≡ self.old.versions }
+        ensures ok { OnOk result (0 < self.new.spare) }
+        ensures spare { self.old.spare ≤ self.new.spare }
+    {
+        self.entries.reserve(1)
+    }
+
+    /// Puts the unit's new version on top. Takes no memory.
+    pub fn push(&mut self, unit: UnitNo, state: State)
+        requires { 0 < self.old.spare }
+        ensures versions { self.new.versions ≡ pushed self.old.versions unit state }
+        ensures spare { self.old.spare ≤ self.new.spare + 1 }
+    {
+        let done = self.entries.push(Version { unit, state });
+        prove!(done.is_ok());
+    }
+
+    /// The unit has committed: what stands under its version is dropped. Does nothing where the unit has no
+    /// version. Takes no memory.
+    pub fn committed(&mut self, unit: UnitNo)
+        ensures versions { self.new.versions ≡ committed unit self.old.versions }
+        ensures spare { self.old.spare ≤ self.new.spare }
+    {
+        let Some(above) = newest_of(&self.entries, unit) else {
+            return;
+        };
+        let below = self.entries.len() - 1 - above;
+        let _ = self.entries.drain(..below);
+    }
+
+    /// The unit has aborted: its version is taken off, with all above it. Answers whether there was one.
+    /// Takes no memory.
+    pub fn remove_from(&mut self, unit: UnitNo) -> bool
+        ensures versions { self.new.versions ≡ removed unit self.old.versions }
+        ensures found { result ≡ has_version unit self.old.versions }
+        ensures spare { self.old.spare ≤ self.new.spare }
+    {
+        match oldest_of(&self.entries, unit) {
+            Some(at) => {
+                self.entries.truncate(at);
+                true
+            }
+            None => false,
+        }
+    }
+}
+
+// How many entries stand above the unit's newest one.
+fn newest_of(entries: &[Version], unit: UnitNo) -> Option<usize>
+    ensures { result ≡ position (is_of unit) (reverse entries.now) }
+{
+    entries.iter().rev().position(|x| x.unit == unit)
+}
+
+// Where the unit's oldest entry stands.
+fn oldest_of(entries: &[Version], unit: UnitNo) -> Option<usize>
+    ensures { result ≡ position (is_of unit) entries.now }
+{
+    entries.iter().position(|x| x.unit == unit)
+}
