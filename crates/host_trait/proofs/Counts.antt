@@ -1,10 +1,7 @@
 -- Counts over several calls.
-use Rattle.std.proofs.Common.{ℕ, ◌≤◌, refl, ◌∙◌, arith}
+use Rattle.std.proofs.Common.{ℕ, ◌≤◌, ◌∙◌, arith}
 use Rattle.host_trait.specs.declared.channels.Channel.{Channel}
 use Rattle.host_trait.specs.Faults.{Rose, CountsOn}
-
-pub none_counted : (channel : Channel) (counts : Channel → ℕ) → CountsOn channel counts counts
-none_counted channel counts = record { others = λ c other. refl; later = omega arith }
 
 pub counts_on : {channel : Channel} {a b c : Channel → ℕ} → CountsOn channel a b → CountsOn channel b c → CountsOn channel a c
 counts_on first second = record {

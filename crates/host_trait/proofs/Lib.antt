@@ -1,4 +1,5 @@
 pub mod Counts
+pub mod Names
+pub mod Crashes
 pub mod Moments
-pub mod Emissions
-pub mod Pulls
+pub mod Runs

@@ -1,7 +1,7 @@
 -- Runs of moments.
-use Rattle.std.proofs.Common.{inl, inr, List, [], ◌∷◌, ◌++◌, sym, ◌∙◌, ap, append_assoc, append-nil}
+use Rattle.std.proofs.Common.{◌≡◌, inl, inr, List, [], ◌∷◌, ◌++◌, sym, ◌∙◌, ap, append_assoc, append-nil}
 use Rattle.std.specs.List.{AllByRecursion}
-use Rattle.host_trait.specs.World.{World, Moment, moment_of, Passes, Ticks}
+use Rattle.host_trait.specs.World.{World, Moment, moment_of, Passes, PassesTwice, Ticks}
 
 all_both : (P : Moment → Type 0) (xs ys : List Moment) → AllByRecursion P xs → AllByRecursion P ys → AllByRecursion P (xs ++ ys)
 all_both P [] ys none each = each
@@ -30,3 +30,34 @@ both P {a} first second = record {
 
 pub weaker : (P Q : Moment → Type 0) {a b : List Moment} → ((m : Moment) → P m → Q m) → Passes P a b → Passes Q a b
 weaker P Q leads run = record { more = run.more; past = run.past; each = all_weaker P Q leads run.more run.each }
+
+-- a call that changed nothing is a moment like the one before
+pub same_moment : (old new : World) → new.output ≡ old.output → new.disk ≡ old.disk → moment_of new ≡ moment_of old
+same_moment old new output disk = λ i. record { output = output i; disk = disk i }
+
+-- an early run, and then a late one
+pub in_turn : (P Q : Moment → Type 0) {a b c : List Moment} → Passes P a b → Passes Q b c → PassesTwice P Q a c
+in_turn P Q {a} {b} early late = record { turn = b; early = early; late = late }
+
+-- an early run before
+pub earlier : (P Q : Moment → Type 0) {a b c : List Moment} → Passes P a b → PassesTwice P Q b c → PassesTwice P Q a c
+earlier P Q before run = record { turn = run.turn; early = both P before run.early; late = run.late }
+
+-- a late run behind
+pub later : (P Q : Moment → Type 0) {a b c : List Moment} → PassesTwice P Q a b → Passes Q b c → PassesTwice P Q a c
+later P Q run behind = record { turn = run.turn; early = run.early; late = both Q run.late behind }
+
+-- all moments are early
+pub all_early : (P Q : Moment → Type 0) {a b : List Moment} → Passes P a b → PassesTwice P Q a b
+all_early P Q {a} {b} run = in_turn P Q run (started Q b)
+
+-- all moments are late
+pub all_late : (P Q : Moment → Type 0) {a b : List Moment} → Passes Q a b → PassesTwice P Q a b
+all_late P Q {a} {b} run = in_turn P Q (started P a) run
+
+pub weaker_twice : (P Q R S : Moment → Type 0) {a b : List Moment} → ((m : Moment) → P m → R m) → ((m : Moment) → Q m → S m) → PassesTwice P Q a b → PassesTwice R S a b
+weaker_twice P Q R S first second run = record { turn = run.turn; early = weaker P R first run.early; late = weaker Q S second run.late }
+
+-- two runs are one run of what holds in both
+pub joined : (P : Moment → Type 0) {a b : List Moment} → PassesTwice P P a b → Passes P a b
+joined P run = both P run.early run.late

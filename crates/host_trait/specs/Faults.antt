@@ -13,18 +13,7 @@ pub record CountsOn (channel : Channel) (old new : Channel → ℕ) : Type 0 whe
   pub others : (c : Channel) → c ≢ channel → new c ≡ old c
   pub later : old channel ≤ new channel
 
--- no count of a file has changed, and none has fallen
-pub record StreamsOnly (old new : Channel → ℕ) : Type 0 where
-  pub files : (file : FileId) → new (File file) ≡ old (File file)
-  pub later : (c : Channel) → old c ≤ new c
-
 -- a call on this channel: it fails only where the channel's count rose, and changes no other count
 pub record Counted {T E : Type 0} (channel : Channel) (result : Result T E) (old new : Channel → ℕ) : Type 0 where
   pub counts : CountsOn channel old new
   pub cause : IsErr result → Rose (old channel) (new channel)
-
--- the counts of a host without files
-abbrev pub stream_counts : ℕ → ℕ → Channel → ℕ
-stream_counts input output Input = input
-stream_counts input output Output = output
-stream_counts input output (File file) = 0

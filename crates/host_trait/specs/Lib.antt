@@ -1,3 +1,5 @@
 pub mod Faults
+pub mod Files
+pub mod Disk
 pub mod World
-pub mod Outputs
+pub mod Runs

@@ -1,0 +1,62 @@
+-- The paths of the files that are ready, and how often calls on each have failed.
+use Rattle.std.specs.Prelude.{◌≡◌, ℕ, nat_le, Bool, true, false, IsTrue, Option, Some, None, List, string_bytes}
+use Rattle.std.specs.declared.cmp.Ordering.{Ordering}
+use Rattle.std.specs.BTreeMap.{BTreeMap, get}
+use Rattle.host_trait.specs.declared.channels.FileId.{FileId}
+use Rattle.host_trait.specs.declared.channels.FileId.TheVariants.{Program, Manager, Grain}
+use Rattle.host_trait.specs.declared.channels.Channel.{Channel}
+use Rattle.host_trait.specs.declared.channels.Channel.TheVariants.{Input, Output, File}
+use Rattle.host_trait.specs.contracts.channels.FileIdOrd.TheImpl as file_ord
+use Rattle.host_files.specs.declared.table.Named.{Named}
+use Rattle.host_files.specs.Names.{path_of}
+
+-- the order of files in the table
+abbrev pub file_cmp : FileId → FileId → Ordering
+file_cmp = (file_ord.ghosts).cmp
+
+abbrev pub path_in_entry : Option Named → Option (List ℕ)
+path_in_entry None = None
+path_in_entry (Some named) = Some (string_bytes named.path)
+
+abbrev pub faults_in_entry : Option Named → ℕ
+faults_in_entry None = 0
+faults_in_entry (Some named) = named.faults
+
+abbrev pub is_path : Option (List ℕ) → Bool
+is_path None = false
+is_path (Some path) = true
+
+-- the path of a file, none where it isn't ready
+abbrev pub path_in : BTreeMap FileId Named → FileId → Option (List ℕ)
+path_in files file = path_in_entry (get file_cmp files file)
+
+-- whether a file is ready
+abbrev pub is_named : BTreeMap FileId Named → FileId → Bool
+is_named files file = is_path (path_in files file)
+
+-- how often calls on a file have failed
+abbrev pub faults_in : BTreeMap FileId Named → FileId → ℕ
+faults_in files file = faults_in_entry (get file_cmp files file)
+
+-- each file that is ready has its own path in this folder
+abbrev pub AreNamed : List ℕ → BTreeMap FileId Named → Type 0
+AreNamed folder files = (file : FileId) (path : List ℕ) → path_in files file ≡ Some path → path ≡ path_of folder file
+
+-- whether a file is ready from the start
+abbrev pub is_always : FileId → Bool
+is_always (Program slot) = nat_le slot 1
+is_always (Manager slot) = nat_le slot 1
+is_always (Grain slot grain) = false
+
+abbrev pub AreAlwaysNamed : BTreeMap FileId Named → Type 0
+AreAlwaysNamed files = (file : FileId) → IsTrue (is_always file) → IsTrue (is_named files file)
+
+-- no file has another path than before
+abbrev pub SamePaths : BTreeMap FileId Named → BTreeMap FileId Named → Type 0
+SamePaths old new = (file : FileId) → path_in new file ≡ path_in old file
+
+-- how often each channel has failed
+abbrev pub counts_of : ℕ → ℕ → BTreeMap FileId Named → Channel → ℕ
+counts_of input output files Input = input
+counts_of input output files Output = output
+counts_of input output files (File file) = faults_in files file

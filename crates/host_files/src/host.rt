@@ -1,0 +1,129 @@
+ghost use Rattle.std.specs.Prelude.{◌≡◌, IfOk};
+ghost use Rattle.host_files.specs.Table.{counts_of};
+ghost use Rattle.host_trait.specs.declared.channels.Channel.{Channel};
+
+use crate::folder::Folder;
+use crate::table::Table;
+use host_trait::{Channel, Failed, FileId, Host};
+use std::alloc::{AllocError, Global};
+use std::io::{Read, Write};
+use std::rt::Files;
+
+/// A host over a reader, a writer and a folder of files, of a runtime `F`.
+///
+/// It tells nothing of what they hold, and counts the faults of each channel: what the system refuses, a length or the end
+/// of a written range that isn't below 2 to the 63, and anything but a regular file at a file's path, are faults. A file
+/// that isn't there has no bytes. Each file has one path: the folder, a slash and `program-S.otx`, `manager-S.otx` or
+/// `grain-S-K-Y.otx`, with slot, type and key in decimal. The paths of the program and manager files are made by
+/// [`new`](FolderHost::new), and that of a grain file by [`ready`](Host::ready), so that no other call takes memory.
+#[derive(Drop)]
+pub struct FolderHost<F: Files, R, W> {
+    reader: R,
+    writer: W,
+    folder: Folder<F>,
+    table: Table,
+    input_faults: u64,
+    output_faults: u64,
+}
+
+impl<F: Files + Drop, R: Read + Drop, W: Write + Drop> FolderHost<F, R, W> {
+    /// A host whose input is what the reader gives, whose output goes to the writer, and whose files stand in the folder. The
+    /// empty text is the folder in which the program runs. Nothing is read or made, and no call has failed.
+    pub fn new(
+        alloc: Global,
+        files: F,
+        reader: R,
+        writer: W,
+        folder: &str,
+    ) -> Result<FolderHost<F, R, W>, AllocError>
+        ensures { IfOk result (λ host. (channel : Channel)
+            → counts_of host.input_faults host.output_faults host.table.files channel ≡ 0) }
+    {
+        let path = if folder.is_empty() { "." } else { folder };
+        let table = Table::new(alloc, path)?;
+        let kept = String::from_str(alloc, path)?;
+        Ok(FolderHost {
+            reader,
+            writer,
+            folder: Folder::new(files, kept),
+            table,
+            input_faults: 0,
+            output_faults: 0,
+        })
+    }
+
+    /// How often calls on this channel have failed, up to the last value of a `u64`.
+    pub fn fault_count(&self, channel: Channel) -> u64
+        ensures { result ≡ counts_of self.now.input_faults self.now.output_faults self.now.table.files channel }
+    {
+        match channel {
+            Channel::Input => self.input_faults,
+            Channel::Output => self.output_faults,
+            Channel::File(file) => self.table.faults(file),
+        }
+    }
+}
+
+impl<F: Files + Drop, R: Read, W: Write> Host for FolderHost<F, R, W> {
+    ghost use Rattle.std.specs.Prelude.{false};
+    ghost use Rattle.host_files.specs.Table.{is_named, counts_of};
+    ghost use Rattle.host_trait.specs.World.{empty_world, untold};
+
+    ghost tells = { false };
+
+    ghost world = { λ host. empty_world };
+
+    ghost faults = { λ host. counts_of host.input_faults host.output_faults host.table.files };
+
+    ghost is_ready = { λ host. is_named host.table.files };
+
+    ghost seen_may_stay = { λ host file told. untold told };
+
+    fn pull(&mut self, into: &mut [u8]) -> Result<usize, Failed> {
+        match self.reader.read(into) {
+            Ok(count) => Ok(count),
+            Err(_) => {
+                self.input_faults = self.input_faults.saturating_add(1);
+                Err(Failed)
+            }
+        }
+    }
+
+    fn emit(&mut self, bytes: &[u8]) -> Result<(), Failed> {
+        let whole = self.writer.write_all(bytes).is_ok() && self.writer.flush().is_ok();
+        if !whole {
+            self.output_faults = self.output_faults.saturating_add(1);
+            return Err(Failed);
+        }
+        Ok(())
+    }
+
+    fn length(&mut self, file: FileId) -> Result<u64, Failed> {
+        let answer = self.folder.length(self.table.path(file));
+        let count = self.table.count(file, answer)?;
+        Ok(count)
+    }
+
+    fn read_at(&mut self, file: FileId, at: u64, into: &mut [u8]) -> Result<usize, Failed> {
+        let answer = self.folder.read_at(self.table.path(file), at, into);
+        let count = self.table.count(file, answer)?;
+        Ok(count)
+    }
+
+    fn write_at(&mut self, file: FileId, at: u64, bytes: &[u8]) -> Result<(), Failed> {
+        let answer = self.folder.write_at(file, self.table.path(file), at, bytes);
+        self.table.count(file, answer)?;
+        Ok(())
+    }
+
+    fn ready(&mut self, file: FileId) -> Result<(), AllocError> {
+        self.table.ready(file)?;
+        Ok(())
+    }
+
+    fn sync(&mut self, file: FileId) -> Result<(), Failed> {
+        let answer = self.folder.sync(file, self.table.path(file));
+        self.table.count(file, answer)?;
+        Ok(())
+    }
+}

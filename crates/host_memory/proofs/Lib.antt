@@ -1,0 +1,5 @@
+pub mod Tables
+pub mod Counting
+pub mod Worlds
+pub mod SeenFiles
+pub mod Drawing

@@ -1,0 +1,45 @@
+-- Files: their slots and names, and which calls a file may be given to.
+use Rattle.std.specs.Prelude.{ℕ, ◌≤◌, ◌==◌, ◌&&◌, Bool, false, IsTrue, List, ◌++◌, codes, decimal}
+use Rattle.base_types.specs.declared.calls.GrainId.{GrainId}
+use Rattle.host_trait.specs.declared.channels.FileId.{FileId}
+use Rattle.host_trait.specs.declared.channels.FileId.TheVariants.{Program, Manager, Grain}
+
+abbrev pub same_grain : GrainId → GrainId → Bool
+same_grain a b = (a.kind == b.kind) && (a.key == b.key)
+
+-- whether two names are one file's
+abbrev pub same_file : FileId → FileId → Bool
+same_file (Program a) (Program b) = a == b
+same_file (Manager a) (Manager b) = a == b
+same_file (Grain a x) (Grain b y) = (a == b) && same_grain x y
+same_file _ _ = false
+
+abbrev pub slot_of : FileId → ℕ
+slot_of (Program slot) = slot
+slot_of (Manager slot) = slot
+slot_of (Grain slot grain) = slot
+
+-- slots are 0 and 1
+abbrev pub HasSlot : FileId → Type 0
+HasSlot file = slot_of file ≤ 1
+
+-- A call may be given this file: its slot is one, and a grain file has been made ready.
+abbrev pub MayAsk : (FileId → Bool) → FileId → Type 0
+MayAsk is_ready (Program slot) = slot ≤ 1
+MayAsk is_ready (Manager slot) = slot ≤ 1
+MayAsk is_ready (Grain slot grain) = (slot ≤ 1) × IsTrue (is_ready (Grain slot grain))
+
+-- no file that was ready has ceased to be
+abbrev pub StaysReady : (FileId → Bool) → (FileId → Bool) → Type 0
+StaysReady old new = (file : FileId) → IsTrue (old file) → IsTrue (new file)
+
+abbrev pub IsManager : FileId → Type 0
+IsManager (Program slot) = ⊥
+IsManager (Manager slot) = Unit {0}
+IsManager (Grain slot grain) = ⊥
+
+-- the name that a file has in its silo's folder
+abbrev pub name_of : FileId → List ℕ
+name_of (Program slot) = codes "program-" ++ (decimal slot ++ codes ".otx")
+name_of (Manager slot) = codes "manager-" ++ (decimal slot ++ codes ".otx")
+name_of (Grain slot grain) = codes "grain-" ++ (decimal slot ++ (codes "-" ++ (decimal grain.kind ++ (codes "-" ++ (decimal grain.key ++ codes ".otx")))))
