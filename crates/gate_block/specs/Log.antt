@@ -1,0 +1,89 @@
+-- The log of a manager file: the bodies of its blocks from byte 15 on whose gates are open, up to the first closed gate.
+use Rattle.std.specs.Prelude.{◌≡◌, ◌≢◌, ◌⊎◌, ℕ, zero, suc, ◌+◌, ◌^◌, ◌<◌, IsTrue, List, [], ◌∷◌, ◌++◌, length, take, drop, slice_index}
+use Rattle.host_trait.specs.declared.channels.FileId.{FileId}
+use Rattle.host_trait.specs.Disk.{FileState, MayLeave, overlaid, settled}
+use Rattle.host_trait.specs.World.{Disk}
+use Rattle.gate_block.specs.Gates.{IsClosedAt, is_open_at}
+use Rattle.gate_block.specs.Blocks.{Found, shut, bad, whole, found_at, block_of, block_at}
+
+-- the place of the first block's gate
+abbrev pub first_gate : ℕ
+first_gate = 15
+
+-- the body that was found and those behind it, none where the log ends here
+abbrev pub then_bodies : (ℕ → List (List ℕ)) → Found → List (List ℕ)
+then_bodies behind shut = []
+then_bodies behind bad = []
+then_bodies behind (whole body) = body ∷ behind (length body)
+
+-- The bodies from a gate on, at most so many. The log ends at a closed gate, and before a block that isn't whole.
+abbrev pub bodies_from : ℕ → ℕ → List ℕ → List (List ℕ)
+bodies_from zero gate file = []
+bodies_from (suc most) gate file = then_bodies (λ size. bodies_from most (gate + 5 + size) file) (found_at gate file)
+
+-- the log of a file
+abbrev pub bodies_of : List ℕ → List (List ℕ)
+bodies_of file = bodies_from (length file) first_gate file
+
+-- the gate behind the block that was found and all whole ones behind it, this one where the log ends here
+abbrev pub then_gate : ℕ → (ℕ → ℕ) → Found → ℕ
+then_gate gate behind shut = gate
+then_gate gate behind bad = gate
+then_gate gate behind (whole body) = behind (length body)
+
+abbrev pub gate_from : ℕ → ℕ → List ℕ → ℕ
+gate_from zero gate file = gate
+gate_from (suc most) gate file = then_gate gate (λ size. gate_from most (gate + 5 + size) file) (found_at gate file)
+
+-- the gate at which the log of a file ends: the first that is closed, or has no whole block behind it
+abbrev pub gate_of : List ℕ → ℕ
+gate_of file = gate_from (length file) first_gate file
+
+-- every open block is whole: the log ends at a closed gate
+abbrev pub IsWhole : List ℕ → Type 0
+IsWhole file = found_at (gate_of file) file ≡ shut
+
+-- the open blocks of these bodies, one behind the other
+abbrev pub open_blocks : List (List ℕ) → List ℕ
+open_blocks [] = []
+open_blocks (body ∷ bodies) = block_at body ++ open_blocks bodies
+
+-- each length fits its field
+abbrev pub AreSmall : List (List ℕ) → Type 0
+AreSmall [] = Unit {0}
+AreSmall (body ∷ bodies) = (length body < 2 ^ 32) × AreSmall bodies
+
+-- from byte 15 up to this gate there stand the open blocks of these bodies
+pub record HasBlocks (bodies : List (List ℕ)) (gate : ℕ) (file : List ℕ) : Type 0 where
+  pub small : AreSmall bodies
+  pub at : gate ≡ first_gate + length (open_blocks bodies)
+  pub within : gate < length file
+  pub blocks : drop first_gate (take gate file) ≡ open_blocks bodies
+
+-- and this gate is closed: these bodies are the log
+pub record LogsUpTo (bodies : List (List ℕ)) (gate : ℕ) (file : List ℕ) : Type 0 where
+  pub blocks : HasBlocks bodies gate file
+  pub closed : slice_index file gate ≢ 1
+
+-- the gate is closed in each image of this file
+abbrev pub EachClosed : ℕ → FileId → Disk → Type 0
+EachClosed gate file disk = (c : List ℕ) → MayLeave (disk file) c → IsClosedAt gate c
+
+-- the gate is open in each image of this file
+abbrev pub EachOpen : ℕ → FileId → Disk → Type 0
+EachOpen gate file disk = (c : List ℕ) → MayLeave (disk file) c → IsTrue (is_open_at gate c)
+
+-- each image of this file has this log, which ends at this gate
+abbrev pub EachLogs : List (List ℕ) → ℕ → FileId → Disk → Type 0
+EachLogs bodies gate file disk = (c : List ℕ) → MayLeave (disk file) c → LogsUpTo bodies gate c
+
+-- each image of this file has this log, or it with one body more
+abbrev pub EachLogsOrMore : List (List ℕ) → List ℕ → ℕ → FileId → Disk → Type 0
+EachLogsOrMore bodies body gate file disk =
+    (c : List ℕ) → MayLeave (disk file) c → LogsUpTo bodies gate c ⊎ LogsUpTo (bodies ++ body ∷ []) (gate + length (block_of body)) c
+
+-- A block lasts behind the closed gate at which this log ends, and nothing is pending: the file was `front`.
+pub record IsStaged (bodies : List (List ℕ)) (body : List ℕ) (gate : ℕ) (front : List ℕ) (file : FileState) : Type 0 where
+  pub log : LogsUpTo bodies gate front
+  pub small : length body < 2 ^ 32
+  pub there : file ≡ settled (overlaid front (gate + 1) (block_of body))
