@@ -1,0 +1,73 @@
+-- What a call of `create` comes to: a silo, and how far it came.
+use Rattle.std.proofs.Common.{◌≡◌, ◌≢◌, ◌⊎◌, inl, inr, ℕ, ◌≤◌, List, [], length, take, slice_index, sym, ◌∙◌, ap, subst, arith, length-take, get_or-take}
+use Rattle.host_trait.specs.declared.channels.FileId.{FileId}
+use Rattle.host_trait.specs.declared.channels.Channel.{Channel}
+use Rattle.host_trait.specs.declared.channels.Channel.TheVariants.{File}
+use Rattle.host_trait.specs.Faults.{CountsOn}
+use Rattle.host_trait.proofs.Counts.{rose_later}
+use Rattle.host_trait.proofs.Runs.{settled_image}
+use Rattle.host_trait.specs.World.{World, Moment, Image, Disk, IsImage, Passes, moment_of}
+use Rattle.gate_block.specs.Log.{first_gate}
+use Rattle.silo_spec.specs.Silos.{manager, program_file, counter_magic, IsSilo, HasProgram, IsNewSilo}
+use Rattle.silo_spec.specs.Moments.{IsUntouched}
+use Rattle.silo_spec.specs.Logs.{IsLog}
+use Rattle.opening.specs.Making.{IsMade, IsNewAt, IsUnsynced, FromFirstSync, Makes, HasFailed, new_header}
+use Rattle.opening.specs.Steps.{HasNoSilo}
+use Rattle.opening.proofs.Closing.{first_then, first_weaker}
+use Rattle.opening.proofs.Filling.{new_log, new_silo}
+use Rattle.opening.proofs.Fronts.{first_in, name_in}
+
+module _ (text : List ℕ) (disk : Disk) (made : IsMade counter_magic text disk) (image : Image) (is : IsImage disk image) where
+  log_is : image manager ≡ (disk manager).seen
+  log_is = settled_image disk manager (disk manager).seen (image manager) made.log_lasts (is manager)
+
+  header_is : new_header counter_magic ≡ take 16 (image manager)
+  header_is = sym (ap (λ (l : List ℕ). take 16 l) log_is ∙ made.header)
+
+  long : 16 ≤ length (image manager)
+  long = omega (arith, ap length header_is, length-take 16 (image manager))
+
+  silo : IsSilo counter_magic (image manager)
+  silo = record {
+    long = long;
+    gate = sym (first_in (image manager) (new_header counter_magic) header_is);
+    named = sym (name_in (image manager) (new_header counter_magic) header_is);
+  }
+
+  closed : slice_index (image manager) 15 ≡ 0
+  closed = sym (get_or-take 16 (image manager) 15 0 (omega arith)) ∙ ap (λ (l : List ℕ). slice_index l 15) (sym header_is)
+
+  text_is : HasProgram text (image program_file)
+  text_is = subst (λ (l : List ℕ). HasProgram text l) (sym (settled_image disk program_file (disk program_file).seen (image program_file) made.program_lasts (is program_file))) made.program
+
+  -- each image of what was made is a new silo
+  pub made_silo : IsNewSilo counter_magic text image
+  made_silo = new_silo text image silo text_is closed
+
+  -- and its log has no unit
+  pub made_log : IsLog counter_magic image [] first_gate
+  made_log = record { silo = silo; blocks = new_log (image manager) long closed; units = tt }
+
+no_silo_new : (text : List ℕ) (m : Moment) → HasNoSilo counter_magic m → IsNewAt counter_magic text m
+no_silo_new text m none image is silo = absurd (none image is silo)
+
+-- the first two steps came so far
+pub so_far : (text : List ℕ) (old new : World) → IsUntouched old new ⊎ (IsUnsynced old new ⊎ FromFirstSync (HasNoSilo counter_magic) old new) → Makes counter_magic text old new
+so_far text old new (inl untouched) = inl untouched
+so_far text old new (inr (inl unsynced)) = inr (inl unsynced)
+so_far text old new (inr (inr first)) = inr (inr (first_weaker (HasNoSilo counter_magic) (IsNewAt counter_magic text) old new (no_silo_new text) first))
+
+-- and the later ones behind them
+pub came_on : (text : List ℕ) (old mid new : World) → FromFirstSync (HasNoSilo counter_magic) old mid → Passes (IsNewAt counter_magic text) mid.past new.past → IsNewAt counter_magic text (moment_of new) → Makes counter_magic text old new
+came_on text old mid new first moments now =
+    inr (inr (first_then (IsNewAt counter_magic text) old mid new (first_weaker (HasNoSilo counter_magic) (IsNewAt counter_magic text) old mid (no_silo_new text) first) moments now))
+
+counts_apart : File program_file ≢ File manager
+counts_apart e = cc
+
+-- a fault of a later step is one of the whole call
+pub failed_later : (file : FileId) (a b c : Channel → ℕ) → CountsOn (File manager) a b → HasFailed file b c → HasFailed file a c
+failed_later file a b c counts failed = elim failed.0 [
+  | inl is ↦ (inl is, rose_later (subst (λ (f : FileId). a (File f) ≤ b (File f)) (sym is) counts.later) failed.1)
+  | inr is ↦ (inr is, rose_later (subst (λ (f : FileId). a (File f) ≤ b (File f)) (sym is) (omega (arith, counts.others (File program_file) counts_apart))) failed.1)
+]

@@ -1,0 +1,9 @@
+pub mod Silos
+pub mod Totals
+pub mod Units
+pub mod Logs
+pub mod Damage
+pub mod Journals
+pub mod Moments
+pub mod Settling
+pub mod Ends

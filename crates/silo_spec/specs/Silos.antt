@@ -1,0 +1,39 @@
+-- Whether an image is a silo, and of which program.
+use Rattle.std.specs.Prelude.{◌≡◌, ℕ, ◌+◌, ◌≤◌, List, [], ◌++◌, length, take, drop, slice_index, codes}
+use Rattle.std.specs.Int.{w32, to_le_bytes}
+use Rattle.host_trait.specs.declared.channels.FileId.{FileId}
+use Rattle.host_trait.specs.declared.channels.FileId.TheVariants.{Manager, Program}
+use Rattle.host_trait.specs.World.{Image}
+use Rattle.gate_block.specs.Log.{bodies_of, IsWhole}
+
+-- the file of the log, and that of the program
+abbrev pub manager : FileId
+manager = Manager 0
+
+abbrev pub program_file : FileId
+program_file = Program 0
+
+-- the eight bytes after the header gate that name a silo of counters
+abbrev pub counter_magic : List ℕ
+counter_magic = codes "OTXLOG00"
+
+-- a manager file of at least 16 bytes, whose first byte, the header gate, is 1 and is followed by the magic
+pub record IsSilo (magic file : List ℕ) : Type 0 where
+  pub long : 16 ≤ length file
+  pub gate : slice_index file 0 ≡ 1
+  pub named : take 8 (drop 1 file) ≡ magic
+
+-- a program file: the text's length and the text; further bytes are ignored
+abbrev pub HasProgram : List ℕ → List ℕ → Type 0
+HasProgram text file = take (4 + length text) file ≡ to_le_bytes w32 (length text) ++ text
+
+-- a silo of this program with an empty log
+pub record IsNewSilo (magic text : List ℕ) (image : Image) : Type 0 where
+  pub silo : IsSilo magic (image manager)
+  pub program : HasProgram text (image program_file)
+  pub empty : bodies_of (image manager) ≡ []
+  pub whole : IsWhole (image manager)
+
+-- an image that is a silo is such a silo
+abbrev pub IsNewIfSilo : List ℕ → List ℕ → Image → Type 0
+IsNewIfSilo magic text image = IsSilo magic (image manager) → IsNewSilo magic text image
