@@ -1,16 +1,14 @@
-//! The program `silo`: [`run_silo`] over the standard streams.
+//! The program `silo`: [`run_silo`] over the standard streams and a folder.
 //!
 //! The first word is the folder, the others are the command. The program ends with the status's number, and
 //! says the status on standard error unless all was done.
 #![tactic(auto)]
 
-mod streams;
-
+use host_files::FolderHost;
 use silo_top::{Gate, GatePlace, Status, run_silo};
 use std::io::Write;
 use std::process::ExitCode;
 use std::{env, io};
-use streams::Streams;
 
 /// A gate that does nothing.
 #[derive(Drop)]
@@ -20,25 +18,47 @@ impl Gate for NoGate {
     fn reach(&self, _place: GatePlace) {}
 }
 
-/// The words after the program's name and the folder. Words that aren't UTF-8 are a bad use.
-fn words_of(rt: &HostRuntime) -> Result<Vec<String>, Status> {
+/// The folder and the words of the command.
+#[derive(Drop)]
+struct CommandLine {
+    folder: String,
+    words: Vec<String>,
+}
+
+/// The folder, which is the empty text where there is no word, and the words behind it. Words that aren't UTF-8 are
+/// a bad use.
+fn command_line(rt: &HostRuntime) -> Result<CommandLine, Status> {
     let Ok(all) = env::args(rt) else {
         return Err(Status::BadUse);
     };
+    let mut folder = String::new(rt.alloc());
     let mut words = Vec::new(rt.alloc());
-    for word in all.skip(2) {
-        words.push(word).map_err(|_| Status::Memory)?;
+    for (place, word) in all.skip(1).enumerate() {
+        if place == 0 {
+            folder = word;
+        } else {
+            words.push(word).map_err(|_| Status::Memory)?;
+        }
     }
-    Ok(words)
+    Ok(CommandLine { folder, words })
 }
 
 fn status_of(rt: &HostRuntime) -> Status {
-    let words = match words_of(rt) {
-        Ok(words) => words,
+    let line = match command_line(rt) {
+        Ok(line) => line,
         Err(status) => return status,
     };
-    let mut host = Streams::new(rt.reader(), io::writer(rt));
-    run_silo(rt, rt.alloc(), words.as_slice(), &mut host, &NoGate)
+    let made = FolderHost::new(
+        rt.alloc(),
+        rt,
+        rt.reader(),
+        io::writer(rt),
+        line.folder.as_str(),
+    );
+    let Ok(mut host) = made else {
+        return Status::Memory;
+    };
+    run_silo(rt, rt.alloc(), line.words.as_slice(), &mut host, &NoGate)
 }
 
 /// Says the status on standard error. Without memory, or where that stream fails, nothing is said.

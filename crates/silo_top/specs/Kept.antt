@@ -3,7 +3,7 @@ use Rattle.std.specs.Prelude.{pos, unwrap_or}
 use Rattle.std.specs.Ordering.{nat_cmp}
 use Rattle.std.specs.BTreeMap.{get}
 use Rattle.silo_top.specs.declared.counters.Counters.{Counters}
-use Rattle.silo_top.specs.Counters.{Totals}
+use Rattle.silo_spec.specs.Totals.{Totals}
 
 -- a key that isn't kept has the total 0
 abbrev pub totals_of : Counters → Totals

@@ -1,4 +1,6 @@
 pub mod Statuses
-pub mod Counters
 pub mod Kept
 pub mod Runs
+pub mod Seals
+pub mod Prepared
+pub mod Settled

@@ -1,37 +1,140 @@
--- What a command of these words does, and what it has emitted when it ends.
-use Rattle.std.specs.Prelude.{◌≡◌, ℕ, List, [], ◌∷◌, Bool, false, codes, bytes_eq, String, string_bytes}
-use Rattle.std.specs.List.{concat}
+-- What a command does to the folder, the input and the output, at each moment and at its end.
+use Rattle.std.specs.Prelude.{◌≡◌, ◌⊎◌, ℕ, ◌≤◌, ◌<◌, List, [], ◌∷◌, length, Bool, false, codes, bytes_eq, String, string_bytes}
 use Rattle.std.specs.declared.alloc.Global.{Global}
-use Rattle.host_trait.specs.World.{World}
-use Rattle.host_trait.specs.Outputs.{AppendsPart, AppendsSome, AppendsAll}
-use Rattle.silo_top.specs.Counters.{replies_to}
+use Rattle.host_trait.specs.declared.channels.FileId.{FileId}
+use Rattle.host_trait.specs.declared.channels.Channel.{Channel}
+use Rattle.host_trait.specs.declared.channels.Channel.TheVariants.{Input, Output, File}
+use Rattle.host_trait.specs.Disk.{settled}
+use Rattle.host_trait.specs.Faults.{Rose}
+use Rattle.host_trait.specs.World.{World, Moment, Image, IsImage, Passes, PassesTwice, moment_of}
+use Rattle.silo_spec.specs.declared.units.Logged.{Logged}
+use Rattle.silo_spec.specs.Silos.{manager, program_file, counter_magic, IsSilo, IsNewSilo}
+use Rattle.silo_spec.specs.Logs.{IsLog}
+use Rattle.silo_spec.specs.Damage.{IsDamagedAt}
+use Rattle.silo_spec.specs.Journals.{journal_of}
+use Rattle.silo_spec.specs.Moments.{AllKeep, IsAsAtEntry, IsUntouched, KeepsOthers}
+use Rattle.silo_spec.specs.Ends.{IsUnbegun, IsDone, IsStopped, IsCut, IsInDoubt}
+use Rattle.opening.specs.Making.{Makes, StaysBeside}
 use Rattle.silo_top.specs.declared.status.Status.{Status}
-use Rattle.silo_top.specs.declared.status.Status.TheVariants.{Done, BadUse, Memory, ReadFault, WriteFault, InputTooLong}
+use Rattle.silo_top.specs.declared.status.Status.TheVariants.{Done, BadUse, Memory, ReadFault, WriteFault, DiskFault, NotASilo, AlreadyASilo, Damaged, InputTooLong}
 
--- the words of the one command
+-- the words are this one word
+abbrev pub is_word : List ℕ → List (String Global) → Bool
+is_word name [] = false
+is_word name (word ∷ []) = bytes_eq (string_bytes word) name
+is_word name (word ∷ next ∷ more) = false
+
+-- the two commands
+abbrev pub is_init : List (String Global) → Bool
+is_init words = is_word (codes "init") words
+
 abbrev pub is_run : List (String Global) → Bool
-is_run [] = false
-is_run (word ∷ []) = bytes_eq (string_bytes word) (codes "run")
-is_run (word ∷ next ∷ more) = false
+is_run words = is_word (codes "run") words
 
--- what a run has emitted when it ends: all replies, whole replies from the first on, a first part, or nothing
-abbrev pub Emits : Status → World → World → Type 0
-Emits Done old new = AppendsAll old.output (replies_to old.input) new.output
-Emits BadUse old new = new.output ≡ old.output
-Emits Memory old new = AppendsSome old.output (replies_to old.input) new.output
-Emits ReadFault old new = new.output ≡ old.output
-Emits WriteFault old new = AppendsPart old.output (concat (replies_to old.input)) new.output
-Emits (InputTooLong line) old new = new.output ≡ old.output
+-- the program of a new silo
+abbrev pub counter_program : List ℕ
+counter_program = codes "type counter {\n  field total = 0;\n  method add(n) createorjoin update { set total = total + n; return total; }\n  method read() createorjoin read { return total; }\n}\n"
 
--- the input was read whole
-abbrev pub IsCarried : Status → Type 0
-IsCarried Done = Unit {0}
-IsCarried BadUse = ⊥
-IsCarried Memory = ⊥
-IsCarried ReadFault = ⊥
-IsCarried WriteFault = Unit {0}
-IsCarried (InputTooLong line) = ⊥
-
--- the most bytes that the input may have
+-- the most bytes that the input of a run may have
 abbrev pub input_limit : ℕ
 input_limit = 16777216
+
+-- ---- run
+
+-- Why a run was refused before its first line: what the manager file reads at entry shows it. Want of memory is free, and a
+-- fault is shown by its count.
+abbrev pub IsRefusedBy : Status → World → Type 0
+IsRefusedBy Done old = ⊥
+IsRefusedBy BadUse old = ⊥
+IsRefusedBy Memory old = Unit {0}
+IsRefusedBy ReadFault old = ⊥
+IsRefusedBy WriteFault old = ⊥
+IsRefusedBy (DiskFault file) old = file ≡ manager
+IsRefusedBy NotASilo old = IsSilo counter_magic (old.disk manager).seen → ⊥
+IsRefusedBy AlreadyASilo old = ⊥
+IsRefusedBy (Damaged file place) old = (file ≡ manager) × IsSilo counter_magic (old.disk manager).seen × IsDamagedAt (old.disk manager).seen place
+IsRefusedBy (InputTooLong line) old = ⊥
+
+-- nothing was written, emitted or pulled
+pub record IsRefused (status : Status) (old new : World) : Type 0 where
+  pub untouched : IsUntouched old new
+  pub input : new.input ≡ old.input
+  pub cause : IsRefusedBy status old
+
+-- What stands at the end of a run whose opening log was this one. The input was read whole unless reading it failed, or it was
+-- too long, or there was no memory.
+abbrev pub EndsAs : Status → List Logged → World → World → Type 0
+EndsAs Done opening old new = IsDone counter_magic opening (journal_of opening old.input) old new × (new.input ≡ []) × (length old.input ≤ input_limit)
+EndsAs BadUse opening old new = ⊥
+EndsAs Memory opening old new = IsStopped counter_magic opening (journal_of opening old.input) old new
+EndsAs ReadFault opening old new = IsUnbegun counter_magic opening old new
+EndsAs WriteFault opening old new = IsCut counter_magic opening (journal_of opening old.input) old new × (length old.input ≤ input_limit)
+EndsAs (DiskFault file) opening old new = (file ≡ manager) × IsInDoubt counter_magic opening (journal_of opening old.input) old new × (length old.input ≤ input_limit)
+EndsAs NotASilo opening old new = ⊥
+EndsAs AlreadyASilo opening old new = ⊥
+EndsAs (Damaged file place) opening old new = ⊥
+EndsAs (InputTooLong line) opening old new = IsUnbegun counter_magic opening old new × (line ≡ 0) × (input_limit < length old.input)
+
+-- From an opened log on: at each moment and at the end each image keeps the journal of the input's lines, played one after
+-- another from where that log stands.
+pub record IsServed (status : Status) (opening : List Logged) (old new : World) : Type 0 where
+  pub moments : Passes (AllKeep counter_magic opening (journal_of opening old.input) old.output) old.past new.past
+  pub now : AllKeep counter_magic opening (journal_of opening old.input) old.output (moment_of new)
+  pub ends : EndsAs status opening old new
+
+-- The folder read as an undamaged silo with this log, and was opened. Until then there was nothing but asking; from then on, and
+-- at the end, each image keeps the journal of the input's lines, played one after another from where the opening log stands,
+-- and no file but the log's is other than it was.
+pub record IsCarried (status : Status) (old new : World) : Type 0 where
+  pub opening : List Logged
+  pub gate : ℕ
+  pub read : IsLog counter_magic (λ file. (old.disk file).seen) opening gate
+  pub undamaged : (place : ℕ) → IsDamagedAt (old.disk manager).seen place → ⊥
+  pub moments : PassesTwice (IsAsAtEntry old) (AllKeep counter_magic opening (journal_of opening old.input) old.output) old.past new.past
+  pub now : AllKeep counter_magic opening (journal_of opening old.input) old.output (moment_of new)
+  pub others : PassesTwice (IsAsAtEntry old) (KeepsOthers old.disk) old.past new.past
+  pub others_now : KeepsOthers old.disk (moment_of new)
+  pub ends : EndsAs status opening old new
+
+-- what `run` does
+abbrev pub Runs : Status → World → World → Type 0
+Runs status old new = IsRefused status old new ⊎ IsCarried status old new
+
+-- ---- init
+
+-- What stands at the end of `init`.
+abbrev pub MakesAs : Status → World → World → Type 0
+MakesAs Done old new = (IsSilo counter_magic (old.disk manager).seen → ⊥)
+    × ((image : Image) → IsImage new.disk image → IsNewSilo counter_magic counter_program image)
+MakesAs BadUse old new = ⊥
+MakesAs Memory old new = ⊥
+MakesAs ReadFault old new = ⊥
+MakesAs WriteFault old new = ⊥
+MakesAs (DiskFault file) old new = ((file ≡ manager) ⊎ (file ≡ program_file))
+    × (IsSilo counter_magic (old.disk manager).seen → (file ≡ manager) × IsUntouched old new)
+MakesAs NotASilo old new = ⊥
+MakesAs AlreadyASilo old new = IsSilo counter_magic (old.disk manager).seen × IsUntouched old new × (new.disk manager ≡ settled (old.disk manager).seen)
+MakesAs (Damaged file place) old new = ⊥
+MakesAs (InputTooLong line) old new = ⊥
+
+-- What `init` does: nothing but the two files of a new silo changes, and from the first sync on each image that is a silo is
+-- a new one.
+pub record IsMaking (status : Status) (old new : World) : Type 0 where
+  pub moments : Makes counter_magic counter_program old new
+  pub beside : StaysBeside old new
+  pub ends : MakesAs status old new
+
+-- ---- causes and counts
+
+-- a fault is answered only where its channel's count rose
+abbrev pub HasCause : Status → (Channel → ℕ) → (Channel → ℕ) → Type 0
+HasCause Done old new = Unit {0}
+HasCause BadUse old new = Unit {0}
+HasCause Memory old new = Unit {0}
+HasCause ReadFault old new = Rose (old Input) (new Input)
+HasCause WriteFault old new = Rose (old Output) (new Output)
+HasCause (DiskFault file) old new = Rose (old (File file)) (new (File file))
+HasCause NotASilo old new = Unit {0}
+HasCause AlreadyASilo old new = Unit {0}
+HasCause (Damaged file place) old new = Unit {0}
+HasCause (InputTooLong line) old new = Unit {0}

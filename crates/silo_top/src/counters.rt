@@ -1,11 +1,13 @@
 ghost use Rattle.std.specs.Prelude.{◌≡◌, ◌+◌, ◌^◌, ◌<◌, ◌≤◌, Some, Ok, IfOk, OnOk, OnErr, length};
 ghost use Rattle.silo_top.specs.Kept.{totals_of};
-ghost use Rattle.silo_top.specs.Counters.{counter_shape, no_totals, amount_of, answer_to, totals_after, sum_of, total_after, new_total};
+ghost use Rattle.silo_spec.specs.Units.{AreUnits, IsUnit, after_logged, replayed};
+ghost use Rattle.silo_spec.specs.Totals.{counter_shape, no_totals, amount_of, answer_to, totals_after, sum_of, total_after, new_total};
 
 use base_types::{
     Call, Entry, GrainId, List, Outcome, Settled, Shape, State, Text, TypeShape, UnitNo, Value,
 };
-use request_wire::Line;
+use request_wire::{Line, read_line};
+use silo_spec::Logged;
 use std::alloc::{AllocError, Global};
 use std::collections::BTreeMap;
 
@@ -74,12 +76,56 @@ impl Counters {
         }
     }
 
+    /// What the units of a log stand for: they are played one after another from nothing.
+    pub fn replay(alloc: Global, log: &List<Logged>) -> Result<Counters, AllocError>
+        requires { AreUnits 0 log.now }
+        ensures { IfOk result (λ counters. totals_of counters ≡ replayed log.now) }
+    {
+        let mut counters = Counters::new(alloc);
+        for logged in log.as_slice() {
+            counters.carry_logged(alloc, logged)?;
+        }
+        Ok(counters)
+    }
+
+    /// Plays a logged unit again.
+    #[tactic(auto, using(crate::proofs::Totals::played))]
+    fn carry_logged(&mut self, alloc: Global, logged: &Logged) -> Result<(), AllocError>
+        requires { IsUnit logged.now }
+        ensures { OnOk result (totals_of self.new ≡ after_logged (totals_of self.old) logged.now) }
+    {
+        let line = read_line(alloc, logged.line, logged.text.as_slice())?;
+        let Ok(call) = &line.what else { unreachable!() };
+        self.keep_new_total(call)?;
+        self.units = logged.unit.0;
+        Ok(())
+    }
+
+    /// The number of the last unit, 0 where none has begun.
+    pub fn units(&self) -> u64
+        ensures { result ≡ (totals_of self.now).units }
+    {
+        self.units
+    }
+
     /// The new total of the request's key, where it fits.
     fn new_total(&self, call: &Call) -> Option<i64>
         ensures { result ≡ new_total (totals_of self.now) call.now }
     {
         let total = self.totals.get(&call.grain.key).copied().unwrap_or(0);
         sum_of(total, amount_of(&call.args))
+    }
+
+    /// Keeps the new total of the request's key, where it fits.
+    fn keep_new_total(&mut self, call: &Call) -> Result<(), AllocError>
+        ensures { OnOk result ((totals_of self.new).total
+            ≡ total_after (totals_of self.old).total call.now.grain.key (new_total (totals_of self.old) call.now)) }
+    {
+        let Some(sum) = self.new_total(call) else {
+            return Ok(());
+        };
+        self.keep(call.grain.key, sum)?;
+        Ok(())
     }
 
     /// Keeps a new total.

@@ -1,6 +1,7 @@
 ghost use Rattle.std.specs.Prelude.{◌≡◌, ◌≤◌, ◌<◌, [], length, IsTrue, IfOk, OnOk, IfErr, vec_len};
 ghost use Rattle.host_trait.specs.Faults.{Rose, CountsOn};
-ghost use Rattle.host_trait.specs.World.{Passes};
+ghost use Rattle.host_trait.specs.Files.{StaysReady};
+ghost use Rattle.host_trait.specs.World.{Passes, moment_of};
 ghost use Rattle.host_trait.specs.declared.channels.Channel.TheVariants.{Input};
 
 use host_trait::{Failed, Host};
@@ -54,8 +55,10 @@ pub fn read_input<H: Host>(alloc: Global, host: &mut H) -> Result<Vec<u8>, Input
         → Rose (H.faults host.old Input) (H.faults host.new Input)) }
     ensures counts { CountsOn Input (H.faults host.old) (H.faults host.new) }
     ensures output { IsTrue H.tells → (H.world host.new).output ≡ (H.world host.old).output }
-    ensures moments { IsTrue H.tells → Passes (λ m. m.output ≡ (H.world host.old).output)
+    ensures disk { IsTrue H.tells → (H.world host.new).disk ≡ (H.world host.old).disk }
+    ensures moments { IsTrue H.tells → Passes (λ m. m ≡ moment_of (H.world host.old))
         (H.world host.old).past (H.world host.new).past }
+    ensures ready { StaysReady (H.is_ready host.old) (H.is_ready host.new) }
 {
     let mut input = Vec::new(alloc);
     let mut piece = [0u8; PIECE];

@@ -4,17 +4,17 @@
 //! is read first; then each line is carried as a unit of its own, and its reply emitted.
 #![tactic(auto)]
 
-mod counters;
+pub mod counters;
 mod gate;
-mod input;
-mod requests;
+pub mod input;
+mod prepare;
+pub mod requests;
 mod run;
+mod seal;
+mod settle;
 mod status;
 
 pub use gate::{Gate, GatePlace};
 pub use input::INPUT_LIMIT;
 pub use run::run_silo;
 pub use status::Status;
-
-#[cfg(test)]
-mod tests;

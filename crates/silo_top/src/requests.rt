@@ -1,21 +1,35 @@
-ghost use Rattle.std.specs.Prelude.{◌≡◌, ◌+◌, ◌^◌, ◌<◌, ◌≤◌, ℕ, length, IsTrue, IfOk, OnOk, IfErr};
-ghost use Rattle.std.specs.List.{concat};
-ghost use Rattle.host_trait.specs.Faults.{Rose, CountsOn};
-ghost use Rattle.host_trait.specs.Outputs.{AppendsPart, AppendsSome, AppendsAll, StaysWithin};
-ghost use Rattle.host_trait.specs.World.{Emitted, IsEmitted};
-ghost use Rattle.host_trait.specs.declared.channels.Channel.TheVariants.{Output};
+ghost use Rattle.std.specs.Prelude.{◌≡◌, ◌+◌, ◌^◌, ◌<◌, ◌≤◌, ◌++◌, ℕ, List, length, IsTrue, IfOk, OnOk, IfErr};
+ghost use Rattle.host_trait.specs.Faults.{Rose};
+ghost use Rattle.host_trait.specs.Files.{StaysReady};
+ghost use Rattle.host_trait.specs.World.{Passes, moment_of};
+ghost use Rattle.host_trait.specs.declared.channels.Channel.TheVariants.{Output, File};
+ghost use Rattle.gate_block.specs.Gates.{IsClosedAt};
 ghost use Rattle.request_wire.specs.Request.{request_of};
+ghost use Rattle.silo_spec.specs.Ends.{IsDone, IsStopped, IsCut, IsInDoubt};
+ghost use Rattle.silo_spec.specs.Journals.{settlement_of, journal_of};
+ghost use Rattle.silo_spec.specs.Moments.{AllKeep, OnlyLogChanges};
+ghost use Rattle.silo_spec.specs.Settling.{Stands, IsSettling};
+ghost use Rattle.silo_spec.specs.Silos.{manager, counter_magic};
+ghost use Rattle.silo_spec.specs.Totals.{counter_shape, totals_after};
+ghost use Rattle.silo_spec.specs.Units.{last_from, replayed};
+ghost use Rattle.silo_spec.specs.declared.units.Logged.{Logged};
 ghost use Rattle.silo_top.specs.Kept.{totals_of};
-ghost use Rattle.silo_top.specs.Counters.{counter_shape, reply_to, totals_after, replies_to};
+ghost use Rattle.silo_top.specs.Prepared.{CountsKept};
+ghost use Rattle.silo_top.specs.Settled.{IsReplied, IsReplyCut};
 
 use crate::counters::{Counters, counter_shape};
-use crate::gate::{Gate, GatePlace};
+use crate::gate::Gate;
 use crate::input::INPUT_LIMIT;
+use crate::prepare::prepare;
+use crate::settle::settle;
 use base_types::Shape;
 use host_trait::{Failed, Host};
-use request_wire::{first_line, read_line, reply_text};
+use request_wire::first_line;
 use std::alloc::{AllocError, Global};
 use thiserror::Error;
+
+/// The number that no unit reaches.
+const UNIT_LIMIT: u64 = 9_223_372_036_854_775_808;
 
 /// Why the run ended before its last line was answered.
 #[derive(Debug, Drop, Error)]
@@ -24,6 +38,8 @@ pub enum RunFault {
     Memory,
     #[error("the output couldn't be written")]
     WriteFault,
+    #[error("the manager file couldn't be written")]
+    DiskFault,
 }
 
 impl From<Failed> for RunFault {
@@ -46,68 +62,115 @@ impl From<AllocError> for RunFault {
     }
 }
 
-/// Carries one line and emits its reply. After want of memory the host is as before.
+/// Where a run stands between two lines: the counters, and the gate behind which the next block goes.
+#[derive(Drop)]
+pub struct Running {
+    pub counters: Counters,
+    pub gate_at: u64,
+}
+
+/// Carries one line: in memory first, then its unit is sealed, and then its reply emitted. After want of memory the host
+/// is as before; it is answered too where the unit would have a number of 2 to the 63 or more.
 fn carry_line<H: Host, G: Gate>(
     alloc: Global,
     shape: &Shape,
-    counters: &mut Counters,
+    running: &mut Running,
     number: u32,
     line: &[u8],
     host: &mut H,
     gate: &G,
 ) -> Result<(), RunFault>
-    requires units { (totals_of counters.old).units + 1 < 2 ^ 64 }
+    requires place { running.old.gate_at < 2 ^ 63 }
     requires shape { shape.now ≡ counter_shape }
-    ensures reply { OnOk result (IsTrue H.tells
-        → IsEmitted (reply_to (totals_of counters.old) number (request_of line.now)) (H.world host.old) (H.world host.new)) }
-    ensures after { OnOk result (totals_of counters.new
-        ≡ totals_after (totals_of counters.old) (request_of line.now)) }
+    requires short { length line.now ≤ 16777216 }
+    requires closed { IsTrue H.tells → IsClosedAt running.old.gate_at ((H.world host.old).disk manager).seen }
+
+    ensures moments { IsTrue H.tells → (log : List Logged) → Stands counter_magic log running.old.gate_at (H.world host.old).disk
+        → last_from 0 log ≡ (totals_of running.old.counters).units
+        → Passes (IsSettling counter_magic log (settlement_of (totals_of running.old.counters) number line.now) (H.world host.old).output)
+        (H.world host.old).past (H.world host.new).past }
+    ensures now { IsTrue H.tells → (log : List Logged) → Stands counter_magic log running.old.gate_at (H.world host.old).disk
+        → last_from 0 log ≡ (totals_of running.old.counters).units
+        → IsSettling counter_magic log (settlement_of (totals_of running.old.counters) number line.now) (H.world host.old).output
+        (moment_of (H.world host.new)) }
+    ensures ok { OnOk result (IsTrue H.tells → (log : List Logged) → Stands counter_magic log running.old.gate_at (H.world host.old).disk
+        → last_from 0 log ≡ (totals_of running.old.counters).units
+        → IsReplied log (settlement_of (totals_of running.old.counters) number line.now) running.new.gate_at (H.world host.old) (H.world host.new)) }
+    ensures cut { IfErr result (λ e. e ≡ RunFault.WriteFault → IsTrue H.tells → (log : List Logged)
+        → Stands counter_magic log running.old.gate_at (H.world host.old).disk
+        → last_from 0 log ≡ (totals_of running.old.counters).units
+        → IsReplyCut log (settlement_of (totals_of running.old.counters) number line.now) (H.world host.old) (H.world host.new)) }
+    ensures quiet { IfErr result (λ e. e ≡ RunFault.DiskFault → IsTrue H.tells
+        → (H.world host.new).output ≡ (H.world host.old).output) }
     ensures memory { IfErr result (λ e. e ≡ RunFault.Memory → host.new ≡ host.old) }
-    ensures part { IfErr result (λ e. e ≡ RunFault.WriteFault → IsTrue H.tells
-        → ((n : ℕ) × Emitted n (reply_to (totals_of counters.old) number (request_of line.now)) (H.world host.old) (H.world host.new))) }
-    ensures cause { IfErr result (λ e. e ≡ RunFault.WriteFault
-        → Rose (H.faults host.old Output) (H.faults host.new Output)) }
-    ensures counts { CountsOn Output (H.faults host.old) (H.faults host.new) }
+    ensures after { OnOk result (totals_of running.new.counters
+        ≡ totals_after (totals_of running.old.counters) (request_of line.now)) }
+    ensures next { OnOk result (running.new.gate_at < 2 ^ 63) }
+    ensures write { IfErr result (λ e. e ≡ RunFault.WriteFault → Rose (H.faults host.old Output) (H.faults host.new Output)) }
+    ensures disk { IfErr result (λ e. e ≡ RunFault.DiskFault → Rose (H.faults host.old (File manager)) (H.faults host.new (File manager))) }
+    ensures counts { CountsKept (H.faults host.old) (H.faults host.new) }
+    ensures others { IsTrue H.tells → OnlyLogChanges (H.world host.old) (H.world host.new) }
+    ensures input { IsTrue H.tells → (H.world host.new).input ≡ (H.world host.old).input }
 {
-    let line = read_line(alloc, number, line)?;
-    let entry = counters.carry(alloc, &line)?;
-    if entry.unit.0 > 0 {
-        gate.reach(GatePlace::Begun { unit: entry.unit });
+    if running.counters.units() >= UNIT_LIMIT - 1 {
+        return Err(RunFault::Memory);
     }
-    let text = reply_text(alloc, &entry, shape)?;
-    host.emit(text.as_slice())?;
-    Ok(())
+    let prepared = prepare(alloc, shape, &mut running.counters, number, line)?;
+    match settle(host, gate, running.gate_at, &prepared) {
+        Ok(next) => {
+            running.gate_at = next;
+            Ok(())
+        }
+        Err(fault) => Err(fault),
+    }
 }
 
-/// Carries all lines of the input, one after another, and emits their replies.
+/// Carries all lines of the input, one after another.
 pub fn carry_lines<H: Host, G: Gate>(
     alloc: Global,
     input: &[u8],
+    running: &mut Running,
     host: &mut H,
     gate: &G,
 ) -> Result<(), RunFault>
-    requires { length input.now ≤ INPUT_LIMIT }
-    ensures replies { OnOk result (IsTrue H.tells
-        → AppendsAll (H.world host.old).output (replies_to input.now) (H.world host.new).output) }
-    ensures memory { IfErr result (λ e. e ≡ RunFault.Memory → IsTrue H.tells
-        → AppendsSome (H.world host.old).output (replies_to input.now) (H.world host.new).output) }
-    ensures part { IfErr result (λ e. e ≡ RunFault.WriteFault → IsTrue H.tells
-        → AppendsPart (H.world host.old).output (concat (replies_to input.now)) (H.world host.new).output) }
-    ensures cause { IfErr result (λ e. e ≡ RunFault.WriteFault
-        → Rose (H.faults host.old Output) (H.faults host.new Output)) }
-    ensures counts { CountsOn Output (H.faults host.old) (H.faults host.new) }
+    requires limit { length input.now ≤ INPUT_LIMIT }
+    requires place { running.old.gate_at < 2 ^ 63 }
+    requires stands { IsTrue H.tells → (opening : List Logged) × Stands counter_magic opening running.old.gate_at (H.world host.old).disk
+        × (totals_of running.old.counters ≡ replayed opening) }
+
+    ensures moments { IsTrue H.tells → (opening : List Logged) → Stands counter_magic opening running.old.gate_at (H.world host.old).disk
+        → totals_of running.old.counters ≡ replayed opening
+        → Passes (AllKeep counter_magic opening (journal_of opening input.now) (H.world host.old).output) (H.world host.old).past (H.world host.new).past }
+    ensures done { OnOk result (IsTrue H.tells → (opening : List Logged) → Stands counter_magic opening running.old.gate_at (H.world host.old).disk
+        → totals_of running.old.counters ≡ replayed opening
+        → IsDone counter_magic opening (journal_of opening input.now) (H.world host.old) (H.world host.new)) }
+    ensures memory { IfErr result (λ e. e ≡ RunFault.Memory → IsTrue H.tells → (opening : List Logged)
+        → Stands counter_magic opening running.old.gate_at (H.world host.old).disk
+        → totals_of running.old.counters ≡ replayed opening
+        → IsStopped counter_magic opening (journal_of opening input.now) (H.world host.old) (H.world host.new)) }
+    ensures cut { IfErr result (λ e. e ≡ RunFault.WriteFault → IsTrue H.tells → (opening : List Logged)
+        → Stands counter_magic opening running.old.gate_at (H.world host.old).disk
+        → totals_of running.old.counters ≡ replayed opening
+        → IsCut counter_magic opening (journal_of opening input.now) (H.world host.old) (H.world host.new)) }
+    ensures doubt { IfErr result (λ e. e ≡ RunFault.DiskFault → IsTrue H.tells → (opening : List Logged)
+        → Stands counter_magic opening running.old.gate_at (H.world host.old).disk
+        → totals_of running.old.counters ≡ replayed opening
+        → IsInDoubt counter_magic opening (journal_of opening input.now) (H.world host.old) (H.world host.new)) }
+    ensures write { IfErr result (λ e. e ≡ RunFault.WriteFault → Rose (H.faults host.old Output) (H.faults host.new Output)) }
+    ensures disk { IfErr result (λ e. e ≡ RunFault.DiskFault → Rose (H.faults host.old (File manager)) (H.faults host.new (File manager))) }
+    ensures counts { CountsKept (H.faults host.old) (H.faults host.new) }
+    ensures others { IsTrue H.tells → OnlyLogChanges (H.world host.old) (H.world host.new) }
     ensures input { IsTrue H.tells → (H.world host.new).input ≡ (H.world host.old).input }
-    ensures moments { IsTrue H.tells
-        → StaysWithin (replies_to input.now) (H.world host.old) (H.world host.new) }
 {
     let shape = counter_shape(alloc)?;
-    let mut counters = Counters::new(alloc);
     let mut rest = input;
     let mut number: u32 = 0;
     while let Some((line, tail)) = first_line(rest) {
         number += 1;
-        carry_line(alloc, &shape, &mut counters, number, line, host, gate)?;
-        rest = tail;
+        match carry_line(alloc, &shape, running, number, line, host, gate) {
+            Ok(()) => rest = tail,
+            Err(fault) => return Err(fault),
+        }
     }
     Ok(())
 }

@@ -1,36 +1,119 @@
-ghost use Rattle.std.specs.Prelude.{◌≡◌, ◌<◌, ◌≤◌, ℕ, [], length, true, false, IsTrue};
-ghost use Rattle.host_trait.specs.Faults.{Rose, StreamsOnly};
-ghost use Rattle.host_trait.specs.Outputs.{StaysWithin};
-ghost use Rattle.host_trait.specs.declared.channels.Channel.TheVariants.{Input, Output};
-ghost use Rattle.silo_top.specs.Counters.{replies_to};
-ghost use Rattle.silo_top.specs.Runs.{is_run, Emits, IsCarried};
+ghost use Rattle.std.specs.Prelude.{◌≡◌, ◌^◌, ◌<◌, ◌≤◌, true, false, IsTrue, length};
+ghost use Rattle.gate_block.specs.Gates.{IsClosedAt};
+ghost use Rattle.silo_spec.specs.Silos.{manager, counter_magic};
+ghost use Rattle.silo_spec.specs.Units.{AreUnits};
+ghost use Rattle.silo_spec.specs.Moments.{OnlyLogChanges};
+ghost use Rattle.silo_spec.specs.Settling.{Stands};
+ghost use Rattle.opening.specs.Making.{CountsBoth};
+ghost use Rattle.silo_top.specs.Prepared.{CountsKept};
+ghost use Rattle.silo_top.specs.Runs.{is_word, is_init, is_run, counter_program, Runs, IsServed, IsMaking, HasCause};
 
+use crate::counters::Counters;
 use crate::gate::Gate;
-use crate::input::{INPUT_LIMIT, InputFault, read_input};
-use crate::requests::{RunFault, carry_lines};
+use crate::input::{InputFault, read_input};
+use crate::requests::{RunFault, Running, carry_lines};
+use crate::seal::MANAGER;
 use crate::status::Status;
 use host_trait::Host;
+use opening::{CreateFault, OpenFault, Opened, create, open_silo};
 use std::alloc::Global;
 
-fn is_run(words: &[String]) -> bool
-    ensures { result ≡ is_run words.now }
+/// The program of a new silo: each line with a line feed.
+const COUNTER_PROGRAM: &str =
+    "type counter {\n  field total = 0;\n  method add(n) createorjoin update { set total = total + n; return total; }\n  method read() createorjoin read { return total; }\n}\n";
+
+/// Whether the words are this one word.
+fn is_command(words: &[String], name: &str) -> bool
+    ensures { result ≡ is_word name.now words.now }
 {
     match words {
-        [word] => word.as_str() == "run",
+        [word] => word.as_str() == name,
         _ => false,
+    }
+}
+
+/// Makes the folder a silo of the counter program.
+fn init<H: Host>(host: &mut H) -> Status
+    ensures made { IsTrue H.tells → IsMaking result (H.world host.old) (H.world host.new) }
+    ensures cause { HasCause result (H.faults host.old) (H.faults host.new) }
+    ensures counts { CountsBoth (H.faults host.old) (H.faults host.new) }
+    ensures taken { result ≡ Status.BadUse → ⊥ }
+{
+    match create(host, COUNTER_PROGRAM.as_bytes()) {
+        Ok(()) => Status::Done,
+        Err(CreateFault::AlreadyASilo) => Status::AlreadyASilo,
+        Err(CreateFault::DiskFault { file }) => Status::DiskFault { file },
+    }
+}
+
+/// Reads the input to its end, and carries its lines over the opened silo.
+fn serve<H: Host, G: Gate>(alloc: Global, opened: Opened, host: &mut H, gate: &G) -> Status
+    requires place { opened.gate_at < 2 ^ 63 }
+    requires units { AreUnits 0 opened.log }
+    requires stands { IsTrue H.tells → Stands counter_magic opened.log opened.gate_at (H.world host.old).disk }
+    ensures served { IsTrue H.tells → IsServed result opened.log (H.world host.old) (H.world host.new) }
+    ensures others { IsTrue H.tells → OnlyLogChanges (H.world host.old) (H.world host.new) }
+    ensures cause { HasCause result (H.faults host.old) (H.faults host.new) }
+    ensures counts { CountsKept (H.faults host.old) (H.faults host.new) }
+    ensures taken { result ≡ Status.BadUse → ⊥ }
+{
+    let Ok(counters) = Counters::replay(alloc, &opened.log) else {
+        return Status::Memory;
+    };
+    let input = match read_input(alloc, host) {
+        Ok(input) => input,
+        Err(InputFault::Memory) => return Status::Memory,
+        Err(InputFault::Failed) => return Status::ReadFault,
+        Err(InputFault::TooLong) => return Status::InputTooLong { line: 0 },
+    };
+    let mut running = Running {
+        counters,
+        gate_at: opened.gate_at,
+    };
+    match carry_lines(alloc, input.as_slice(), &mut running, host, gate) {
+        Ok(()) => Status::Done,
+        Err(RunFault::Memory) => Status::Memory,
+        Err(RunFault::WriteFault) => Status::WriteFault,
+        Err(RunFault::DiskFault) => Status::DiskFault { file: MANAGER },
+    }
+}
+
+/// Opens the silo, and serves the input over it.
+fn run<H: Host, G: Gate>(alloc: Global, host: &mut H, gate: &G) -> Status
+    ensures runs { IsTrue H.tells → Runs result (H.world host.old) (H.world host.new) }
+    ensures cause { HasCause result (H.faults host.old) (H.faults host.new) }
+    ensures counts { CountsKept (H.faults host.old) (H.faults host.new) }
+    ensures taken { result ≡ Status.BadUse → ⊥ }
+{
+    match open_silo(alloc, host) {
+        Ok(opened) => serve(alloc, opened, host, gate),
+        Err(OpenFault::NotASilo) => Status::NotASilo,
+        Err(OpenFault::Damaged { file, place }) => Status::Damaged { file, place },
+        Err(OpenFault::DiskFault { file }) => Status::DiskFault { file },
+        Err(OpenFault::Memory) => Status::Memory,
     }
 }
 
 /// Does all that the program does, and answers how it ended.
 ///
-/// `words` are those of the command line after the folder. The one command is `run`, without further words: it
-/// reads the input to its end, carries each line as a unit of the counter program, and emits one reply line for
-/// each, in the order of the lines.
+/// `words` are those of the command line after the folder: `init` or `run`, without further words.
 ///
-/// The statuses: `Done` where all was carried. `BadUse` where the words are no command; the host is then as
-/// before. `InputTooLong` with line 0 where the input has more than [`INPUT_LIMIT`] bytes. `ReadFault` and
-/// `WriteFault` only where the count of the input, or of the output, rose in this call. `Memory` at any place;
-/// then whole replies from the first on were emitted.
+/// `init` makes the folder a silo of the counter program, with an empty log. It reads no input and emits nothing. A folder
+/// that reads as a silo is left as it is, with `AlreadyASilo`, and only such a one.
+///
+/// `run` opens the silo: `NotASilo` and `Damaged` come exactly by what the manager file reads, and nothing is written or
+/// emitted then. It reads the input to its end, and carries each line as a unit of the counter program: the unit is
+/// sealed in the log, and then its reply emitted. The log is a journal that one thread plays, line after line, from
+/// where the opening log stands: at each moment from the opening's end on, a crash leaves the opening log and the units of a
+/// first part of the lines, those of each reply in the output among them.
+///
+/// The statuses of a run: `Done` where all was carried and written. `InputTooLong` with line 0 where the input has more than
+/// [`INPUT_LIMIT`](crate::INPUT_LIMIT) bytes, and `ReadFault`: no line was carried. `WriteFault` where the output failed
+/// behind whole replies and a first part of the next one, whose unit is in the log. `DiskFault` where a call on that file failed: in the
+/// opening, or while a unit was sealed, which is then in the log or not, and has no reply. `Memory` at any place; each unit
+/// in the log then has its reply. `BadUse` where the words are no command; the host is then as before.
+///
+/// A fault is answered only where the count of its channel rose in this call.
 pub fn run_silo<Rt, H: Host, G: Gate + Sync>(
     _rt: &Rt,
     alloc: Global,
@@ -38,44 +121,26 @@ pub fn run_silo<Rt, H: Host, G: Gate + Sync>(
     host: &mut H,
     gate: &G,
 ) -> Status
-    // What was emitted by the end, over the whole input, and at each moment before.
-    ensures output { IsTrue H.tells → Emits result (H.world host.old) (H.world host.new) }
-    ensures moments { IsTrue H.tells
-        → StaysWithin (replies_to (H.world host.old).input) (H.world host.old) (H.world host.new) }
-
-    // All input has been read.
-    ensures done { result ≡ Status.Done → IsTrue H.tells → (H.world host.new).input ≡ [] }
+    // What each command does to the folder, the input and the output, at each moment and at its end.
+    ensures run { is_run words.now ≡ true → IsTrue H.tells → Runs result (H.world host.old) (H.world host.new) }
+    ensures init { is_init words.now ≡ true → IsTrue H.tells → IsMaking result (H.world host.old) (H.world host.new) }
 
     // Words that are no command are refused before any call on the host, and only they are.
-    ensures bad_use { result ≡ Status.BadUse → is_run words.now ≡ false }
-    ensures refused { is_run words.now ≡ false → (result ≡ Status.BadUse) × (host.new ≡ host.old) }
+    ensures bad_use { result ≡ Status.BadUse → (is_run words.now ≡ false) × (is_init words.now ≡ false) }
+    ensures refused { is_run words.now ≡ false → is_init words.now ≡ false
+        → (result ≡ Status.BadUse) × (host.new ≡ host.old) }
 
-    // A fault is answered only where its channel's count rose in this call. No count falls, and none of a
-    // file changes.
-    ensures read_fault { result ≡ Status.ReadFault
-        → Rose (H.faults host.old Input) (H.faults host.new Input) }
-    ensures write_fault { result ≡ Status.WriteFault
-        → Rose (H.faults host.old Output) (H.faults host.new Output) }
-    ensures counts { StreamsOnly (H.faults host.old) (H.faults host.new) }
-
-    // An input above the limit is refused, and only such a one.
-    ensures too_long { (line : ℕ) → result ≡ Status.InputTooLong line → (line ≡ 0)
-        × (IsTrue H.tells → INPUT_LIMIT < length (H.world host.old).input) }
-    ensures within { IsCarried result → IsTrue H.tells
-        → length (H.world host.old).input ≤ INPUT_LIMIT }
+    // A fault is answered only where its channel's count rose in this call. No count falls, and those of other files than
+    // the command's stay.
+    ensures cause { HasCause result (H.faults host.old) (H.faults host.new) }
+    ensures run_counts { is_run words.now ≡ true → CountsKept (H.faults host.old) (H.faults host.new) }
+    ensures init_counts { is_init words.now ≡ true → CountsBoth (H.faults host.old) (H.faults host.new) }
 {
-    if !is_run(words) {
-        return Status::BadUse;
+    if is_command(words, "run") {
+        return run(alloc, host, gate);
     }
-    let input = match read_input(alloc, host) {
-        Ok(input) => input,
-        Err(InputFault::Memory) => return Status::Memory,
-        Err(InputFault::Failed) => return Status::ReadFault,
-        Err(InputFault::TooLong) => return Status::InputTooLong { line: 0 },
-    };
-    match carry_lines(alloc, input.as_slice(), host, gate) {
-        Ok(()) => Status::Done,
-        Err(RunFault::Memory) => Status::Memory,
-        Err(RunFault::WriteFault) => Status::WriteFault,
+    if is_command(words, "init") {
+        return init(host);
     }
+    Status::BadUse
 }

@@ -1,7 +1,8 @@
-ghost use Rattle.std.specs.Prelude.{◌≡◌, IfOk};
+ghost use Rattle.std.specs.Prelude.{◌≡◌, IfOk, string_bytes};
 ghost use Rattle.silo_top.specs.Statuses.{number_of, text_of};
 
 use base_types::List;
+use host_trait::{FileId, file_name};
 use std::alloc::{AllocError, Global};
 
 /// How a command ended. [`run_silo`](crate::run_silo) says when each comes.
@@ -17,6 +18,14 @@ pub enum Status {
     ReadFault,
     /// The output couldn't be written.
     WriteFault,
+    /// A call on this file failed. What is on disk is what a crash may leave there.
+    DiskFault { file: FileId },
+    /// The folder is no silo.
+    NotASilo,
+    /// The folder is a silo already.
+    AlreadyASilo,
+    /// The file is damaged at this offset.
+    Damaged { file: FileId, place: u64 },
     /// The input is longer than a run takes. `line` is 0 where the limit is one on the whole input.
     InputTooLong { line: u32 },
 }
@@ -32,6 +41,10 @@ impl Status {
             Status::Memory => 3,
             Status::ReadFault => 4,
             Status::WriteFault => 5,
+            Status::DiskFault { .. } => 6,
+            Status::NotASilo => 7,
+            Status::AlreadyASilo => 8,
+            Status::Damaged { .. } => 9,
             Status::InputTooLong { .. } => 11,
         }
     }
@@ -40,20 +53,38 @@ impl Status {
     pub fn text(&self, alloc: Global) -> Result<List<u8>, AllocError>
         ensures { IfOk result (λ text. text ≡ text_of self.now) }
     {
-        let text = String::from_str(alloc, self.words())?;
+        let text = self.words(alloc)?;
         Ok(List::from_vec(text.into_bytes()))
     }
 
-    fn words(&self) -> &'static str
-        ensures { result.now ≡ text_of self.now }
+    fn words(&self, alloc: Global) -> Result<String, AllocError>
+        ensures { IfOk result (λ text. string_bytes text ≡ text_of self.now) }
     {
         match self {
-            Status::Done => "done",
-            Status::BadUse => "bad use",
-            Status::Memory => "no memory",
-            Status::ReadFault => "read fault",
-            Status::WriteFault => "write fault",
-            Status::InputTooLong { .. } => "input too long",
+            Status::Done => String::from_str(alloc, "done"),
+            Status::BadUse => String::from_str(alloc, "bad use"),
+            Status::Memory => String::from_str(alloc, "no memory"),
+            Status::ReadFault => String::from_str(alloc, "read fault"),
+            Status::WriteFault => String::from_str(alloc, "write fault"),
+            Status::DiskFault { file } => disk_fault_text(alloc, *file),
+            Status::NotASilo => String::from_str(alloc, "not a silo"),
+            Status::AlreadyASilo => String::from_str(alloc, "already a silo"),
+            Status::Damaged { file, place } => damaged_text(alloc, *file, *place),
+            Status::InputTooLong { .. } => String::from_str(alloc, "input too long"),
         }
     }
+}
+
+fn disk_fault_text(alloc: Global, file: FileId) -> Result<String, AllocError>
+    ensures { IfOk result (λ text. string_bytes text ≡ text_of (Status.DiskFault file)) }
+{
+    let name = file_name(alloc, file)?;
+    format!(in alloc; "disk fault in {name}")
+}
+
+fn damaged_text(alloc: Global, file: FileId, place: u64) -> Result<String, AllocError>
+    ensures { IfOk result (λ text. string_bytes text ≡ text_of (Status.Damaged file place)) }
+{
+    let name = file_name(alloc, file)?;
+    format!(in alloc; "damaged {name} at {place}")
 }

@@ -1,39 +1,61 @@
-use Rattle.std.proofs.Common.{rules, arith, ◌≡◌, ◌+◌, ap, IsTrue}
-use Rattle.std.specs.List.{concat}
-use Rattle.host_trait.proofs.Counts.{counts_on}
-use Rattle.host_trait.proofs.Emissions.{some_emitted}
-use Rattle.host_trait.specs.Outputs.{AppendsPart, AppendsSome}
-use Rattle.request_wire.specs.Request.{request_of}
-use Rattle.silo_top.specs.declared.requests.RunFault.TheVariants.{Memory, WriteFault}
+use Rattle.std.proofs.Common.{rules, ◌+◌, ◌∙◌, ◌++◌, refl, arith}
+use Rattle.request_wire.specs.Lines.{lines_of}
+use Rattle.silo_spec.specs.Journals.{units_of}
 use Rattle.silo_top.specs.Kept.{totals_of}
-use Rattle.silo_top.specs.Counters.{replies_to, totals_after}
-use Rattle.silo_top.proofs.Carried.{line_carried, line_cut, units_after, by_fault}
+use Rattle.silo_top.proofs.Beside.{beside_none, beside_both}
+use Rattle.silo_top.proofs.Counting.{line_within, counts_then}
+use Rattle.silo_top.proofs.Lines.{progress_begun, gate_closed, line_moments, line_done, line_cut, line_doubt}
 use Rattle.silo_top.proofs.requests.carry_lines.Goals as goal
 
-pub returns-in_err-carry_line-clause-memory : goal.returns-in_err-carry_line-clause-memory
-returns-in_err-carry_line-clause-memory g c =
-    let stop : c.in_err-carry_line.field-0.0 ≡ Memory → IsTrue g.H.Host.tells → AppendsSome (g.H.Host.world c.args.host.now).output (replies_to c.args.input.now) (g.H.Host.world c.carry_line.new.host).output =
-    λ e told. rw (c.in_err-carry_line.ensures.memory e) (some_emitted (c.loop-line.invariant.emitted told)) in
-    search rules
+pub loop-line-init : goal.loop-line-init
+loop-line-init g c = record {
+  progress = λ told opening stands is. progress_begun opening c.args.input.now (g.H.Host.world c.args.host.now) (totals_of c.args.running.now.counters) c.args.running.now.gate_at stands is;
+  numbered = omega (arith, c.requires.limit);
+  place = c.requires.place;
+  counts = search rules;
+  others = λ told. beside_none (g.H.Host.world c.args.host.now);
+  input = λ told. refl;
+}
 
-pub returns-in_err-carry_line-clause-part : goal.returns-in_err-carry_line-clause-part
-returns-in_err-carry_line-clause-part g c =
-    let stop : c.in_err-carry_line.field-0.0 ≡ WriteFault → IsTrue g.H.Host.tells → AppendsPart (g.H.Host.world c.args.host.now).output (concat (replies_to c.args.input.now)) (g.H.Host.world c.carry_line.new.host).output =
-    λ e told. (line_cut (totals_of c.loop-line.counters) (c.loop-line.number + 1) c.loop-line.rest.now c.in-Some.line.now c.in-Some.tail.now (c.loop-line.invariant.emitted told) c.in-Some.ensures.line (c.in_err-carry_line.ensures.part e told)).part in
-    search rules
+pub carry_line-requires-clause-short : goal.carry_line-requires-clause-short
+carry_line-requires-clause-short g c = omega (arith, c.loop-line.invariant.numbered, line_within c.loop-line.rest.now c.in-Some.line.now (lines_of c.in-Some.tail.now) c.in-Some.ensures.line)
 
-pub returns-in_err-carry_line-clause-moments : goal.returns-in_err-carry_line-clause-moments
-returns-in_err-carry_line-clause-moments g c = λ told. by_fault c.in_err-carry_line.field-0.0
-    (λ e. rw (c.in_err-carry_line.ensures.memory e) (c.loop-line.invariant.emitted told).moments)
-    (λ e. (line_cut (totals_of c.loop-line.counters) (c.loop-line.number + 1) c.loop-line.rest.now c.in-Some.line.now c.in-Some.tail.now (c.loop-line.invariant.emitted told) c.in-Some.ensures.line (c.in_err-carry_line.ensures.part e told)).moments)
+pub carry_line-requires-clause-closed : goal.carry_line-requires-clause-closed
+carry_line-requires-clause-closed g c = λ told.
+    let from = c.requires.stands told in
+    gate_closed from.0 c.args.input.now (g.H.Host.world c.args.host.now) (g.H.Host.world c.loop-line.host) (totals_of c.loop-line.running.counters) (c.loop-line.number + 1) c.loop-line.rest.now c.loop-line.running.gate_at (c.loop-line.invariant.progress told from.0 from.1 from.2)
+
+pub returns-in-Err-clause-moments : goal.returns-in-Err-clause-moments
+returns-in-Err-clause-moments g c = λ told opening stands is.
+    let p = c.loop-line.invariant.progress told opening stands is in
+    line_moments opening c.args.input.now (g.H.Host.world c.args.host.now) (g.H.Host.world c.loop-line.host) (totals_of c.loop-line.running.counters) (c.loop-line.number + 1) c.loop-line.rest.now c.loop-line.running.gate_at c.in-Some.line.now c.in-Some.tail.now p c.in-Some.ensures.line (g.H.Host.world c.carry_line.new.host)
+    (c.carry_line.ensures.moments told (opening ++ units_of p.said) p.stands p.last)
+
+pub returns-in-Err-clause-cut : goal.returns-in-Err-clause-cut
+returns-in-Err-clause-cut g c = λ e told opening stands is.
+    let p = c.loop-line.invariant.progress told opening stands is in
+    line_cut opening c.args.input.now (g.H.Host.world c.args.host.now) (g.H.Host.world c.loop-line.host) (totals_of c.loop-line.running.counters) (c.loop-line.number + 1) c.loop-line.rest.now c.loop-line.running.gate_at c.in-Some.line.now c.in-Some.tail.now p c.in-Some.ensures.line (g.H.Host.world c.carry_line.new.host)
+    (c.in-Err.ensures.cut e told (opening ++ units_of p.said) p.stands p.last)
+
+pub returns-in-Err-clause-doubt : goal.returns-in-Err-clause-doubt
+returns-in-Err-clause-doubt g c = λ e told opening stands is.
+    let p = c.loop-line.invariant.progress told opening stands is in
+    line_doubt opening c.args.input.now (g.H.Host.world c.args.host.now) (g.H.Host.world c.loop-line.host) (totals_of c.loop-line.running.counters) (c.loop-line.number + 1) c.loop-line.rest.now c.loop-line.running.gate_at c.in-Some.line.now c.in-Some.tail.now p c.in-Some.ensures.line (g.H.Host.world c.carry_line.new.host)
+    (c.carry_line.ensures.now told (opening ++ units_of p.said) p.stands p.last) (c.in-Err.ensures.quiet e told)
 
 pub loop-line-preserved : goal.loop-line-preserved
-loop-line-preserved g c =
-    let counted : (totals_of c.carry_line.new.counters).units ≡ (totals_after (totals_of c.loop-line.counters) (request_of c.in-Some.line.now)).units = ap (λ t. t.units) c.in_ok-carry_line.ensures.after in
-    let most = units_after (totals_of c.loop-line.counters) (request_of c.in-Some.line.now) in
-    record {
-      emitted = λ told. line_carried (totals_of c.loop-line.counters) _ (c.loop-line.number + 1) c.loop-line.rest.now c.in-Some.line.now c.in-Some.tail.now (c.loop-line.invariant.emitted told) c.in-Some.ensures.line (c.in_ok-carry_line.ensures.reply told) c.in_ok-carry_line.ensures.after;
-      numbered = omega (arith, c.in-Some.ensures.shorter);
-      counted = omega arith;
-      counts = counts_on c.loop-line.invariant.counts c.in_ok-carry_line.ensures.counts;
-    }
+loop-line-preserved g c = record {
+  progress = λ told opening stands is.
+      let p = c.loop-line.invariant.progress told opening stands is in
+      line_done opening c.args.input.now (g.H.Host.world c.args.host.now) (g.H.Host.world c.loop-line.host) (totals_of c.loop-line.running.counters) (c.loop-line.number + 1) c.loop-line.rest.now c.loop-line.running.gate_at c.in-Some.line.now c.in-Some.tail.now p c.in-Some.ensures.line (g.H.Host.world c.carry_line.new.host)
+      (totals_of c.carry_line.new.running.counters) c.carry_line.new.running.gate_at c.in-Ok.ensures.after
+      (c.carry_line.ensures.moments told (opening ++ units_of p.said) p.stands p.last) (c.in-Ok.ensures.ok told (opening ++ units_of p.said) p.stands p.last);
+  numbered = omega (arith, c.loop-line.invariant.numbered, c.in-Some.ensures.shorter);
+  place = c.in-Ok.ensures.next;
+  counts = counts_then (g.H.Host.faults c.args.host.now) (g.H.Host.faults c.loop-line.host) (g.H.Host.faults c.carry_line.new.host) c.loop-line.invariant.counts c.carry_line.ensures.counts;
+  others = λ told. beside_both (g.H.Host.world c.args.host.now) (g.H.Host.world c.loop-line.host) (g.H.Host.world c.carry_line.new.host) (c.loop-line.invariant.others told) (c.carry_line.ensures.others told);
+  input = λ told. c.carry_line.ensures.input told ∙ c.loop-line.invariant.input told;
+}
+
+pub returns-in-Err-clause-others : goal.returns-in-Err-clause-others
+returns-in-Err-clause-others g c = λ told. beside_both (g.H.Host.world c.args.host.now) (g.H.Host.world c.loop-line.host) (g.H.Host.world c.carry_line.new.host) (c.loop-line.invariant.others told) (c.carry_line.ensures.others told)

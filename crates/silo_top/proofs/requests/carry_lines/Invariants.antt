@@ -1,19 +1,23 @@
-use Rattle.std.proofs.Common.{◌+◌, ◌≤◌, length, map, IsTrue}
-use Rattle.host_trait.proofs.Emissions.{HasEmitted}
-use Rattle.host_trait.specs.Faults.{CountsOn}
-use Rattle.host_trait.specs.declared.channels.Channel.TheVariants.{Output}
-use Rattle.request_wire.specs.Lines.{lines_of}
-use Rattle.request_wire.specs.Request.{request_of}
+use Rattle.std.proofs.Common.{◌≡◌, ◌+◌, ◌^◌, ◌<◌, ◌≤◌, List, length, IsTrue}
+use Rattle.silo_spec.specs.Silos.{counter_magic}
+use Rattle.silo_spec.specs.declared.units.Logged.{Logged}
+use Rattle.silo_spec.specs.Moments.{OnlyLogChanges}
+use Rattle.silo_spec.specs.Settling.{Stands}
+use Rattle.silo_spec.specs.Units.{replayed}
 use Rattle.silo_top.specs.Kept.{totals_of}
-use Rattle.silo_top.specs.Counters.{replies_from, replies_to}
+use Rattle.silo_top.specs.Prepared.{CountsKept}
+use Rattle.silo_top.proofs.Lines.{Progress}
 use Rattle.silo_top.proofs.requests.carry_lines.Given as goal
 
 abbrev pub invariant-loop-line : goal.invariant-loop-line
 invariant-loop-line g l = record {
-  emitted : IsTrue g.H.Host.tells → HasEmitted (replies_to l.fn.input) (replies_from (totals_of l.counters) (l.number + 1) (map request_of (lines_of l.rest))) (g.H.Host.world l.initial.host) (g.H.Host.world l.host);
+  progress : IsTrue g.H.Host.tells → (opening : List Logged) → Stands counter_magic opening l.initial.running.gate_at (g.H.Host.world l.initial.host).disk → totals_of l.initial.running.counters ≡ replayed opening
+      → Progress opening l.fn.input (g.H.Host.world l.initial.host) (g.H.Host.world l.host) (totals_of l.running.counters) (l.number + 1) l.rest l.running.gate_at;
   numbered : l.number + length l.rest ≤ 16777216;
-  counted : (totals_of l.counters).units ≤ l.number;
-  counts : CountsOn Output (g.H.Host.faults l.initial.host) (g.H.Host.faults l.host);
+  place : l.running.gate_at < 2 ^ 63;
+  counts : CountsKept (g.H.Host.faults l.initial.host) (g.H.Host.faults l.host);
+  others : IsTrue g.H.Host.tells → OnlyLogChanges (g.H.Host.world l.initial.host) (g.H.Host.world l.host);
+  input : IsTrue g.H.Host.tells → (g.H.Host.world l.host).input ≡ (g.H.Host.world l.initial.host).input;
 }
 
 abbrev pub decreases-loop-line : goal.decreases-loop-line

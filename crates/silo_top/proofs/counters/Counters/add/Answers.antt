@@ -1,6 +1,6 @@
 use Rattle.std.proofs.Common.{rules, ap, ◌≡◌, ◌+◌, Some}
 use Rattle.silo_top.specs.Kept.{totals_of}
-use Rattle.silo_top.specs.Counters.{total_after, new_total}
+use Rattle.silo_spec.specs.Totals.{total_after, new_total}
 use Rattle.silo_top.proofs.Totals.{after_sum}
 use Rattle.silo_top.proofs.counters.Counters.add.Goals as goal
 

@@ -1,0 +1,34 @@
+-- A line that is carried in memory, and what the images are while its unit is sealed.
+use Rattle.std.specs.Prelude.{◌≡◌, ◌≢◌, ◌⊎◌, ℕ, ◌^◌, ◌<◌, ◌≤◌, List, [], ◌∷◌, ◌++◌, length, Option, Some, None}
+use Rattle.host_trait.specs.declared.channels.Channel.{Channel}
+use Rattle.host_trait.specs.declared.channels.Channel.TheVariants.{File}
+use Rattle.host_trait.specs.declared.channels.FileId.{FileId}
+use Rattle.host_trait.specs.World.{World, Moment, Image, IsImage}
+use Rattle.gate_block.specs.Blocks.{block_of}
+use Rattle.silo_spec.specs.Silos.{manager, counter_magic}
+use Rattle.silo_spec.specs.declared.units.Logged.{Logged}
+use Rattle.silo_spec.specs.Units.{body_of}
+use Rattle.silo_spec.specs.Logs.{IsLog}
+use Rattle.silo_spec.specs.Journals.{Settlement}
+use Rattle.silo_top.specs.declared.prepare.UnitBlock.{UnitBlock}
+use Rattle.silo_top.specs.declared.prepare.Prepared.{Prepared}
+
+-- the block is that of the line's unit, and there is none where the line has none
+abbrev pub HoldsUnit : Option UnitBlock → List Logged → Type 0
+HoldsUnit None logged = logged ≡ []
+HoldsUnit (Some held) logged = (unit : Logged) × (logged ≡ unit ∷ []) × (held.body ≡ body_of unit) × (held.block ≡ block_of held.body) × (length held.body < 2 ^ 32)
+
+-- the line is carried as this settlement says
+pub record Prepares (p : Prepared) (s : Settlement) : Type 0 where
+  pub unit : HoldsUnit p.unit s.logged
+  pub reply : p.reply ≡ s.reply
+
+-- nothing was emitted, and each image has the log, or it with the line's unit
+pub record IsSealingUnit (log logged : List Logged) (before : List ℕ) (m : Moment) : Type 0 where
+  pub output : m.output ≡ before
+  pub images : (image : Image) → IsImage m.disk image → ((gate : ℕ) × IsLog counter_magic image log gate) ⊎ ((gate : ℕ) × IsLog counter_magic image (log ++ logged) gate)
+
+-- no count of another file than the manager file has changed, and none has fallen
+pub record CountsKept (old new : Channel → ℕ) : Type 0 where
+  pub files : (file : FileId) → file ≢ manager → new (File file) ≡ old (File file)
+  pub later : (c : Channel) → old c ≤ new c
