@@ -1,3 +1,4 @@
 pub mod Gates
 pub mod Blocks
 pub mod Log
+pub mod Counts

@@ -1,13 +1,14 @@
-ghost use Rattle.std.specs.Prelude.{◌≡◌, ◌≢◌, ◌+◌, ◌-◌, ◌^◌, ◌<◌, ◌≤◌, ◌==◌, ◌∷◌, ◌++◌, [], ℕ, List, Bool, true, false, IsTrue, IsOk, length, take, drop, slice_index, IfOk, OnOk, IfSome, IfNone, MatchOption, IsErrOf};
+ghost use Rattle.std.specs.Prelude.{◌≡◌, ◌≢◌, ◌+◌, ◌-◌, ◌^◌, ◌<◌, ◌≤◌, ◌==◌, ◌∷◌, ◌++◌, [], ℕ, List, Bool, true, false, IsTrue, IsOk, length, take, drop, slice_index, IfOk, OnOk, IfErr, IfSome, IfNone, MatchOption, IsErrOf};
 ghost use Rattle.std.specs.Int.{w32, to_le_bytes};
 ghost use Rattle.host_trait.specs.Disk.{Tears, overlaid, settled};
 ghost use Rattle.host_trait.specs.Files.{MayAsk, StaysReady, IsManager};
 ghost use Rattle.host_trait.specs.World.{Passes};
 ghost use Rattle.host_trait.specs.Runs.{RunsOnFile, OnlyAsked};
-ghost use Rattle.host_trait.specs.Faults.{Rose, Counted, CountsOn};
+ghost use Rattle.host_trait.specs.Faults.{Counted, NoneFailed};
 ghost use Rattle.host_trait.specs.declared.channels.Channel.TheVariants.{File};
 ghost use Rattle.gate_block.specs.Gates.{IsClosedAt, is_open_at};
 ghost use Rattle.gate_block.specs.Blocks.{found_at, shut, bad, whole, block_of, block_at};
+ghost use Rattle.gate_block.specs.Counts.{BlockFaulted};
 ghost use Rattle.gate_block.specs.Log.{EachClosed, EachOpen, EachLogs, EachLogsOrMore, IsStaged};
 ghost use Rattle.gate_block.specs.declared.faults.BlockFault.{BlockFault};
 
@@ -139,8 +140,8 @@ fn read_body<H: Host>(
     ensures none { IfOk result (λ found. IsTrue H.tells → IfNone found (length ((H.world host.old).disk file).seen - at < size)) }
     ensures bad { (place : ℕ) → IsErrOf result (BlockFault.BadLength place) → ⊥ }
     ensures asked { IsTrue H.tells → OnlyAsked (H.world host.old) (H.world host.new) }
-    ensures counts { CountsOn (File file) (H.faults host.old) (H.faults host.new) }
-    ensures failed { IsErrOf result BlockFault.Failed → Rose (H.faults host.old (File file)) (H.faults host.new (File file)) }
+    ensures calm { OnOk result (NoneFailed (H.faults host.old) (H.faults host.new)) }
+    ensures fault { IfErr result (λ e. BlockFaulted file e (H.faults host.old) (H.faults host.new)) }
     ensures ready { StaysReady (H.is_ready host.old) (H.is_ready host.new) }
 {
     let mut body = vec![in alloc; 0u8; size as usize]?;
@@ -177,8 +178,10 @@ pub fn read_block<H: Host>(
         → found_at gate_at ((H.world host.old).disk file).seen ≡ bad }
 
     ensures asked { IsTrue H.tells → OnlyAsked (H.world host.old) (H.world host.new) }
-    ensures counts { CountsOn (File file) (H.faults host.old) (H.faults host.new) }
-    ensures failed { IsErrOf result BlockFault.Failed → Rose (H.faults host.old (File file)) (H.faults host.new (File file)) }
+
+    // No count changes unless the answer is `Failed`; then the file's rose, and no other changed.
+    ensures calm { OnOk result (NoneFailed (H.faults host.old) (H.faults host.new)) }
+    ensures fault { IfErr result (λ e. BlockFaulted file e (H.faults host.old) (H.faults host.new)) }
     ensures ready { StaysReady (H.is_ready host.old) (H.is_ready host.new) }
 {
     let bad = BlockFault::BadLength { place: gate_at + 1 };

@@ -14,8 +14,8 @@ use std::alloc::AllocError;
 ///
 /// A host that tells, says by its world what is left of its input, what its output holds, what each file holds and
 /// what a crash may leave of it, how many syncs were asked, and each moment of its clock so far. A host that
-/// doesn't tell, promises only the bounds and the counts. No call raises the count of another channel than its own,
-/// and no count falls.
+/// doesn't tell, promises only the bounds and the counts. A call that fails raises the count of its own channel and of no
+/// other, one that succeeds raises none, and no count falls.
 ///
 /// A file that is given to a call has slot 0 or 1. The program and manager files are always ready; a grain file is
 /// given to [`ready`](Host::ready) first.

@@ -3,7 +3,7 @@ use Rattle.std.proofs.Common.{◌≡◌, ◌≢◌, inl, inr, ℕ, zero, suc, �
 use Rattle.std.proofs.lemmas.Bool.{eq-eqb, false≢true}
 use Rattle.std.proofs.lemmas.List.{drop-append-le}
 use Rattle.gate_block.specs.Blocks.{Found, shut, bad, whole, found_at, size_at, block_at}
-use Rattle.gate_block.specs.Log.{then_bodies, bodies_from, bodies_of, gate_of, open_blocks, AreSmall, HasBlocks, LogsUpTo, first_gate}
+use Rattle.gate_block.specs.Log.{then_bodies, bodies_from, bodies_of, gate_of, IsWhole, open_blocks, AreSmall, HasBlocks, LogsUpTo, first_gate}
 use Rattle.gate_block.proofs.Logs.{found_block, next_block, length-block_at, damaged, logged, no_blocks, read_more}
 use Rattle.silo_spec.specs.declared.units.Logged.{Logged}
 use Rattle.silo_spec.specs.Units.{body_of, AreUnits, last_from}
@@ -95,3 +95,14 @@ pub log_is_whole : (log : List Logged) (gate : ℕ) (file : List ℕ) → LogsUp
 log_is_whole log gate file logs units place (inl block) = shut-bad (gate_of file) file (logged (map body_of log) gate file logs).2 block.broken
 log_is_whole log gate file logs units place (inr body) =
     body.broken (body_above log body.log 0 body.body body.later units body.units (sym (logged (map body_of log) gate file logs).0 ∙ body.bodies))
+
+-- a whole file without bodies ends at its first gate
+empty_at : (file : List ℕ) (found : Found) → found_at first_gate file ≡ found → first_gate < length file → bodies_of file ≡ [] → IsWhole file → LogsUpTo (map body_of []) first_gate file
+empty_at file shut is long empty ends = log_ends [] first_gate file (none_read file long) is
+empty_at file bad is long empty ends = absurd (shut-bad (gate_of file) file ends (damaged [] first_gate file (none_read file long) is).2)
+empty_at file (whole body) is long empty ends =
+    let more = and_more [] first_gate body file (none_read file long) is in
+    absurd (omega (arith, ap length (sym empty ∙ more.1)))
+
+pub empty_log : (file : List ℕ) → first_gate < length file → bodies_of file ≡ [] → IsWhole file → LogsUpTo (map body_of []) first_gate file
+empty_log file long empty ends = empty_at file (found_at first_gate file) refl long empty ends

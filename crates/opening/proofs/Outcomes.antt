@@ -1,17 +1,12 @@
 -- What a call of `create` comes to: a silo, and how far it came.
-use Rattle.std.proofs.Common.{◌≡◌, ◌≢◌, ◌⊎◌, inl, inr, ℕ, ◌≤◌, List, [], length, take, slice_index, sym, ◌∙◌, ap, subst, arith, length-take, get_or-take}
-use Rattle.host_trait.specs.declared.channels.FileId.{FileId}
-use Rattle.host_trait.specs.declared.channels.Channel.{Channel}
-use Rattle.host_trait.specs.declared.channels.Channel.TheVariants.{File}
-use Rattle.host_trait.specs.Faults.{CountsOn}
-use Rattle.host_trait.proofs.Counts.{rose_later}
+use Rattle.std.proofs.Common.{◌≡◌, ◌⊎◌, inl, inr, ℕ, ◌≤◌, List, [], length, take, slice_index, sym, ◌∙◌, ap, subst, arith, length-take, get_or-take}
 use Rattle.host_trait.proofs.Runs.{settled_image}
 use Rattle.host_trait.specs.World.{World, Moment, Image, Disk, IsImage, Passes, moment_of}
 use Rattle.gate_block.specs.Log.{first_gate}
 use Rattle.silo_spec.specs.Silos.{manager, program_file, counter_magic, IsSilo, HasProgram, IsNewSilo}
 use Rattle.silo_spec.specs.Moments.{IsUntouched}
 use Rattle.silo_spec.specs.Logs.{IsLog}
-use Rattle.opening.specs.Making.{IsMade, IsNewAt, IsUnsynced, FromFirstSync, Makes, HasFailed, new_header}
+use Rattle.opening.specs.Making.{IsMade, IsNewAt, IsUnsynced, FromFirstSync, Makes, new_header}
 use Rattle.opening.specs.Steps.{HasNoSilo}
 use Rattle.opening.proofs.Closing.{first_then, first_weaker}
 use Rattle.opening.proofs.Filling.{new_log, new_silo}
@@ -61,13 +56,3 @@ so_far text old new (inr (inr first)) = inr (inr (first_weaker (HasNoSilo counte
 pub came_on : (text : List ℕ) (old mid new : World) → FromFirstSync (HasNoSilo counter_magic) old mid → Passes (IsNewAt counter_magic text) mid.past new.past → IsNewAt counter_magic text (moment_of new) → Makes counter_magic text old new
 came_on text old mid new first moments now =
     inr (inr (first_then (IsNewAt counter_magic text) old mid new (first_weaker (HasNoSilo counter_magic) (IsNewAt counter_magic text) old mid (no_silo_new text) first) moments now))
-
-counts_apart : File program_file ≢ File manager
-counts_apart e = cc
-
--- a fault of a later step is one of the whole call
-pub failed_later : (file : FileId) (a b c : Channel → ℕ) → CountsOn (File manager) a b → HasFailed file b c → HasFailed file a c
-failed_later file a b c counts failed = elim failed.0 [
-  | inl is ↦ (inl is, rose_later (subst (λ (f : FileId). a (File f) ≤ b (File f)) (sym is) counts.later) failed.1)
-  | inr is ↦ (inr is, rose_later (subst (λ (f : FileId). a (File f) ≤ b (File f)) (sym is) (omega (arith, counts.others (File program_file) counts_apart))) failed.1)
-]

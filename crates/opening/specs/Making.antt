@@ -1,10 +1,7 @@
 -- What `create` does to a folder, at each moment and at its end.
-use Rattle.std.specs.Prelude.{◌≡◌, ◌≢◌, ◌⊎◌, ℕ, ◌≤◌, List, [], ◌∷◌, ◌++◌, take}
+use Rattle.std.specs.Prelude.{◌≡◌, ◌≢◌, ◌⊎◌, ℕ, List, [], ◌∷◌, ◌++◌, take}
 use Rattle.host_trait.specs.declared.channels.FileId.{FileId}
-use Rattle.host_trait.specs.declared.channels.Channel.{Channel}
-use Rattle.host_trait.specs.declared.channels.Channel.TheVariants.{File}
 use Rattle.host_trait.specs.Disk.{Tears, settled}
-use Rattle.host_trait.specs.Faults.{Rose}
 use Rattle.host_trait.specs.World.{World, Moment, Image, Disk, IsImage, Passes, PassesTwice, moment_of}
 use Rattle.host_trait.specs.Runs.{ComesFrom}
 use Rattle.silo_spec.specs.Silos.{manager, program_file, HasProgram, IsNewIfSilo}
@@ -63,13 +60,3 @@ pub record FromFirstSync (P : Moment → Type 0) (old new : World) : Type 0 wher
 -- on each image that is a silo is one of this program with an empty log.
 abbrev pub Makes : List ℕ → List ℕ → World → World → Type 0
 Makes magic text old new = IsUntouched old new ⊎ (IsUnsynced old new ⊎ FromFirstSync (IsNewAt magic text) old new)
-
--- no count but those of the two files has changed, and these haven't fallen
-pub record CountsBoth (old new : Channel → ℕ) : Type 0 where
-  pub others : (channel : Channel) → channel ≢ File manager → channel ≢ File program_file → new channel ≡ old channel
-  pub log : old (File manager) ≤ new (File manager)
-  pub program : old (File program_file) ≤ new (File program_file)
-
--- the file is one of the two, and its count has risen
-abbrev pub HasFailed : FileId → (Channel → ℕ) → (Channel → ℕ) → Type 0
-HasFailed file old new = ((file ≡ manager) ⊎ (file ≡ program_file)) × Rose (old (File file)) (new (File file))

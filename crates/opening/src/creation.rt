@@ -1,17 +1,18 @@
-ghost use Rattle.std.specs.Prelude.{◌≡◌, ◌≢◌, ◌⊎◌, ◌+◌, ◌^◌, ◌<◌, ◌≤◌, ◌∷◌, ◌++◌, [], List, IsTrue, IsErr, true, false, length, take, drop, slice_index, IfOk, OnOk, OnErr, IsErrOf};
+ghost use Rattle.std.specs.Prelude.{◌≡◌, ◌≢◌, ◌⊎◌, ◌+◌, ◌^◌, ◌<◌, ◌≤◌, ◌∷◌, ◌++◌, [], List, IsTrue, IsErr, true, false, length, take, drop, slice_index, IfOk, OnOk, IfErr, OnErr, IsErrOf};
 ghost use Rattle.std.specs.Int.{w32, to_le_bytes};
 ghost use Rattle.host_trait.specs.Disk.{Tears, overlaid, settled};
 ghost use Rattle.host_trait.specs.World.{Image, IsImage, Passes, moment_of};
 ghost use Rattle.host_trait.specs.Runs.{RunsOnFile, OnlyAsked};
 ghost use Rattle.host_trait.specs.Files.{StaysReady};
-ghost use Rattle.host_trait.specs.Faults.{Counted, CountsOn, Rose};
+ghost use Rattle.host_trait.specs.Faults.{Counted, NoneFailed};
 ghost use Rattle.host_trait.specs.declared.channels.FileId.{FileId};
 ghost use Rattle.host_trait.specs.declared.channels.Channel.TheVariants.{File};
 ghost use Rattle.silo_spec.specs.Silos.{manager, program_file, counter_magic, IsSilo, IsNewSilo};
 ghost use Rattle.silo_spec.specs.Moments.{IsUntouched};
 ghost use Rattle.opening.specs.declared.faults.CreateFault.{CreateFault};
 ghost use Rattle.opening.specs.declared.creation.Front.{Front};
-ghost use Rattle.opening.specs.Making.{IsMade, StaysBeside, IsUnsynced, FromFirstSync, IsNewAt, Makes, CountsBoth, HasFailed, new_header};
+ghost use Rattle.opening.specs.Counts.{CreateFaulted};
+ghost use Rattle.opening.specs.Making.{IsMade, StaysBeside, IsUnsynced, FromFirstSync, IsNewAt, Makes, new_header};
 ghost use Rattle.opening.specs.Steps.{Shows, Looks, SyncsFor, ClosesBy, MayClose, HasNoSilo, IsShut};
 
 use crate::faults::CreateFault;
@@ -75,9 +76,10 @@ pub fn create<H: Host>(host: &mut H, program: &[u8]) -> Result<(), CreateFault>
     // No other file changes, and no output or input.
     ensures beside { IsTrue H.tells → StaysBeside (H.world host.old) (H.world host.new) }
 
-    // A fault is named only where it was.
-    ensures fault { (file : FileId) → IsErrOf result (CreateFault.DiskFault file) → HasFailed file (H.faults host.old) (H.faults host.new) }
-    ensures counts { CountsBoth (H.faults host.old) (H.faults host.new) }
+    // `DiskFault` is answered exactly where a call on the file, one of the two, failed: its count rose then, and no other
+    // changed. With another answer no count has changed.
+    ensures calm { OnOk result (NoneFailed (H.faults host.old) (H.faults host.new)) }
+    ensures fault { IfErr result (λ e. CreateFaulted e (H.faults host.old) (H.faults host.new)) }
     ensures ready { StaysReady (H.is_ready host.old) (H.is_ready host.new) }
 {
     prepare(host)?;
@@ -102,9 +104,8 @@ fn prepare<H: Host>(host: &mut H) -> Result<(), CreateFault>
         ⊎ (IsUnsynced (H.world host.old) (H.world host.new)
         ⊎ FromFirstSync (HasNoSilo counter_magic) (H.world host.old) (H.world host.new)) }
     ensures beside { IsTrue H.tells → StaysBeside (H.world host.old) (H.world host.new) }
-    ensures fault { (file : FileId) → IsErrOf result (CreateFault.DiskFault file)
-        → (file ≡ manager) × Rose (H.faults host.old (File manager)) (H.faults host.new (File manager)) }
-    ensures counts { CountsOn (File manager) (H.faults host.old) (H.faults host.new) }
+    ensures calm { OnOk result (NoneFailed (H.faults host.old) (H.faults host.new)) }
+    ensures fault { IfErr result (λ e. CreateFaulted e (H.faults host.old) (H.faults host.new)) }
     ensures ready { StaysReady (H.is_ready host.old) (H.is_ready host.new) }
 {
     match look(host) {
@@ -185,8 +186,8 @@ fn fill<H: Host>(host: &mut H, program: &[u8]) -> Result<(), CreateFault>
     ensures now { IsTrue H.tells → IsNewAt counter_magic program.now (moment_of (H.world host.new)) }
     ensures beside { IsTrue H.tells → StaysBeside (H.world host.old) (H.world host.new) }
     ensures already { IsErrOf result CreateFault.AlreadyASilo → ⊥ }
-    ensures fault { (file : FileId) → IsErrOf result (CreateFault.DiskFault file) → HasFailed file (H.faults host.old) (H.faults host.new) }
-    ensures counts { CountsBoth (H.faults host.old) (H.faults host.new) }
+    ensures calm { OnOk result (NoneFailed (H.faults host.old) (H.faults host.new)) }
+    ensures fault { IfErr result (λ e. CreateFaulted e (H.faults host.old) (H.faults host.new)) }
     ensures ready { StaysReady (H.is_ready host.old) (H.is_ready host.new) }
 {
     write_program(host, program).map_err(|_| CreateFault::DiskFault { file: PROGRAM })?;

@@ -4,7 +4,7 @@ ghost use Rattle.host_trait.specs.Disk.{settled};
 ghost use Rattle.host_trait.specs.Files.{StaysReady};
 ghost use Rattle.host_trait.specs.World.{Image, IsImage};
 ghost use Rattle.host_trait.specs.Runs.{RunsOnFile, OnlyAsked};
-ghost use Rattle.host_trait.specs.Faults.{Rose, Counted, CountsOn};
+ghost use Rattle.host_trait.specs.Faults.{Counted, NoneFailed};
 ghost use Rattle.host_trait.specs.declared.channels.Channel.TheVariants.{File};
 ghost use Rattle.host_trait.specs.declared.channels.FileId.{FileId};
 ghost use Rattle.gate_block.specs.Gates.{IsClosedAt};
@@ -16,6 +16,7 @@ ghost use Rattle.silo_spec.specs.Logs.{IsLog};
 ghost use Rattle.silo_spec.specs.Damage.{IsBodyAbove, IsDamagedAt};
 ghost use Rattle.silo_spec.specs.Moments.{IsUntouched};
 ghost use Rattle.opening.specs.declared.faults.OpenFault.{OpenFault};
+ghost use Rattle.opening.specs.Counts.{OpenFaulted};
 ghost use Rattle.opening.specs.Reading.{Stays, IsBroken, IsBlockAt, IsNext};
 
 use crate::faults::OpenFault;
@@ -162,9 +163,9 @@ fn next_unit<H: Host>(
         → IsBroken above (found_at gate_at ((H.world host.old).disk manager).seen) }
     ensures place { (file : FileId) (place : ℕ) → IsErrOf result (OpenFault.Damaged file place) → (file ≡ manager) × (place ≡ gate_at + 1) }
     ensures silo { IsErrOf result OpenFault.NotASilo → ⊥ }
-    ensures fault { (file : FileId) → IsErrOf result (OpenFault.DiskFault file) → (file ≡ manager) × Rose (H.faults host.old (File manager)) (H.faults host.new (File manager)) }
     ensures asked { IsTrue H.tells → OnlyAsked (H.world host.old) (H.world host.new) }
-    ensures counts { CountsOn (File manager) (H.faults host.old) (H.faults host.new) }
+    ensures calm { OnOk result (NoneFailed (H.faults host.old) (H.faults host.new)) }
+    ensures fault { IfErr result (λ e. OpenFaulted e (H.faults host.old) (H.faults host.new)) }
     ensures ready { StaysReady (H.is_ready host.old) (H.is_ready host.new) }
 {
     let file = FileId::Manager { slot: 0 };
@@ -196,9 +197,9 @@ fn read_log<H: Host>(alloc: Global, host: &mut H) -> Result<Opened, OpenFault>
         → IsDamagedAt ((H.world host.old).disk manager).seen place }
     ensures place { (file : FileId) (place : ℕ) → IsErrOf result (OpenFault.Damaged file place) → file ≡ manager }
     ensures silo { IsErrOf result OpenFault.NotASilo → ⊥ }
-    ensures fault { (file : FileId) → IsErrOf result (OpenFault.DiskFault file) → (file ≡ manager) × Rose (H.faults host.old (File manager)) (H.faults host.new (File manager)) }
     ensures asked { IsTrue H.tells → OnlyAsked (H.world host.old) (H.world host.new) }
-    ensures counts { CountsOn (File manager) (H.faults host.old) (H.faults host.new) }
+    ensures calm { OnOk result (NoneFailed (H.faults host.old) (H.faults host.new)) }
+    ensures fault { IfErr result (λ e. OpenFaulted e (H.faults host.old) (H.faults host.new)) }
     ensures ready { StaysReady (H.is_ready host.old) (H.is_ready host.new) }
 {
     let mut log = List::new(alloc);
@@ -221,8 +222,8 @@ fn read_log<H: Host>(alloc: Global, host: &mut H) -> Result<Opened, OpenFault>
 ///
 /// `NotASilo` comes exactly where the manager file is shorter than 16 bytes or doesn't begin with the header.
 /// `Damaged` names the length field of the first open block that isn't whole, or isn't that of a unit whose line is a
-/// request and whose number is above the one before it and below 2 to the 63. `DiskFault` comes only where the count
-/// of the manager file rose in this call, and `Memory` at any place.
+/// request and whose number is above the one before it and below 2 to the 63. `DiskFault` comes exactly where
+/// a call on the manager file failed in this call, and `Memory` at any place.
 pub fn open_silo<H: Host>(alloc: Global, host: &mut H) -> Result<Opened, OpenFault>
     // Each image has this log, which ends at this closed gate, and nothing of the manager file is pending.
     ensures log { IfOk result (λ opened. IsTrue H.tells → (image : Image) → IsImage (H.world host.new).disk image
@@ -249,10 +250,10 @@ pub fn open_silo<H: Host>(alloc: Global, host: &mut H) -> Result<Opened, OpenFau
     ensures undamaged { OnOk result (IsTrue H.tells → (place : ℕ)
         → IsDamagedAt ((H.world host.old).disk manager).seen place → ⊥) }
 
-    // A fault is answered only where the manager file's count rose, and no other count changes.
-    ensures fault { (file : FileId) → IsErrOf result (OpenFault.DiskFault file) →
-        (file ≡ manager) × Rose (H.faults host.old (File manager)) (H.faults host.new (File manager)) }
-    ensures counts { CountsOn (File manager) (H.faults host.old) (H.faults host.new) }
+    // `DiskFault` is answered exactly where a call on the manager file failed: its count rose then, and no other changed.
+    // With another answer no count has changed.
+    ensures calm { OnOk result (NoneFailed (H.faults host.old) (H.faults host.new)) }
+    ensures fault { IfErr result (λ e. OpenFaulted e (H.faults host.old) (H.faults host.new)) }
 
     // Whatever is answered, nothing was written or emitted, and no input was taken.
     ensures untouched { IsTrue H.tells → IsUntouched (H.world host.old) (H.world host.new) }

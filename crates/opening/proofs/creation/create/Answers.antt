@@ -1,6 +1,5 @@
-use Rattle.std.proofs.Common.{rules}
 use Rattle.opening.proofs.Looking.{beside_then}
-use Rattle.opening.proofs.Outcomes.{made_silo, so_far, came_on, failed_later}
+use Rattle.opening.proofs.Outcomes.{made_silo, so_far, came_on}
 use Rattle.opening.proofs.creation.create.Goals as goal
 
 pub returns-in_err-prepare-clause-moments : goal.returns-in_err-prepare-clause-moments
@@ -20,7 +19,3 @@ returns-clause-moments g c told = came_on c.args.program.now _ _ _ (c.in_ok-prep
 
 pub returns-clause-beside : goal.returns-clause-beside
 returns-clause-beside g c told = beside_then _ _ _ (c.prepare.ensures.beside told) (c.fill.ensures.beside told)
-
-pub returns-in_err-fill-clause-fault : goal.returns-in_err-fill-clause-fault
-returns-in_err-fill-clause-fault g c file is =
-    failed_later file (g.H.Host.faults c.args.host.now) (g.H.Host.faults c.prepare.new.host) (g.H.Host.faults c.fill.new.host) c.prepare.ensures.counts (c.fill.ensures.fault file (search rules))

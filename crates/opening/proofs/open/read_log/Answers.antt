@@ -2,7 +2,7 @@ use Rattle.std.proofs.Common.{rules, ◌≡◌, ◌+◌, ◌<◌, ℕ, List, [],
 use Rattle.std.proofs.lemmas.Result.{err_from_is_err_and}
 use Rattle.host_trait.specs.World.{Disk}
 use Rattle.host_trait.proofs.Runs.{asked_then}
-use Rattle.host_trait.proofs.Counts.{counts_on}
+use Rattle.host_trait.proofs.Counts.{none_then}
 use Rattle.gate_block.specs.Blocks.{found_at}
 use Rattle.gate_block.specs.Log.{HasBlocks}
 use Rattle.silo_spec.specs.Silos.{manager}
@@ -59,6 +59,6 @@ loop-log-preserved g c =
           let block : IsBlockAt gate seen logged = subst (λ (d : Disk). IsBlockAt gate (d manager).seen logged) (inv.asked told).disk here in
           subst (λ (l : List Logged). HasBlocks (map body_of l) next seen) (sym pushed) (one_read log above gate logged next seen (inv.whole told) block is);
       asked = λ told. asked_then _ _ _ (inv.asked told) (c.next_unit.ensures.asked told);
-      counts = counts_on inv.counts c.next_unit.ensures.counts;
+      calm = none_then _ _ _ inv.calm c.in_ok-logged.ensures.calm;
       ready = λ file was. c.next_unit.ensures.ready file (inv.ready file was);
     }
