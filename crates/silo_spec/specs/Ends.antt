@@ -1,5 +1,5 @@
 -- What stands when the lines of a run have been carried, or when carrying them has stopped.
-use Rattle.std.specs.Prelude.{◌≡◌, ◌⊎◌, ℕ, List, [], ◌∷◌, ◌++◌}
+use Rattle.std.specs.Prelude.{◌≡◌, ◌⊎◌, ℕ, List, ◌∷◌, ◌++◌}
 use Rattle.host_trait.specs.World.{World, Image, IsImage}
 use Rattle.silo_spec.specs.Units.{Logged}
 use Rattle.silo_spec.specs.Logs.{IsLog}

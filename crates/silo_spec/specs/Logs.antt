@@ -1,6 +1,6 @@
 -- The log of an image, and how the logs of images stand to each other.
-use Rattle.std.specs.Prelude.{◌≡◌, ◌⊎◌, ℕ, List, [], ◌∷◌, ◌++◌, map}
-use Rattle.host_trait.specs.World.{Image, Disk, IsImage}
+use Rattle.std.specs.Prelude.{◌≡◌, ◌⊎◌, ℕ, List, ◌++◌, map}
+use Rattle.host_trait.specs.World.{Image}
 use Rattle.gate_block.specs.Log.{LogsUpTo}
 use Rattle.silo_spec.specs.Silos.{manager, IsSilo}
 use Rattle.silo_spec.specs.Units.{Logged, body_of, AreUnits}
@@ -20,11 +20,7 @@ IsPrefix log longer = (more : List Logged) × (longer ≡ log ++ more)
 abbrev pub IsSound : List ℕ → Image → Type 0
 IsSound magic image = (log : List Logged) × (gate : ℕ) × IsLog magic image log gate
 
--- of two logs of these images one is a first part of the other; an image that is no silo comes before every log
+-- Of two logs of these images one is a first part of the other. An image without a log has none to compare; whether it has one is
+-- its soundness.
 abbrev pub AreChained : List ℕ → Image → Image → Type 0
 AreChained magic one other = (a b : List Logged) (g h : ℕ) → IsLog magic one a g → IsLog magic other b h → IsPrefix a b ⊎ IsPrefix b a
-
--- A folder that this program left: what a crash may leave of it is no silo or sound, and the images are a chain.
-pub record IsSoundFolder (magic : List ℕ) (disk : Disk) : Type 0 where
-  pub sound : (image : Image) → IsImage disk image → IsSilo magic (image manager) → IsSound magic image
-  pub chain : (one other : Image) → IsImage disk one → IsImage disk other → AreChained magic one other

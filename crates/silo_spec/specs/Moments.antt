@@ -1,10 +1,11 @@
 -- What each image of each moment of a run keeps.
-use Rattle.std.specs.Prelude.{◌≡◌, ◌≢◌, ◌⊎◌, ℕ, ◌≤◌, List, [], ◌∷◌, ◌++◌, length, take}
+use Rattle.std.specs.Prelude.{◌≡◌, ◌≢◌, ℕ, List, ◌++◌, take}
 use Rattle.host_trait.specs.declared.channels.FileId.{FileId}
+use Rattle.host_trait.specs.Disk.{MayLeave}
 use Rattle.host_trait.specs.World.{World, Moment, Image, Disk, IsImage, Passes, moment_of}
-use Rattle.silo_spec.specs.Silos.{manager, IsSilo}
+use Rattle.silo_spec.specs.Silos.{manager}
 use Rattle.silo_spec.specs.Units.{Logged}
-use Rattle.silo_spec.specs.Logs.{IsLog, IsPrefix}
+use Rattle.silo_spec.specs.Logs.{IsLog}
 use Rattle.silo_spec.specs.Journals.{Settlement, units_of, replies_of}
 
 -- this is a first part of these bytes
@@ -34,7 +35,7 @@ pub record IsAsAtEntry (old : World) (m : Moment) : Type 0 where
   pub quiet : m.output ≡ old.output
   pub images : (image : Image) → IsImage m.disk image → IsImage old.disk image
 
--- nothing was emitted or written
+-- nothing was emitted, no read has changed, and no outcome of a crash was added
 pub record IsUntouched (old new : World) : Type 0 where
   pub moments : Passes (IsAsAtEntry old) old.past new.past
   pub now : IsAsAtEntry old (moment_of new)
@@ -48,3 +49,12 @@ KeepsOthers disk m = (file : FileId) → file ≢ manager → m.disk file ≡ di
 pub record OnlyLogChanges (old new : World) : Type 0 where
   pub moments : Passes (KeepsOthers old.disk) old.past new.past
   pub now : KeepsOthers old.disk (moment_of new)
+
+-- the log's file has this header, whatever a crash leaves of it
+abbrev pub HasHeader : List ℕ → Moment → Type 0
+HasHeader header m = (bytes : List ℕ) → MayLeave (m.disk manager) bytes → take 15 bytes ≡ header
+
+-- at each moment and at the end
+pub record KeepsHeader (header : List ℕ) (old new : World) : Type 0 where
+  pub moments : Passes (HasHeader header) old.past new.past
+  pub now : HasHeader header (moment_of new)

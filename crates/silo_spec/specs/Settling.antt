@@ -1,7 +1,7 @@
 -- What a host holds while one line is settled, and between two lines.
 use Rattle.std.specs.Prelude.{◌≡◌, ◌⊎◌, ℕ, List, ◌++◌, map}
 use Rattle.host_trait.specs.Disk.{settled}
-use Rattle.host_trait.specs.World.{World, Moment, Image, Disk, IsImage}
+use Rattle.host_trait.specs.World.{Moment, Image, Disk, IsImage}
 use Rattle.gate_block.specs.Log.{LogsUpTo}
 use Rattle.silo_spec.specs.Silos.{manager, IsSilo}
 use Rattle.silo_spec.specs.Units.{Logged, body_of, AreUnits}

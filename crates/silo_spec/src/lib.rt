@@ -2,9 +2,10 @@
 //! public functions with empty bodies, whose contracts are laws about the definitions.
 //!
 //! In reading order: `Silos` (is an image a silo), `Totals` (the counter program, as one thread plays it),
-//! `Units` (units as the log has them), `Logs` (the log of an image; prefixes, chains, sound folders), `Damage`
+//! `Units` (units as the log has them), `Logs` (the log of an image; prefixes, chains, sound images), `Damage`
 //! (what opening refuses, and where), `Journals` (what a run settles, line by line), `Moments` (what each image of
-//! each moment keeps).
+//! each moment keeps), `Settling` (what stands while one line is settled, and between two), `Ends` (what stands when a
+//! run has ended).
 #![tactic(auto)]
 
 mod laws;

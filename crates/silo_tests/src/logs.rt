@@ -10,7 +10,9 @@ use std::test::Fail;
 // The block of a unit, and the closed gate behind it.
 fn block_of(alloc: Global, unit: u64, number: u32, line: &str) -> Result<Vec<u8>, Fail> {
     let text = line.trim_end().as_bytes();
-    let size = (12 + text.len()) as u32;
+    let size = u32::try_from(text.len())?
+        .checked_add(12)
+        .ok_or("too long")?;
     let mut block = Vec::new(alloc);
     block.extend_from_slice(&size.to_le_bytes())?;
     block.extend_from_slice(&unit.to_le_bytes())?;
@@ -108,7 +110,7 @@ fn any_other_gate_byte_is_closed(rt: HostRuntime) -> Result<(), Fail> {
 fn a_body_that_is_no_unit_is_damaged(rt: HostRuntime) -> Result<(), Fail> {
     let alloc = rt.alloc();
     let first = block_of(alloc, 4, 1, ADD_FIVE)?;
-    let second = 16 + first.len() as u64;
+    let second = (first.len() as u64).checked_add(16).ok_or("too long")?;
     for (unit, line, status) in [
         (5, ADD_NOTHING, Status::Done),
         (9_223_372_036_854_775_807, ADD_NOTHING, Status::Memory),

@@ -29,12 +29,13 @@ fn folder(alloc: Global, log: &[u8]) -> Result<MemoryHost, Fail> {
     folder_with_log(alloc, log)
 }
 
-fn has_program(bytes: &[u8]) -> bool {
-    let length = (COUNTER_PROGRAM.len() as u32).to_le_bytes();
+// Whether a program file has the text of the counter program behind its length.
+fn has_program(bytes: &[u8]) -> Result<bool, Fail> {
+    let length = u32::try_from(COUNTER_PROGRAM.len())?.to_le_bytes();
     let Some((field, rest)) = bytes.split_at_checked(4) else {
-        return false;
+        return Ok(false);
     };
-    field == length.as_slice() && rest.starts_with(COUNTER_PROGRAM.as_bytes())
+    Ok(field == length.as_slice() && rest.starts_with(COUNTER_PROGRAM.as_bytes()))
 }
 
 // Whether a folder is a silo. One that is has to be a silo of the counter program with an empty log.
@@ -42,7 +43,7 @@ fn is_new_silo(rt: &impl Abort, alloc: Global, folder: &mut MemoryHost) -> Resul
     match open_silo(alloc, folder) {
         Ok(opened) => {
             assert!(rt; opened.log.is_empty());
-            assert!(rt; has_program(bytes_in(folder, PROGRAM)));
+            assert!(rt; has_program(bytes_in(folder, PROGRAM))?);
             assert_eq!(rt; run(alloc, folder, ADD_NOTHING)?, Status::Done);
             assert_eq!(rt; output_of(folder), OVER_NONE);
             Ok(true)
@@ -62,7 +63,7 @@ fn check_images(
     is_made: bool,
 ) -> Result<(), Fail> {
     let calls = host.calls();
-    for after in 0..calls + 1 {
+    for after in 0..=calls {
         for pick in 0..16u64 {
             let is_new = is_new_silo(rt, alloc, &mut crash(host, after, pick)?)?;
             assert!(rt; is_new || !is_made || after < calls, "at {after}, {pick}");
@@ -106,7 +107,7 @@ fn fail_each(
         let made = create(&mut host, COUNTER_PROGRAM.as_bytes());
         check_images(rt, alloc, &host, made.is_ok())?;
         if made.is_ok() {
-            return Ok(nth - 1);
+            return Ok(nth.saturating_sub(1));
         }
         assert_eq!(rt;
             made,
@@ -118,15 +119,18 @@ fn fail_each(
 }
 
 // The program file is written in two parts and synced. The manager file is written behind the header gate, synced, and then
-// that gate is opened and synced; where there is no closed gate yet, it is closed and synced before.
+// that gate is opened and synced; where there is no closed gate yet, it is closed and synced before. A file that has bytes is
+// synced and read first.
 #[test]
 fn any_call_of_init_may_fail(rt: HostRuntime) -> Result<(), Fail> {
     let alloc = rt.alloc();
     for log in NO_SILOS {
         let is_closed = log.starts_with(b"\0");
         let before = if is_closed { 2 } else { 3 };
+        let reads = if log.is_empty() { 0 } else { 1 };
         for (kind, file, least) in [
             (CallKind::Length, MANAGER, 1),
+            (CallKind::Read, MANAGER, reads),
             (CallKind::Write, PROGRAM, 2),
             (CallKind::Sync, PROGRAM, 1),
             (CallKind::Write, MANAGER, before),

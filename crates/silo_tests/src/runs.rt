@@ -16,7 +16,7 @@ fn init_makes_the_two_files(rt: HostRuntime) -> Result<(), Fail> {
     assert_eq!(rt; output_of(&host), "");
     assert_eq!(rt; bytes_in(&host, MANAGER), NEW_LOG.as_slice());
     let (length, text) = bytes_in(&host, PROGRAM).split_at_checked(4).ok_or("short")?;
-    let written = COUNTER_PROGRAM.len() as u32;
+    let written = u32::try_from(COUNTER_PROGRAM.len())?;
     assert_eq!(rt; length, written.to_le_bytes().as_slice());
     assert_eq!(rt; text, COUNTER_PROGRAM.as_bytes());
     Ok(())

@@ -1,11 +1,10 @@
 -- Calls that change no file but the log's.
-use Rattle.std.proofs.Common.{◌≡◌, ◌≢◌, ℕ, List, refl, ◌∙◌, ap}
-use Rattle.host_trait.specs.declared.channels.FileId.{FileId}
+use Rattle.std.proofs.Common.{◌≡◌, ℕ, List, refl, ◌∙◌, ap}
 use Rattle.host_trait.specs.World.{World, Moment, Disk, Emitted, Passes, moment_of}
-use Rattle.host_trait.specs.Runs.{RunsOnFile, ChangesFile}
+use Rattle.host_trait.specs.Runs.{RunsOnFile}
 use Rattle.host_trait.proofs.Moments.{started, one, both, weaker}
 use Rattle.silo_spec.specs.Silos.{manager}
-use Rattle.silo_spec.specs.Moments.{KeepsOthers, OnlyLogChanges}
+use Rattle.silo_spec.specs.Moments.{OnlyLogChanges}
 
 -- no call
 pub beside_none : (w : World) → OnlyLogChanges w w

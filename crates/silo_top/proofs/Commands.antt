@@ -1,5 +1,5 @@
 -- What the two commands do, put together from what their parts do.
-use Rattle.std.proofs.Common.{◌≡◌, ◌⊎◌, inl, inr, ℕ, ◌≤◌, ◌<◌, List, length, Result, Ok, Err, sym, ◌∙◌, ap, subst}
+use Rattle.std.proofs.Common.{◌≡◌, ◌⊎◌, inl, inr, ℕ, ◌≤◌, ◌<◌, List, length, take, Result, Ok, Err, sym, ◌∙◌, ap, subst}
 use Rattle.host_trait.specs.declared.channels.FileId.{FileId}
 use Rattle.host_trait.specs.Disk.{FileState, MayLeave, settled}
 use Rattle.host_trait.specs.World.{World, Moment, Image, IsImage, moment_of}
@@ -9,11 +9,11 @@ use Rattle.silo_spec.specs.declared.units.Logged.{Logged}
 use Rattle.silo_spec.specs.Logs.{IsLog}
 use Rattle.silo_spec.specs.Damage.{IsDamagedAt}
 use Rattle.silo_spec.specs.Journals.{journal_of}
-use Rattle.silo_spec.specs.Moments.{AllKeep, IsUntouched, KeepsOthers, OnlyLogChanges}
+use Rattle.silo_spec.specs.Moments.{AllKeep, IsUntouched, KeepsOthers, OnlyLogChanges, KeepsHeader}
 use Rattle.silo_spec.specs.Settling.{Stands}
 use Rattle.opening.specs.declared.faults.CreateFault.{CreateFault}
 use Rattle.opening.specs.declared.faults.CreateFault.TheVariants as faults
-use Rattle.opening.specs.Making.{Makes, StaysBeside}
+use Rattle.opening.specs.Making.{Makes, IsMade, StaysBeside}
 use Rattle.silo_top.specs.declared.status.Status.{Status}
 use Rattle.silo_top.specs.declared.status.Status.TheVariants.{Done, BadUse, Memory, ReadFault, WriteFault, DiskFault, NotASilo, AlreadyASilo, Damaged, InputTooLong}
 use Rattle.silo_top.specs.Runs.{counter_program, input_limit, IsMaking, EndsAs, IsServed, IsCarried}
@@ -42,13 +42,14 @@ fault_file a b is = cc
 -- a new silo was made
 pub made_new : (old new : World) (text : List ℕ) (x : Unit {0}) → text ≡ counter_program → Makes counter_magic text old new → StaysBeside old new
     → (IsSilo counter_magic (old.disk manager).seen → (fine x ≡ Err faults.AlreadyASilo) ⊎ (fine x ≡ Err (faults.DiskFault manager)))
-    → ((image : Image) → IsImage new.disk image → IsNewSilo counter_magic text image) → IsMaking Done old new
-made_new old new text x is moments beside named made = record {
+    → ((image : Image) → IsImage new.disk image → IsNewSilo counter_magic text image) → IsMade counter_magic text new.disk → IsMaking Done old new
+made_new old new text x is moments beside named made files = record {
   moments = subst (λ (t : List ℕ). Makes counter_magic t old new) is moments;
   beside = beside;
   ends = (
     λ silo. elim (named silo) [ inl e ↦ no_fault x faults.AlreadyASilo e | inr e ↦ no_fault x (faults.DiskFault manager) e ],
     λ image left. subst (λ (t : List ℕ). IsNewSilo counter_magic t image) is (made image left),
+    subst (λ (t : List ℕ). IsMade counter_magic t new.disk) is files,
   );
 }
 
@@ -59,13 +60,16 @@ pub made_in_part : (old new : World) (text : List ℕ) (file : FileId) (e : Crea
 made_in_part old new text file e fault which is moments beside named untouched = record {
   moments = subst (λ (t : List ℕ). Makes counter_magic t old new) is moments;
   beside = beside;
-  ends = (which, λ silo. (
-    elim (named silo) [
-      | inl other ↦ absurd (other_fault file (sym fault ∙ fault_same e faults.AlreadyASilo other))
-      | inr same ↦ fault_file file manager (sym fault ∙ fault_same e (faults.DiskFault manager) same)
-    ],
-    untouched silo,
-  ));
+  ends = (
+    which,
+    λ silo. (
+      elim (named silo) [
+        | inl other ↦ absurd (other_fault file (sym fault ∙ fault_same e faults.AlreadyASilo other))
+        | inr same ↦ fault_file file manager (sym fault ∙ fault_same e (faults.DiskFault manager) same)
+      ],
+      untouched silo,
+    ),
+  );
 }
 
 -- ---- run
@@ -95,12 +99,14 @@ ends_from Memory opening w0 w1 w2 input output ends = stopped_from opening (jour
 ends_from ReadFault opening w0 w1 w2 input output ends = unbegun_from opening w0 w1 w2 output ends
 ends_from WriteFault opening w0 w1 w2 input output ends = (
   cut_from opening (journal_of opening w1.input) (journal_of opening w0.input) w0 w1 w2 (ap (λ (b : List ℕ). journal_of opening b) input) output ends.0,
-  subst (λ (b : List ℕ). length b ≤ input_limit) input ends.1,
+  ends.1,
+  subst (λ (b : List ℕ). length b ≤ input_limit) input ends.2,
 )
 ends_from (DiskFault file) opening w0 w1 w2 input output ends = (
   ends.0,
   doubt_from opening (journal_of opening w1.input) (journal_of opening w0.input) w0 w1 w2 (ap (λ (b : List ℕ). journal_of opening b) input) output ends.1,
-  subst (λ (b : List ℕ). length b ≤ input_limit) input ends.2,
+  ends.2,
+  subst (λ (b : List ℕ). length b ≤ input_limit) input ends.3,
 )
 ends_from NotASilo opening w0 w1 w2 input output ends = ends
 ends_from AlreadyASilo opening w0 w1 w2 input output ends = ends
@@ -109,8 +115,8 @@ ends_from (InputTooLong line) opening w0 w1 w2 input output ends = (unbegun_from
 
 -- a silo was opened and served
 pub carried : (status : Status) (w0 w1 w2 : World) (log : List Logged) (gate : ℕ) → ((file : FileId) → MayLeave (w1.disk file) (w1.disk file).seen) → IsUntouched w0 w1 → w1.input ≡ w0.input → ((image : Image) → IsImage w1.disk image → IsLog counter_magic image log gate)
-    → ((place : ℕ) → IsDamagedAt (w0.disk manager).seen place → ⊥) → KeepsOthers w0.disk (moment_of w1) → OnlyLogChanges w1 w2 → IsServed status log w1 w2 → IsCarried status w0 w2
-carried status w0 w1 w2 log gate stay untouched input logs undamaged others after served =
+    → ((place : ℕ) → IsDamagedAt (w0.disk manager).seen place → ⊥) → KeepsOthers w0.disk (moment_of w1) → OnlyLogChanges w1 w2 → KeepsHeader (take 15 (w0.disk manager).seen) w1 w2 → IsServed status log w1 w2 → IsCarried status w0 w2
+carried status w0 w1 w2 log gate stay untouched input logs undamaged others after headed served =
     let keeps : (m : Moment) → AllKeep counter_magic log (journal_of log w1.input) w1.output m → AllKeep counter_magic log (journal_of log w0.input) w0.output m =
     seen_from log (journal_of log w1.input) (journal_of log w0.input) w1.output w0.output (ap (λ (b : List ℕ). journal_of log b) input) untouched.now.quiet in
     let beside : (m : Moment) → KeepsOthers w1.disk m → KeepsOthers w0.disk m = λ m keeps_others file other. keeps_others file other ∙ others file other in
@@ -123,5 +129,7 @@ carried status w0 w1 w2 log gate stay untouched input logs undamaged others afte
       now = keeps (moment_of w2) served.now;
       others = in_turn _ _ untouched.moments (weaker _ _ beside after.moments);
       others_now = beside (moment_of w2) after.now;
+      header = in_turn _ _ untouched.moments headed.moments;
+      header_now = headed.now;
       ends = ends_from status log w0 w1 w2 input untouched.now.quiet served.ends;
     }

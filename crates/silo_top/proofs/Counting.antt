@@ -1,9 +1,7 @@
--- Lengths of lines, and counts of faults over two calls.
-use Rattle.std.proofs.Common.{◌≡◌, ℕ, ◌+◌, ◌≤◌, ◌==◌, Bool, true, false, cond, if◌then◌else◌, List, [], ◌∷◌, length, ◌∙◌, ap, arith}
+-- Lengths of lines.
+use Rattle.std.proofs.Common.{◌≡◌, ℕ, ◌+◌, ◌≤◌, ◌==◌, Bool, true, false, cond, if◌then◌else◌, List, [], ◌∷◌, length, ap, arith}
 use Rattle.std.specs.List.{slice_split, onto_first}
-use Rattle.host_trait.specs.declared.channels.Channel.{Channel}
 use Rattle.request_wire.specs.Lines.{without_empty_last, lines_of}
-use Rattle.silo_top.specs.Prepared.{CountsKept}
 
 -- the length of the first piece
 abbrev first_length : List (List ℕ) → ℕ
@@ -35,10 +33,3 @@ pub line_within : (input line : List ℕ) (more : List (List ℕ)) → lines_of 
 line_within input line more is =
     let first : first_length (lines_of input) ≡ length line = ap first_length is in
     omega (arith, first, kept_within (slice_split (λ b. b == 10) input) (length input) (split_within (λ b. b == 10) input))
-
--- counts that are kept by one call and by the next
-pub counts_then : (a b c : Channel → ℕ) → CountsKept a b → CountsKept b c → CountsKept a c
-counts_then a b c first second = record {
-  files = λ file other. second.files file other ∙ first.files file other;
-  later = λ channel. omega (arith, first.later channel, second.later channel);
-}

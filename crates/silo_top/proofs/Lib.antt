@@ -9,3 +9,4 @@ pub mod Standing
 pub mod Still
 mod Totals
 pub mod Beside
+pub mod Headed

@@ -1,6 +1,6 @@
 -- A line's unit is sealed, where it has one.
-use Rattle.std.proofs.Common.{◌≡◌, ◌⊎◌, ℕ, ◌+◌, ◌^◌, ◌<◌, List, [], ◌∷◌, ◌++◌, length, map, refl, sym, ◌∙◌, ap, subst, append-nil, Option, Some, None}
-use Rattle.host_trait.specs.World.{World, Moment, Passes, moment_of}
+use Rattle.std.proofs.Common.{◌≡◌, ℕ, ◌+◌, ◌^◌, ◌<◌, List, [], ◌∷◌, ◌++◌, length, map, sym, ◌∙◌, ap, subst, append-nil, Option, Some, None}
+use Rattle.host_trait.specs.World.{World, Moment, Passes}
 use Rattle.host_trait.proofs.Moments.{weaker}
 use Rattle.gate_block.specs.Blocks.{block_of}
 use Rattle.silo_spec.specs.Silos.{counter_magic}
@@ -10,7 +10,7 @@ use Rattle.silo_spec.specs.Settling.{Stands}
 use Rattle.silo_top.specs.declared.prepare.UnitBlock.{UnitBlock}
 use Rattle.silo_top.specs.Seals.{IsSealing, IsSealed}
 use Rattle.silo_top.specs.Prepared.{HoldsUnit, IsSealingUnit}
-use Rattle.silo_top.proofs.Standing.{unit_sealing, unit_sealed, none_sealing, stands_as}
+use Rattle.silo_top.proofs.Standing.{unit_sealing, unit_sealed, stands_as}
 
 module _ (o : Option UnitBlock) (held : UnitBlock) (is : o ≡ Some held) (body : List ℕ) (same : body ≡ held.body) (log logged : List Logged) (holds : HoldsUnit o logged) (gate : ℕ) (w0 : World) (stands : Stands counter_magic log gate w0.disk) (units : AreUnits 0 (log ++ logged)) where
   h : (unit : Logged) × (logged ≡ unit ∷ []) × (held.body ≡ body_of unit) × (held.block ≡ block_of held.body) × (length held.body < 2 ^ 32)

@@ -1,17 +1,16 @@
 -- The images of the manager file while a body is sealed.
-use Rattle.std.proofs.Common.{◌≡◌, ◌⊎◌, inl, inr, ℕ, ◌+◌, ◌^◌, ◌<◌, ◌≤◌, List, [], ◌∷◌, ◌++◌, length, take, refl, sym, ◌∙◌, ap, subst, arith, length-take}
-use Rattle.std.proofs.lemmas.List.{take-take, take_at, take-append-le}
+use Rattle.std.proofs.Common.{◌≡◌, inl, ℕ, ◌+◌, ◌^◌, ◌<◌, ◌≤◌, List, [], ◌∷◌, length, take, sym, ◌∙◌, ap, subst, arith}
+use Rattle.std.proofs.lemmas.List.{take-take}
 use Rattle.host_trait.specs.Disk.{FileState, MayLeave, Tears, settled, overlaid}
 use Rattle.host_trait.specs.World.{World, Moment, Passes, moment_of}
 use Rattle.host_trait.specs.Runs.{ChangesFile, RunsOnFile}
 use Rattle.host_trait.proofs.Moments.{both, weaker}
 use Rattle.host_trait.proofs.Crashes.{settled_only, Tears-overlaid}
-use Rattle.gate_block.specs.Gates.{IsClosedAt}
 use Rattle.gate_block.specs.Blocks.{block_of}
-use Rattle.gate_block.specs.Log.{LogsUpTo, EachLogs, EachLogsOrMore}
+use Rattle.gate_block.specs.Log.{LogsUpTo, EachLogs}
 use Rattle.gate_block.proofs.Images.{each_still, each_or_more, each_more}
 use Rattle.silo_spec.specs.Silos.{manager}
-use Rattle.silo_top.specs.Seals.{Rests, HasOrNot, IsSealing, IsSealed}
+use Rattle.silo_top.specs.Seals.{Rests, IsSealing, IsSealed}
 
 -- a gate stands behind the header
 pub behind_header : (bodies : List (List ℕ)) (gate : ℕ) (file : List ℕ) → LogsUpTo bodies gate file → 15 ≤ gate

@@ -134,17 +134,17 @@ module _ (opening : List Logged) (gate : ℕ) (w0 w1 : World) (stands : Stands c
     }
 
     -- the output failed
-    pub served_cut : IsCut counter_magic opening (journal_of opening bytes) w1 w2 → length w0.input ≤ input_limit → IsServed WriteFault opening w0 w2
-    served_cut c short = record {
+    pub served_cut : IsCut counter_magic opening (journal_of opening bytes) w1 w2 → w2.input ≡ [] → length w0.input ≤ input_limit → IsServed WriteFault opening w0 w2
+    served_cut c end short = record {
       moments = all_moments;
       now = from_entry (moment_of w2) (cut_keeps opening (journal_of opening bytes) w1 w2 c);
-      ends = (cut_from opening (journal_of opening bytes) (journal_of opening w0.input) w0 w1 w2 journal_same output c, short);
+      ends = (cut_from opening (journal_of opening bytes) (journal_of opening w0.input) w0 w1 w2 journal_same output c, end, short);
     }
 
     -- the manager file failed
-    pub served_in_doubt : IsInDoubt counter_magic opening (journal_of opening bytes) w1 w2 → length w0.input ≤ input_limit → IsServed (DiskFault manager) opening w0 w2
-    served_in_doubt d short = record {
+    pub served_in_doubt : IsInDoubt counter_magic opening (journal_of opening bytes) w1 w2 → w2.input ≡ [] → length w0.input ≤ input_limit → IsServed (DiskFault manager) opening w0 w2
+    served_in_doubt d end short = record {
       moments = all_moments;
       now = from_entry (moment_of w2) (doubt_keeps opening (journal_of opening bytes) w1 w2 d);
-      ends = (refl, doubt_from opening (journal_of opening bytes) (journal_of opening w0.input) w0 w1 w2 journal_same output d, short);
+      ends = (refl, doubt_from opening (journal_of opening bytes) (journal_of opening w0.input) w0 w1 w2 journal_same output d, end, short);
     }

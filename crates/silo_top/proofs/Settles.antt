@@ -1,14 +1,13 @@
 -- A line is settled: its unit first, and then its reply.
-use Rattle.std.proofs.Common.{◌≡◌, ◌⊎◌, inl, inr, ℕ, ◌≤◌, List, [], ◌∷◌, ◌++◌, length, take, drop, refl, sym, ◌∙◌, ap, subst, append-nil, arith}
+use Rattle.std.proofs.Common.{◌≡◌, inl, inr, ℕ, List, [], ◌++◌, length, take, drop, refl, sym, ◌∙◌, ap, append-nil, arith}
 use Rattle.std.proofs.lemmas.List.{take-append-drop, take_all}
-use Rattle.host_trait.specs.World.{World, Moment, Image, Disk, IsImage, Emitted, Passes, moment_of}
-use Rattle.host_trait.proofs.Moments.{both, weaker, one}
+use Rattle.host_trait.specs.World.{World, Moment, Emitted, Passes, moment_of}
+use Rattle.host_trait.proofs.Moments.{both, one}
 use Rattle.silo_spec.specs.Silos.{counter_magic}
 use Rattle.silo_spec.specs.declared.units.Logged.{Logged}
-use Rattle.silo_spec.specs.Logs.{IsLog}
 use Rattle.silo_spec.specs.Journals.{Settlement}
 use Rattle.silo_spec.specs.Moments.{IsFrontOf}
-use Rattle.silo_spec.specs.Settling.{Stands, IsUnsettled, IsLogged, IsSettling}
+use Rattle.silo_spec.specs.Settling.{Stands, IsSettling}
 use Rattle.silo_top.specs.Prepared.{IsSealingUnit}
 use Rattle.silo_top.specs.Settled.{IsReplied, IsReplyCut}
 use Rattle.silo_top.proofs.Standing.{stands_images, stands_on}

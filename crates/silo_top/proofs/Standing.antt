@@ -1,7 +1,7 @@
 -- Logs of images, by the manager file that they have.
-use Rattle.std.proofs.Common.{◌≡◌, ◌⊎◌, inl, inr, ⊎_elim, ℕ, ◌+◌, ◌-◌, ◌^◌, ◌<◌, ◌≤◌, List, [], ◌∷◌, ◌++◌, length, take, drop, map, slice_index, refl, sym, ◌∙◌, ap, subst, arith, append-nil, get_or-take}
+use Rattle.std.proofs.Common.{◌≡◌, inl, inr, ℕ, ◌+◌, ◌<◌, ◌≤◌, List, [], ◌∷◌, ◌++◌, length, take, drop, map, slice_index, refl, sym, ◌∙◌, ap, subst, arith, get_or-take}
 use Rattle.std.proofs.lemmas.List.{take-take, drop-take}
-use Rattle.host_trait.specs.Disk.{FileState, MayLeave, settled}
+use Rattle.host_trait.specs.Disk.{FileState, MayLeave}
 use Rattle.host_trait.specs.World.{World, Moment, Image, Disk, IsImage, moment_of}
 use Rattle.host_trait.proofs.Crashes.{settled_only}
 use Rattle.gate_block.specs.Gates.{IsClosedAt}
@@ -12,7 +12,7 @@ use Rattle.silo_spec.specs.declared.units.Logged.{Logged}
 use Rattle.silo_spec.specs.Units.{body_of, AreUnits}
 use Rattle.silo_spec.specs.Logs.{IsLog}
 use Rattle.silo_spec.specs.Settling.{Stands}
-use Rattle.silo_top.specs.Seals.{Rests, HasOrNot, IsSealing, IsSealed}
+use Rattle.silo_top.specs.Seals.{Rests, IsSealing, IsSealed}
 use Rattle.silo_top.specs.Prepared.{IsSealingUnit}
 
 -- a file with the header of a silo is one

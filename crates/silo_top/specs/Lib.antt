@@ -4,3 +4,4 @@ pub mod Runs
 pub mod Seals
 pub mod Prepared
 pub mod Settled
+pub mod Counts

@@ -1,11 +1,8 @@
 -- A line that is carried in memory, and what the images are while its unit is sealed.
-use Rattle.std.specs.Prelude.{◌≡◌, ◌≢◌, ◌⊎◌, ℕ, ◌^◌, ◌<◌, ◌≤◌, List, [], ◌∷◌, ◌++◌, length, Option, Some, None}
-use Rattle.host_trait.specs.declared.channels.Channel.{Channel}
-use Rattle.host_trait.specs.declared.channels.Channel.TheVariants.{File}
-use Rattle.host_trait.specs.declared.channels.FileId.{FileId}
-use Rattle.host_trait.specs.World.{World, Moment, Image, IsImage}
+use Rattle.std.specs.Prelude.{◌≡◌, ◌⊎◌, ℕ, ◌^◌, ◌<◌, List, [], ◌∷◌, ◌++◌, length, Option, Some, None}
+use Rattle.host_trait.specs.World.{Moment, Image, IsImage}
 use Rattle.gate_block.specs.Blocks.{block_of}
-use Rattle.silo_spec.specs.Silos.{manager, counter_magic}
+use Rattle.silo_spec.specs.Silos.{counter_magic}
 use Rattle.silo_spec.specs.declared.units.Logged.{Logged}
 use Rattle.silo_spec.specs.Units.{body_of}
 use Rattle.silo_spec.specs.Logs.{IsLog}
@@ -27,8 +24,3 @@ pub record Prepares (p : Prepared) (s : Settlement) : Type 0 where
 pub record IsSealingUnit (log logged : List Logged) (before : List ℕ) (m : Moment) : Type 0 where
   pub output : m.output ≡ before
   pub images : (image : Image) → IsImage m.disk image → ((gate : ℕ) × IsLog counter_magic image log gate) ⊎ ((gate : ℕ) × IsLog counter_magic image (log ++ logged) gate)
-
--- no count of another file than the manager file has changed, and none has fallen
-pub record CountsKept (old new : Channel → ℕ) : Type 0 where
-  pub files : (file : FileId) → file ≢ manager → new (File file) ≡ old (File file)
-  pub later : (c : Channel) → old c ≤ new c

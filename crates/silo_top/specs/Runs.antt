@@ -1,20 +1,19 @@
 -- What a command does to the folder, the input and the output, at each moment and at its end.
-use Rattle.std.specs.Prelude.{◌≡◌, ◌⊎◌, ℕ, ◌≤◌, ◌<◌, List, [], ◌∷◌, length, Bool, false, codes, bytes_eq, String, string_bytes}
+use Rattle.std.specs.Prelude.{◌≡◌, ◌⊎◌, ℕ, ◌≤◌, ◌<◌, List, [], ◌∷◌, length, take, Bool, false, codes, bytes_eq, String, string_bytes}
 use Rattle.std.specs.declared.alloc.Global.{Global}
-use Rattle.host_trait.specs.declared.channels.FileId.{FileId}
 use Rattle.host_trait.specs.declared.channels.Channel.{Channel}
 use Rattle.host_trait.specs.declared.channels.Channel.TheVariants.{Input, Output, File}
 use Rattle.host_trait.specs.Disk.{settled}
-use Rattle.host_trait.specs.Faults.{Rose}
-use Rattle.host_trait.specs.World.{World, Moment, Image, IsImage, Passes, PassesTwice, moment_of}
+use Rattle.host_trait.specs.Faults.{NoneFailed, FailedOn}
+use Rattle.host_trait.specs.World.{World, Image, IsImage, Passes, PassesTwice, moment_of}
 use Rattle.silo_spec.specs.declared.units.Logged.{Logged}
 use Rattle.silo_spec.specs.Silos.{manager, program_file, counter_magic, IsSilo, IsNewSilo}
 use Rattle.silo_spec.specs.Logs.{IsLog}
 use Rattle.silo_spec.specs.Damage.{IsDamagedAt}
 use Rattle.silo_spec.specs.Journals.{journal_of}
-use Rattle.silo_spec.specs.Moments.{AllKeep, IsAsAtEntry, IsUntouched, KeepsOthers}
+use Rattle.silo_spec.specs.Moments.{AllKeep, IsAsAtEntry, IsUntouched, KeepsOthers, HasHeader}
 use Rattle.silo_spec.specs.Ends.{IsUnbegun, IsDone, IsStopped, IsCut, IsInDoubt}
-use Rattle.opening.specs.Making.{Makes, StaysBeside}
+use Rattle.opening.specs.Making.{Makes, IsMade, StaysBeside}
 use Rattle.silo_top.specs.declared.status.Status.{Status}
 use Rattle.silo_top.specs.declared.status.Status.TheVariants.{Done, BadUse, Memory, ReadFault, WriteFault, DiskFault, NotASilo, AlreadyASilo, Damaged, InputTooLong}
 
@@ -68,8 +67,8 @@ EndsAs Done opening old new = IsDone counter_magic opening (journal_of opening o
 EndsAs BadUse opening old new = ⊥
 EndsAs Memory opening old new = IsStopped counter_magic opening (journal_of opening old.input) old new
 EndsAs ReadFault opening old new = IsUnbegun counter_magic opening old new
-EndsAs WriteFault opening old new = IsCut counter_magic opening (journal_of opening old.input) old new × (length old.input ≤ input_limit)
-EndsAs (DiskFault file) opening old new = (file ≡ manager) × IsInDoubt counter_magic opening (journal_of opening old.input) old new × (length old.input ≤ input_limit)
+EndsAs WriteFault opening old new = IsCut counter_magic opening (journal_of opening old.input) old new × (new.input ≡ []) × (length old.input ≤ input_limit)
+EndsAs (DiskFault file) opening old new = (file ≡ manager) × IsInDoubt counter_magic opening (journal_of opening old.input) old new × (new.input ≡ []) × (length old.input ≤ input_limit)
 EndsAs NotASilo opening old new = ⊥
 EndsAs AlreadyASilo opening old new = ⊥
 EndsAs (Damaged file place) opening old new = ⊥
@@ -84,7 +83,7 @@ pub record IsServed (status : Status) (opening : List Logged) (old new : World) 
 
 -- The folder read as an undamaged silo with this log, and was opened. Until then there was nothing but asking; from then on, and
 -- at the end, each image keeps the journal of the input's lines, played one after another from where the opening log stands,
--- and no file but the log's is other than it was.
+-- no file but the log's is other than it was, and that one's header is as it was.
 pub record IsCarried (status : Status) (old new : World) : Type 0 where
   pub opening : List Logged
   pub gate : ℕ
@@ -94,6 +93,8 @@ pub record IsCarried (status : Status) (old new : World) : Type 0 where
   pub now : AllKeep counter_magic opening (journal_of opening old.input) old.output (moment_of new)
   pub others : PassesTwice (IsAsAtEntry old) (KeepsOthers old.disk) old.past new.past
   pub others_now : KeepsOthers old.disk (moment_of new)
+  pub header : PassesTwice (IsAsAtEntry old) (HasHeader (take 15 (old.disk manager).seen)) old.past new.past
+  pub header_now : HasHeader (take 15 (old.disk manager).seen) (moment_of new)
   pub ends : EndsAs status opening old new
 
 -- what `run` does
@@ -106,6 +107,7 @@ Runs status old new = IsRefused status old new ⊎ IsCarried status old new
 abbrev pub MakesAs : Status → World → World → Type 0
 MakesAs Done old new = (IsSilo counter_magic (old.disk manager).seen → ⊥)
     × ((image : Image) → IsImage new.disk image → IsNewSilo counter_magic counter_program image)
+    × IsMade counter_magic counter_program new.disk
 MakesAs BadUse old new = ⊥
 MakesAs Memory old new = ⊥
 MakesAs ReadFault old new = ⊥
@@ -124,17 +126,17 @@ pub record IsMaking (status : Status) (old new : World) : Type 0 where
   pub beside : StaysBeside old new
   pub ends : MakesAs status old new
 
--- ---- causes and counts
+-- ---- counts
 
--- a fault is answered only where its channel's count rose
-abbrev pub HasCause : Status → (Channel → ℕ) → (Channel → ℕ) → Type 0
-HasCause Done old new = Unit {0}
-HasCause BadUse old new = Unit {0}
-HasCause Memory old new = Unit {0}
-HasCause ReadFault old new = Rose (old Input) (new Input)
-HasCause WriteFault old new = Rose (old Output) (new Output)
-HasCause (DiskFault file) old new = Rose (old (File file)) (new (File file))
-HasCause NotASilo old new = Unit {0}
-HasCause AlreadyASilo old new = Unit {0}
-HasCause (Damaged file place) old new = Unit {0}
-HasCause (InputTooLong line) old new = Unit {0}
+-- a call on the fault's channel failed, and no other count changed; where no fault is answered, no count changed
+abbrev pub Faulted : Status → (Channel → ℕ) → (Channel → ℕ) → Type 0
+Faulted Done old new = NoneFailed old new
+Faulted BadUse old new = NoneFailed old new
+Faulted Memory old new = NoneFailed old new
+Faulted ReadFault old new = FailedOn Input old new
+Faulted WriteFault old new = FailedOn Output old new
+Faulted (DiskFault file) old new = FailedOn (File file) old new
+Faulted NotASilo old new = NoneFailed old new
+Faulted AlreadyASilo old new = NoneFailed old new
+Faulted (Damaged file place) old new = NoneFailed old new
+Faulted (InputTooLong line) old new = NoneFailed old new

@@ -1,8 +1,8 @@
 ghost use Rattle.std.specs.Prelude.{◌≡◌, ◌≤◌, ◌<◌, [], length, IsTrue, IfOk, OnOk, IfErr, vec_len};
-ghost use Rattle.host_trait.specs.Faults.{Rose, CountsOn};
+ghost use Rattle.host_trait.specs.Faults.{NoneFailed};
 ghost use Rattle.host_trait.specs.Files.{StaysReady};
 ghost use Rattle.host_trait.specs.World.{Passes, moment_of};
-ghost use Rattle.host_trait.specs.declared.channels.Channel.TheVariants.{Input};
+ghost use Rattle.silo_top.specs.Counts.{InputFaulted};
 
 use host_trait::{Failed, Host};
 use std::alloc::{AllocError, Global};
@@ -51,9 +51,8 @@ pub fn read_input<H: Host>(alloc: Global, host: &mut H) -> Result<Vec<u8>, Input
     ensures within { IfOk result (λ bytes. vec_len bytes ≤ INPUT_LIMIT) }
     ensures too_long { IfErr result (λ e. e ≡ InputFault.TooLong
         → IsTrue H.tells → INPUT_LIMIT < length (H.world host.old).input) }
-    ensures failed { IfErr result (λ e. e ≡ InputFault.Failed
-        → Rose (H.faults host.old Input) (H.faults host.new Input)) }
-    ensures counts { CountsOn Input (H.faults host.old) (H.faults host.new) }
+    ensures calm { OnOk result (NoneFailed (H.faults host.old) (H.faults host.new)) }
+    ensures counts { IfErr result (λ e. InputFaulted e (H.faults host.old) (H.faults host.new)) }
     ensures output { IsTrue H.tells → (H.world host.new).output ≡ (H.world host.old).output }
     ensures disk { IsTrue H.tells → (H.world host.new).disk ≡ (H.world host.old).disk }
     ensures moments { IsTrue H.tells → Passes (λ m. m ≡ moment_of (H.world host.old))

@@ -1,7 +1,7 @@
 //! The commands of a silo: [`run_silo`] does all that the program does.
 //!
-//! For now there is one command, `run`, and one program, the counters: totals in memory, from 0. All input
-//! is read first; then each line is carried as a unit of its own, and its reply emitted.
+//! For now there are two commands, `init` and `run`, and one program, the counters. A run replays the log, reads all
+//! input, and then carries each line as a unit of its own: the unit is sealed in the log, and then its reply emitted.
 #![tactic(auto)]
 
 pub mod counters;

@@ -1,20 +1,19 @@
 ghost use Rattle.std.specs.Prelude.{◌≡◌, ◌+◌, ◌^◌, ◌<◌, ◌≤◌, ◌++◌, ℕ, List, length, IsTrue, IfOk, OnOk, IfErr};
-ghost use Rattle.host_trait.specs.Faults.{Rose};
+ghost use Rattle.host_trait.specs.Faults.{NoneFailed};
 ghost use Rattle.host_trait.specs.Files.{StaysReady};
 ghost use Rattle.host_trait.specs.World.{Passes, moment_of};
-ghost use Rattle.host_trait.specs.declared.channels.Channel.TheVariants.{Output, File};
 ghost use Rattle.gate_block.specs.Gates.{IsClosedAt};
 ghost use Rattle.request_wire.specs.Request.{request_of};
 ghost use Rattle.silo_spec.specs.Ends.{IsDone, IsStopped, IsCut, IsInDoubt};
 ghost use Rattle.silo_spec.specs.Journals.{settlement_of, journal_of};
-ghost use Rattle.silo_spec.specs.Moments.{AllKeep, OnlyLogChanges};
+ghost use Rattle.silo_spec.specs.Moments.{AllKeep, OnlyLogChanges, HasHeader, KeepsHeader};
 ghost use Rattle.silo_spec.specs.Settling.{Stands, IsSettling};
 ghost use Rattle.silo_spec.specs.Silos.{manager, counter_magic};
 ghost use Rattle.silo_spec.specs.Totals.{counter_shape, totals_after};
 ghost use Rattle.silo_spec.specs.Units.{last_from, replayed};
 ghost use Rattle.silo_spec.specs.declared.units.Logged.{Logged};
+ghost use Rattle.silo_top.specs.Counts.{RunFaulted};
 ghost use Rattle.silo_top.specs.Kept.{totals_of};
-ghost use Rattle.silo_top.specs.Prepared.{CountsKept};
 ghost use Rattle.silo_top.specs.Settled.{IsReplied, IsReplyCut};
 
 use crate::counters::{Counters, counter_shape};
@@ -106,10 +105,11 @@ fn carry_line<H: Host, G: Gate>(
     ensures after { OnOk result (totals_of running.new.counters
         ≡ totals_after (totals_of running.old.counters) (request_of line.now)) }
     ensures next { OnOk result (running.new.gate_at < 2 ^ 63) }
-    ensures write { IfErr result (λ e. e ≡ RunFault.WriteFault → Rose (H.faults host.old Output) (H.faults host.new Output)) }
-    ensures disk { IfErr result (λ e. e ≡ RunFault.DiskFault → Rose (H.faults host.old (File manager)) (H.faults host.new (File manager))) }
-    ensures counts { CountsKept (H.faults host.old) (H.faults host.new) }
+    ensures calm { OnOk result (NoneFailed (H.faults host.old) (H.faults host.new)) }
+    ensures counts { IfErr result (λ e. RunFaulted e (H.faults host.old) (H.faults host.new)) }
     ensures others { IsTrue H.tells → OnlyLogChanges (H.world host.old) (H.world host.new) }
+    ensures header { IsTrue H.tells → (log : List Logged) (header : List ℕ) → Stands counter_magic log running.old.gate_at (H.world host.old).disk
+        → HasHeader header (moment_of (H.world host.old)) → KeepsHeader header (H.world host.old) (H.world host.new) }
     ensures input { IsTrue H.tells → (H.world host.new).input ≡ (H.world host.old).input }
 {
     if running.counters.units() >= UNIT_LIMIT - 1 {
@@ -156,10 +156,12 @@ pub fn carry_lines<H: Host, G: Gate>(
         → Stands counter_magic opening running.old.gate_at (H.world host.old).disk
         → totals_of running.old.counters ≡ replayed opening
         → IsInDoubt counter_magic opening (journal_of opening input.now) (H.world host.old) (H.world host.new)) }
-    ensures write { IfErr result (λ e. e ≡ RunFault.WriteFault → Rose (H.faults host.old Output) (H.faults host.new Output)) }
-    ensures disk { IfErr result (λ e. e ≡ RunFault.DiskFault → Rose (H.faults host.old (File manager)) (H.faults host.new (File manager))) }
-    ensures counts { CountsKept (H.faults host.old) (H.faults host.new) }
+    ensures calm { OnOk result (NoneFailed (H.faults host.old) (H.faults host.new)) }
+    ensures counts { IfErr result (λ e. RunFaulted e (H.faults host.old) (H.faults host.new)) }
     ensures others { IsTrue H.tells → OnlyLogChanges (H.world host.old) (H.world host.new) }
+    ensures header { IsTrue H.tells → (opening : List Logged) (header : List ℕ) → Stands counter_magic opening running.old.gate_at (H.world host.old).disk
+        → totals_of running.old.counters ≡ replayed opening
+        → HasHeader header (moment_of (H.world host.old)) → KeepsHeader header (H.world host.old) (H.world host.new) }
     ensures input { IsTrue H.tells → (H.world host.new).input ≡ (H.world host.old).input }
 {
     let shape = counter_shape(alloc)?;

@@ -1,12 +1,10 @@
-ghost use Rattle.std.specs.Prelude.{◌≡◌, ◌^◌, ◌<◌, ◌≤◌, true, false, IsTrue, length};
-ghost use Rattle.gate_block.specs.Gates.{IsClosedAt};
+ghost use Rattle.std.specs.Prelude.{◌≡◌, ◌^◌, ◌<◌, ◌≤◌, ℕ, List, true, false, IsTrue};
+ghost use Rattle.host_trait.specs.World.{moment_of};
 ghost use Rattle.silo_spec.specs.Silos.{manager, counter_magic};
 ghost use Rattle.silo_spec.specs.Units.{AreUnits};
-ghost use Rattle.silo_spec.specs.Moments.{OnlyLogChanges};
+ghost use Rattle.silo_spec.specs.Moments.{OnlyLogChanges, HasHeader, KeepsHeader};
 ghost use Rattle.silo_spec.specs.Settling.{Stands};
-ghost use Rattle.opening.specs.Making.{CountsBoth};
-ghost use Rattle.silo_top.specs.Prepared.{CountsKept};
-ghost use Rattle.silo_top.specs.Runs.{is_word, is_init, is_run, counter_program, Runs, IsServed, IsMaking, HasCause};
+ghost use Rattle.silo_top.specs.Runs.{is_word, is_init, is_run, counter_program, Runs, IsServed, IsMaking, Faulted};
 
 use crate::counters::Counters;
 use crate::gate::Gate;
@@ -35,8 +33,7 @@ fn is_command(words: &[String], name: &str) -> bool
 /// Makes the folder a silo of the counter program.
 fn init<H: Host>(host: &mut H) -> Status
     ensures made { IsTrue H.tells → IsMaking result (H.world host.old) (H.world host.new) }
-    ensures cause { HasCause result (H.faults host.old) (H.faults host.new) }
-    ensures counts { CountsBoth (H.faults host.old) (H.faults host.new) }
+    ensures counts { Faulted result (H.faults host.old) (H.faults host.new) }
     ensures taken { result ≡ Status.BadUse → ⊥ }
 {
     match create(host, COUNTER_PROGRAM.as_bytes()) {
@@ -53,8 +50,9 @@ fn serve<H: Host, G: Gate>(alloc: Global, opened: Opened, host: &mut H, gate: &G
     requires stands { IsTrue H.tells → Stands counter_magic opened.log opened.gate_at (H.world host.old).disk }
     ensures served { IsTrue H.tells → IsServed result opened.log (H.world host.old) (H.world host.new) }
     ensures others { IsTrue H.tells → OnlyLogChanges (H.world host.old) (H.world host.new) }
-    ensures cause { HasCause result (H.faults host.old) (H.faults host.new) }
-    ensures counts { CountsKept (H.faults host.old) (H.faults host.new) }
+    ensures header { IsTrue H.tells → (header : List ℕ) → HasHeader header (moment_of (H.world host.old))
+        → KeepsHeader header (H.world host.old) (H.world host.new) }
+    ensures counts { Faulted result (H.faults host.old) (H.faults host.new) }
     ensures taken { result ≡ Status.BadUse → ⊥ }
 {
     let Ok(counters) = Counters::replay(alloc, &opened.log) else {
@@ -81,8 +79,7 @@ fn serve<H: Host, G: Gate>(alloc: Global, opened: Opened, host: &mut H, gate: &G
 /// Opens the silo, and serves the input over it.
 fn run<H: Host, G: Gate>(alloc: Global, host: &mut H, gate: &G) -> Status
     ensures runs { IsTrue H.tells → Runs result (H.world host.old) (H.world host.new) }
-    ensures cause { HasCause result (H.faults host.old) (H.faults host.new) }
-    ensures counts { CountsKept (H.faults host.old) (H.faults host.new) }
+    ensures counts { Faulted result (H.faults host.old) (H.faults host.new) }
     ensures taken { result ≡ Status.BadUse → ⊥ }
 {
     match open_silo(alloc, host) {
@@ -113,7 +110,7 @@ fn run<H: Host, G: Gate>(alloc: Global, host: &mut H, gate: &G) -> Status
 /// opening, or while a unit was sealed, which is then in the log or not, and has no reply. `Memory` at any place; each unit
 /// in the log then has its reply. `BadUse` where the words are no command; the host is then as before.
 ///
-/// A fault is answered only where the count of its channel rose in this call.
+/// A fault is answered exactly where a call on its channel failed in this call.
 pub fn run_silo<Rt, H: Host, G: Gate + Sync>(
     _rt: &Rt,
     alloc: Global,
@@ -130,11 +127,9 @@ pub fn run_silo<Rt, H: Host, G: Gate + Sync>(
     ensures refused { is_run words.now ≡ false → is_init words.now ≡ false
         → (result ≡ Status.BadUse) × (host.new ≡ host.old) }
 
-    // A fault is answered only where its channel's count rose in this call. No count falls, and those of other files than
-    // the command's stay.
-    ensures cause { HasCause result (H.faults host.old) (H.faults host.new) }
-    ensures run_counts { is_run words.now ≡ true → CountsKept (H.faults host.old) (H.faults host.new) }
-    ensures init_counts { is_init words.now ≡ true → CountsBoth (H.faults host.old) (H.faults host.new) }
+    // A fault is answered exactly where a call on its channel failed: no other count changed, and where none is answered
+    // none did. (A count that stands at the last value of its type shows nothing.)
+    ensures counts { Faulted result (H.faults host.old) (H.faults host.new) }
 {
     if is_command(words, "run") {
         return run(alloc, host, gate);

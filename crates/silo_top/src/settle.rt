@@ -1,16 +1,16 @@
-ghost use Rattle.std.specs.Prelude.{◌≡◌, ◌+◌, ◌^◌, ◌<◌, ◌++◌, ℕ, List, IsTrue, IfOk, IfErr, OnErr};
-ghost use Rattle.host_trait.specs.Faults.{Rose};
+ghost use Rattle.std.specs.Prelude.{◌≡◌, ◌+◌, ◌^◌, ◌<◌, ◌++◌, ℕ, List, IsTrue, IfOk, OnOk, IfErr};
+ghost use Rattle.host_trait.specs.Faults.{NoneFailed};
 ghost use Rattle.host_trait.specs.Files.{StaysReady};
 ghost use Rattle.host_trait.specs.World.{Passes, moment_of};
-ghost use Rattle.host_trait.specs.declared.channels.Channel.TheVariants.{Output, File};
 ghost use Rattle.gate_block.specs.Gates.{IsClosedAt};
-ghost use Rattle.silo_spec.specs.Moments.{OnlyLogChanges};
+ghost use Rattle.silo_spec.specs.Moments.{OnlyLogChanges, HasHeader, KeepsHeader};
 ghost use Rattle.silo_spec.specs.Silos.{manager, counter_magic};
 ghost use Rattle.silo_spec.specs.declared.units.Logged.{Logged};
 ghost use Rattle.silo_spec.specs.Units.{AreUnits};
 ghost use Rattle.silo_spec.specs.Journals.{Settlement};
 ghost use Rattle.silo_spec.specs.Settling.{Stands, IsSettling};
-ghost use Rattle.silo_top.specs.Prepared.{HoldsUnit, Prepares, IsSealingUnit, CountsKept};
+ghost use Rattle.silo_top.specs.Counts.{RunFaulted};
+ghost use Rattle.silo_top.specs.Prepared.{HoldsUnit, Prepares, IsSealingUnit};
 ghost use Rattle.silo_top.specs.Settled.{IsReplied, IsReplyCut};
 
 use crate::gate::{Gate, GatePlace};
@@ -42,10 +42,12 @@ pub fn seal_unit<H: Host, G: Gate>(
         → Stands counter_magic (log ++ logged) next (H.world host.new).disk) }
     ensures next { IfOk result (λ next. next < 2 ^ 63) }
     ensures fault { IfErr result (λ e. e ≡ RunFault.DiskFault) }
-    ensures rose { OnErr result (Rose (H.faults host.old (File manager)) (H.faults host.new (File manager))) }
-    ensures counts { CountsKept (H.faults host.old) (H.faults host.new) }
+    ensures calm { OnOk result (NoneFailed (H.faults host.old) (H.faults host.new)) }
+    ensures counts { IfErr result (λ e. RunFaulted e (H.faults host.old) (H.faults host.new)) }
     ensures quiet { IsTrue H.tells → (H.world host.new).output ≡ (H.world host.old).output }
     ensures others { IsTrue H.tells → OnlyLogChanges (H.world host.old) (H.world host.new) }
+    ensures header { IsTrue H.tells → (log : List Logged) (header : List ℕ) → Stands counter_magic log gate_at (H.world host.old).disk
+        → HasHeader header (moment_of (H.world host.old)) → KeepsHeader header (H.world host.old) (H.world host.new) }
     ensures input { IsTrue H.tells → (H.world host.new).input ≡ (H.world host.old).input }
     ensures ready { StaysReady (H.is_ready host.old) (H.is_ready host.new) }
 {
@@ -87,10 +89,11 @@ pub fn settle<H: Host, G: Gate>(
         → (H.world host.new).output ≡ (H.world host.old).output) }
     ensures memory { IfErr result (λ e. e ≡ RunFault.Memory → ⊥) }
     ensures next { IfOk result (λ next. next < 2 ^ 63) }
-    ensures write { IfErr result (λ e. e ≡ RunFault.WriteFault → Rose (H.faults host.old Output) (H.faults host.new Output)) }
-    ensures disk { IfErr result (λ e. e ≡ RunFault.DiskFault → Rose (H.faults host.old (File manager)) (H.faults host.new (File manager))) }
-    ensures counts { CountsKept (H.faults host.old) (H.faults host.new) }
+    ensures calm { OnOk result (NoneFailed (H.faults host.old) (H.faults host.new)) }
+    ensures counts { IfErr result (λ e. RunFaulted e (H.faults host.old) (H.faults host.new)) }
     ensures others { IsTrue H.tells → OnlyLogChanges (H.world host.old) (H.world host.new) }
+    ensures header { IsTrue H.tells → (log : List Logged) (header : List ℕ) → Stands counter_magic log gate_at (H.world host.old).disk
+        → HasHeader header (moment_of (H.world host.old)) → KeepsHeader header (H.world host.old) (H.world host.new) }
     ensures input { IsTrue H.tells → (H.world host.new).input ≡ (H.world host.old).input }
     ensures ready { StaysReady (H.is_ready host.old) (H.is_ready host.new) }
 {

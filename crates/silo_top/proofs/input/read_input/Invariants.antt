@@ -1,7 +1,6 @@
 use Rattle.std.proofs.Common.{◌≡◌, ◌++◌, ◌≤◌, ◌-◌, IsTrue, vec_len}
-use Rattle.host_trait.specs.Faults.{CountsOn}
+use Rattle.host_trait.specs.Faults.{NoneFailed}
 use Rattle.host_trait.specs.Files.{StaysReady}
-use Rattle.host_trait.specs.declared.channels.Channel.TheVariants.{Input}
 use Rattle.silo_top.proofs.Still.{IsStill}
 use Rattle.silo_top.proofs.input.read_input.Given as goal
 
@@ -9,7 +8,7 @@ abbrev pub invariant-loop-input : goal.invariant-loop-input
 invariant-loop-input g l = record {
   got : IsTrue g.H.Host.tells → (g.H.Host.world l.initial.host).input ≡ l.input.items ++ (g.H.Host.world l.host).input;
   within : vec_len l.input ≤ 16777216;
-  counts : CountsOn Input (g.H.Host.faults l.initial.host) (g.H.Host.faults l.host);
+  calm : NoneFailed (g.H.Host.faults l.initial.host) (g.H.Host.faults l.host);
   output : IsTrue g.H.Host.tells → (g.H.Host.world l.host).output ≡ (g.H.Host.world l.initial.host).output;
   disk : IsTrue g.H.Host.tells → (g.H.Host.world l.host).disk ≡ (g.H.Host.world l.initial.host).disk;
   moments : IsTrue g.H.Host.tells → IsStill (g.H.Host.world l.initial.host) (g.H.Host.world l.host);

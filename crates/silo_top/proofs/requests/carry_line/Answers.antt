@@ -1,5 +1,6 @@
 use Rattle.silo_spec.specs.Journals.{settlement_of}
 use Rattle.silo_top.specs.Kept.{totals_of}
+use Rattle.silo_top.proofs.Headed.{headed_none}
 use Rattle.silo_top.proofs.Lines.{line_units, small_units, not_settled}
 use Rattle.silo_top.proofs.requests.carry_line.Goals as goal
 
@@ -26,3 +27,9 @@ returns-in-Ok-clause-ok g c = λ told log stands last. c.in-Ok.ensures.ok told l
 
 pub returns-clause-cut : goal.returns-clause-cut
 returns-clause-cut g c = λ e told log stands last. c.in-Err.ensures.cut e told log (settlement_of (totals_of c.args.running.now.counters) c.args.number c.args.line.now) stands c.in_ok-prepared.ensures.line (line_units log (totals_of c.args.running.now.counters) c.args.number c.args.line.now stands.units last (small_units c.if-units.false c.units.ensures) c.ranges.number.fits)
+
+pub returns-then-units-clause-header : goal.returns-then-units-clause-header
+returns-then-units-clause-header g c = λ told log header stands has. headed_none header (g.H.Host.world c.args.host.now) has
+
+pub returns-in_err-prepared-clause-header : goal.returns-in_err-prepared-clause-header
+returns-in_err-prepared-clause-header g c = λ told log header stands has. headed_none header (g.H.Host.world c.args.host.now) has

@@ -1,9 +1,11 @@
-use Rattle.std.proofs.Common.{rules, ◌+◌, ◌∙◌, ◌++◌, refl, arith}
+use Rattle.std.proofs.Common.{◌+◌, ◌∙◌, ◌++◌, refl, arith}
+use Rattle.host_trait.proofs.Counts.{none_then}
 use Rattle.request_wire.specs.Lines.{lines_of}
 use Rattle.silo_spec.specs.Journals.{units_of}
 use Rattle.silo_top.specs.Kept.{totals_of}
 use Rattle.silo_top.proofs.Beside.{beside_none, beside_both}
-use Rattle.silo_top.proofs.Counting.{line_within, counts_then}
+use Rattle.silo_top.proofs.Counting.{line_within}
+use Rattle.silo_top.proofs.Headed.{headed_none, headed_both}
 use Rattle.silo_top.proofs.Lines.{progress_begun, gate_closed, line_moments, line_done, line_cut, line_doubt}
 use Rattle.silo_top.proofs.requests.carry_lines.Goals as goal
 
@@ -12,8 +14,9 @@ loop-line-init g c = record {
   progress = λ told opening stands is. progress_begun opening c.args.input.now (g.H.Host.world c.args.host.now) (totals_of c.args.running.now.counters) c.args.running.now.gate_at stands is;
   numbered = omega (arith, c.requires.limit);
   place = c.requires.place;
-  counts = search rules;
+  calm = λ _. refl;
   others = λ told. beside_none (g.H.Host.world c.args.host.now);
+  header = λ told opening header stands is has. headed_none header (g.H.Host.world c.args.host.now) has;
   input = λ told. refl;
 }
 
@@ -52,10 +55,20 @@ loop-line-preserved g c = record {
       (c.carry_line.ensures.moments told (opening ++ units_of p.said) p.stands p.last) (c.in-Ok.ensures.ok told (opening ++ units_of p.said) p.stands p.last);
   numbered = omega (arith, c.loop-line.invariant.numbered, c.in-Some.ensures.shorter);
   place = c.in-Ok.ensures.next;
-  counts = counts_then (g.H.Host.faults c.args.host.now) (g.H.Host.faults c.loop-line.host) (g.H.Host.faults c.carry_line.new.host) c.loop-line.invariant.counts c.carry_line.ensures.counts;
+  calm = none_then (g.H.Host.faults c.args.host.now) (g.H.Host.faults c.loop-line.host) (g.H.Host.faults c.carry_line.new.host) c.loop-line.invariant.calm c.in-Ok.ensures.calm;
   others = λ told. beside_both (g.H.Host.world c.args.host.now) (g.H.Host.world c.loop-line.host) (g.H.Host.world c.carry_line.new.host) (c.loop-line.invariant.others told) (c.carry_line.ensures.others told);
+  header = λ told opening header stands is has.
+      let p = c.loop-line.invariant.progress told opening stands is in
+      let kept = c.loop-line.invariant.header told opening header stands is has in
+      headed_both header (g.H.Host.world c.args.host.now) (g.H.Host.world c.loop-line.host) (g.H.Host.world c.carry_line.new.host) kept (c.carry_line.ensures.header told (opening ++ units_of p.said) header p.stands kept.now);
   input = λ told. c.carry_line.ensures.input told ∙ c.loop-line.invariant.input told;
 }
 
 pub returns-in-Err-clause-others : goal.returns-in-Err-clause-others
 returns-in-Err-clause-others g c = λ told. beside_both (g.H.Host.world c.args.host.now) (g.H.Host.world c.loop-line.host) (g.H.Host.world c.carry_line.new.host) (c.loop-line.invariant.others told) (c.carry_line.ensures.others told)
+
+pub returns-in-Err-clause-header : goal.returns-in-Err-clause-header
+returns-in-Err-clause-header g c = λ told opening header stands is has.
+    let p = c.loop-line.invariant.progress told opening stands is in
+    let kept = c.loop-line.invariant.header told opening header stands is has in
+    headed_both header (g.H.Host.world c.args.host.now) (g.H.Host.world c.loop-line.host) (g.H.Host.world c.carry_line.new.host) kept (c.carry_line.ensures.header told (opening ++ units_of p.said) header p.stands kept.now)

@@ -3,6 +3,7 @@ use Rattle.host_trait.specs.declared.channels.FileId.{FileId}
 use Rattle.opening.specs.declared.faults.OpenFault.{OpenFault}
 use Rattle.opening.specs.declared.open.Opened.{Opened}
 use Rattle.silo_top.proofs.Commands.{opened_stands, carried}
+use Rattle.silo_top.proofs.Headed.{headed_settled}
 use Rattle.silo_top.proofs.run.run.Goals as goal
 
 abbrev refused : OpenFault → Result Opened OpenFault
@@ -15,7 +16,7 @@ returns-in-Ok-clause-runs g c told =
     let log = c.in-Ok.opened.log in
     let gate = c.in-Ok.opened.gate_at in
     let stay = λ (file : FileId). g.met.H.Host.seen_may_stay c.open_silo.new.host file told in
-    inr (carried c.serve.result w0 w1 (g.H.Host.world c.serve.new.host) log gate stay (c.open_silo.ensures.untouched told) (c.open_silo.ensures.input told) (c.in-Ok.ensures.log told) (c.in-Ok.ensures.undamaged told) (c.open_silo.ensures.others told) (c.serve.ensures.others told) (c.serve.ensures.served told))
+    inr (carried c.serve.result w0 w1 (g.H.Host.world c.serve.new.host) log gate stay (c.open_silo.ensures.untouched told) (c.open_silo.ensures.input told) (c.in-Ok.ensures.log told) (c.in-Ok.ensures.undamaged told) (c.open_silo.ensures.others told) (c.serve.ensures.others told) (c.serve.ensures.header told _ (headed_settled w0 w1 (c.in-Ok.ensures.settled told))) (c.serve.ensures.served told))
 
 pub serve-requires-clause-stands : goal.serve-requires-clause-stands
 serve-requires-clause-stands g c told =

@@ -9,6 +9,7 @@ use Rattle.silo_spec.specs.Settling.{Stands}
 use Rattle.silo_top.specs.Prepared.{Prepares}
 use Rattle.silo_top.specs.Settled.{IsReplyCut}
 use Rattle.silo_top.proofs.Beside.{beside_both, beside_emit}
+use Rattle.silo_top.proofs.Headed.{headed_both, headed_emit}
 use Rattle.silo_top.proofs.Settles.{unsettled, replying, replied_moments, reply_cut, replied}
 use Rattle.silo_top.proofs.settle.settle.Goals as goal
 
@@ -44,3 +45,13 @@ returns-in_err-emit-clause-others g c = λ told. beside_both (g.H.Host.world c.a
 
 pub returns-clause-others : goal.returns-clause-others
 returns-clause-others g c = λ told. beside_both (g.H.Host.world c.args.host.now) (g.H.Host.world c.seal_unit.new.host) (g.H.Host.world c.emit.new.self) (c.seal_unit.ensures.others told) (beside_emit _ _ (c.emit.ensures.part told).1)
+
+pub returns-in_err-emit-clause-header : goal.returns-in_err-emit-clause-header
+returns-in_err-emit-clause-header g c = λ told log header stands has.
+    let sealed = c.seal_unit.ensures.header told log header stands has in
+    headed_both header (g.H.Host.world c.args.host.now) (g.H.Host.world c.seal_unit.new.host) (g.H.Host.world c.emit.new.self) sealed (headed_emit header _ _ (c.emit.ensures.part told).1 sealed.now)
+
+pub returns-clause-header : goal.returns-clause-header
+returns-clause-header g c = λ told log header stands has.
+    let sealed = c.seal_unit.ensures.header told log header stands has in
+    headed_both header (g.H.Host.world c.args.host.now) (g.H.Host.world c.seal_unit.new.host) (g.H.Host.world c.emit.new.self) sealed (headed_emit header _ _ (c.emit.ensures.part told).1 sealed.now)
