@@ -1,0 +1,5 @@
+pub mod Reading
+pub mod Tokens
+pub mod Expressions
+pub mod Calls
+pub mod Grammar

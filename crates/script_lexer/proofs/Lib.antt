@@ -1,0 +1,10 @@
+pub mod Numbers
+pub mod Within
+pub mod Cuts
+pub mod Turns
+pub mod Utf8
+pub mod Runs
+pub mod Tables
+pub mod Right
+pub mod Found
+pub mod Laws

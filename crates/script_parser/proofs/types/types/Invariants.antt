@@ -1,0 +1,15 @@
+use Rattle.std.proofs.Common.{◌≡◌, ◌-◌, length}
+use Rattle.std.specs.Prelude.{map}
+use Rattle.script_tree.specs.Programs.{type_tree}
+use Rattle.script_lexer.specs.declared.tokens.Word.TheVariants as word
+use Rattle.script_expressions.proofs.Many.{with_front}
+use Rattle.script_parser.specs.Types.{type_at, repeated}
+use Rattle.script_parser.proofs.types.types.Given as goal
+
+abbrev pub invariant-loop-turn : goal.invariant-loop-turn
+invariant-loop-turn l =
+    let stop = l.fn.cursor.stop in
+    record {
+      kept : l.cursor.stop ≡ stop;
+      so_far : with_front (map type_tree l.found.list.items) (repeated word.Type (type_at stop l.depth) (length l.fn.cursor.tokens.now - l.turn) l.cursor.tokens.now) ≡ repeated word.Type (type_at stop l.depth) (length l.fn.cursor.tokens.now) l.fn.cursor.tokens.now;
+    }

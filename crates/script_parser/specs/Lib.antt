@@ -1,0 +1,5 @@
+pub mod Statements
+pub mod Methods
+pub mod Types
+pub mod Programs
+pub mod Grammar

@@ -1,0 +1,29 @@
+-- The program that a text is.
+use Rattle.std.specs.Prelude.{ℕ, List, [], ◌∷◌, length, Result, Ok, Err}
+use Rattle.script_tree.specs.Programs.{ProgramTree}
+use Rattle.script_lexer.specs.declared.faults.ParseFault.{ParseFault}
+use Rattle.script_lexer.specs.declared.faults.ParseFault.TheVariants.{BadToken, Unexpected, TooDeep, Memory}
+use Rattle.script_lexer.specs.declared.tokens.Spanned.{Spanned}
+use Rattle.script_lexer.specs.declared.tokens.Word.TheVariants as word
+use Rattle.script_lexer.specs.Lexing.{lexed}
+use Rattle.script_expressions.specs.Reading.{◌>>=◌}
+use Rattle.script_parser.specs.Types.{repeated, type_at}
+
+-- nothing follows: the tokens are used up, and they end where the text does
+abbrev pub finished : ParseFault → List Spanned → Result (Unit {0}) ParseFault
+finished stop (t ∷ ts) = Err (Unexpected t.at)
+finished (Unexpected at) [] = Ok tt
+finished (BadToken at) [] = Err (BadToken at)
+finished (TooDeep at) [] = Err (TooDeep at)
+finished Memory [] = Err Memory
+
+-- the program that tokens are, up to what ends them
+unfoldable pub program_over : ParseFault → List Spanned → Result ProgramTree ParseFault
+program_over stop ts = do
+  types ← repeated word.Type (type_at stop 32) (length ts) ts
+  end ← finished stop types.1
+  Ok types.0
+
+-- the program that a text is
+abbrev pub program_of : List ℕ → Result ProgramTree ParseFault
+program_of text = program_over (lexed text).1 (lexed text).0
