@@ -1,0 +1,4 @@
+pub mod Declarations
+pub mod Whole
+pub mod Shaped
+pub mod Firsts

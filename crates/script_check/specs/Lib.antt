@@ -1,0 +1,4 @@
+pub mod Programs
+pub mod Accepted
+pub mod Mentions
+pub mod Shapes

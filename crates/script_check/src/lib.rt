@@ -1,0 +1,14 @@
+//! Which syntax trees are programs: names that stand for something and for one thing, calls with as many
+//! arguments as parameters, fields used where a method's kind allows it, and the limits.
+//!
+//! Nothing here keeps state. The contracts cite the definitions in `specs/`, over the tree as `script_tree`
+//! gives it.
+#![tactic(auto)]
+
+mod checked;
+mod programs;
+mod shapes;
+
+pub use checked::{Checked, check};
+pub use programs::{FIELD_LIMIT, METHOD_LIMIT, PARAM_LIMIT, TYPE_LIMIT};
+pub use script_scopes::CheckFault;

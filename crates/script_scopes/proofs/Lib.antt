@@ -1,0 +1,4 @@
+pub mod Lists
+pub mod Founds
+pub mod Blocks
+pub mod Accepts

@@ -1,0 +1,6 @@
+pub mod Found
+pub mod Names
+pub mod Settings
+pub mod Expressions
+pub mod Statements
+pub mod Bodies

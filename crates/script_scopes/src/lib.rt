@@ -1,0 +1,14 @@
+//! The names in a method's body: which stand for something, where, and what each may be used for.
+//!
+//! Contracts see what is at fault as the first fault of a piece of text, by the definitions in `specs/`; the
+//! law that nothing is at fault exactly in the bodies that are right stands in `proofs/`, for the crate above.
+#![tactic(auto)]
+
+mod calls;
+mod faults;
+mod names;
+mod statements;
+
+pub use faults::CheckFault;
+pub use names::{Setting, check_free, check_room};
+pub use statements::check_block;

@@ -1,0 +1,97 @@
+ghost use Rattle.std.specs.Prelude.{◌≡◌, map};
+ghost use Rattle.script_tree.specs.Stmts.{source_tree, stmt_tree, stmt_trees, block_tree};
+ghost use Rattle.script_scopes.specs.Found.{Answers, Leaves};
+ghost use Rattle.script_scopes.specs.Statements.{source_fault, statement_fault, block_fault, scope_after};
+ghost use Rattle.script_scopes.specs.Settings.{setting_of};
+
+use crate::calls::{check_call, check_expression};
+use crate::faults::CheckFault;
+use crate::names::{Setting, check_assigned, check_local, check_set};
+use script_tree::{Chars, Source, Stmt};
+
+/// What a local is given is right.
+#[tactic(auto, unfolding(crate::specs::Statements::source_fault))]
+fn check_source(setting: &Setting, names: &[&Chars], value: &Source) -> Result<(), CheckFault>
+    ensures { Answers result (source_fault (setting_of setting.now) (map (λ n. n.now) names.now) (source_tree value.now)) }
+{
+    match value {
+        Source::Expr(value) => check_expression(setting, names, value),
+        Source::Call(call) => check_call(setting, names, call),
+    }
+}
+
+/// A statement is right. The names in scope are then those behind it.
+#[cycle(statement)]
+#[tactic(auto, unfolding(crate::specs::Statements::statement_fault))]
+fn check_statement<'a>(
+    setting: &Setting,
+    names: &mut Vec<&'a Chars>,
+    statement: &'a Stmt,
+) -> Result<(), CheckFault>
+    ensures { Leaves result (statement_fault (setting_of setting.now) (map (λ n. n.now) names.old.items) (stmt_tree statement.now)) (map (λ n. n.now) names.new.items) (scope_after (map (λ n. n.now) names.old.items) (stmt_tree statement.now)) }
+{
+    match statement {
+        Stmt::Let { name, value } => {
+            check_local(setting, names.as_slice(), name)?;
+            check_source(setting, names.as_slice(), value)?;
+            names.push(&name.text)?;
+            Ok(())
+        }
+        Stmt::Assign { name, value } => {
+            check_assigned(names.as_slice(), name)?;
+            check_source(setting, names.as_slice(), value)
+        }
+        Stmt::Set { name, value } => {
+            check_set(setting, name)?;
+            check_expression(setting, names.as_slice(), value)
+        }
+        Stmt::Call { call } => check_call(setting, names.as_slice(), call),
+        Stmt::If { test, then, other } => {
+            check_expression(setting, names.as_slice(), test)?;
+            check_block(setting, names, then.as_slice())?;
+            match other {
+                None => Ok(()),
+                Some(other) => check_block(setting, names, other.as_slice()),
+            }
+        }
+        Stmt::While { test, body } => {
+            check_expression(setting, names.as_slice(), test)?;
+            check_block(setting, names, body.as_slice())
+        }
+        Stmt::Return { value } => check_expression(setting, names.as_slice(), value),
+        Stmt::Fail { text: _ } => Ok(()),
+        Stmt::Attempt {
+            at: _,
+            name,
+            call,
+            then,
+            other,
+        } => {
+            check_local(setting, names.as_slice(), name)?;
+            check_call(setting, names.as_slice(), call)?;
+            let count = names.len();
+            names.push(&name.text)?;
+            check_block(setting, names, then.as_slice())?;
+            check_block(setting, names, other.as_slice())?;
+            names.truncate(count);
+            Ok(())
+        }
+    }
+}
+
+/// The statements of a block are right. The names in scope are then those before it.
+#[cycle(statement)]
+pub fn check_block<'a>(
+    setting: &Setting,
+    names: &mut Vec<&'a Chars>,
+    body: &'a [Stmt],
+) -> Result<(), CheckFault>
+    ensures { Leaves result (block_fault (setting_of setting.now) (map (λ n. n.now) names.old.items) (block_tree (stmt_trees body.now))) (map (λ n. n.now) names.new.items) (map (λ n. n.now) names.old.items) }
+{
+    let outer = names.len();
+    for statement in body {
+        check_statement(setting, names, statement)?;
+    }
+    names.truncate(outer);
+    Ok(())
+}
