@@ -1,0 +1,185 @@
+-- The laws of numbers, counts, texts and lists.
+use Rattle.std.proofs.Common.{◌≡◌, ℕ, ◌+◌, ◌<◌, ◌≤◌, ◌^◌, ◌%◌, Bool, true, false, cond, ltb, List, [], ◌∷◌, ◌++◌, length, get_or, take, drop, Result, Ok, Err, refl, sym, ap, subst, ◌∙◌, arith, inl, inr}
+use Rattle.std.specs.Int.{Width, w8, w16, w32, w64, byte_len, from_le_bytes, to_le_bytes}
+use Rattle.std.specs.List.{flat_map, AllByRecursion}
+use Rattle.std.specs.Str.{IsUtf8, is_utf8}
+use Rattle.std.proofs.lemmas.Str.{is_utf8-from_IsUtf8, IsUtf8-from_is_utf8}
+use Rattle.std.proofs.lemmas.Bool.{ltb-false, le-ltb, cases_lt}
+use Rattle.std.proofs.lemmas.Nat.{le_bytes_2, le_bytes_4, le_bytes_8, from_le_bytes-to_le_bytes_2, from_le_bytes-to_le_bytes_4, from_le_bytes-to_le_bytes_8}
+use Rattle.std.proofs.lemmas.List.{length-take, length-drop, get_or-drop, get_or-take, get_or_past, append-nil}
+use Rattle.field_codec.specs.declared.faults.CodecFault.{CodecFault}
+use Rattle.field_codec.specs.declared.faults.CodecFault.TheVariants.{Short, NotUtf8, Over}
+use Rattle.field_codec.specs.Spelling.{Stands, spelling_of_text, TextFits}
+use Rattle.field_codec.specs.Reading.{Reader, whole, refused, field, choice, number_at, count_at, letters, text_at, times, list_at}
+use Rattle.field_codec.specs.Results.{place_of}
+use Rattle.field_codec.proofs.Standing.{stands_end, stands_within}
+use Rattle.field_codec.proofs.Readers.{AreBytes, Reads, Any, then, done, choose, never, said}
+use Rattle.field_codec.proofs.Chains.{times_reads}
+
+-- ---- numbers
+
+-- the numbers of this width are those below the limit, and each has one spelling
+pub record IsWide (w : Width) (limit : ℕ) : Type 0 where
+  pub some : 0 < byte_len w
+  pub len : (n : ℕ) → length (to_le_bytes w n) ≡ byte_len w
+  pub back : (bytes : List ℕ) → length bytes ≡ byte_len w → AreBytes bytes → to_le_bytes w (from_le_bytes w bytes) ≡ bytes
+  pub again : (n : ℕ) → n < limit → from_le_bytes w (to_le_bytes w n) ≡ n
+  pub below : (bytes : List ℕ) → AreBytes bytes → from_le_bytes w bytes < limit
+
+byte_back : (bytes : List ℕ) → length bytes ≡ byte_len w8 → AreBytes bytes → to_le_bytes w8 (from_le_bytes w8 bytes) ≡ bytes
+byte_back [] len are = absurd (omega (arith, len))
+byte_back (b ∷ []) len are = let small : b < 256 = are 0 in let same : b % 256 ≡ b = omega arith in rw same refl
+byte_back (b ∷ c ∷ bytes) len are = absurd (omega (arith, len))
+
+wide8 : IsWide w8 (2 ^ 8)
+wide8 = record {
+  some = omega arith;
+  len = λ n. refl;
+  back = byte_back;
+  again = λ n lt. omega arith;
+  below = λ bytes are. omega (arith, are 0);
+}
+
+pub wide16 : IsWide w16 (2 ^ 16)
+wide16 = record {
+  some = omega arith;
+  len = λ n. refl;
+  back = λ bytes len are. le_bytes_2 bytes _ len are refl;
+  again = λ n lt. from_le_bytes-to_le_bytes_2 n lt;
+  below = λ bytes are. omega (arith, are 0, are 1);
+}
+
+pub wide32 : IsWide w32 (2 ^ 32)
+wide32 = record {
+  some = omega arith;
+  len = λ n. refl;
+  back = λ bytes len are. le_bytes_4 bytes _ len are refl;
+  again = λ n lt. from_le_bytes-to_le_bytes_4 n lt;
+  below = λ bytes are. omega (arith, are 0, are 1, are 2, are 3);
+}
+
+pub wide64 : IsWide w64 (2 ^ 64)
+wide64 = record {
+  some = omega arith;
+  len = λ n. refl;
+  back = λ bytes len are. le_bytes_8 bytes _ len are refl;
+  again = λ n lt. from_le_bytes-to_le_bytes_8 n lt;
+  below = λ bytes are. omega (arith, are 0, are 1, are 2, are 3, are 4, are 5, are 6, are 7);
+}
+
+-- a cut of bytes is bytes
+AreBytes-cut : (n m : ℕ) (bytes : List ℕ) → AreBytes bytes → AreBytes (take n (drop m bytes))
+AreBytes-cut n m bytes are i =
+    elim (cases_lt i n) [
+      | inl lt ↦ rw (get_or-take n (drop m bytes) i 0 lt, get_or-drop) (are (m + i))
+      | inr le ↦ rw (get_or_past (take n (drop m bytes)) i 0 (omega (arith, length-take n (drop m bytes)))) (omega arith)
+    ]
+
+-- a test that passed
+past : {A : Type 0} (b : Bool) (d : CodecFault) (r : Result A CodecFault) (y : A) → cond b (Err d) r ≡ Ok y → (b ≡ false) × (r ≡ Ok y)
+past true d r y e = absurd cc
+past false d r y e = (refl, e)
+
+-- a test that failed, or what is behind it
+stopped : {A : Type 0} (b : Bool) (d : CodecFault) (x : A) (e : CodecFault) → cond b (Err d) (Ok x) ≡ Err e → d ≡ e
+stopped true d x e h = cc
+stopped false d x e h = absurd cc
+
+pub number_reads : (w : Width) (limit : ℕ) → IsWide w limit → (low : ℕ) → Reads low Any (to_le_bytes w) (λ n. n < limit) (number_at w)
+number_reads w limit wide low = record {
+  takes = λ bytes at n end are le e.
+      let front = take (byte_len w) (drop at bytes) in
+      let g = past (ltb (length bytes) (at + byte_len w)) (Short at) (Ok (from_le_bytes w front, at + byte_len w)) (n, end) e in
+      let same : (let p : ℕ × ℕ = (from_le_bytes w front, at + byte_len w) in p) ≡ (n, end) = (let h = g.1 in cc) in
+      let long : at + byte_len w ≤ length bytes = ltb-false _ _ g.0 in
+      let n_is : from_le_bytes w front ≡ n = ap (λ (p : ℕ × ℕ). p.0) same in
+      let end_is : at + byte_len w ≡ end = ap (λ (p : ℕ × ℕ). p.1) same in
+      let cut = AreBytes-cut (byte_len w) at bytes are in
+      let back : to_le_bytes w n ≡ front = rw (← n_is) (wide.back front (omega (arith, length-take (byte_len w) (drop at bytes), length-drop at bytes)) cut) in
+      let len = wide.len n in
+      (tt, rw (← n_is) (wide.below front cut), record { end_at = sym end_is ∙ ap (λ (k : ℕ). at + k) (sym len); here = rw len (sym back) });
+  again = λ bytes at n end le known fits stands.
+      let len = wide.len n in
+      let long = stands_within bytes at end (to_le_bytes w n) (omega (arith, len, wide.some)) stands in
+      let test : ltb (length bytes) (at + byte_len w) ≡ false = le-ltb _ _ (omega (arith, long, len)) in
+      let front : take (byte_len w) (drop at bytes) ≡ to_le_bytes w n = subst (λ (k : ℕ). take k (drop at bytes) ≡ to_le_bytes w n) len stands.here in
+      let end_is : end ≡ at + byte_len w = stands.end_at ∙ ap (λ (k : ℕ). at + k) len in
+      rw (test, front, wide.again n fits, end_is) refl;
+  falls = λ bytes at fault are low_le le e.
+      let is : Short at ≡ fault = stopped (ltb (length bytes) (at + byte_len w)) (Short at) (from_le_bytes w (take (byte_len w) (drop at bytes)), at + byte_len w) fault e in
+      subst (λ (f : CodecFault). place_of f ≤ length bytes) is le;
+}
+
+pub byte_reads : (low : ℕ) → Reads low Any (to_le_bytes w8) (λ n. n < 2 ^ 8) (number_at w8)
+byte_reads = number_reads w8 (2 ^ 8) wide8
+
+pub reads16 : (low : ℕ) → Reads low Any (to_le_bytes w16) (λ n. n < 2 ^ 16) (number_at w16)
+reads16 = number_reads w16 (2 ^ 16) wide16
+
+pub reads32 : (low : ℕ) → Reads low Any (to_le_bytes w32) (λ n. n < 2 ^ 32) (number_at w32)
+reads32 = number_reads w32 (2 ^ 32) wide32
+
+pub reads64 : (low : ℕ) → Reads low Any (to_le_bytes w64) (λ n. n < 2 ^ 64) (number_at w64)
+reads64 = number_reads w64 (2 ^ 64) wide64
+
+-- ---- counts and lists
+
+-- a number that is at most so much
+pub count_reads : (w : Width) (limit most : ℕ) → IsWide w limit → most < limit → (low : ℕ) → Reads low Any (to_le_bytes w) (λ n. n ≤ most) (count_at w most)
+unfolding count_at
+count_reads w limit most wide lt low =
+    let P : ℕ → ℕ → Type 0 = λ n c. Any c × (c ≡ n) in
+    let Fits : ℕ → Type 0 = λ c. (c < limit) × (c ≤ most) in
+    let spell : ℕ → List ℕ = λ c. to_le_bytes w c ++ [] in
+    said low Any Any spell (to_le_bytes w) Fits (λ n. n ≤ most) (count_at w most) (λ c p. tt) (λ c p. tt) (λ c p. simp append-nil) (λ c p fits. fits.1) (λ c p fits. (omega arith, fits))
+    (then (λ (c : ℕ). c) (to_le_bytes w) (λ n. n < limit) (number_at w) low Any (λ c. []) (λ c. c ≤ most) (λ n place. choice (ltb most n) (refused (Over place most)) (whole n)) (number_reads w limit wide low) λ n from.
+    choose from (P n) (λ c. []) (λ c. c ≤ most) (ltb most n) (refused (Over from most)) (whole n)
+    (λ over. never from (P n) (λ c. []) (λ c. c ≤ most) (Over from most) (omega arith) (λ c known le. let no : ltb most n ≡ false = le-ltb _ _ (subst (λ (k : ℕ). k ≤ most) known.1 le) in let clash : true ≡ false = sym over ∙ no in cc))
+    (λ within. said from (P n) (P n) (λ c. []) (λ c. []) (λ c. Unit {0}) (λ c. c ≤ most) (whole n) (λ c p. p) (λ c p. p) (λ c p. refl) (λ c p fits. subst (λ (k : ℕ). k ≤ most) (sym p.1) (ltb-false _ _ within)) (λ c p fits. tt)
+    (done from (P n) n (tt, refl) (λ d known. known.1))))
+
+-- a count of at most so much, and so many of a kind
+pub list_reads : {A : Type 0} (spell : A → List ℕ) (Fits : A → Type 0) (read : Reader A) → ((low : ℕ) → Reads low Any spell Fits read) → (w : Width) (limit most : ℕ) → IsWide w limit → most < limit
+    → (low : ℕ) → Reads low Any (λ cs. to_le_bytes w (length cs) ++ flat_map spell cs) (λ cs. (length cs ≤ most) × AllByRecursion Fits cs) (list_at w most read)
+unfolding list_at
+list_reads {A} spell Fits read reads w limit most wide lt low =
+    then (λ (cs : List A). length cs) (to_le_bytes w) (λ n. n ≤ most) (count_at w most) low Any (flat_map spell) (AllByRecursion Fits) (λ n place. times read n) (count_reads w limit most wide lt low) (λ n from. times_reads spell Fits read reads from n)
+
+-- ---- texts
+
+chosen : {A : Type 0} (b : Bool) (x : A) (d : CodecFault) (y : A) → cond b (Ok x) (Err d) ≡ Ok y → (b ≡ true) × (x ≡ y)
+chosen true x d y e = (refl, cc)
+chosen false x d y e = absurd cc
+
+either_stopped : {A : Type 0} (b also : Bool) (c d : CodecFault) (x : A) (e : CodecFault) (n : ℕ) → place_of c ≤ n → place_of d ≤ n → cond b (Err c) (cond also (Ok x) (Err d)) ≡ Err e → place_of e ≤ n
+either_stopped true also c d x e n one two h = let is : c ≡ e = cc in subst (λ (f : CodecFault). place_of f ≤ n) is one
+either_stopped false true c d x e n one two h = absurd cc
+either_stopped false false c d x e n one two h = let is : d ≡ e = cc in subst (λ (f : CodecFault). place_of f ≤ n) is two
+
+letters_read : (low n : ℕ) → Reads low (λ t. Any t × (length t ≡ n)) (λ t. t) IsUtf8 (letters n)
+unfolding letters
+letters_read low n = record {
+  takes = λ bytes at t end are le e.
+      let text = take n (drop at bytes) in
+      let one = past (ltb (length bytes) (at + n)) (Short at) (cond (is_utf8 text) (Ok (text, at + n)) (Err (NotUtf8 at))) (t, end) e in
+      let two = chosen (is_utf8 text) (text, at + n) (NotUtf8 at) (t, end) one.1 in
+      let long : at + n ≤ length bytes = ltb-false _ _ one.0 in
+      let text_is : text ≡ t = ap (λ (p : List ℕ × ℕ). p.0) two.1 in
+      let end_is : at + n ≡ end = ap (λ (p : List ℕ × ℕ). p.1) two.1 in
+      let len : length text ≡ n = omega (arith, long, length-take n (drop at bytes), length-drop at bytes) in
+      subst (λ (u : List ℕ). (Any u × (length u ≡ n)) × IsUtf8 u × Stands bytes at u end) text_is
+      ((tt, len), IsUtf8-from_is_utf8 text two.0, record { end_at = sym end_is ∙ ap (λ (k : ℕ). at + k) (sym len); here = rw len refl });
+  again = λ bytes at t end le known fits stands.
+      let text_is : take n (drop at bytes) ≡ t = subst (λ (k : ℕ). take k (drop at bytes) ≡ t) known.1 stands.here in
+      let end_is : end ≡ at + n = stands.end_at ∙ ap (λ (k : ℕ). at + k) known.1 in
+      let short : ltb (length bytes) (at + n) ≡ false = le-ltb _ _ (subst (λ (k : ℕ). k ≤ length bytes) end_is (stands_end bytes at end t le stands)) in
+      rw (short, text_is, is_utf8-from_IsUtf8 t fits, end_is) refl;
+  falls = λ bytes at fault are low_le le e.
+      either_stopped (ltb (length bytes) (at + n)) (is_utf8 (take n (drop at bytes))) (Short at) (NotUtf8 at) (take n (drop at bytes), at + n) fault (length bytes) le le e;
+}
+
+pub text_reads : (low : ℕ) → Reads low Any spelling_of_text TextFits text_at
+unfolding text_at
+text_reads low =
+    then (λ (t : List ℕ). length t) (to_le_bytes w16) (λ n. n ≤ 256) (count_at w16 256) low Any (λ t. t) IsUtf8 (λ n place. letters n)
+    (count_reads w16 (2 ^ 16) 256 wide16 (omega arith) low) (λ n from. letters_read from n)

@@ -1,0 +1,295 @@
+-- The laws of values, states, calls, versions, origins and outcomes.
+use Rattle.std.proofs.Common.{FitsSigned, ◌≡◌, ℤ, ℕ, ◌+◌, ◌<◌, ◌≤◌, ◌^◌, Bool, true, false, eqb, List, [], ◌∷◌, ◌++◌, length, refl, sym, ap, subst, ◌∙◌, append-nil, arith, eqb-true}
+use Rattle.std.specs.Int.{Width, w8, w16, w32, w64, to_le_bytes, cast_signed, cast_unsigned}
+use Rattle.std.specs.List.{flat_map, AllByRecursion}
+use Rattle.std.proofs.Math.Facts.{sfits_to_z, Fits-of_lt, Fits-of_z, Fits-lt-pow}
+use Rattle.std.proofs.lemmas.Bool.{eqb-false}
+use Rattle.std.proofs.lemmas.Int.{of_z-to_z, to_z-of_z}
+use Rattle.base_types.specs.declared.calls.Value.{Value}
+use Rattle.base_types.specs.declared.calls.Value.TheVariants.{Int, Text}
+use Rattle.base_types.specs.declared.calls.Call.{Call}
+use Rattle.base_types.specs.declared.calls.Origin.{Origin}
+use Rattle.base_types.specs.declared.calls.Origin.TheVariants.{Line, Child}
+use Rattle.base_types.specs.declared.calls.Outcome as outcome
+use Rattle.base_types.specs.declared.stores.Version.{Version}
+use Rattle.field_codec.specs.declared.faults.CodecFault.TheVariants.{BadTag}
+use Rattle.field_codec.specs.Spelling.{spelling_of_text, TextFits, spelling_of_value, ValueFits, spelling_of_values, ValuesFit, spelling_of_call, CallFits, spelling_of_version, VersionFits, spelling_of_origin, OriginFits, spelling_of_outcome, AnswerFits, ResultFits}
+use Rattle.field_codec.specs.Reading.{Reader, whole, refused, field, choice, number_at, text_at, list_at}
+use Rattle.field_codec.specs.Fields.{value_at, values_at, call_at, version_at, origin_at, ended, answer_at, result_at}
+use Rattle.field_codec.proofs.Readers.{Reads, Any, then, done, choose, never, put_in, said}
+use Rattle.field_codec.proofs.Counts.{wide16, byte_reads, reads16, reads32, reads64, list_reads, text_reads}
+
+-- ---- values
+
+abbrev tag_of : Value → ℕ
+tag_of (Int z) = 0
+tag_of (Text t) = 1
+
+abbrev behind : Value → List ℕ
+behind (Int z) = to_le_bytes w64 (cast_unsigned w64 z)
+behind (Text t) = spelling_of_text t
+
+is_int : (tag : ℕ) → tag ≡ 0 → (v : Value) → Any v × (tag_of v ≡ tag) → ValueFits v → (n : ℕ) × (v ≡ Int (cast_signed w64 n)) × (n < 2 ^ 64)
+is_int tag is (Int z) known fits = (cast_unsigned w64 z, ap Int (sym (to_z-of_z w64 z fits)), Fits-lt-pow (Fits-of_z fits))
+is_int tag is (Text t) known fits = absurd (omega (arith, is, known.1))
+
+is_text : (tag : ℕ) → tag ≡ 1 → (v : Value) → Any v × (tag_of v ≡ tag) → ValueFits v → (t : List ℕ) × (v ≡ Text t) × TextFits t
+is_text tag is (Int z) known fits = absurd (omega (arith, is, known.1))
+is_text tag is (Text t) known fits = (t, refl, fits)
+
+is_none : (tag : ℕ) → (tag ≡ 0 → ⊥) → (tag ≡ 1 → ⊥) → (v : Value) → Any v × (tag_of v ≡ tag) → ValueFits v → ⊥
+is_none tag not also (Int z) known fits = not (sym known.1)
+is_none tag not also (Text t) known fits = also (sym known.1)
+
+tagged : (v : Value) → to_le_bytes w8 (tag_of v) ++ behind v ≡ spelling_of_value v
+tagged (Int z) = refl
+tagged (Text t) = refl
+
+tag_small : (v : Value) → tag_of v < 2 ^ 8
+tag_small (Int z) = omega arith
+tag_small (Text t) = omega arith
+
+value_behind : (tag from : ℕ) → Reads from (λ v. Any v × (tag_of v ≡ tag)) behind ValueFits
+    (choice (eqb tag 0) (field (number_at w64) (λ n here. whole (Int (cast_signed w64 n)))) (choice (eqb tag 1) (field text_at (λ text here. whole (Text text))) (refused (BadTag from tag))))
+value_behind tag from =
+    let P : Value → Type 0 = λ v. Any v × (tag_of v ≡ tag) in
+    choose from P behind ValueFits (eqb tag 0) _ _
+    (
+    λ yes0. put_in (λ n. Int (cast_signed w64 n)) (to_le_bytes w64) (λ n. n < 2 ^ 64) (number_at w64) from P behind ValueFits
+    (is_int tag (eqb-true tag 0 yes0)) (λ n. (tt, sym (eqb-true tag 0 yes0))) (λ n lt. ap (to_le_bytes w64) (of_z-to_z w64 n lt)) (λ n lt. sfits_to_z (Fits-of_lt lt)) (reads64 from)
+    )
+    (
+    λ no0. choose from P behind ValueFits (eqb tag 1) _ _
+    (λ yes1. put_in Text spelling_of_text TextFits text_at from P behind ValueFits (is_text tag (eqb-true tag 1 yes1)) (λ t. (tt, sym (eqb-true tag 1 yes1))) (λ t fits. refl) (λ t fits. fits) (text_reads from))
+    (λ no1. never from P behind ValueFits (BadTag from tag) (omega arith) (is_none tag (eqb-false tag 0 no0) (eqb-false tag 1 no1)))
+    )
+
+pub value_reads : (low : ℕ) → Reads low Any spelling_of_value ValueFits value_at
+unfolding value_at
+value_reads low =
+    said low Any Any (λ v. to_le_bytes w8 (tag_of v) ++ behind v) spelling_of_value (λ v. (tag_of v < 2 ^ 8) × ValueFits v) ValueFits value_at
+    (λ v p. tt) (λ v p. tt) (λ v p. tagged v) (λ v p fits. fits.1) (λ v p fits. (tag_small v, fits))
+    (then tag_of (to_le_bytes w8) (λ n. n < 2 ^ 8) (number_at w8) low Any behind ValueFits _ (byte_reads low) value_behind)
+
+pub values_read : (most : ℕ) → most < 2 ^ 16 → (low : ℕ) → Reads low Any spelling_of_values (ValuesFit most) (values_at most)
+values_read most lt low = list_reads spelling_of_value ValueFits value_at value_reads w16 (2 ^ 16) most wide16 lt low
+
+-- ---- calls
+
+pub call_reads : (low : ℕ) → Reads low Any spelling_of_call CallFits call_at
+unfolding call_at
+call_reads low =
+    said low Any Any _ spelling_of_call _ CallFits call_at (λ c p. tt) (λ c p. tt) (λ c p. simp append-nil)
+    (λ c p f. record { kind = f.0; key = f.1.0; method = f.1.1.0; args = f.1.1.1.0 }) (λ c p f. (f.kind, (f.key, (f.method, (f.args, tt)))))
+    (then (λ (c : Call). c.grain.kind) (to_le_bytes w16) (λ n. n < 2 ^ 16) (number_at w16) low Any _ _ _ (reads16 low) λ k from0.
+    then (λ (c : Call). c.grain.key) (to_le_bytes w32) (λ n. n < 2 ^ 32) (number_at w32) from0 _ _ _ _ (reads32 from0) λ y from1.
+    then (λ (c : Call). c.method) (to_le_bytes w16) (λ n. n < 2 ^ 16) (number_at w16) from1 _ _ _ _ (reads16 from1) λ m from2.
+    then (λ (c : Call). c.args) spelling_of_values (ValuesFit 8) (values_at 8) from2 _ _ _ _ (values_read 8 (omega arith) from2) λ a from3.
+    done from3 _ (record { grain = record { kind = k; key = y }; method = m; args = a }) ((((tt, refl), refl), refl), refl) (λ d known i. record { grain = record { kind = known.0.0.0.1 i; key = known.0.0.1 i }; method = known.0.1 i; args = known.1 i }))
+
+-- ---- versions
+
+pub version_reads : (low : ℕ) → Reads low Any spelling_of_version VersionFits version_at
+unfolding version_at
+version_reads low =
+    said low Any Any _ spelling_of_version _ VersionFits version_at (λ v p. tt) (λ v p. tt) (λ v p. simp append-nil)
+    (λ v p f. record { unit = f.0; state = f.1.0 }) (λ v p f. (f.unit, (f.state, tt)))
+    (then (λ (v : Version). v.unit.0) (to_le_bytes w64) (λ n. n < 2 ^ 64) (number_at w64) low Any _ _ _ (reads64 low) λ u from0.
+    then (λ (v : Version). v.state) spelling_of_values (ValuesFit 16) (values_at 16) from0 _ _ _ _ (values_read 16 (omega arith) from0) λ s from1.
+    done from1 _ (record { unit = record { 0 = u }; state = s }) ((tt, refl), refl) (λ d known i. record { unit = record { 0 = known.0.1 i }; state = known.1 i }))
+
+-- ---- origins
+
+abbrev origin_tag : Origin → ℕ
+origin_tag (Line line) = 0
+origin_tag (Child parent index depth) = 1
+
+abbrev line_of : Origin → ℕ
+line_of (Line line) = line
+line_of (Child parent index depth) = 0
+
+abbrev parent_of : Origin → ℕ
+parent_of (Line line) = 0
+parent_of (Child parent index depth) = parent.0
+
+abbrev index_of : Origin → ℕ
+index_of (Line line) = 0
+index_of (Child parent index depth) = index
+
+abbrev depth_of : Origin → ℕ
+depth_of (Line line) = 0
+depth_of (Child parent index depth) = depth
+
+abbrev behind_origin : Origin → List ℕ
+behind_origin (Line line) = to_le_bytes w32 line
+behind_origin (Child parent index depth) = to_le_bytes w64 parent.0 ++ (to_le_bytes w32 index ++ to_le_bytes w16 depth)
+
+abbrev child_bytes : Origin → List ℕ
+child_bytes o = to_le_bytes w64 (parent_of o) ++ (to_le_bytes w32 (index_of o) ++ (to_le_bytes w16 (depth_of o) ++ []))
+
+abbrev ChildFits : Origin → Type 0
+ChildFits o = (parent_of o < 2 ^ 64) × ((index_of o < 2 ^ 32) × ((depth_of o < 2 ^ 16) × Unit {0}))
+
+is_line : (tag : ℕ) → tag ≡ 0 → (o : Origin) → Any o × (origin_tag o ≡ tag) → OriginFits o → (n : ℕ) × (o ≡ Line n) × (n < 2 ^ 32)
+is_line tag is (Line line) known fits = (line, refl, fits)
+is_line tag is (Child parent index depth) known fits = absurd (omega (arith, is, known.1))
+
+as_child : (tag : ℕ) → tag ≡ 1 → (o : Origin) → Any o × (origin_tag o ≡ tag) → child_bytes o ≡ behind_origin o
+as_child tag is (Line line) known = absurd (omega (arith, is, known.1))
+as_child tag is (Child parent index depth) known = simp append-nil
+
+child_fits : (tag : ℕ) → tag ≡ 1 → (o : Origin) → Any o × (origin_tag o ≡ tag) → ChildFits o → OriginFits o
+child_fits tag is (Line line) known fits = absurd (omega (arith, is, known.1))
+child_fits tag is (Child parent index depth) known fits = (fits.0, fits.1.0, fits.1.1.0)
+
+fits_child : (tag : ℕ) → tag ≡ 1 → (o : Origin) → Any o × (origin_tag o ≡ tag) → OriginFits o → ChildFits o
+fits_child tag is (Line line) known fits = absurd (omega (arith, is, known.1))
+fits_child tag is (Child parent index depth) known fits = (fits.0, (fits.1, (fits.2, tt)))
+
+is_child : (tag p i d : ℕ) → tag ≡ 1 → (o : Origin) → (((Any o × (origin_tag o ≡ tag)) × (parent_of o ≡ p)) × (index_of o ≡ i)) × (depth_of o ≡ d) → o ≡ Child (record { 0 = p }) i d
+is_child tag p i d is (Line line) known = absurd (omega (arith, is, known.0.0.0.1))
+is_child tag p i d is (Child parent index depth) known = λ x. Child (record { 0 = known.0.0.1 x }) (known.0.1 x) (known.1 x)
+
+no_origin : (tag : ℕ) → (tag ≡ 0 → ⊥) → (tag ≡ 1 → ⊥) → (o : Origin) → Any o × (origin_tag o ≡ tag) → OriginFits o → ⊥
+no_origin tag not also (Line line) known fits = not (sym known.1)
+no_origin tag not also (Child parent index depth) known fits = also (sym known.1)
+
+origin_tagged : (o : Origin) → to_le_bytes w8 (origin_tag o) ++ behind_origin o ≡ spelling_of_origin o
+origin_tagged (Line line) = refl
+origin_tagged (Child parent index depth) = refl
+
+origin_small : (o : Origin) → origin_tag o < 2 ^ 8
+origin_small (Line line) = omega arith
+origin_small (Child parent index depth) = omega arith
+
+origin_behind : (tag from : ℕ) → Reads from (λ o. Any o × (origin_tag o ≡ tag)) behind_origin OriginFits
+    (choice (eqb tag 0) (field (number_at w32) λ line here. whole (Line line))
+    (choice (eqb tag 1) (field (number_at w64) λ parent here. field (number_at w32) λ index there. field (number_at w16) λ depth end. whole (Child (record { 0 = parent }) index depth))
+    (refused (BadTag from tag))))
+origin_behind tag from =
+    let P : Origin → Type 0 = λ o. Any o × (origin_tag o ≡ tag) in
+    choose from P behind_origin OriginFits (eqb tag 0) _ _
+    (
+    λ yes0. put_in Line (to_le_bytes w32) (λ n. n < 2 ^ 32) (number_at w32) from P behind_origin OriginFits
+    (is_line tag (eqb-true tag 0 yes0)) (λ n. (tt, sym (eqb-true tag 0 yes0))) (λ n lt. refl) (λ n lt. lt) (reads32 from)
+    )
+    (
+    λ no0. choose from P behind_origin OriginFits (eqb tag 1) _ _
+    (
+    λ yes1. let is = eqb-true tag 1 yes1 in
+    said from P P child_bytes behind_origin ChildFits OriginFits _ (λ o p. p) (λ o p. p) (as_child tag is) (child_fits tag is) (fits_child tag is)
+    (then parent_of (to_le_bytes w64) (λ n. n < 2 ^ 64) (number_at w64) from P _ _ _ (reads64 from) λ p from1.
+    then index_of (to_le_bytes w32) (λ n. n < 2 ^ 32) (number_at w32) from1 _ _ _ _ (reads32 from1) λ i from2.
+    then depth_of (to_le_bytes w16) (λ n. n < 2 ^ 16) (number_at w16) from2 _ _ _ _ (reads16 from2) λ d from3.
+    done from3 _ (Child (record { 0 = p }) i d) ((((tt, sym is), refl), refl), refl) (is_child tag p i d is))
+    )
+    (λ no1. never from P behind_origin OriginFits (BadTag from tag) (omega arith) (no_origin tag (eqb-false tag 0 no0) (eqb-false tag 1 no1)))
+    )
+
+pub origin_reads : (low : ℕ) → Reads low Any spelling_of_origin OriginFits origin_at
+unfolding origin_at
+origin_reads low =
+    said low Any Any (λ o. to_le_bytes w8 (origin_tag o) ++ behind_origin o) spelling_of_origin (λ o. (origin_tag o < 2 ^ 8) × OriginFits o) OriginFits origin_at
+    (λ o p. tt) (λ o p. tt) (λ o p. origin_tagged o) (λ o p fits. fits.1) (λ o p fits. (origin_small o, fits))
+    (then origin_tag (to_le_bytes w8) (λ n. n < 2 ^ 8) (number_at w8) low Any behind_origin OriginFits _ (byte_reads low) origin_behind)
+
+-- ---- outcomes
+
+abbrev outcome_tag : outcome.Outcome → ℕ
+outcome_tag outcome.TheVariants.Aborted = 0
+outcome_tag (outcome.TheVariants.Value value) = 1
+outcome_tag (outcome.TheVariants.Fault text) = 2
+
+abbrev behind_outcome : outcome.Outcome → List ℕ
+behind_outcome outcome.TheVariants.Aborted = []
+behind_outcome (outcome.TheVariants.Value value) = spelling_of_value value
+behind_outcome (outcome.TheVariants.Fault text) = spelling_of_text text
+
+outcome_tagged : (o : outcome.Outcome) → to_le_bytes w8 (outcome_tag o) ++ behind_outcome o ≡ spelling_of_outcome o
+outcome_tagged outcome.TheVariants.Aborted = refl
+outcome_tagged (outcome.TheVariants.Value value) = refl
+outcome_tagged (outcome.TheVariants.Fault text) = refl
+
+outcome_small : (o : outcome.Outcome) → outcome_tag o < 2 ^ 8
+outcome_small outcome.TheVariants.Aborted = omega arith
+outcome_small (outcome.TheVariants.Value value) = omega arith
+outcome_small (outcome.TheVariants.Fault text) = omega arith
+
+abbrev Tagged : ℕ → outcome.Outcome → Type 0
+Tagged tag o = Any o × (outcome_tag o ≡ tag)
+
+is_value : (tag : ℕ) → tag ≡ 1 → (o : outcome.Outcome) → Tagged tag o → ResultFits o → (v : Value) × (o ≡ outcome.TheVariants.Value v) × ValueFits v
+is_value tag is outcome.TheVariants.Aborted known fits = absurd fits
+is_value tag is (outcome.TheVariants.Value value) known fits = (value, refl, fits)
+is_value tag is (outcome.TheVariants.Fault text) known fits = absurd (omega (arith, is, known.1))
+
+is_fault : (tag : ℕ) → tag ≡ 2 → (o : outcome.Outcome) → Tagged tag o → ResultFits o → (t : List ℕ) × (o ≡ outcome.TheVariants.Fault t) × TextFits t
+is_fault tag is outcome.TheVariants.Aborted known fits = absurd fits
+is_fault tag is (outcome.TheVariants.Value value) known fits = absurd (omega (arith, is, known.1))
+is_fault tag is (outcome.TheVariants.Fault text) known fits = (text, refl, fits)
+
+is_abort : (tag : ℕ) → tag ≡ 0 → (o : outcome.Outcome) → Tagged tag o → o ≡ outcome.TheVariants.Aborted
+is_abort tag is outcome.TheVariants.Aborted known = refl
+is_abort tag is (outcome.TheVariants.Value value) known = absurd (omega (arith, is, known.1))
+is_abort tag is (outcome.TheVariants.Fault text) known = absurd (omega (arith, is, known.1))
+
+no_outcome : (tag : ℕ) → (tag ≡ 1 → ⊥) → (tag ≡ 2 → ⊥) → (o : outcome.Outcome) → Tagged tag o → ResultFits o → ⊥
+no_outcome tag not1 not2 outcome.TheVariants.Aborted known fits = fits
+no_outcome tag not1 not2 (outcome.TheVariants.Value value) known fits = not1 (sym known.1)
+no_outcome tag not1 not2 (outcome.TheVariants.Fault text) known fits = not2 (sym known.1)
+
+-- behind the tag, where it is no abort
+ended_reads : (tag from : ℕ) → Reads from (Tagged tag) behind_outcome ResultFits (ended tag from)
+ended_reads tag from =
+    choose from (Tagged tag) behind_outcome ResultFits (eqb tag 1) _ _
+    (λ yes1. put_in outcome.TheVariants.Value spelling_of_value ValueFits value_at from (Tagged tag) behind_outcome ResultFits (is_value tag (eqb-true tag 1 yes1)) (λ v. (tt, sym (eqb-true tag 1 yes1))) (λ v fits. refl) (λ v fits. fits) (value_reads from))
+    (
+    λ no1. choose from (Tagged tag) behind_outcome ResultFits (eqb tag 2) _ _
+    (λ yes2. put_in outcome.TheVariants.Fault spelling_of_text TextFits text_at from (Tagged tag) behind_outcome ResultFits (is_fault tag (eqb-true tag 2 yes2)) (λ t. (tt, sym (eqb-true tag 2 yes2))) (λ t fits. refl) (λ t fits. fits) (text_reads from))
+    (λ no2. never from (Tagged tag) behind_outcome ResultFits (BadTag from tag) (omega arith) (no_outcome tag (eqb-false tag 1 no1) (eqb-false tag 2 no2)))
+    )
+
+pub result_reads : (low : ℕ) → Reads low Any spelling_of_outcome ResultFits result_at
+unfolding result_at
+result_reads low =
+    said low Any Any (λ o. to_le_bytes w8 (outcome_tag o) ++ behind_outcome o) spelling_of_outcome (λ o. (outcome_tag o < 2 ^ 8) × ResultFits o) ResultFits result_at
+    (λ o p. tt) (λ o p. tt) (λ o p. outcome_tagged o) (λ o p fits. fits.1) (λ o p fits. (outcome_small o, fits))
+    (then outcome_tag (to_le_bytes w8) (λ n. n < 2 ^ 8) (number_at w8) low Any behind_outcome ResultFits _ (byte_reads low) ended_reads)
+
+-- an answer that is no abort is a result
+answer_is_result : (tag : ℕ) → (tag ≡ 0 → ⊥) → (o : outcome.Outcome) → Tagged tag o → AnswerFits o → ResultFits o
+answer_is_result tag not0 outcome.TheVariants.Aborted known fits = not0 (sym known.1)
+answer_is_result tag not0 (outcome.TheVariants.Value value) known fits = fits
+answer_is_result tag not0 (outcome.TheVariants.Fault text) known fits = fits
+
+result_is_answer : (o : outcome.Outcome) → ResultFits o → AnswerFits o
+result_is_answer outcome.TheVariants.Aborted fits = tt
+result_is_answer (outcome.TheVariants.Value value) fits = fits
+result_is_answer (outcome.TheVariants.Fault text) fits = fits
+
+abort_behind : (tag : ℕ) → tag ≡ 0 → (o : outcome.Outcome) → Tagged tag o → [] ≡ behind_outcome o
+abort_behind tag is outcome.TheVariants.Aborted known = refl
+abort_behind tag is (outcome.TheVariants.Value value) known = absurd (omega (arith, is, known.1))
+abort_behind tag is (outcome.TheVariants.Fault text) known = absurd (omega (arith, is, known.1))
+
+abort_fits : (tag : ℕ) → tag ≡ 0 → (o : outcome.Outcome) → Tagged tag o → AnswerFits o
+abort_fits tag is outcome.TheVariants.Aborted known = tt
+abort_fits tag is (outcome.TheVariants.Value value) known = absurd (omega (arith, is, known.1))
+abort_fits tag is (outcome.TheVariants.Fault text) known = absurd (omega (arith, is, known.1))
+
+answer_behind : (tag from : ℕ) → Reads from (Tagged tag) behind_outcome AnswerFits (choice (eqb tag 0) (whole outcome.TheVariants.Aborted) (ended tag from))
+answer_behind tag from =
+    choose from (Tagged tag) behind_outcome AnswerFits (eqb tag 0) _ _
+    (
+    λ yes0. let is = eqb-true tag 0 yes0 in
+    said from (Tagged tag) (Tagged tag) (λ o. []) behind_outcome (λ o. Unit {0}) AnswerFits (whole outcome.TheVariants.Aborted) (λ o p. p) (λ o p. p) (abort_behind tag is) (λ o p fits. abort_fits tag is o p) (λ o p fits. tt)
+    (done from (Tagged tag) outcome.TheVariants.Aborted (tt, sym is) (is_abort tag is))
+    )
+    (λ no0. said from (Tagged tag) (Tagged tag) behind_outcome behind_outcome ResultFits AnswerFits (ended tag from) (λ o p. p) (λ o p. p) (λ o p. refl) (λ o p fits. result_is_answer o fits) (answer_is_result tag (eqb-false tag 0 no0)) (ended_reads tag from))
+
+pub answer_reads : (low : ℕ) → Reads low Any spelling_of_outcome AnswerFits answer_at
+unfolding answer_at
+answer_reads low =
+    said low Any Any (λ o. to_le_bytes w8 (outcome_tag o) ++ behind_outcome o) spelling_of_outcome (λ o. (outcome_tag o < 2 ^ 8) × AnswerFits o) AnswerFits answer_at
+    (λ o p. tt) (λ o p. tt) (λ o p. outcome_tagged o) (λ o p fits. fits.1) (λ o p fits. (outcome_small o, fits))
+    (then outcome_tag (to_le_bytes w8) (λ n. n < 2 ^ 8) (number_at w8) low Any behind_outcome AnswerFits _ (byte_reads low) answer_behind)

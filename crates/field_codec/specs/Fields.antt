@@ -1,0 +1,48 @@
+-- How each thing is read, field by field.
+use Rattle.std.specs.Prelude.{ℕ, List, ◌==◌}
+use Rattle.std.specs.Int.{w8, w16, w32, w64, cast_signed}
+use Rattle.base_types.specs.declared.calls.Value.{Value}
+use Rattle.base_types.specs.declared.calls.Value.TheVariants.{Int, Text}
+use Rattle.base_types.specs.declared.calls.Call.{Call}
+use Rattle.base_types.specs.declared.calls.Origin.{Origin}
+use Rattle.base_types.specs.declared.calls.Origin.TheVariants.{Line, Child}
+use Rattle.base_types.specs.declared.calls.Outcome as outcome
+use Rattle.base_types.specs.declared.stores.Version.{Version}
+use Rattle.field_codec.specs.declared.faults.CodecFault.TheVariants.{BadTag}
+use Rattle.field_codec.specs.Reading.{Reader, whole, refused, field, choice, number_at, count_at, text_at, list_at}
+
+unfoldable pub value_at : Reader Value
+value_at = field (number_at w8) λ tag place.
+    choice (tag == 0) (field (number_at w64) λ n here. whole (Int (cast_signed w64 n)))
+    (choice (tag == 1) (field text_at λ text here. whole (Text text))
+    (refused (BadTag place tag)))
+
+-- at most so many values
+abbrev pub values_at : ℕ → Reader (List Value)
+values_at limit = list_at w16 limit value_at
+
+unfoldable pub version_at : Reader Version
+version_at = field (number_at w64) λ unit place. field (values_at 16) λ state here. whole (record { unit = record { 0 = unit }; state = state })
+
+unfoldable pub call_at : Reader Call
+call_at = field (number_at w16) λ kind place. field (number_at w32) λ key here. field (number_at w16) λ method there. field (values_at 8) λ args end.
+    whole (record { grain = record { kind = kind; key = key }; method = method; args = args })
+
+unfoldable pub origin_at : Reader Origin
+origin_at = field (number_at w8) λ tag place.
+    choice (tag == 0) (field (number_at w32) λ line here. whole (Line line))
+    (choice (tag == 1) (field (number_at w64) λ parent here. field (number_at w32) λ index there. field (number_at w16) λ depth end. whole (Child (record { 0 = parent }) index depth))
+    (refused (BadTag place tag)))
+
+-- an outcome with the tag 1 or 2
+abbrev pub ended : ℕ → ℕ → Reader outcome.Outcome
+ended tag place =
+    choice (tag == 1) (field value_at λ value here. whole (outcome.TheVariants.Value value))
+    (choice (tag == 2) (field text_at λ text here. whole (outcome.TheVariants.Fault text))
+    (refused (BadTag place tag)))
+
+unfoldable pub result_at : Reader outcome.Outcome
+result_at = field (number_at w8) λ tag place. ended tag place
+
+unfoldable pub answer_at : Reader outcome.Outcome
+answer_at = field (number_at w8) λ tag place. choice (tag == 0) (whole outcome.TheVariants.Aborted) (ended tag place)

@@ -1,0 +1,6 @@
+pub mod Reading
+pub mod Chained
+pub mod Spelling
+pub mod Fields
+pub mod Results
+pub mod Apart

@@ -1,0 +1,92 @@
+-- The one spelling of each thing that the files hold, and the limits within which it has one. Numbers are little-endian.
+use Rattle.std.specs.Prelude.{FitsSigned, ◌≡◌, ℕ, ◌+◌, ◌<◌, ◌≤◌, ◌^◌, List, [], ◌∷◌, ◌++◌, length, take, drop}
+use Rattle.std.specs.Int.{Width, w16, w32, w64, to_le_bytes, cast_unsigned}
+use Rattle.std.specs.List.{flat_map, AllByRecursion}
+use Rattle.std.specs.Str.{IsUtf8}
+use Rattle.base_types.specs.declared.calls.Value.{Value}
+use Rattle.base_types.specs.declared.calls.Value.TheVariants.{Int, Text}
+use Rattle.base_types.specs.declared.calls.Call.{Call}
+use Rattle.base_types.specs.declared.calls.Origin.{Origin}
+use Rattle.base_types.specs.declared.calls.Origin.TheVariants.{Line, Child}
+use Rattle.base_types.specs.declared.calls.Outcome as outcome
+use Rattle.base_types.specs.declared.stores.Version.{Version}
+
+-- this text stands in the bytes at a place, and ends before another
+pub record Stands (bytes : List ℕ) (at : ℕ) (text : List ℕ) (end : ℕ) : Type 0 where
+  pub end_at : end ≡ at + length text
+  pub here : take (length text) (drop at bytes) ≡ text
+
+-- a text: its length, and its bytes
+abbrev pub spelling_of_text : List ℕ → List ℕ
+spelling_of_text text = to_le_bytes w16 (length text) ++ text
+
+abbrev pub TextFits : List ℕ → Type 0
+TextFits text = (length text ≤ 256) × IsUtf8 text
+
+-- a value: an Int is 0 and its two's complement, a Text is 1 and the text
+abbrev pub spelling_of_value : Value → List ℕ
+spelling_of_value (Int z) = 0 ∷ to_le_bytes w64 (cast_unsigned w64 z)
+spelling_of_value (Text text) = 1 ∷ spelling_of_text text
+
+abbrev pub ValueFits : Value → Type 0
+ValueFits (Int z) = FitsSigned w64 z
+ValueFits (Text text) = TextFits text
+
+-- values: their count, and each
+abbrev pub spelling_of_values : List Value → List ℕ
+spelling_of_values values = to_le_bytes w16 (length values) ++ flat_map spelling_of_value values
+
+abbrev pub ValuesFit : ℕ → List Value → Type 0
+ValuesFit limit values = (length values ≤ limit) × AllByRecursion ValueFits values
+
+-- a version: its unit, and the state that the unit wrote
+abbrev pub spelling_of_version : Version → List ℕ
+spelling_of_version version = to_le_bytes w64 version.unit.0 ++ spelling_of_values version.state
+
+pub record VersionFits (version : Version) : Type 0 where
+  pub unit : version.unit.0 < 2 ^ 64
+  pub state : ValuesFit 16 version.state
+
+-- a call: the grain's type and key, the method, and the arguments
+abbrev pub spelling_of_call : Call → List ℕ
+spelling_of_call call = to_le_bytes w16 call.grain.kind ++ (to_le_bytes w32 call.grain.key ++ (to_le_bytes w16 call.method ++ spelling_of_values call.args))
+
+pub record CallFits (call : Call) : Type 0 where
+  pub kind : call.grain.kind < 2 ^ 16
+  pub key : call.grain.key < 2 ^ 32
+  pub method : call.method < 2 ^ 16
+  pub args : ValuesFit 8 call.args
+
+-- an origin: 0 and the line, or 1 and the parent, the index and the depth
+abbrev pub spelling_of_origin : Origin → List ℕ
+spelling_of_origin (Line line) = 0 ∷ to_le_bytes w32 line
+spelling_of_origin (Child parent index depth) = 1 ∷ (to_le_bytes w64 parent.0 ++ (to_le_bytes w32 index ++ to_le_bytes w16 depth))
+
+abbrev pub OriginFits : Origin → Type 0
+OriginFits (Line line) = line < 2 ^ 32
+OriginFits (Child parent index depth) = (parent.0 < 2 ^ 64) × (index < 2 ^ 32) × (depth < 2 ^ 16)
+
+-- an outcome: 0 where it is an abort, 1 and the value, or 2 and the fault's text
+abbrev pub spelling_of_outcome : outcome.Outcome → List ℕ
+spelling_of_outcome outcome.TheVariants.Aborted = 0 ∷ []
+spelling_of_outcome (outcome.TheVariants.Value value) = 1 ∷ spelling_of_value value
+spelling_of_outcome (outcome.TheVariants.Fault text) = 2 ∷ spelling_of_text text
+
+-- an answer to a nested call may be any outcome
+abbrev pub AnswerFits : outcome.Outcome → Type 0
+AnswerFits outcome.TheVariants.Aborted = Unit {0}
+AnswerFits (outcome.TheVariants.Value value) = ValueFits value
+AnswerFits (outcome.TheVariants.Fault text) = TextFits text
+
+-- the result of a unit in the log is no abort
+abbrev pub ResultFits : outcome.Outcome → Type 0
+ResultFits outcome.TheVariants.Aborted = ⊥
+ResultFits (outcome.TheVariants.Value value) = ValueFits value
+ResultFits (outcome.TheVariants.Fault text) = TextFits text
+
+-- a program file begins with the text's length and the text; further bytes are ignored
+abbrev pub spelling_of_program : List ℕ → List ℕ
+spelling_of_program text = to_le_bytes w32 (length text) ++ text
+
+abbrev pub ProgramFits : List ℕ → Type 0
+ProgramFits text = length text ≤ 262144

@@ -1,0 +1,27 @@
+//! The fields that a silo's files are made of. Each value has one spelling; `docs/FORMATS.md` has the tables.
+//!
+//! The `put_` calls append a spelling, and the `get_` calls read one from a place on: they answer the value and the
+//! place behind it, or the first fault from left to right.
+#![tactic(auto)]
+
+mod calls;
+mod faults;
+mod laws;
+mod numbers;
+mod origins;
+mod outcomes;
+mod spelled;
+mod texts;
+mod values;
+
+pub use calls::{get_call, put_call};
+pub use faults::CodecFault;
+pub use laws::spellings_are_apart;
+pub use numbers::{get_count, get_u8, get_u16, get_u32, get_u64, put_u16, put_u32, put_u64};
+pub use origins::get_origin;
+pub use outcomes::{get_answer, get_result};
+pub use spelled::{Spelled, append_all, put};
+pub use values::{get_state, get_value, get_values, put_state, put_value};
+
+#[cfg(test)]
+mod tests;

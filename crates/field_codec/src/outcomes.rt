@@ -1,0 +1,85 @@
+ghost use Rattle.field_codec.specs.Fields.{ended, answer_at, result_at};
+ghost use Rattle.field_codec.specs.Results.{Gives};
+
+use crate::faults::CodecFault;
+use crate::numbers::get_u8;
+use crate::spelled::Spelled;
+use crate::texts::{append_text, get_text};
+use crate::values::get_value;
+use base_types::Outcome;
+use std::alloc::{AllocError, Global};
+
+impl Spelled for Outcome {
+    ghost use Rattle.field_codec.specs.Spelling.{spelling_of_outcome, AnswerFits};
+
+    ghost may_spell = { λ _. Unit {0} };
+
+    ghost spelling = { spelling_of_outcome };
+
+    ghost fits = { AnswerFits };
+
+    fn append(&self, into: &mut Vec<u8>) -> Result<(), AllocError> {
+        match self {
+            Outcome::Aborted => {
+                into.push(0)?;
+                Ok(())
+            }
+            Outcome::Value(value) => {
+                into.push(1)?;
+                value.append(into)?;
+                Ok(())
+            }
+            Outcome::Fault(text) => {
+                into.push(2)?;
+                append_text(into, text)?;
+                Ok(())
+            }
+        }
+    }
+}
+
+// What stands behind a tag that isn't 0. `place` is the tag's.
+#[tactic(auto, unfolding(crate::specs::Reading::field, crate::specs::Reading::choice, crate::specs::Reading::refused, crate::specs::Reading::whole))]
+fn get_ended(
+    alloc: Global,
+    bytes: &[u8],
+    at: usize,
+    tag: u8,
+    place: usize,
+) -> Result<(Outcome, usize), CodecFault>
+    ensures { Gives result (ended tag place bytes.now at) }
+{
+    if tag == 1 {
+        let (value, after) = get_value(alloc, bytes, at)?;
+        return Ok((Outcome::Value(value), after));
+    }
+    if tag == 2 {
+        let (text, after) = get_text(alloc, bytes, at)?;
+        return Ok((Outcome::Fault(text), after));
+    }
+    Err(CodecFault::BadTag { place, byte: tag })
+}
+
+/// The answer to a nested call that stands at a place, and the place behind it. The fault is the first from left to right.
+#[tactic(auto, unfolding(crate::specs::Fields::answer_at, crate::specs::Reading::field, crate::specs::Reading::choice, crate::specs::Reading::whole))]
+pub fn get_answer(alloc: Global, bytes: &[u8], at: usize) -> Result<(Outcome, usize), CodecFault>
+    ensures { Gives result (answer_at bytes.now at) }
+{
+    let (tag, after) = get_u8(bytes, at)?;
+    if tag == 0 {
+        return Ok((Outcome::Aborted, after));
+    }
+    let (outcome, after) = get_ended(alloc, bytes, after, tag, at)?;
+    Ok((outcome, after))
+}
+
+/// The result of a unit that stands at a place, which is no abort, and the place behind it. The fault is the first from left
+/// to right.
+#[tactic(auto, unfolding(crate::specs::Fields::result_at, crate::specs::Reading::field))]
+pub fn get_result(alloc: Global, bytes: &[u8], at: usize) -> Result<(Outcome, usize), CodecFault>
+    ensures { Gives result (result_at bytes.now at) }
+{
+    let (tag, after) = get_u8(bytes, at)?;
+    let (outcome, after) = get_ended(alloc, bytes, after, tag, at)?;
+    Ok((outcome, after))
+}

@@ -1,0 +1,158 @@
+ghost use Rattle.std.specs.Prelude.{◌≡◌, ◌≤◌, ◌++◌, length, take, is_ok, if◌then◌else◌, IfOk, OnOk};
+ghost use Rattle.field_codec.specs.Reading.{times};
+ghost use Rattle.field_codec.specs.Fields.{value_at, values_at};
+ghost use Rattle.field_codec.specs.Results.{Gives, Found, Only};
+ghost use Rattle.field_codec.specs.Spelling.{spelling_of_value, spelling_of_values, ValueFits, ValuesFit};
+
+use crate::faults::CodecFault;
+use crate::numbers::{get_count, get_u8, get_u64, put_u16, put_u64};
+use crate::spelled::{Spelled, append_all, put};
+use crate::texts::{append_text, get_text};
+use base_types::{List, State, Value};
+use std::alloc::{AllocError, Global};
+
+impl Spelled for Value {
+    ghost use Rattle.field_codec.specs.Spelling.{spelling_of_value, ValueFits};
+
+    ghost may_spell = { λ _. Unit {0} };
+
+    ghost spelling = { spelling_of_value };
+
+    ghost fits = { ValueFits };
+
+    fn append(&self, into: &mut Vec<u8>) -> Result<(), AllocError> {
+        match self {
+            Value::Int(number) => {
+                into.push(0)?;
+                put_u64(into, number.cast_unsigned())?;
+                Ok(())
+            }
+            Value::Text(text) => {
+                into.push(1)?;
+                append_text(into, text)?;
+                Ok(())
+            }
+        }
+    }
+}
+
+/// Appends how many values there are, and each. Without memory some of their bytes may have been appended.
+pub fn append_values(into: &mut Vec<u8>, values: &[Value]) -> Result<(), AllocError>
+    requires { length values.now ≤ 16 }
+    ensures ok { OnOk result (into.new.items ≡ into.old.items ++ spelling_of_values values.now) }
+    ensures fits { OnOk result (ValuesFit 16 values.now) }
+    ensures begins { take (length into.old.items) into.new.items ≡ into.old.items }
+{
+    put_u16(into, values.len() as u16)?;
+    append_all(into, values)?;
+    Ok(())
+}
+
+impl Spelled for State {
+    ghost use Rattle.field_codec.specs.Spelling.{spelling_of_values, ValuesFit};
+
+    ghost may_spell = { λ _. Unit {0} };
+
+    ghost spelling = { spelling_of_values };
+
+    ghost fits = { ValuesFit 16 };
+
+    fn append(&self, into: &mut Vec<u8>) -> Result<(), AllocError> {
+        let _count = self.len();
+        append_values(into, self.as_slice())
+    }
+}
+
+/// Appends the value. Without memory nothing is appended.
+pub fn put_value(into: &mut Vec<u8>, value: &Value) -> Result<(), AllocError>
+    ensures { into.new.items ≡ (if is_ok result then into.old.items ++ spelling_of_value value.now else into.old.items) }
+{
+    put(into, value)
+}
+
+/// Appends the state's values. Without memory nothing is appended.
+pub fn put_state(into: &mut Vec<u8>, state: &State) -> Result<(), AllocError>
+    ensures { into.new.items ≡ (if is_ok result then into.old.items ++ spelling_of_values state.now else into.old.items) }
+{
+    put(into, state)
+}
+
+#[tactic(auto, unfolding(crate::specs::Fields::value_at, crate::specs::Reading::field, crate::specs::Reading::choice, crate::specs::Reading::refused, crate::specs::Reading::whole))]
+fn value_there(alloc: Global, bytes: &[u8], at: usize) -> Result<(Value, usize), CodecFault>
+    ensures { Gives result (value_at bytes.now at) }
+{
+    let (tag, after) = get_u8(bytes, at)?;
+    if tag == 0 {
+        let (number, after) = get_u64(bytes, after)?;
+        return Ok((Value::Int(number.cast_signed()), after));
+    }
+    if tag == 1 {
+        let (text, after) = get_text(alloc, bytes, after)?;
+        return Ok((Value::Text(text), after));
+    }
+    Err(CodecFault::BadTag {
+        place: at,
+        byte: tag,
+    })
+}
+
+/// So many values from a place on, and the place behind the last one.
+pub fn get_values(
+    alloc: Global,
+    bytes: &[u8],
+    at: usize,
+    count: u16,
+) -> Result<(List<Value>, usize), CodecFault>
+    ensures exact { Gives result (times value_at count bytes.now at) }
+    ensures many { IfOk result (λ x. length x.0 ≡ count) }
+{
+    let mut values = List::new(alloc);
+    let mut place = at;
+    for _ in 0..count {
+        let (value, after) = value_there(alloc, bytes, place)?;
+        values.push(value)?;
+        place = after;
+    }
+    Ok((values, place))
+}
+
+/// A count of at most `limit`, and so many values.
+#[tactic(auto, unfolding(crate::specs::Reading::list_at, crate::specs::Reading::field))]
+pub fn values_there(
+    alloc: Global,
+    bytes: &[u8],
+    at: usize,
+    limit: u16,
+) -> Result<(List<Value>, usize), CodecFault>
+    ensures exact { Gives result (values_at limit bytes.now at) }
+    ensures within { IfOk result (λ x. length x.0 ≤ limit) }
+{
+    let (count, after) = get_count(bytes, at, limit)?;
+    let (values, after) = get_values(alloc, bytes, after, count)?;
+    Ok((values, after))
+}
+
+/// The value that stands at a place, and the place behind it. The fault is the first from left to right.
+pub fn get_value(alloc: Global, bytes: &[u8], at: usize) -> Result<(Value, usize), CodecFault>
+    ensures found { Found spelling_of_value ValueFits bytes.now at result }
+    ensures only { Only spelling_of_value ValueFits bytes.now at result }
+    ensures exact { Gives result (value_at bytes.now at) }
+{
+    value_there(alloc, bytes, at)
+}
+
+fn state_there(alloc: Global, bytes: &[u8], at: usize) -> Result<(State, usize), CodecFault>
+    ensures { Gives result (values_at 16 bytes.now at) }
+{
+    let (values, after) = values_there(alloc, bytes, at, 16)?;
+    Ok((State::from_list(values), after))
+}
+
+/// The state that stands at a place, and the place behind it. The fault is the first from left to right.
+pub fn get_state(alloc: Global, bytes: &[u8], at: usize) -> Result<(State, usize), CodecFault>
+    ensures found { Found spelling_of_values (ValuesFit 16) bytes.now at result }
+    ensures only { Only spelling_of_values (ValuesFit 16) bytes.now at result }
+    ensures exact { Gives result (values_at 16 bytes.now at) }
+{
+    state_there(alloc, bytes, at)
+}
