@@ -5,6 +5,8 @@
 #[cfg(test)]
 mod crashes;
 #[cfg(test)]
+mod folders;
+#[cfg(test)]
 mod logs;
 #[cfg(test)]
 mod making;

@@ -1,6 +1,6 @@
 // A silo in memory, and the program over it.
 use host_memory::MemoryHost;
-use host_trait::FileId;
+use host_trait::{FileId, Host};
 use silo_top::{Gate, GatePlace, Status, run_silo};
 use std::alloc::Global;
 use std::test::Fail;
@@ -35,7 +35,7 @@ impl Gate for NoGate {
 }
 
 // Carries out the command of these words.
-pub fn command(alloc: Global, host: &mut MemoryHost, list: &[&str]) -> Result<Status, Fail> {
+pub fn command<H: Host>(alloc: Global, host: &mut H, list: &[&str]) -> Result<Status, Fail> {
     let mut words = Vec::new(alloc);
     for word in list {
         words.push(String::from_str(alloc, word)?)?;

@@ -54,7 +54,7 @@ IsRefusedBy AlreadyASilo old = ⊥
 IsRefusedBy (Damaged file place) old = (file ≡ manager) × IsSilo counter_magic (old.disk manager).seen × IsDamagedAt (old.disk manager).seen place
 IsRefusedBy (InputTooLong line) old = ⊥
 
--- nothing was written, emitted or pulled
+-- nothing was emitted or pulled, no read has changed, and no outcome of a crash was added
 pub record IsRefused (status : Status) (old new : World) : Type 0 where
   pub untouched : IsUntouched old new
   pub input : new.input ≡ old.input
@@ -81,7 +81,7 @@ pub record IsServed (status : Status) (opening : List Logged) (old new : World) 
   pub now : AllKeep counter_magic opening (journal_of opening old.input) old.output (moment_of new)
   pub ends : EndsAs status opening old new
 
--- The folder read as an undamaged silo with this log, and was opened. Until then there was nothing but asking; from then on, and
+-- The folder read as an undamaged silo with this log. Until it was opened each image was one of those at entry; from then on, and
 -- at the end, each image keeps the journal of the input's lines, played one after another from where the opening log stands,
 -- no file but the log's is other than it was, and that one's header is as it was.
 pub record IsCarried (status : Status) (old new : World) : Type 0 where
@@ -119,8 +119,7 @@ MakesAs AlreadyASilo old new = IsSilo counter_magic (old.disk manager).seen × I
 MakesAs (Damaged file place) old new = ⊥
 MakesAs (InputTooLong line) old new = ⊥
 
--- What `init` does: nothing but the two files of a new silo changes, and from the first sync on each image that is a silo is
--- a new one.
+-- What `init` does, at each moment and at its end: nothing but the two files of a new silo changes.
 pub record IsMaking (status : Status) (old new : World) : Type 0 where
   pub moments : Makes counter_magic counter_program old new
   pub beside : StaysBeside old new
