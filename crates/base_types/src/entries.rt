@@ -1,9 +1,20 @@
 use crate::calls::{GrainId, Outcome, UnitNo};
 
-/// Why a request line isn't carried.
+/// Why a request line isn't carried: the first of the tests, in this order, that it fails.
 #[derive(Clone, Copy, Debug, PartialEq, Eq)]
 pub enum BadRequest {
-    /// The line isn't a request of the counter program that adds a number.
+    /// The line isn't JSON.
+    Json,
+    /// The line isn't an object with exactly the keys `args`, an array, and `call`, a string.
+    Shape,
+    /// The call names no grain of one of the program's types.
+    Grain,
+    /// The call names no method of the grain's type.
+    Method,
+    /// The arguments aren't as many numbers and short texts as the method has parameters.
+    Args,
+    /// The line isn't a request of the counter program that adds a number. A program that is read from its text
+    /// refuses no line so.
     Early,
 }
 

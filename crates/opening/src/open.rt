@@ -23,7 +23,7 @@ use crate::faults::OpenFault;
 use base_types::{List, UnitNo};
 use gate_block::{BlockFault, read_block};
 use host_trait::{Failed, FileId, Host, read_full};
-use request_wire::{RequestFault, read_request};
+use request_wire::{RequestFault, read_early};
 use silo_spec::Logged;
 use std::alloc::{AllocError, Global};
 
@@ -134,7 +134,7 @@ fn unit_above(alloc: Global, above: u64, body: &[u8]) -> Result<Option<Logged>, 
     if unit <= above || unit >= 1 << 63 {
         return Ok(None);
     }
-    match read_request(alloc, text) {
+    match read_early(alloc, text) {
         Ok(_) => {
             let text = List::from_vec(Vec::from_slice(alloc, text)?);
             Ok(Some(Logged {

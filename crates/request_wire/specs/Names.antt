@@ -1,10 +1,22 @@
 -- What a program names, as far as a request line speaks of it.
-use Rattle.std.specs.Prelude.{ℕ, ◌+◌, List, [], ◌∷◌, codes, bytes_eq, if◌then◌else◌, Option, Some, None}
+use Rattle.std.specs.Prelude.{ℕ, ◌+◌, List, [], ◌∷◌, codes, bytes_eq, if◌then◌else◌, length, map, Option, Some, None}
+use Rattle.script_tree.specs.Programs.{MethodTree, TypeTree, ProgramTree}
 
 -- a type: its name, and its methods in order, each by its name and number of parameters
 pub record TypeNames : Type 0 where
   pub name : List ℕ
   pub methods : List (List ℕ × ℕ)
+
+-- a method's name, and how many parameters it has
+abbrev pub method_names : MethodTree → List ℕ × ℕ
+method_names method = (method.name.text, length method.params)
+
+abbrev pub type_names : TypeTree → TypeNames
+type_names of_type = record { name = of_type.name.text; methods = map method_names of_type.methods }
+
+-- what a program names
+abbrev pub names_in : ProgramTree → List TypeNames
+names_in types = map type_names types
 
 -- the counter program has one type, `counter`, with the methods `add` of one parameter and `read` of none
 abbrev pub counter_types : List TypeNames

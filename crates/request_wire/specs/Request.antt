@@ -11,19 +11,11 @@ use Rattle.base_types.specs.declared.calls.GrainId.{GrainId}
 use Rattle.base_types.specs.declared.calls.Value.{Value}
 use Rattle.base_types.specs.declared.calls.Value.TheVariants.{Int, Text}
 use Rattle.base_types.specs.declared.entries.BadRequest.{BadRequest}
-use Rattle.base_types.specs.declared.entries.BadRequest.TheVariants.{Early}
+use Rattle.base_types.specs.declared.entries.BadRequest.TheVariants.{Json, Shape, Grain, Method, Args, Early}
 use Rattle.request_wire.specs.Names.{TypeNames, counter_types, named}
 use Rattle.serde_json.specs.Data.{Data, null, boolean, number, string, array, object, Items, no_items, item, Members, no_members, member}
 use Rattle.serde_json.specs.Find.{get, as_array, as_str, as_i64}
 use Rattle.serde_json.specs.Read.{read}
-
--- the five tests of a line, in their order
-pub data RequestTest : Type 0 where
-  JsonTest : RequestTest
-  ShapeTest : RequestTest
-  GrainTest : RequestTest
-  MethodTest : RequestTest
-  ArgsTest : RequestTest
 
 -- ---- json
 
@@ -75,9 +67,13 @@ key_of text = if is_digits text
     then (if nat_lt 1 (length text) && (slice_index text 0 == 48) then None else number_of text)
     else None
 
+-- the number of the type of a name
+abbrev pub type_of : List TypeNames → List ℕ → Option ℕ
+type_of types name = option_map (λ t. t.0) (named (λ t. t.name) 0 types name)
+
 -- the grain of a type's name and a key's text
 abbrev pub grain_named : List TypeNames → List ℕ → List ℕ → Option GrainId
-grain_named types name text = option_and_then (λ kind. option_map (λ key. record { kind = kind.0; key = key }) (key_of text)) (named (λ t. t.name) 0 types name)
+grain_named types name text = option_and_then (λ kind. option_map (λ key. record { kind = kind; key = key }) (key_of text)) (type_of types name)
 
 -- the grain and the method's name of `TYPE/KEY.METHOD`, cut at the first `/` and at the first `.` after it
 abbrev pub grain_of : List TypeNames → List ℕ → Option (GrainId × List ℕ)
@@ -123,17 +119,17 @@ args_of params items = if items_count items == params then values_of items else 
 -- ---- all five
 
 -- the next test, where this one passed
-abbrev pub passed : {A B : Type 0} → Result A RequestTest → (A → Result B RequestTest) → Result B RequestTest
+abbrev pub passed : {A B : Type 0} → Result A BadRequest → (A → Result B BadRequest) → Result B BadRequest
 passed (Ok a) next = next a
-passed (Err test) next = Err test
+passed (Err why) next = Err why
 
 -- the call that a line asks of a program with these types, or the first test that it fails
-abbrev pub call_of : List TypeNames → List ℕ → Result Call RequestTest
-call_of types line = passed (ok_or (json_of line) JsonTest)
-    (λ d. passed (ok_or (shape_of d) ShapeTest)
-    (λ shape. passed (ok_or (grain_of types shape.1) GrainTest)
-    (λ grain. passed (ok_or (method_of types grain.0.kind grain.1) MethodTest)
-    (λ method. passed (ok_or (args_of method.1 shape.0) ArgsTest)
+abbrev pub call_of : List TypeNames → List ℕ → Result Call BadRequest
+call_of types line = passed (ok_or (json_of line) Json)
+    (λ d. passed (ok_or (shape_of d) Shape)
+    (λ shape. passed (ok_or (grain_of types shape.1) Grain)
+    (λ grain. passed (ok_or (method_of types grain.0.kind grain.1) Method)
+    (λ method. passed (ok_or (args_of method.1 shape.0) Args)
     (λ args. Ok (record { grain = grain.0; method = method.0; args = args }))))))
 
 -- ---- what is carried
@@ -150,10 +146,10 @@ abbrev pub adds_number : Call → Bool
 adds_number call = (call.method == 0) && one_number call.args
 
 -- a call is carried where it adds a number; every other line is refused as early, whatever test it fails
-abbrev pub early_of : Result Call RequestTest → Result Call BadRequest
+abbrev pub early_of : Result Call BadRequest → Result Call BadRequest
 early_of (Ok call) = if adds_number call then Ok call else Err Early
-early_of (Err test) = Err Early
+early_of (Err why) = Err Early
 
--- the call of a request line, or why it has none
+-- the call of a line that the counter program carries, or why it has none
 abbrev pub request_of : List ℕ → Result Call BadRequest
 request_of line = early_of (call_of counter_types line)

@@ -1,10 +1,10 @@
-ghost use Rattle.std.specs.Prelude.{◌≡◌, true, IfOk, option_map};
-ghost use Rattle.std.specs.Result.{result_ok};
-ghost use Rattle.request_wire.specs.Names.{counter_types};
-ghost use Rattle.request_wire.specs.Request.{json_of, shape_of, split_at_first, is_digits, number_of, key_of, grain_named, grain_of, method_of, value_of, values_of, args_of, call_of};
+ghost use Rattle.std.specs.Prelude.{◌≡◌, true, Ok, Err, IfOk, IfErr, option_map};
+ghost use Rattle.request_wire.specs.Request.{json_of, shape_of, split_at_first, is_digits, number_of, key_of, grain_named, grain_of, value_of, values_of, args_of, call_of};
 ghost use Rattle.serde_json.specs.View.{view, items_view};
 
-use base_types::{Call, GrainId, List, Text, Value};
+use crate::faults::RequestFault;
+use crate::names::Names;
+use base_types::{BadRequest, Call, GrainId, List, Text, Value};
 use serde_json::Value as Json;
 use std::alloc::{AllocError, Global};
 
@@ -75,38 +75,22 @@ fn key_of(text: &str) -> Option<u32>
     number_of(text)
 }
 
-fn grain_named(name: &str, key: &str) -> Option<GrainId>
-    ensures { result ≡ grain_named counter_types name.now key.now }
+fn grain_named<N: Names>(names: &N, name: &str, key: &str) -> Option<GrainId>
+    ensures { result ≡ grain_named (N.types names.now) name.now key.now }
 {
-    if name != "counter" {
-        return None;
-    }
+    let kind = names.type_of(name)?;
     let key = key_of(key)?;
-    Some(GrainId { kind: 0, key })
+    Some(GrainId { kind, key })
 }
 
 /// The grain of a call, and the name of its method.
-fn grain_of(call: &str) -> Option<(GrainId, &str)>
-    ensures { option_map (λ found. (found.0, found.1.now)) result ≡ grain_of counter_types call.now }
+fn grain_of<'a, N: Names>(names: &N, call: &'a str) -> Option<(GrainId, &'a str)>
+    ensures { option_map (λ found. (found.0, found.1.now)) result ≡ grain_of (N.types names.now) call.now }
 {
     let (name, rest) = around_slash(call)?;
     let (key, method) = around_dot(rest)?;
-    let grain = grain_named(name, key)?;
+    let grain = grain_named(names, name, key)?;
     Some((grain, method))
-}
-
-/// The number of a method in its type, and how many parameters it has.
-fn method_of(kind: u16, name: &str) -> Option<(u16, usize)>
-    ensures { result ≡ method_of counter_types kind name.now }
-{
-    if kind != 0 {
-        return None;
-    }
-    match name {
-        "add" => Some((0, 1)),
-        "read" => Some((1, 0)),
-        _ => None,
-    }
 }
 
 /// The argument that a JSON value is.
@@ -153,28 +137,30 @@ fn args_of(
     values_of(alloc, args)
 }
 
-/// The call that a line asks for, where it passes the five tests for the counter program.
-pub fn call_of(alloc: Global, line: &[u8]) -> Result<Option<Call>, AllocError>
-    ensures { IfOk result (λ found. found ≡ result_ok (call_of counter_types line.now)) }
+/// The call that a line asks for by these names, or the first test that it fails.
+pub fn call_of<N: Names>(alloc: Global, line: &[u8], names: &N) -> Result<Call, RequestFault>
+    ensures ok { IfOk result (λ call. call_of (N.types names.now) line.now ≡ Ok call) }
+    ensures bad { IfErr result (λ fault. (why : BadRequest) → fault ≡ RequestFault.Bad why
+        → call_of (N.types names.now) line.now ≡ Err why) }
 {
     let Some(value) = json_of(alloc, line)? else {
-        return Ok(None);
+        return Err(RequestFault::Bad(BadRequest::Json));
     };
     let Some((args, call)) = shape_of(&value) else {
-        return Ok(None);
+        return Err(RequestFault::Bad(BadRequest::Shape));
     };
-    let Some((grain, name)) = grain_of(call) else {
-        return Ok(None);
+    let Some((grain, name)) = grain_of(names, call) else {
+        return Err(RequestFault::Bad(BadRequest::Grain));
     };
-    let Some((method, params)) = method_of(grain.kind, name) else {
-        return Ok(None);
+    let Some((method, params)) = names.method_of(grain.kind, name) else {
+        return Err(RequestFault::Bad(BadRequest::Method));
     };
     let Some(args) = args_of(alloc, params, args)? else {
-        return Ok(None);
+        return Err(RequestFault::Bad(BadRequest::Args));
     };
-    Ok(Some(Call {
+    Ok(Call {
         grain,
         method,
         args,
-    }))
+    })
 }

@@ -5,13 +5,17 @@
 #![tactic(auto)]
 
 mod calls;
+mod faults;
 mod lines;
+mod names;
+mod programs;
 mod replies;
 mod requests;
 
+pub use faults::RequestFault;
 pub use lines::first_line;
 pub use replies::{replies_are_lines, reply_text};
-pub use requests::{Line, RequestFault, read_line, read_request};
+pub use requests::{Line, read_early, read_line, read_request};
 
 #[cfg(test)]
 mod tests;

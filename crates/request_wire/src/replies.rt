@@ -1,5 +1,5 @@
 ghost use Rattle.std.specs.Prelude.{◌≡◌, IfOk, string_bytes};
-ghost use Rattle.request_wire.specs.Reply.{type_name, grain_text, carried_data, fault_data, lock_data, vote_data, dependency_data, disk_data, doubt_data, outcome_data, bad_data, reply_data, reply_line, RepliesAreLines};
+ghost use Rattle.request_wire.specs.Reply.{type_name, grain_text, carried_data, fault_data, lock_data, vote_data, dependency_data, disk_data, doubt_data, outcome_data, bad_text, bad_data, reply_data, reply_line, RepliesAreLines};
 ghost use Rattle.serde_json.specs.View.{view};
 
 use base_types::{BadRequest, Entry, GrainId, List, Outcome, Settled, Shape, UnitNo, Value};
@@ -103,12 +103,24 @@ fn doubt_reply(alloc: Global, line: u32, unit: u64) -> Result<Json, AllocError>
     json!(in alloc; {"in_doubt": true, "n": line, "unit": unit})
 }
 
+/// The word for a test that a line fails.
+fn bad_word(why: BadRequest) -> &'static str
+    ensures { result.now ≡ bad_text why }
+{
+    match why {
+        BadRequest::Json => "json",
+        BadRequest::Shape => "shape",
+        BadRequest::Grain => "grain",
+        BadRequest::Method => "method",
+        BadRequest::Args => "args",
+        BadRequest::Early => "early",
+    }
+}
+
 fn bad_reply(alloc: Global, line: u32, why: BadRequest) -> Result<Json, AllocError>
     ensures { IfOk result (λ v. view v ≡ bad_data line why) }
 {
-    let word = match why {
-        BadRequest::Early => "early",
-    };
+    let word = bad_word(why);
     json!(in alloc; {"bad": word, "n": line})
 }
 
