@@ -2,3 +2,4 @@ pub mod Declarations
 pub mod Whole
 pub mod Shaped
 pub mod Firsts
+pub mod Mentioned

@@ -1,5 +1,5 @@
 -- The names of a program in the order of the text, each with what is at fault at it.
-use Rattle.std.specs.Prelude.{◌≡◌, ℕ, List, [], ◌∷◌, ◌++◌, map, Option, Some, None}
+use Rattle.std.specs.Prelude.{◌≡◌, ◌≢◌, ◌≤◌, ℕ, List, [], ◌∷◌, ◌++◌, map, Option, Some, None}
 use Rattle.std.specs.List.{All}
 use Rattle.script_tree.specs.declared.expressions.Name.{Name}
 use Rattle.script_tree.specs.declared.programs.FieldDecl.{FieldDecl}
@@ -137,3 +137,7 @@ pub record IsFirstFault (types : ProgramTree) (fault : CheckFault) : Type 0 wher
   pub right_before : All (λ m. m.fault ≡ None) before
   pub is_here : here.fault ≡ Some fault
   pub place : place_of fault ≡ here.name.at
+
+-- no name that is at fault stands at a lower place than the one that a fault names
+abbrev pub IsLeastPlace : ProgramTree → CheckFault → Type 0
+IsLeastPlace types fault = All (λ m. m.fault ≢ None → place_of fault ≤ m.name.at) (program_names types)

@@ -1,9 +1,10 @@
 ghost use Rattle.std.specs.Prelude.{◌≡◌, ◌≢◌, IfOk, IfErr};
 ghost use Rattle.script_tree.specs.Programs.{program_tree};
+ghost use Rattle.script_tree.specs.Names.{names_in_program, AreInOrder};
 ghost use Rattle.script_scopes.specs.Found.{Answers};
 ghost use Rattle.script_check.specs.Programs.{program_fault};
 ghost use Rattle.script_check.specs.Accepted.{IsProgram};
-ghost use Rattle.script_check.specs.Mentions.{IsFirstFault};
+ghost use Rattle.script_check.specs.Mentions.{IsFirstFault, IsLeastPlace};
 ghost use Rattle.script_check.specs.Shapes.{type_shapes};
 
 use crate::programs::check_types;
@@ -47,10 +48,17 @@ pub fn check(alloc: Global, program: Program) -> Result<Checked, CheckFault>
 
     // It goes through exactly where the tree is a program.
     ensures accepted { IfOk result (λ _. IsProgram (program_tree program)) }
-    ensures refused { IfErr result (λ fault. fault ≢ CheckFault.Memory → ¬ IsProgram (program_tree program)) }
+    ensures refused { IfErr result (λ fault. fault ≢ CheckFault.Memory
+        → ¬ IsProgram (program_tree program)) }
 
     // The fault is that of the first name of the text that has one.
-    ensures first { IfErr result (λ fault. fault ≢ CheckFault.Memory → IsFirstFault (program_tree program) fault) }
+    ensures first { IfErr result (λ fault. fault ≢ CheckFault.Memory
+        → IsFirstFault (program_tree program) fault) }
+
+    // Where the names stand at rising places, as in each tree that is read from a text, its place is the least.
+    ensures least { IfErr result (λ fault. fault ≢ CheckFault.Memory
+        → AreInOrder (names_in_program (program_tree program))
+        → IsLeastPlace (program_tree program) fault) }
 {
     check_types(alloc, program.types.as_slice())?;
     Ok(Checked { program })

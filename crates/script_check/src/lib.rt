@@ -6,9 +6,12 @@
 #![tactic(auto)]
 
 mod checked;
+mod laws;
 mod programs;
 mod shapes;
 
 pub use checked::{Checked, check};
+pub use laws::each_name_is_mentioned;
 pub use programs::{FIELD_LIMIT, METHOD_LIMIT, PARAM_LIMIT, TYPE_LIMIT};
 pub use script_scopes::CheckFault;
+pub use shapes::{fitted, initial_state, value_of};

@@ -29,7 +29,8 @@ fn check_declared(limit: usize, before: &[&Chars], name: &Name) -> Result<(), Ch
 
 /// The fields of a type are right. Answers their names.
 fn check_fields<'a>(alloc: Global, fields: &'a [FieldDecl]) -> Result<Vec<&'a Chars>, CheckFault>
-    ensures { Gives (λ names. map (λ n. n.now) names.items) result (each_fault (λ f. f.name) field_fault [] fields.now) (field_names fields.now) }
+    ensures { Gives (λ names. map (λ n. n.now) names.items) result
+        (each_fault (λ f. f.name) field_fault [] fields.now) (field_names fields.now) }
 {
     let mut names = Vec::new(alloc);
     for field in fields {
@@ -41,7 +42,8 @@ fn check_fields<'a>(alloc: Global, fields: &'a [FieldDecl]) -> Result<Vec<&'a Ch
 
 /// A parameter's name is no field's, and right among the parameters.
 fn check_parameter(fields: &[&Chars], before: &[&Chars], name: &Name) -> Result<(), CheckFault>
-    ensures { Answers result (parameter_fault (map (λ n. n.now) fields.now) (map (λ n. n.now) before.now) name.now) }
+    ensures { Answers result (parameter_fault (map (λ n. n.now) fields.now)
+        (map (λ n. n.now) before.now) name.now) }
 {
     check_free(fields, name)?;
     check_declared(PARAM_LIMIT, before, name)
@@ -53,7 +55,8 @@ fn check_parameters<'a>(
     fields: &[&Chars],
     params: &'a [Name],
 ) -> Result<Vec<&'a Chars>, CheckFault>
-    ensures { Gives (λ names. map (λ n. n.now) names.items) result (parameters_fault (map (λ n. n.now) fields.now) params.now) (map (λ n. n.text) params.now) }
+    ensures { Gives (λ names. map (λ n. n.now) names.items) result
+        (parameters_fault (map (λ n. n.now) fields.now) params.now) (map (λ n. n.text) params.now) }
 {
     let mut names = Vec::new(alloc);
     for param in params {
@@ -93,7 +96,8 @@ fn check_method(
     before: &[&Chars],
     method: &Method,
 ) -> Result<(), CheckFault>
-    ensures { Answers result (method_fault (map type_tree types.now) (map (λ n. n.now) fields.now) (map (λ n. n.now) before.now) (method_tree method.now)) }
+    ensures { Answers result (method_fault (map type_tree types.now) (map (λ n. n.now) fields.now)
+        (map (λ n. n.now) before.now) (method_tree method.now)) }
 {
     check_declared(METHOD_LIMIT, before, &method.name)?;
     check_transaction(method.kind, method.option, method.name.at)?;
@@ -113,7 +117,9 @@ fn check_methods(
     fields: &[&Chars],
     methods: &[Method],
 ) -> Result<(), CheckFault>
-    ensures { Answers result (each_fault (λ m. m.name) (method_fault (map type_tree types.now) (map (λ n. n.now) fields.now)) [] (map method_tree methods.now)) }
+    ensures { Answers result (each_fault (λ m. m.name)
+        (method_fault (map type_tree types.now) (map (λ n. n.now) fields.now)) []
+        (map method_tree methods.now)) }
 {
     let mut names = Vec::new(alloc);
     for method in methods {
@@ -130,7 +136,8 @@ fn check_type(
     before: &[&Chars],
     of_type: &TypeDecl,
 ) -> Result<(), CheckFault>
-    ensures { Answers result (type_fault (map type_tree types.now) (map (λ n. n.now) before.now) (type_tree of_type.now)) }
+    ensures { Answers result (type_fault (map type_tree types.now) (map (λ n. n.now) before.now)
+        (type_tree of_type.now)) }
 {
     check_declared(TYPE_LIMIT, before, &of_type.name)?;
     let fields = check_fields(alloc, of_type.fields.as_slice())?;

@@ -8,7 +8,9 @@ use base_types::{List, Shape, State, Text, TypeShape, Value};
 use script_tree::{Chars, FieldDecl, Literal, Method, TypeDecl};
 use std::alloc::{AllocError, Global};
 
-fn fitted(alloc: Global, text: &Chars) -> Result<Text, AllocError>
+/// A name or a text of a program as a text of its own. One past 256 bytes, which no text of a program gives,
+/// counts as empty.
+pub fn fitted(alloc: Global, text: &Chars) -> Result<Text, AllocError>
     ensures { IfOk result (λ made. made ≡ fitted text.now) }
 {
     match Text::new(alloc, text.as_str())? {
@@ -24,8 +26,8 @@ fn empty_text(alloc: Global) -> Result<Text, AllocError>
     Ok(text.unwrap())
 }
 
-/// The value that a field begins with.
-fn value_of(alloc: Global, literal: &Literal) -> Result<Value, AllocError>
+/// The value of a number or a text of a program.
+pub fn value_of(alloc: Global, literal: &Literal) -> Result<Value, AllocError>
     ensures { IfOk result (λ made. made ≡ value_of literal.now) }
 {
     match literal {
@@ -34,7 +36,8 @@ fn value_of(alloc: Global, literal: &Literal) -> Result<Value, AllocError>
     }
 }
 
-fn initial_state(alloc: Global, fields: &[FieldDecl]) -> Result<State, AllocError>
+/// The state with which a type's grain begins, for a type of at most 16 fields.
+pub fn initial_state(alloc: Global, fields: &[FieldDecl]) -> Result<State, AllocError>
     requires { length fields.now ≤ 16 }
     ensures { IfOk result (λ made. made ≡ map (λ f. value_of f.initial) fields.now) }
 {

@@ -30,6 +30,10 @@ IsWord t w = t.token ≡ token.Word w
 abbrev pub IsName : Spanned → Name → Type 0
 IsName t name = (t.token ≡ token.Name name.text) × (t.at ≡ name.at)
 
+-- the token is an operator that stands between operands
+abbrev pub IsOperator : Spanned → Type 0
+IsOperator t = joins t.token ≢ None
+
 -- A part of an expression over operands. Tier 0 is an operand; 1 to 5 are products, sums, comparisons, `&&` and
 -- `||`, each over the tiers below it. Operators of one tier group from the left, and a comparison has no comparison
 -- beside it. The second number falls to the third by the operators.

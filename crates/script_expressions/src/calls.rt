@@ -14,7 +14,8 @@ impl<'a> Cursor<'a> {
     /// open.
     #[tactic(auto, unfolding(crate::specs::Calls::call_at))]
     pub fn call(&mut self, alloc: Global, depth: u8) -> Result<CallExpr, ParseFault>
-        ensures read { Gives call_tree result self.new.tokens.now (call_at self.old.stop depth self.old.tokens.now) }
+        ensures read { Gives call_tree result self.new.tokens.now
+            (call_at self.old.stop depth self.old.tokens.now) }
         ensures stop { self.new.stop ≡ self.old.stop }
     {
         let target = self.name()?;
@@ -30,7 +31,8 @@ impl<'a> Cursor<'a> {
     // parentheses.
     #[tactic(auto, unfolding(crate::specs::Calls::place_at))]
     fn place(&mut self, alloc: Global, depth: u8) -> Result<Expr, ParseFault>
-        ensures read { Gives expr_tree result self.new.tokens.now (place_at self.old.stop depth self.old.tokens.now) }
+        ensures read { Gives expr_tree result self.new.tokens.now
+            (place_at self.old.stop depth self.old.tokens.now) }
         ensures stop { self.new.stop ≡ self.old.stop }
     {
         let [first, rest @ ..] = self.tokens else {
@@ -58,7 +60,8 @@ impl<'a> Cursor<'a> {
     // An expression in parentheses.
     #[tactic(auto, unfolding(crate::specs::Calls::parenthesised))]
     fn parenthesised(&mut self, alloc: Global, depth: u8) -> Result<Expr, ParseFault>
-        ensures read { Gives expr_tree result self.new.tokens.now (parenthesised self.old.stop depth self.old.tokens.now) }
+        ensures read { Gives expr_tree result self.new.tokens.now
+            (parenthesised self.old.stop depth self.old.tokens.now) }
         ensures stop { self.new.stop ≡ self.old.stop }
     {
         let at = self.expect(Symbol::LeftParen)?;
@@ -71,7 +74,8 @@ impl<'a> Cursor<'a> {
     // The arguments in their parentheses.
     #[tactic(auto, unfolding(crate::specs::Calls::arguments))]
     fn arguments(&mut self, alloc: Global, depth: u8) -> Result<Items<Expr>, ParseFault>
-        ensures read { Gives (λ args. map expr_tree args.list.items) result self.new.tokens.now (arguments self.old.stop depth self.old.tokens.now) }
+        ensures read { Gives (λ args. map expr_tree args.list.items) result self.new.tokens.now
+            (arguments self.old.stop depth self.old.tokens.now) }
         ensures stop { self.new.stop ≡ self.old.stop }
     {
         let at = self.expect(Symbol::LeftParen)?;
@@ -87,7 +91,9 @@ impl<'a> Cursor<'a> {
     // Expressions with commas between them, and the parenthesis behind the last.
     #[tactic(auto, unfolding(crate::specs::Calls::listed))]
     fn expressions(&mut self, alloc: Global, depth: u8) -> Result<Items<Expr>, ParseFault>
-        ensures read { Gives (λ found. map expr_tree found.list.items) result self.new.tokens.now (listed self.old.stop (expression self.old.stop depth) (length self.old.tokens.now) self.old.tokens.now) }
+        ensures read { Gives (λ found. map expr_tree found.list.items) result self.new.tokens.now
+            (listed self.old.stop (expression self.old.stop depth) (length self.old.tokens.now)
+            self.old.tokens.now) }
         ensures stop { self.new.stop ≡ self.old.stop }
     {
         let mut found = Items::new(alloc);

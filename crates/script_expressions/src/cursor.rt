@@ -93,7 +93,8 @@ impl<'a> Cursor<'a> {
     /// A symbol that must stand next, and its place.
     #[tactic(auto, unfolding(crate::specs::Tokens::expected))]
     pub fn expect(&mut self, symbol: Symbol) -> Result<u32, ParseFault>
-        ensures read { Gives (λ at. at) result self.new.tokens.now (expected self.old.stop symbol self.old.tokens.now) }
+        ensures read { Gives (λ at. at) result self.new.tokens.now
+            (expected self.old.stop symbol self.old.tokens.now) }
         ensures stop { self.new.stop ≡ self.old.stop }
     {
         let [first, rest @ ..] = self.tokens else {
@@ -109,7 +110,8 @@ impl<'a> Cursor<'a> {
     /// A reserved word that must stand next, and its place.
     #[tactic(auto, unfolding(crate::specs::Tokens::expected_word))]
     pub fn expect_word(&mut self, word: Word) -> Result<u32, ParseFault>
-        ensures read { Gives (λ at. at) result self.new.tokens.now (expected_word self.old.stop word self.old.tokens.now) }
+        ensures read { Gives (λ at. at) result self.new.tokens.now
+            (expected_word self.old.stop word self.old.tokens.now) }
         ensures stop { self.new.stop ≡ self.old.stop }
     {
         let [first, rest @ ..] = self.tokens else {
@@ -125,7 +127,8 @@ impl<'a> Cursor<'a> {
     /// A name that must stand next.
     #[tactic(auto, unfolding(crate::specs::Tokens::name_at))]
     pub fn name(&mut self) -> Result<Name, ParseFault>
-        ensures read { Gives (λ name. name) result self.new.tokens.now (name_at self.old.stop self.old.tokens.now) }
+        ensures read { Gives (λ name. name) result self.new.tokens.now
+            (name_at self.old.stop self.old.tokens.now) }
         ensures stop { self.new.stop ≡ self.old.stop }
     {
         let [first, rest @ ..] = self.tokens else {
@@ -144,7 +147,8 @@ impl<'a> Cursor<'a> {
     /// A text that must stand next.
     #[tactic(auto, unfolding(crate::specs::Tokens::text_at))]
     pub fn text(&mut self) -> Result<Chars, ParseFault>
-        ensures read { Gives (λ text. text) result self.new.tokens.now (text_at self.old.stop self.old.tokens.now) }
+        ensures read { Gives (λ text. text) result self.new.tokens.now
+            (text_at self.old.stop self.old.tokens.now) }
         ensures stop { self.new.stop ≡ self.old.stop }
     {
         let [first, rest @ ..] = self.tokens else {
@@ -163,7 +167,8 @@ impl<'a> Cursor<'a> {
     /// Takes a symbol, where it stands next.
     #[tactic(auto, unfolding(crate::specs::Tokens::taken))]
     pub fn takes(&mut self, symbol: Symbol) -> bool
-        ensures taken { Takes result self.new.tokens.now self.old.tokens.now (taken symbol self.old.tokens.now) }
+        ensures taken { Takes result self.new.tokens.now self.old.tokens.now
+            (taken symbol self.old.tokens.now) }
         ensures stop { self.new.stop ≡ self.old.stop }
     {
         match self.tokens {
@@ -178,7 +183,8 @@ impl<'a> Cursor<'a> {
     /// Takes a reserved word, where it stands next.
     #[tactic(auto, unfolding(crate::specs::Tokens::taken_word))]
     pub fn takes_word(&mut self, word: Word) -> bool
-        ensures taken { Takes result self.new.tokens.now self.old.tokens.now (taken_word word self.old.tokens.now) }
+        ensures taken { Takes result self.new.tokens.now self.old.tokens.now
+            (taken_word word self.old.tokens.now) }
         ensures stop { self.new.stop ≡ self.old.stop }
     {
         match self.tokens {

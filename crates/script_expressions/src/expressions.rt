@@ -26,7 +26,8 @@ impl<'a> Cursor<'a> {
     #[cycle(expression)]
     #[tactic(auto, unfolding(crate::specs::Expressions::expression, crate::specs::Expressions::expression_over))]
     pub fn expression(&mut self, alloc: Global, depth: u8) -> Result<Expr, ParseFault>
-        ensures read { Gives expr_tree result self.new.tokens.now (expression self.old.stop depth self.old.tokens.now) }
+        ensures read { Gives expr_tree result self.new.tokens.now
+            (expression self.old.stop depth self.old.tokens.now) }
         ensures stop { self.new.stop ≡ self.old.stop }
     {
         let (tree, _) = self.tier(alloc, depth, LOOSEST, OPERATORS)?;
@@ -43,7 +44,8 @@ impl<'a> Cursor<'a> {
         tier: u8,
         room: u8,
     ) -> Result<(Expr, u8), ParseFault>
-        ensures read { Gives (λ x. (expr_tree x.0, x.1)) result self.new.tokens.now (tiers (operand self.old.stop depth) tier room self.old.tokens.now) }
+        ensures read { Gives (λ x. (expr_tree x.0, x.1)) result self.new.tokens.now
+            (tiers (operand self.old.stop depth) tier room self.old.tokens.now) }
         ensures stop { self.new.stop ≡ self.old.stop }
     {
         if tier == 0 {
@@ -71,7 +73,8 @@ impl<'a> Cursor<'a> {
     // Takes an operator of a tier, with its place, where one stands next.
     #[tactic(auto, unfolding(crate::specs::Expressions::operator_at))]
     fn operator(&mut self, tier: u8) -> Option<(BinaryOp, u32)>
-        ensures found { Finds result self.new.tokens.now self.old.tokens.now (operator_at tier self.old.tokens.now) }
+        ensures found { Finds result self.new.tokens.now self.old.tokens.now
+            (operator_at tier self.old.tokens.now) }
         ensures stop { self.new.stop ≡ self.old.stop }
     {
         let [first, rest @ ..] = self.tokens else {
@@ -89,7 +92,8 @@ impl<'a> Cursor<'a> {
     #[cycle(expression)]
     #[tactic(auto, unfolding(crate::specs::Expressions::operand, crate::specs::Expressions::enclosed))]
     fn operand(&mut self, alloc: Global, depth: u8) -> Result<Expr, ParseFault>
-        ensures read { Gives expr_tree result self.new.tokens.now (operand self.old.stop depth self.old.tokens.now) }
+        ensures read { Gives expr_tree result self.new.tokens.now
+            (operand self.old.stop depth self.old.tokens.now) }
         ensures stop { self.new.stop ≡ self.old.stop }
     {
         let [first, rest @ ..] = self.tokens else {
@@ -114,7 +118,8 @@ impl<'a> Cursor<'a> {
     #[cycle(expression)]
     #[tactic(auto, unfolding(crate::specs::Expressions::enclosed, crate::specs::Expressions::enclosed_over, crate::specs::Expressions::expression))]
     pub(crate) fn enclosed(&mut self, alloc: Global, depth: u8) -> Result<Expr, ParseFault>
-        ensures read { Gives expr_tree result self.new.tokens.now (enclosed self.old.stop depth self.old.tokens.now) }
+        ensures read { Gives expr_tree result self.new.tokens.now
+            (enclosed self.old.stop depth self.old.tokens.now) }
         ensures stop { self.new.stop ≡ self.old.stop }
     {
         let tree = self.expression(alloc, depth)?;

@@ -8,3 +8,4 @@ pub mod Tables
 pub mod Right
 pub mod Found
 pub mod Laws
+pub mod Places

@@ -112,8 +112,10 @@ fn more_bytes(symbol: Symbol) -> usize
 // The number that digits after a number make, where it is below 2 ^ 63.
 fn number_of(first: u8, digits: &[u8]) -> Option<i64>
     requires first { first < 10 }
-    requires digits { (i : ℕ) → i < length digits.now → IsTrue (is_digit (slice_index digits.now i)) }
-    ensures { result ≡ (if nat_lt (number_from first digits.now) (2 ^ 63) then Some (pos (number_from first digits.now)) else None) }
+    requires digits { (i : ℕ) → i < length digits.now
+        → IsTrue (is_digit (slice_index digits.now i)) }
+    ensures { result ≡ (if nat_lt (number_from first digits.now) (2 ^ 63)
+        then Some (pos (number_from first digits.now)) else None) }
 {
     let mut value = first as u64;
     for d in digits {
@@ -138,7 +140,8 @@ fn number_at(first: u8, rest: &[u8]) -> Lexeme
 fn name_at(alloc: Global, text: &str, at: usize) -> Result<Lexeme, AllocError>
     requires within { at < length text.now }
     requires letter { IsTrue (is_letter (slice_index text.now at)) }
-    ensures { IfOk result (λ found. found ≡ name_lexeme (slice_index text.now at) (drop (at + 1) text.now)) }
+    ensures { IfOk result (λ found.
+        found ≡ name_lexeme (slice_index text.now at) (drop (at + 1) text.now)) }
 {
     let more = name_len(skip(text.as_bytes(), at + 1));
     if more >= NAME_LIMIT {
@@ -180,7 +183,8 @@ fn is_closed(rest: &[u8]) -> bool
 /// What stands at a place of a text.
 pub(crate) fn lexeme_at(alloc: Global, text: &str, at: usize) -> Result<Lexeme, AllocError>
     requires { at < length text.now }
-    ensures value { IfOk result (λ found. found ≡ lexeme (slice_index text.now at) (drop (at + 1) text.now)) }
+    ensures value { IfOk result (λ found.
+        found ≡ lexeme (slice_index text.now at) (drop (at + 1) text.now)) }
     ensures within { IfOk result (λ found. at + more_of found < length text.now) }
 {
     any_lexeme_at(alloc, text, at)
@@ -189,7 +193,8 @@ pub(crate) fn lexeme_at(alloc: Global, text: &str, at: usize) -> Result<Lexeme, 
 #[tactic(auto, unfolding(crate::specs::Lexemes::lexeme))]
 fn any_lexeme_at(alloc: Global, text: &str, at: usize) -> Result<Lexeme, AllocError>
     requires { at < length text.now }
-    ensures { IfOk result (λ found. found ≡ lexeme (slice_index text.now at) (drop (at + 1) text.now)) }
+    ensures { IfOk result (λ found.
+        found ≡ lexeme (slice_index text.now at) (drop (at + 1) text.now)) }
 {
     let bytes = text.as_bytes();
     let first = bytes[at];

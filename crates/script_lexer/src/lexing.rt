@@ -49,7 +49,8 @@ pub fn tokens_of(alloc: Global, text: &[u8]) -> Result<Lexed, AllocError>
     ensures spelled { IfOk result (λ found. IsLexed text.now found.tokens.items found.stop) }
 
     // No other tokens and no other stop are the text's.
-    ensures only { (tokens : List Spanned) (stop : ParseFault) → IsLexed text.now tokens stop → IfOk result (λ found. (found.tokens.items ≡ tokens) × (found.stop ≡ stop)) }
+    ensures only { (tokens : List Spanned) (stop : ParseFault) → IsLexed text.now tokens stop
+        → IfOk result (λ found. (found.tokens.items ≡ tokens) × (found.stop ≡ stop)) }
 
     // They are these.
     ensures exact { IfOk result (λ found. (found.tokens.items, found.stop) ≡ lexed text.now) }

@@ -158,7 +158,7 @@ module _ (stop : ParseFault) where
     else_takes r _ _ _ (other w ts body after is d) = omega (arith, r.takes ts body after d)
 
     -- a statement takes tokens, and begins with a word or a name
-    stmt_takes : BlocksRead → (ts : List Spanned) (x : StmtTree) (after : List Spanned) → IsStmt depth Block ts x after → (length after < length ts) × (taken symbol.RightBrace ts ≡ None)
+    pub stmt_takes : BlocksRead → (ts : List Spanned) (x : StmtTree) (after : List Spanned) → IsStmt depth Block ts x after → (length after < length ts) × (taken symbol.RightBrace ts ≡ None)
     stmt_takes r _ _ _ (bind w n a e name value ts after is named assign d end) = (omega (arith, source_takes depth ts value (e ∷ after) d), not_taken symbol.RightBrace w (n ∷ a ∷ ts) (ap (is_symbol symbol.RightBrace) is))
     stmt_takes r _ _ _ (rebind n a e name value ts after named assign d end) = (omega (arith, source_takes depth ts value (e ∷ after) d), not_taken symbol.RightBrace n (a ∷ ts) (ap (is_symbol symbol.RightBrace) named.0))
     stmt_takes r _ _ _ (set_field w n a e name value ts after is named assign d end) = (omega (arith, (expression_taking depth ts value (e ∷ after) d).0), not_taken symbol.RightBrace w (n ∷ a ∷ ts) (ap (is_symbol symbol.RightBrace) is))

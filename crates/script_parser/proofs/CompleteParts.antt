@@ -189,6 +189,10 @@ nothing_left : taken_word word.Type [] ≡ None
 unfolding taken_word
 nothing_left = refl
 
+-- the types of a program are read to the end
+pub all_types_read : (stop : ParseFault) (depth : ℕ) (ts : List Spanned) (tree : ProgramTree) → Many TypeTree (IsType depth) ts tree [] → repeated word.Type (type_at stop depth) (length ts) ts ≡ Ok (tree, [])
+all_types_read stop depth ts tree is = many_read stop TypeTree word.Type (IsType depth) (type_at stop depth) (types_read stop depth) (length ts) ts tree [] (omega arith) is nothing_left
+
 over_read : (at : ℕ) (ts : List Spanned) (tree : ProgramTree) → repeated word.Type (type_at (Unexpected at) 32) (length ts) ts ≡ Ok (tree, []) → program_over (Unexpected at) ts ≡ Ok tree
 unfolding program_over
 over_read at ts tree e = rw e refl
@@ -196,7 +200,7 @@ over_read at ts tree e = rw e refl
 pub program_read : (text : List ℕ) (tree : ProgramTree) → IsProgram text tree → program_of text ≡ Ok tree
 program_read text tree p =
     let stop = Unexpected (length text) in
-    let types = many_read stop TypeTree word.Type (IsType 32) (type_at stop 32) (types_read stop 32) (length p.tokens) p.tokens tree [] (omega arith) p.types nothing_left in
+    let types = all_types_read stop 32 p.tokens tree p.types in
     rw (reads_lexed text p.tokens stop p.lexed) (over_read (length text) p.tokens tree types)
 
 -- the same of what a function returned

@@ -3,3 +3,7 @@ pub mod Sound
 pub mod SoundParts
 pub mod Complete
 pub mod CompleteParts
+pub mod Placed
+pub mod LocalStatements
+pub mod LocalPrograms
+pub mod Refusals

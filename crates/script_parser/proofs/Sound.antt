@@ -224,7 +224,7 @@ module _ (stop : ParseFault) where
     from_sound (token.Text s) t k ts x e = absurd cc
     from_sound (token.Symbol s) t k ts x e = absurd cc
 
-    statement_sound : Sound StmtTree (IsStmt depth Block) (statement_over stop depth blocks)
+    pub statement_sound : Sound StmtTree (IsStmt depth Block) (statement_over stop depth blocks)
     unfolding statement_over
     statement_sound [] x e = absurd cc
     statement_sound (t ∷ ts) x e = from_sound t.token t refl ts x e

@@ -176,14 +176,14 @@ module _ (stop : ParseFault) where
       let first : Is ts s.0.0 s.0.1 = subst (λ (l : List Spanned). Is l s.0.0 s.0.1) (sym t.1) (ones t.0 t.2 after s.0 s.1) in
       subst (λ (y : List A × List Spanned). Many A Is ts y.0 y.1) (ok_is (s.0.0 ∷ r.0.0, r.0.1) x r.2) (one_more s.0.0 r.0.0 ts s.0.1 r.0.1 first (rests s.0.1 r.0 r.1))
 
-  repeated_sound : (A : Type 0) (w : Word) (Is : List Spanned → A → List Spanned → Type 0) (one : Read A) → Behind A w Is one → (n : ℕ) (ts : List Spanned) (x : List A × List Spanned) → repeated w one n ts ≡ Ok x → Many A Is ts x.0 x.1
+  pub repeated_sound : (A : Type 0) (w : Word) (Is : List Spanned → A → List Spanned → Type 0) (one : Read A) → Behind A w Is one → (n : ℕ) (ts : List Spanned) (x : List A × List Spanned) → repeated w one n ts ≡ Ok x → Many A Is ts x.0 x.1
   unfolding repeated
   repeated_sound A w Is one ones zero ts x e = subst (λ (y : List A × List Spanned). Many A Is ts y.0 y.1) (ok_is ([], ts) x e) (none ts)
   repeated_sound A w Is one ones (suc n) ts x e = more_sound A w Is one ones (repeated w one n) (λ us y f. repeated_sound A w Is one ones n us y f) ts x (taken_word w ts) refl e
 
   -- ---- types
 
-  type_sound : (depth : ℕ) → Behind TypeTree word.Type (IsType depth) (type_at stop depth)
+  pub type_sound : (depth : ℕ) → Behind TypeTree word.Type (IsType depth) (type_at stop depth)
   unfolding type_at
   type_sound zero w is ts x e =
       let s1 = bind_ok (name_at stop ts) _ x e in

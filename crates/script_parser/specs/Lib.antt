@@ -3,3 +3,4 @@ pub mod Methods
 pub mod Types
 pub mod Programs
 pub mod Grammar
+pub mod Refusals

@@ -96,7 +96,8 @@ fn option(cursor: &mut Cursor<'_>) -> Result<(TxnOption, u32), ParseFault>
 // A kind's word.
 #[tactic(auto, unfolding(crate::specs::Methods::kind_at))]
 fn kind(cursor: &mut Cursor<'_>) -> Result<MethodKind, ParseFault>
-    ensures read { Gives (λ x. x) result cursor.new.tokens.now (kind_at cursor.old.stop cursor.old.tokens.now) }
+    ensures read { Gives (λ x. x) result cursor.new.tokens.now
+        (kind_at cursor.old.stop cursor.old.tokens.now) }
     ensures stop { cursor.new.stop ≡ cursor.old.stop }
 {
     let [first, rest @ ..] = cursor.tokens else {

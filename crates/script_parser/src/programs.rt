@@ -1,9 +1,11 @@
-ghost use Rattle.std.specs.Prelude.{◌≤◌, Result, Ok, IfOk, length};
+ghost use Rattle.std.specs.Prelude.{◌≤◌, Result, Ok, IfOk, IfErr, length};
 ghost use Rattle.script_tree.specs.Programs.{ProgramTree, program_tree};
+ghost use Rattle.script_tree.specs.Names.{names_in_program, AreInOrder};
 ghost use Rattle.script_lexer.specs.declared.faults.ParseFault.{ParseFault};
 ghost use Rattle.script_expressions.specs.Reading.{Makes};
 ghost use Rattle.script_parser.specs.Programs.{finished, program_over, program_of};
 ghost use Rattle.script_parser.specs.Grammar.{IsProgram};
+ghost use Rattle.script_parser.specs.Refusals.{IsRefusal};
 
 use crate::types::types;
 use script_expressions::Cursor;
@@ -28,6 +30,12 @@ pub fn parse(alloc: Global, text: &[u8]) -> Result<Program, ParseFault>
     // A text of the grammar is accepted, with no other tree.
     ensures only { (tree : ProgramTree) → IsProgram text.now tree → Makes program_tree result
         (let made : Result ProgramTree ParseFault = Ok tree in made) }
+
+    // The names of the tree stand at rising places, in the order of the text.
+    ensures placed { IfOk result (λ program. AreInOrder (names_in_program (program_tree program))) }
+
+    // A program begins with the tokens before the one that a refusal names, and none with those up to it and with it.
+    ensures refused { IfErr result (λ fault. IsRefusal text.now fault) }
 
     // Which tree and which fault.
     ensures exact { Makes program_tree result (program_of text.now) }

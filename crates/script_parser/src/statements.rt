@@ -218,7 +218,8 @@ fn read_statements(
     depth: u8,
 ) -> Result<Items<Stmt>, ParseFault>
     ensures read { Gives (λ body. stmt_trees body.list.items) result cursor.new.tokens.now
-        (statements cursor.old.stop (statement_over cursor.old.stop depth (block cursor.old.stop depth)) (length cursor.old.tokens.now) cursor.old.tokens.now) }
+        (statements cursor.old.stop (statement_over cursor.old.stop depth (block cursor.old.stop depth))
+        (length cursor.old.tokens.now) cursor.old.tokens.now) }
     ensures stop { cursor.new.stop ≡ cursor.old.stop }
 {
     let mut found = Items::new(alloc);

@@ -20,7 +20,8 @@ fn find_type<'a>(types: &'a [TypeDecl], name: &Chars) -> Option<&'a TypeDecl>
 /// The type of this name, the first where there are two.
 #[tactic(auto, using(crate::proofs::Lists::find_map))]
 fn type_named<'a>(types: &'a [TypeDecl], name: &Chars) -> Option<&'a TypeDecl>
-    ensures { option_map type_tree (option_copied result) ≡ type_named (map type_tree types.now) name.now }
+    ensures { option_map type_tree (option_copied result)
+        ≡ type_named (map type_tree types.now) name.now }
 {
     find_type(types, name)
 }
@@ -34,7 +35,8 @@ fn find_method<'a>(methods: &'a [Method], name: &Chars) -> Option<&'a Method>
 /// The method of this name, the first where there are two.
 #[tactic(auto, using(crate::proofs::Lists::find_map))]
 fn method_named<'a>(methods: &'a [Method], name: &Chars) -> Option<&'a Method>
-    ensures { option_map method_tree (option_copied result) ≡ method_named (map method_tree methods.now) name.now }
+    ensures { option_map method_tree (option_copied result)
+        ≡ method_named (map method_tree methods.now) name.now }
 {
     find_method(methods, name)
 }
@@ -42,7 +44,8 @@ fn method_named<'a>(methods: &'a [Method], name: &Chars) -> Option<&'a Method>
 /// Each name of an expression stands for a value.
 #[tactic(auto, unfolding(crate::specs::Expressions::expression_fault))]
 pub fn check_expression(setting: &Setting, names: &[&Chars], value: &Expr) -> Result<(), CheckFault>
-    ensures { Answers result (expression_fault (setting_of setting.now) (map (λ n. n.now) names.now) (expr_tree value.now)) }
+    ensures { Answers result (expression_fault (setting_of setting.now) (map (λ n. n.now) names.now)
+        (expr_tree value.now)) }
 {
     match value {
         Expr::Literal(_) | Expr::Key => Ok(()),
@@ -57,7 +60,8 @@ pub fn check_expression(setting: &Setting, names: &[&Chars], value: &Expr) -> Re
 
 /// Each name of a call's arguments stands for a value.
 fn check_arguments(setting: &Setting, names: &[&Chars], args: &[Expr]) -> Result<(), CheckFault>
-    ensures { Answers result (arguments_fault (setting_of setting.now) (map (λ n. n.now) names.now) (map expr_tree args.now)) }
+    ensures { Answers result (arguments_fault (setting_of setting.now) (map (λ n. n.now) names.now)
+        (map expr_tree args.now)) }
 {
     for arg in args {
         check_expression(setting, names, arg)?;
@@ -68,7 +72,8 @@ fn check_arguments(setting: &Setting, names: &[&Chars], args: &[Expr]) -> Result
 /// The method of a call is there, and has as many parameters as the call has arguments.
 #[tactic(auto, using(crate::proofs::Lists::map_length))]
 fn check_arity(target: &TypeDecl, call: &CallExpr) -> Result<(), CheckFault>
-    ensures { Answers result (arity_fault (call_tree call.now) (method_named (type_tree target.now).methods call.now.method.text)) }
+    ensures { Answers result (arity_fault (call_tree call.now)
+        (method_named (type_tree target.now).methods call.now.method.text)) }
 {
     let Some(method) = method_named(target.methods.as_slice(), &call.method.text) else {
         return Err(CheckFault::UnknownName { at: call.method.at });
@@ -82,7 +87,8 @@ fn check_arity(target: &TypeDecl, call: &CallExpr) -> Result<(), CheckFault>
 /// A call names a type and a method of it, with a place and arguments that are right.
 #[tactic(auto, unfolding(crate::specs::Expressions::call_fault))]
 pub fn check_call(setting: &Setting, names: &[&Chars], call: &CallExpr) -> Result<(), CheckFault>
-    ensures { Answers result (call_fault (setting_of setting.now) (map (λ n. n.now) names.now) (call_tree call.now)) }
+    ensures { Answers result (call_fault (setting_of setting.now) (map (λ n. n.now) names.now)
+        (call_tree call.now)) }
 {
     let Some(target) = type_named(setting.types, &call.target.text) else {
         return Err(CheckFault::UnknownName { at: call.target.at });

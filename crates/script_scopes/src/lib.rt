@@ -10,5 +10,5 @@ mod names;
 mod statements;
 
 pub use faults::CheckFault;
-pub use names::{Setting, check_free, check_room};
+pub use names::{Setting, check_free, check_room, is_same};
 pub use statements::check_block;

@@ -17,6 +17,7 @@ pub struct Setting<'a> {
     pub kind: MethodKind,
 }
 
+/// Whether two names are the same.
 pub fn is_same(a: &Chars, b: &Chars) -> bool
     ensures { result ≡ bytes_eq a.now b.now }
 {
@@ -60,7 +61,8 @@ pub fn check_room(limit: usize, before: &[&Chars], name: &Name) -> Result<(), Ch
 
 /// A local's name is no field's, and no local's or parameter's in scope.
 pub fn check_local(setting: &Setting, names: &[&Chars], name: &Name) -> Result<(), CheckFault>
-    ensures { Answers result (local_fault (setting_of setting.now) (map (λ n. n.now) names.now) name.now) }
+    ensures { Answers result (local_fault (setting_of setting.now) (map (λ n. n.now) names.now)
+        name.now) }
 {
     check_free(setting.fields, name)?;
     check_free(names, name)
@@ -89,7 +91,8 @@ fn check_writing(kind: MethodKind, at: u32) -> Result<(), CheckFault>
 
 /// A name in an expression is a local, a parameter, or a field that may be read.
 pub fn check_variable(setting: &Setting, names: &[&Chars], name: &Name) -> Result<(), CheckFault>
-    ensures { Answers result (variable_fault (setting_of setting.now) (map (λ n. n.now) names.now) name.now) }
+    ensures { Answers result (variable_fault (setting_of setting.now) (map (λ n. n.now) names.now)
+        name.now) }
 {
     if is_in(names, &name.text) {
         return Ok(());

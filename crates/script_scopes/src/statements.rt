@@ -12,7 +12,8 @@ use script_tree::{Chars, Source, Stmt};
 /// What a local is given is right.
 #[tactic(auto, unfolding(crate::specs::Statements::source_fault))]
 fn check_source(setting: &Setting, names: &[&Chars], value: &Source) -> Result<(), CheckFault>
-    ensures { Answers result (source_fault (setting_of setting.now) (map (λ n. n.now) names.now) (source_tree value.now)) }
+    ensures { Answers result (source_fault (setting_of setting.now) (map (λ n. n.now) names.now)
+        (source_tree value.now)) }
 {
     match value {
         Source::Expr(value) => check_expression(setting, names, value),
@@ -28,7 +29,10 @@ fn check_statement<'a>(
     names: &mut Vec<&'a Chars>,
     statement: &'a Stmt,
 ) -> Result<(), CheckFault>
-    ensures { Leaves result (statement_fault (setting_of setting.now) (map (λ n. n.now) names.old.items) (stmt_tree statement.now)) (map (λ n. n.now) names.new.items) (scope_after (map (λ n. n.now) names.old.items) (stmt_tree statement.now)) }
+    ensures { Leaves result (statement_fault (setting_of setting.now)
+        (map (λ n. n.now) names.old.items) (stmt_tree statement.now))
+        (map (λ n. n.now) names.new.items)
+        (scope_after (map (λ n. n.now) names.old.items) (stmt_tree statement.now)) }
 {
     match statement {
         Stmt::Let { name, value } => {
@@ -86,7 +90,9 @@ pub fn check_block<'a>(
     names: &mut Vec<&'a Chars>,
     body: &'a [Stmt],
 ) -> Result<(), CheckFault>
-    ensures { Leaves result (block_fault (setting_of setting.now) (map (λ n. n.now) names.old.items) (block_tree (stmt_trees body.now))) (map (λ n. n.now) names.new.items) (map (λ n. n.now) names.old.items) }
+    ensures { Leaves result (block_fault (setting_of setting.now) (map (λ n. n.now) names.old.items)
+        (block_tree (stmt_trees body.now))) (map (λ n. n.now) names.new.items)
+        (map (λ n. n.now) names.old.items) }
 {
     let outer = names.len();
     for statement in body {

@@ -1,20 +1,52 @@
 use crate::answers::{Answer, answer_to, expect, expect_at};
 use std::test::Fail;
 
+// The refused examples of the language's reference.
 #[test]
-fn the_place_is_a_byte_of_the_text(rt: HostRuntime) {
+fn each_refusal_of_the_reference_is_given(rt: HostRuntime) {
     expect_at(
         &rt,
         rt.alloc(),
         &[
-            ("type a {", Answer::Unexpected, 8),
+            ("type A { }", Answer::BadToken, 5),
             ("type A", Answer::BadToken, 5),
             ("type a { field x = 01; }", Answer::Unexpected, 20),
-            ("type a { } type a { }", Answer::TwiceNamed, 16),
+            ("type a {", Answer::Unexpected, 8),
             (
                 "type a { method m() create plain { return x; } }",
                 Answer::UnknownName,
                 42,
+            ),
+            ("type a { } type a { }", Answer::TwiceNamed, 16),
+            (
+                "type a { field f = 0; method m(f) create read { } }",
+                Answer::TwiceNamed,
+                31,
+            ),
+            (
+                "type a { method m() create plain { call a/0.m(1); } }",
+                Answer::Arity,
+                44,
+            ),
+            (
+                "type a { field f = 0; method m() create plain { return f; } }",
+                Answer::FieldInPlain,
+                55,
+            ),
+            (
+                "type a { field f = 0; method m() create read { set f = 1; } }",
+                Answer::SetInRead,
+                51,
+            ),
+            (
+                "type a { method m(a, b, c, d, e, f, g, h, i) create plain { } }",
+                Answer::TooMany,
+                42,
+            ),
+            (
+                "type a { method m() suppress read { } }",
+                Answer::NeedsTransaction,
+                16,
             ),
         ],
     );

@@ -1,4 +1,5 @@
 pub mod Exprs
 pub mod Stmts
 pub mod Programs
+pub mod Names
 pub mod Options

@@ -94,7 +94,8 @@ impl Expr {
 
     /// An operator between its operands.
     pub fn joined(alloc: Global, op: BinaryOp, left: Expr, right: Expr) -> Result<Expr, AllocError>
-        ensures { IfOk result (λ made. expr_tree made ≡ Joined op (expr_tree left) (expr_tree right)) }
+        ensures { IfOk result (λ made. expr_tree made
+            ≡ Joined op (expr_tree left) (expr_tree right)) }
     {
         let left = Box::new(alloc, left)?;
         let right = Box::new(alloc, right)?;
@@ -114,7 +115,12 @@ pub struct CallExpr {
 impl CallExpr {
     /// A call of a method.
     pub fn new(target: Name, place: Expr, method: Name, args: Items<Expr>) -> CallExpr
-        ensures { call_tree result ≡ record { target = target; place = expr_tree place; method = method; args = map expr_tree args.list.items } }
+        ensures { call_tree result ≡ record {
+          target = target;
+          place = expr_tree place;
+          method = method;
+          args = map expr_tree args.list.items;
+        } }
     {
         CallExpr {
             target,

@@ -49,7 +49,8 @@ impl<T> Items<T> {
 
     /// Appends one item. Without memory the list stays as it was and the item is handed back.
     pub fn push(&mut self, item: T) -> Result<(), AllocFailed<T>>
-        ensures { self.new.list.items ≡ (if is_ok result then self.old.list.items ++ item ∷ [] else self.old.list.items) }
+        ensures { self.new.list.items ≡
+            (if is_ok result then self.old.list.items ++ item ∷ [] else self.old.list.items) }
     {
         self.list.push(item)
     }

@@ -33,7 +33,11 @@ pub struct TypeDecl {
 impl TypeDecl {
     /// A type.
     pub fn new(name: Name, fields: Items<FieldDecl>, methods: Items<Method>) -> TypeDecl
-        ensures { type_tree result ≡ record { name = name; fields = fields.list.items; methods = map method_tree methods.list.items } }
+        ensures { type_tree result ≡ record {
+          name = name;
+          fields = fields.list.items;
+          methods = map method_tree methods.list.items;
+        } }
     {
         TypeDecl {
             name,
@@ -71,7 +75,14 @@ impl Method {
         kind: MethodKind,
         body: Items<Stmt>,
     ) -> Method
-        ensures { method_tree result ≡ record { name = name; params = params.list.items; option = option; option_at = option_at; kind = kind; body = block_tree (stmt_trees body.list.items) } }
+        ensures { method_tree result ≡ record {
+          name = name;
+          params = params.list.items;
+          option = option;
+          option_at = option_at;
+          kind = kind;
+          body = block_tree (stmt_trees body.list.items);
+        } }
     {
         Method {
             name,

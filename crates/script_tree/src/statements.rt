@@ -102,14 +102,16 @@ impl Stmt {
 
     /// Chooses a block, the second of which may be left out.
     pub fn choose(test: Expr, then: Items<Stmt>, other: Option<Items<Stmt>>) -> Stmt
-        ensures { stmt_tree result ≡ Choose (expr_tree test) (block_tree (stmt_trees then.list.items)) (else_tree other) }
+        ensures { stmt_tree result ≡ Choose (expr_tree test)
+            (block_tree (stmt_trees then.list.items)) (else_tree other) }
     {
         Stmt::If { test, then, other }
     }
 
     /// Repeats a block.
     pub fn repeat(test: Expr, body: Items<Stmt>) -> Stmt
-        ensures { stmt_tree result ≡ Repeat (expr_tree test) (block_tree (stmt_trees body.list.items)) }
+        ensures { stmt_tree result ≡ Repeat (expr_tree test)
+            (block_tree (stmt_trees body.list.items)) }
     {
         Stmt::While { test, body }
     }
@@ -136,7 +138,8 @@ impl Stmt {
         then: Items<Stmt>,
         other: Items<Stmt>,
     ) -> Stmt
-        ensures { stmt_tree result ≡ Try at name (call_tree call) (block_tree (stmt_trees then.list.items)) (block_tree (stmt_trees other.list.items)) }
+        ensures { stmt_tree result ≡ Try at name (call_tree call)
+            (block_tree (stmt_trees then.list.items)) (block_tree (stmt_trees other.list.items)) }
     {
         Stmt::Attempt {
             at,

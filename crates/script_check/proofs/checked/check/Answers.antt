@@ -6,6 +6,7 @@ use Rattle.script_check.specs.Programs.{program_fault}
 use Rattle.script_scopes.proofs.Founds.{fails_is}
 use Rattle.script_check.proofs.Whole.{program_iff, refuses}
 use Rattle.script_check.proofs.Firsts.{names_first}
+use Rattle.script_check.proofs.Mentioned.{names_least}
 use Rattle.script_check.proofs.checked.check.Goals as goal
 
 pub returns-in_err-check_types-clause-refused : goal.returns-in_err-check_types-clause-refused
@@ -22,3 +23,9 @@ returns-in_err-check_types-clause-first c =
     let p = err_from_is_err_and c.from_residual.result c.from_residual.ensures.1 in
     let e = c.in_err-check_types.field-0.0 in
     rw (p.1, p.2) (names_first e (program_tree c.args.program) (fails_is e _ _ (ap (λ (l : List TypeDecl). program_fault (map type_tree l)) c.as_slice.ensures) c.in_err-check_types.ensures))
+
+pub returns-in_err-check_types-clause-least : goal.returns-in_err-check_types-clause-least
+returns-in_err-check_types-clause-least c =
+    let p = err_from_is_err_and c.from_residual.result c.from_residual.ensures.1 in
+    let e = c.in_err-check_types.field-0.0 in
+    rw (p.1, p.2) (names_least e (program_tree c.args.program) (fails_is e _ _ (ap (λ (l : List TypeDecl). program_fault (map type_tree l)) c.as_slice.ensures) c.in_err-check_types.ensures))
