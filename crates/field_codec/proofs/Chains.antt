@@ -1,13 +1,13 @@
 -- Things of a kind, one behind the other.
-use Rattle.std.proofs.Common.{◌≡◌, ℕ, zero, suc, ◌+◌, ◌<◌, ◌≤◌, List, [], ◌∷◌, ◌++◌, length, Result, Ok, Err, refl, ap, subst, arith, inl, inr}
+use Rattle.std.proofs.Common.{◌≡◌, ℕ, zero, suc, ◌+◌, ◌≤◌, List, [], ◌∷◌, ◌++◌, length, Result, Ok, Err, refl, ap, subst, arith, inl, inr}
 use Rattle.std.specs.List.{flat_map, AllByRecursion}
 use Rattle.field_codec.specs.declared.faults.CodecFault.{CodecFault}
 use Rattle.field_codec.specs.Spelling.{Stands}
-use Rattle.field_codec.specs.Reading.{and_then, Reader, chain, times}
+use Rattle.field_codec.specs.Reading.{AreBytes, and_then, Reader, chain, times}
 use Rattle.field_codec.specs.Results.{place_of}
 use Rattle.field_codec.specs.Chained.{Chained}
 use Rattle.field_codec.proofs.Standing.{stands_both, stands_first, stands_second, stands_empty, stands_end}
-use Rattle.field_codec.proofs.Readers.{AreBytes, Reads, Any, said, then_ok, then_err, is_read, ok_is}
+use Rattle.field_codec.proofs.Readers.{Reads, Any, said, then_ok, then_err, is_read, ok_is}
 
 module _ {S A : Type 0} (spell : A → List ℕ) (Fits : S → A → Type 0) (read : S → Reader A) (next : S → A → S) (reads : (s : S) (low : ℕ) → Reads low Any spell (Fits s) (read s)) where
   abbrev rest_of : S → A → ℕ → List ℕ → ℕ → Result (List A × ℕ) CodecFault

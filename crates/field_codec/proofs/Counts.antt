@@ -1,5 +1,5 @@
 -- The laws of numbers, counts, texts and lists.
-use Rattle.std.proofs.Common.{◌≡◌, ℕ, ◌+◌, ◌<◌, ◌≤◌, ◌^◌, ◌%◌, Bool, true, false, cond, ltb, List, [], ◌∷◌, ◌++◌, length, get_or, take, drop, Result, Ok, Err, refl, sym, ap, subst, ◌∙◌, arith, inl, inr}
+use Rattle.std.proofs.Common.{◌≡◌, ℕ, ◌+◌, ◌<◌, ◌≤◌, ◌^◌, ◌%◌, Bool, true, false, cond, ltb, List, [], ◌∷◌, ◌++◌, length, take, drop, Ok, Err, refl, sym, ap, subst, ◌∙◌, arith, inl, inr}
 use Rattle.std.specs.Int.{Width, w8, w16, w32, w64, byte_len, from_le_bytes, to_le_bytes}
 use Rattle.std.specs.List.{flat_map, AllByRecursion}
 use Rattle.std.specs.Str.{IsUtf8, is_utf8}
@@ -10,10 +10,10 @@ use Rattle.std.proofs.lemmas.List.{length-take, length-drop, get_or-drop, get_or
 use Rattle.field_codec.specs.declared.faults.CodecFault.{CodecFault}
 use Rattle.field_codec.specs.declared.faults.CodecFault.TheVariants.{Short, NotUtf8, Over}
 use Rattle.field_codec.specs.Spelling.{Stands, spelling_of_text, TextFits}
-use Rattle.field_codec.specs.Reading.{Reader, whole, refused, field, choice, number_at, count_at, letters, text_at, times, list_at}
+use Rattle.field_codec.specs.Reading.{AreBytes, Reader, whole, refused, field, choice, number_at, count_at, letters, text_at, times, list_at}
 use Rattle.field_codec.specs.Results.{place_of}
 use Rattle.field_codec.proofs.Standing.{stands_end, stands_within}
-use Rattle.field_codec.proofs.Readers.{AreBytes, Reads, Any, then, done, choose, never, said}
+use Rattle.field_codec.proofs.Readers.{Reads, Any, then, done, choose, never, said, past, chosen}
 use Rattle.field_codec.proofs.Chains.{times_reads}
 
 -- ---- numbers
@@ -68,17 +68,12 @@ wide64 = record {
 }
 
 -- a cut of bytes is bytes
-AreBytes-cut : (n m : ℕ) (bytes : List ℕ) → AreBytes bytes → AreBytes (take n (drop m bytes))
+pub AreBytes-cut : (n m : ℕ) (bytes : List ℕ) → AreBytes bytes → AreBytes (take n (drop m bytes))
 AreBytes-cut n m bytes are i =
     elim (cases_lt i n) [
       | inl lt ↦ rw (get_or-take n (drop m bytes) i 0 lt, get_or-drop) (are (m + i))
       | inr le ↦ rw (get_or_past (take n (drop m bytes)) i 0 (omega (arith, length-take n (drop m bytes)))) (omega arith)
     ]
-
--- a test that passed
-past : {A : Type 0} (b : Bool) (d : CodecFault) (r : Result A CodecFault) (y : A) → cond b (Err d) r ≡ Ok y → (b ≡ false) × (r ≡ Ok y)
-past true d r y e = absurd cc
-past false d r y e = (refl, e)
 
 -- a test that failed, or what is behind it
 stopped : {A : Type 0} (b : Bool) (d : CodecFault) (x : A) (e : CodecFault) → cond b (Err d) (Ok x) ≡ Err e → d ≡ e
@@ -138,6 +133,21 @@ count_reads w limit most wide lt low =
     (λ within. said from (P n) (P n) (λ c. []) (λ c. []) (λ c. Unit {0}) (λ c. c ≤ most) (whole n) (λ c p. p) (λ c p. p) (λ c p. refl) (λ c p fits. subst (λ (k : ℕ). k ≤ most) (sym p.1) (ltb-false _ _ within)) (λ c p fits. tt)
     (done from (P n) n (tt, refl) (λ d known. known.1))))
 
+-- a number that passes a test, else a fault that names it
+pub tested_reads : (w : Width) (limit : ℕ) → IsWide w limit → (test : ℕ → Bool) (fault : ℕ → CodecFault) → ((from : ℕ) → place_of (fault from) ≤ from) → (low : ℕ)
+    → Reads low Any (to_le_bytes w) (λ n. (n < limit) × (test n ≡ true)) (field (number_at w) λ n place. choice (test n) (whole n) (refused (fault place)))
+tested_reads w limit wide test fault placed low =
+    let P : ℕ → ℕ → Type 0 = λ n c. Any c × (c ≡ n) in
+    let Passes : ℕ → Type 0 = λ c. test c ≡ true in
+    let Fits : ℕ → Type 0 = λ c. (c < limit) × Passes c in
+    let spell : ℕ → List ℕ = λ c. to_le_bytes w c ++ [] in
+    said low Any Any spell (to_le_bytes w) Fits Fits _ (λ c p. tt) (λ c p. tt) (λ c p. simp append-nil) (λ c p fits. fits) (λ c p fits. fits)
+    (then (λ (c : ℕ). c) (to_le_bytes w) (λ n. n < limit) (number_at w) low Any (λ c. []) Passes (λ n place. choice (test n) (whole n) (refused (fault place))) (number_reads w limit wide low) λ n from.
+    choose from (P n) (λ c. []) Passes (test n) (whole n) (refused (fault from))
+    (λ passes. said from (P n) (P n) (λ c. []) (λ c. []) (λ c. Unit {0}) Passes (whole n) (λ c p. p) (λ c p. p) (λ c p. refl) (λ c p fits. ap test p.1 ∙ passes) (λ c p fits. tt)
+    (done from (P n) n (tt, refl) (λ d known. known.1)))
+    (λ fails. never from (P n) (λ c. []) Passes (fault from) (placed from) (λ c known is. let clash : true ≡ false = sym is ∙ ap test known.1 ∙ fails in cc)))
+
 -- a count of at most so much, and so many of a kind
 pub list_reads : {A : Type 0} (spell : A → List ℕ) (Fits : A → Type 0) (read : Reader A) → ((low : ℕ) → Reads low Any spell Fits read) → (w : Width) (limit most : ℕ) → IsWide w limit → most < limit
     → (low : ℕ) → Reads low Any (λ cs. to_le_bytes w (length cs) ++ flat_map spell cs) (λ cs. (length cs ≤ most) × AllByRecursion Fits cs) (list_at w most read)
@@ -146,10 +156,6 @@ list_reads {A} spell Fits read reads w limit most wide lt low =
     then (λ (cs : List A). length cs) (to_le_bytes w) (λ n. n ≤ most) (count_at w most) low Any (flat_map spell) (AllByRecursion Fits) (λ n place. times read n) (count_reads w limit most wide lt low) (λ n from. times_reads spell Fits read reads from n)
 
 -- ---- texts
-
-chosen : {A : Type 0} (b : Bool) (x : A) (d : CodecFault) (y : A) → cond b (Ok x) (Err d) ≡ Ok y → (b ≡ true) × (x ≡ y)
-chosen true x d y e = (refl, cc)
-chosen false x d y e = absurd cc
 
 either_stopped : {A : Type 0} (b also : Bool) (c d : CodecFault) (x : A) (e : CodecFault) (n : ℕ) → place_of c ≤ n → place_of d ≤ n → cond b (Err c) (cond also (Ok x) (Err d)) ≡ Err e → place_of e ≤ n
 either_stopped true also c d x e n one two h = let is : c ≡ e = cc in subst (λ (f : CodecFault). place_of f ≤ n) is one

@@ -5,3 +5,6 @@ pub mod Chains
 pub mod Counts
 pub mod Things
 pub mod Looping
+pub mod Wholes
+pub mod Lengths
+pub mod Apart

@@ -1,15 +1,12 @@
 -- What a reader of a field keeps, and how such readers are joined.
-use Rattle.std.proofs.Common.{◌≡◌, ℕ, ◌+◌, ◌<◌, ◌≤◌, ◌⊎◌, inl, inr, Bool, true, false, Option, Some, None, List, [], ◌∷◌, ◌++◌, length, get_or, take, drop, Result, Ok, Err, refl, sym, ap, subst, ◌∙◌, arith}
+use Rattle.std.proofs.Common.{◌≡◌, ℕ, ◌+◌, ◌≤◌, ◌⊎◌, inl, inr, Bool, true, false, cond, Option, Some, None, List, [], ◌++◌, length, drop, Result, Ok, Err, refl, sym, ap, subst, ◌∙◌, arith}
 use Rattle.std.proofs.lemmas.List.{take_at, drop_at}
 use Rattle.field_codec.specs.declared.faults.CodecFault.{CodecFault}
 use Rattle.field_codec.specs.Spelling.{Stands}
-use Rattle.field_codec.specs.Reading.{and_then, Reader, whole, refused, field, choice, known}
+use Rattle.field_codec.specs.Reading.{AreBytes, and_then, Reader, whole, refused, field, choice, known}
 use Rattle.field_codec.specs.Results.{place_of, Gives, Found, Only}
 use Rattle.field_codec.specs.Apart.{AreApart}
 use Rattle.field_codec.proofs.Standing.{stands_both, stands_first, stands_second, stands_empty, stands_end}
-
-abbrev pub AreBytes : List ℕ → Type 0
-AreBytes bytes = (i : ℕ) → get_or bytes i 0 < 256
 
 -- Where P is known of the value, and a field stood at `low`: what is read stands there, what stands there is read, and a fault
 -- is named within the bytes.
@@ -38,6 +35,16 @@ then_err (Err c) f d e = inl (let is : c ≡ d = cc in ap (λ (x : CodecFault). 
 
 pub ok_is : {A : Type 0} (a b : A) (n m : ℕ) → is_read {A = A × ℕ} (a, n) ≡ Ok (b, m) → (a ≡ b) × (n ≡ m)
 ok_is {A} a b n m e = let both : (let p : A × ℕ = (a, n) in p) ≡ (b, m) = cc in (ap (λ (p : A × ℕ). p.0) both, ap (λ (p : A × ℕ). p.1) both)
+
+-- a test that passed
+pub past : {A D : Type 0} (b : Bool) (d : D) (r : Result A D) (y : A) → cond b (Err d) r ≡ Ok y → (b ≡ false) × (r ≡ Ok y)
+past true d r y e = absurd cc
+past false d r y e = (refl, e)
+
+-- a choice that gave a value
+pub chosen : {A : Type 0} (b : Bool) (x : A) (d : CodecFault) (y : A) → cond b (Ok x) (Err d) ≡ Ok y → (b ≡ true) × (x ≡ y)
+chosen true x d y e = (refl, cc)
+chosen false x d y e = absurd cc
 
 -- ---- joining
 

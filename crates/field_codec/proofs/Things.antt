@@ -1,6 +1,6 @@
 -- The laws of values, states, calls, versions, origins and outcomes.
-use Rattle.std.proofs.Common.{FitsSigned, ◌≡◌, ℤ, ℕ, ◌+◌, ◌<◌, ◌≤◌, ◌^◌, Bool, true, false, eqb, List, [], ◌∷◌, ◌++◌, length, refl, sym, ap, subst, ◌∙◌, append-nil, arith, eqb-true}
-use Rattle.std.specs.Int.{Width, w8, w16, w32, w64, to_le_bytes, cast_signed, cast_unsigned}
+use Rattle.std.proofs.Common.{◌≡◌, ℕ, ◌<◌, ◌≤◌, ◌^◌, true, eqb, List, [], ◌++◌, length, refl, sym, ap, ◌∙◌, append-nil, arith, eqb-true}
+use Rattle.std.specs.Int.{w8, w16, w32, w64, to_le_bytes, cast_signed, cast_unsigned}
 use Rattle.std.specs.List.{flat_map, AllByRecursion}
 use Rattle.std.proofs.Math.Facts.{sfits_to_z, Fits-of_lt, Fits-of_z, Fits-lt-pow}
 use Rattle.std.proofs.lemmas.Bool.{eqb-false}
@@ -12,12 +12,16 @@ use Rattle.base_types.specs.declared.calls.Origin.{Origin}
 use Rattle.base_types.specs.declared.calls.Origin.TheVariants.{Line, Child}
 use Rattle.base_types.specs.declared.calls.Outcome as outcome
 use Rattle.base_types.specs.declared.stores.Version.{Version}
-use Rattle.field_codec.specs.declared.faults.CodecFault.TheVariants.{BadTag}
+use Rattle.field_codec.specs.declared.faults.CodecFault.TheVariants.{BadTag, Unknown}
+use Rattle.field_codec.specs.declared.units.Numbers.{Numbers}
+use Rattle.field_codec.specs.declared.units.Numbers.TheVariants.{Free}
+use Rattle.field_codec.specs.Units.{may_be_unit, may_be_parent, HasParent}
 use Rattle.field_codec.specs.Spelling.{spelling_of_text, TextFits, spelling_of_value, ValueFits, spelling_of_values, ValuesFit, spelling_of_call, CallFits, spelling_of_version, VersionFits, spelling_of_origin, OriginFits, spelling_of_outcome, AnswerFits, ResultFits}
-use Rattle.field_codec.specs.Reading.{Reader, whole, refused, field, choice, number_at, text_at, list_at}
-use Rattle.field_codec.specs.Fields.{value_at, values_at, call_at, version_at, origin_at, ended, answer_at, result_at}
+use Rattle.field_codec.specs.Reading.{whole, refused, field, choice, number_at, count_at, text_at, times}
+use Rattle.field_codec.specs.Fields.{value_at, values_at, exactly_at, call_at, version_at, unit_at, parent_at, origin_at, ended, answer_at, result_at}
 use Rattle.field_codec.proofs.Readers.{Reads, Any, then, done, choose, never, put_in, said}
-use Rattle.field_codec.proofs.Counts.{wide16, byte_reads, reads16, reads32, reads64, list_reads, text_reads}
+use Rattle.field_codec.proofs.Counts.{wide16, wide64, byte_reads, reads16, reads32, reads64, tested_reads, count_reads, list_reads, text_reads}
+use Rattle.field_codec.proofs.Chains.{times_reads}
 
 -- ---- values
 
@@ -74,6 +78,21 @@ value_reads low =
 pub values_read : (most : ℕ) → most < 2 ^ 16 → (low : ℕ) → Reads low Any spelling_of_values (ValuesFit most) (values_at most)
 values_read most lt low = list_reads spelling_of_value ValueFits value_at value_reads w16 (2 ^ 16) most wide16 lt low
 
+abbrev pub ValuesFitExactly : ℕ → ℕ → List Value → Type 0
+ValuesFitExactly limit many vs = (length vs ≤ limit) × (AllByRecursion ValueFits vs × (length vs ≡ many))
+
+pub exactly_reads : (limit many : ℕ) → limit < 2 ^ 16 → (low : ℕ) → Reads low Any spelling_of_values (ValuesFitExactly limit many) (exactly_at limit many)
+unfolding exactly_at
+exactly_reads limit many lt low =
+    then (λ (vs : List Value). length vs) (to_le_bytes w16) (λ n. n ≤ limit) (count_at w16 limit) low Any (flat_map spelling_of_value) (λ vs. AllByRecursion ValueFits vs × (length vs ≡ many)) _ (count_reads w16 (2 ^ 16) limit wide16 lt low) λ n from.
+    let P : List Value → Type 0 = λ vs. Any vs × (length vs ≡ n) in
+    let Fits : List Value → Type 0 = λ vs. AllByRecursion ValueFits vs × (length vs ≡ many) in
+    choose from P (flat_map spelling_of_value) Fits (eqb n many) _ _
+    (λ same. said from P P (flat_map spelling_of_value) (flat_map spelling_of_value) (AllByRecursion ValueFits) Fits (times value_at n) (λ a p. p) (λ a p. p) (λ a p. refl)
+    (λ a p fits. (fits, p.1 ∙ eqb-true n many same)) (λ a p fits. fits.0)
+    (times_reads spelling_of_value ValueFits value_at value_reads from n))
+    (λ other. never from P (flat_map spelling_of_value) Fits (Unknown from) (omega arith) (λ a p fits. eqb-false n many other (sym p.1 ∙ fits.1)))
+
 -- ---- calls
 
 pub call_reads : (low : ℕ) → Reads low Any spelling_of_call CallFits call_at
@@ -104,10 +123,6 @@ abbrev origin_tag : Origin → ℕ
 origin_tag (Line line) = 0
 origin_tag (Child parent index depth) = 1
 
-abbrev line_of : Origin → ℕ
-line_of (Line line) = line
-line_of (Child parent index depth) = 0
-
 abbrev parent_of : Origin → ℕ
 parent_of (Line line) = 0
 parent_of (Child parent index depth) = parent.0
@@ -127,33 +142,6 @@ behind_origin (Child parent index depth) = to_le_bytes w64 parent.0 ++ (to_le_by
 abbrev child_bytes : Origin → List ℕ
 child_bytes o = to_le_bytes w64 (parent_of o) ++ (to_le_bytes w32 (index_of o) ++ (to_le_bytes w16 (depth_of o) ++ []))
 
-abbrev ChildFits : Origin → Type 0
-ChildFits o = (parent_of o < 2 ^ 64) × ((index_of o < 2 ^ 32) × ((depth_of o < 2 ^ 16) × Unit {0}))
-
-is_line : (tag : ℕ) → tag ≡ 0 → (o : Origin) → Any o × (origin_tag o ≡ tag) → OriginFits o → (n : ℕ) × (o ≡ Line n) × (n < 2 ^ 32)
-is_line tag is (Line line) known fits = (line, refl, fits)
-is_line tag is (Child parent index depth) known fits = absurd (omega (arith, is, known.1))
-
-as_child : (tag : ℕ) → tag ≡ 1 → (o : Origin) → Any o × (origin_tag o ≡ tag) → child_bytes o ≡ behind_origin o
-as_child tag is (Line line) known = absurd (omega (arith, is, known.1))
-as_child tag is (Child parent index depth) known = simp append-nil
-
-child_fits : (tag : ℕ) → tag ≡ 1 → (o : Origin) → Any o × (origin_tag o ≡ tag) → ChildFits o → OriginFits o
-child_fits tag is (Line line) known fits = absurd (omega (arith, is, known.1))
-child_fits tag is (Child parent index depth) known fits = (fits.0, fits.1.0, fits.1.1.0)
-
-fits_child : (tag : ℕ) → tag ≡ 1 → (o : Origin) → Any o × (origin_tag o ≡ tag) → OriginFits o → ChildFits o
-fits_child tag is (Line line) known fits = absurd (omega (arith, is, known.1))
-fits_child tag is (Child parent index depth) known fits = (fits.0, (fits.1, (fits.2, tt)))
-
-is_child : (tag p i d : ℕ) → tag ≡ 1 → (o : Origin) → (((Any o × (origin_tag o ≡ tag)) × (parent_of o ≡ p)) × (index_of o ≡ i)) × (depth_of o ≡ d) → o ≡ Child (record { 0 = p }) i d
-is_child tag p i d is (Line line) known = absurd (omega (arith, is, known.0.0.0.1))
-is_child tag p i d is (Child parent index depth) known = λ x. Child (record { 0 = known.0.0.1 x }) (known.0.1 x) (known.1 x)
-
-no_origin : (tag : ℕ) → (tag ≡ 0 → ⊥) → (tag ≡ 1 → ⊥) → (o : Origin) → Any o × (origin_tag o ≡ tag) → OriginFits o → ⊥
-no_origin tag not also (Line line) known fits = not (sym known.1)
-no_origin tag not also (Child parent index depth) known fits = also (sym known.1)
-
 origin_tagged : (o : Origin) → to_le_bytes w8 (origin_tag o) ++ behind_origin o ≡ spelling_of_origin o
 origin_tagged (Line line) = refl
 origin_tagged (Child parent index depth) = refl
@@ -162,36 +150,83 @@ origin_small : (o : Origin) → origin_tag o < 2 ^ 8
 origin_small (Line line) = omega arith
 origin_small (Child parent index depth) = omega arith
 
-origin_behind : (tag from : ℕ) → Reads from (λ o. Any o × (origin_tag o ≡ tag)) behind_origin OriginFits
-    (choice (eqb tag 0) (field (number_at w32) λ line here. whole (Line line))
-    (choice (eqb tag 1) (field (number_at w64) λ parent here. field (number_at w32) λ index there. field (number_at w16) λ depth end. whole (Child (record { 0 = parent }) index depth))
-    (refused (BadTag from tag))))
-origin_behind tag from =
-    let P : Origin → Type 0 = λ o. Any o × (origin_tag o ≡ tag) in
-    choose from P behind_origin OriginFits (eqb tag 0) _ _
-    (
-    λ yes0. put_in Line (to_le_bytes w32) (λ n. n < 2 ^ 32) (number_at w32) from P behind_origin OriginFits
-    (is_line tag (eqb-true tag 0 yes0)) (λ n. (tt, sym (eqb-true tag 0 yes0))) (λ n lt. refl) (λ n lt. lt) (reads32 from)
-    )
-    (
-    λ no0. choose from P behind_origin OriginFits (eqb tag 1) _ _
-    (
-    λ yes1. let is = eqb-true tag 1 yes1 in
-    said from P P child_bytes behind_origin ChildFits OriginFits _ (λ o p. p) (λ o p. p) (as_child tag is) (child_fits tag is) (fits_child tag is)
-    (then parent_of (to_le_bytes w64) (λ n. n < 2 ^ 64) (number_at w64) from P _ _ _ (reads64 from) λ p from1.
-    then index_of (to_le_bytes w32) (λ n. n < 2 ^ 32) (number_at w32) from1 _ _ _ _ (reads32 from1) λ i from2.
-    then depth_of (to_le_bytes w16) (λ n. n < 2 ^ 16) (number_at w16) from2 _ _ _ _ (reads16 from2) λ d from3.
-    done from3 _ (Child (record { 0 = p }) i d) ((((tt, sym is), refl), refl), refl) (is_child tag p i d is))
-    )
-    (λ no1. never from P behind_origin OriginFits (BadTag from tag) (omega arith) (no_origin tag (eqb-false tag 0 no0) (eqb-false tag 1 no1)))
-    )
+abbrev OriginIs : ℕ → Origin → Type 0
+OriginIs tag o = Any o × (origin_tag o ≡ tag)
 
-pub origin_reads : (low : ℕ) → Reads low Any spelling_of_origin OriginFits origin_at
-unfolding origin_at
-origin_reads low =
-    said low Any Any (λ o. to_le_bytes w8 (origin_tag o) ++ behind_origin o) spelling_of_origin (λ o. (origin_tag o < 2 ^ 8) × OriginFits o) OriginFits origin_at
-    (λ o p. tt) (λ o p. tt) (λ o p. origin_tagged o) (λ o p fits. fits.1) (λ o p fits. (origin_small o, fits))
-    (then origin_tag (to_le_bytes w8) (λ n. n < 2 ^ 8) (number_at w8) low Any behind_origin OriginFits _ (byte_reads low) origin_behind)
+as_child : (tag : ℕ) → tag ≡ 1 → (o : Origin) → OriginIs tag o → child_bytes o ≡ behind_origin o
+as_child tag is (Line line) known = absurd (omega (arith, is, known.1))
+as_child tag is (Child parent index depth) known = simp append-nil
+
+is_child : (tag p i d : ℕ) → tag ≡ 1 → (o : Origin) → ((OriginIs tag o × (parent_of o ≡ p)) × (index_of o ≡ i)) × (depth_of o ≡ d) → o ≡ Child (record { 0 = p }) i d
+is_child tag p i d is (Line line) known = absurd (omega (arith, is, known.0.0.0.1))
+is_child tag p i d is (Child parent index depth) known = λ x. Child (record { 0 = known.0.0.1 x }) (known.0.1 x) (known.1 x)
+
+module _ (numbers : Numbers) where
+  -- an origin within its limits, whose parent's number is one that is taken
+  abbrev pub OriginFitsIn : Origin → Type 0
+  OriginFitsIn o = OriginFits o × HasParent numbers o
+
+  abbrev ChildFits : Origin → Type 0
+  ChildFits o = ((parent_of o < 2 ^ 64) × (may_be_parent numbers (parent_of o) ≡ true)) × ((index_of o < 2 ^ 32) × ((depth_of o < 2 ^ 16) × Unit {0}))
+
+  is_line : (tag : ℕ) → tag ≡ 0 → (o : Origin) → OriginIs tag o → OriginFitsIn o → (n : ℕ) × (o ≡ Line n) × (n < 2 ^ 32)
+  is_line tag is (Line line) known fits = (line, refl, fits.0)
+  is_line tag is (Child parent index depth) known fits = absurd (omega (arith, is, known.1))
+
+  child_fits : (tag : ℕ) → tag ≡ 1 → (o : Origin) → OriginIs tag o → ChildFits o → OriginFitsIn o
+  child_fits tag is (Line line) known fits = absurd (omega (arith, is, known.1))
+  child_fits tag is (Child parent index depth) known fits = ((fits.0.0, fits.1.0, fits.1.1.0), fits.0.1)
+
+  fits_child : (tag : ℕ) → tag ≡ 1 → (o : Origin) → OriginIs tag o → OriginFitsIn o → ChildFits o
+  fits_child tag is (Line line) known fits = absurd (omega (arith, is, known.1))
+  fits_child tag is (Child parent index depth) known fits = ((fits.0.0, fits.1), (fits.0.1, (fits.0.2, tt)))
+
+  no_origin : (tag : ℕ) → (tag ≡ 0 → ⊥) → (tag ≡ 1 → ⊥) → (o : Origin) → OriginIs tag o → OriginFitsIn o → ⊥
+  no_origin tag not also (Line line) known fits = not (sym known.1)
+  no_origin tag not also (Child parent index depth) known fits = also (sym known.1)
+
+  pub unit_reads : (low : ℕ) → Reads low Any (to_le_bytes w64) (λ n. (n < 2 ^ 64) × (may_be_unit numbers n ≡ true)) (unit_at numbers)
+  unfolding unit_at
+  unit_reads low = tested_reads w64 (2 ^ 64) wide64 (may_be_unit numbers) Unknown (λ from. omega arith) low
+
+  parent_reads : (low : ℕ) → Reads low Any (to_le_bytes w64) (λ n. (n < 2 ^ 64) × (may_be_parent numbers n ≡ true)) (parent_at numbers)
+  unfolding parent_at
+  parent_reads low = tested_reads w64 (2 ^ 64) wide64 (may_be_parent numbers) Unknown (λ from. omega arith) low
+
+  origin_behind : (tag from : ℕ) → Reads from (OriginIs tag) behind_origin OriginFitsIn
+      (choice (eqb tag 0) (field (number_at w32) λ line here. whole (Line line))
+      (choice (eqb tag 1) (field (parent_at numbers) λ parent here. field (number_at w32) λ index there. field (number_at w16) λ depth end. whole (Child (record { 0 = parent }) index depth))
+      (refused (BadTag from tag))))
+  origin_behind tag from =
+      choose from (OriginIs tag) behind_origin OriginFitsIn (eqb tag 0) _ _
+      (
+      λ yes0. put_in Line (to_le_bytes w32) (λ n. n < 2 ^ 32) (number_at w32) from (OriginIs tag) behind_origin OriginFitsIn
+      (is_line tag (eqb-true tag 0 yes0)) (λ n. (tt, sym (eqb-true tag 0 yes0))) (λ n lt. refl) (λ n lt. (lt, tt)) (reads32 from)
+      )
+      (
+      λ no0. choose from (OriginIs tag) behind_origin OriginFitsIn (eqb tag 1) _ _
+      (
+      λ yes1. let is = eqb-true tag 1 yes1 in
+      said from (OriginIs tag) (OriginIs tag) child_bytes behind_origin ChildFits OriginFitsIn _ (λ o p. p) (λ o p. p) (as_child tag is) (child_fits tag is) (fits_child tag is)
+      (then parent_of (to_le_bytes w64) (λ n. (n < 2 ^ 64) × (may_be_parent numbers n ≡ true)) (parent_at numbers) from (OriginIs tag) _ _ _ (parent_reads from) λ p from1.
+      then index_of (to_le_bytes w32) (λ n. n < 2 ^ 32) (number_at w32) from1 _ _ _ _ (reads32 from1) λ i from2.
+      then depth_of (to_le_bytes w16) (λ n. n < 2 ^ 16) (number_at w16) from2 _ _ _ _ (reads16 from2) λ d from3.
+      done from3 _ (Child (record { 0 = p }) i d) ((((tt, sym is), refl), refl), refl) (is_child tag p i d is))
+      )
+      (λ no1. never from (OriginIs tag) behind_origin OriginFitsIn (BadTag from tag) (omega arith) (no_origin tag (eqb-false tag 0 no0) (eqb-false tag 1 no1)))
+      )
+
+  pub origin_reads : (low : ℕ) → Reads low Any spelling_of_origin OriginFitsIn (origin_at numbers)
+  unfolding origin_at
+  origin_reads low =
+      said low Any Any (λ o. to_le_bytes w8 (origin_tag o) ++ behind_origin o) spelling_of_origin (λ o. (origin_tag o < 2 ^ 8) × OriginFitsIn o) OriginFitsIn (origin_at numbers)
+      (λ o p. tt) (λ o p. tt) (λ o p. origin_tagged o) (λ o p fits. fits.1) (λ o p fits. (origin_small o, fits))
+      (then origin_tag (to_le_bytes w8) (λ n. n < 2 ^ 8) (number_at w8) low Any behind_origin OriginFitsIn _ (byte_reads low) origin_behind)
+
+-- where any number is taken, each parent's is
+pub any_parent : (o : Origin) → HasParent Free o
+any_parent (Line line) = tt
+any_parent (Child parent index depth) = refl
 
 -- ---- outcomes
 

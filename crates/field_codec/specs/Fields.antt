@@ -8,8 +8,10 @@ use Rattle.base_types.specs.declared.calls.Origin.{Origin}
 use Rattle.base_types.specs.declared.calls.Origin.TheVariants.{Line, Child}
 use Rattle.base_types.specs.declared.calls.Outcome as outcome
 use Rattle.base_types.specs.declared.stores.Version.{Version}
-use Rattle.field_codec.specs.declared.faults.CodecFault.TheVariants.{BadTag}
-use Rattle.field_codec.specs.Reading.{Reader, whole, refused, field, choice, number_at, count_at, text_at, list_at}
+use Rattle.field_codec.specs.declared.faults.CodecFault.TheVariants.{BadTag, Unknown}
+use Rattle.field_codec.specs.declared.units.Numbers.{Numbers}
+use Rattle.field_codec.specs.Units.{may_be_unit, may_be_parent}
+use Rattle.field_codec.specs.Reading.{Reader, whole, refused, field, choice, number_at, count_at, text_at, times, list_at}
 
 unfoldable pub value_at : Reader Value
 value_at = field (number_at w8) λ tag place.
@@ -21,6 +23,10 @@ value_at = field (number_at w8) λ tag place.
 abbrev pub values_at : ℕ → Reader (List Value)
 values_at limit = list_at w16 limit value_at
 
+-- so many values and no other number of them, which is told at the count
+unfoldable pub exactly_at : ℕ → ℕ → Reader (List Value)
+exactly_at limit many = field (count_at w16 limit) λ n place. choice (n == many) (times value_at n) (refused (Unknown place))
+
 unfoldable pub version_at : Reader Version
 version_at = field (number_at w64) λ unit place. field (values_at 16) λ state here. whole (record { unit = record { 0 = unit }; state = state })
 
@@ -28,10 +34,17 @@ unfoldable pub call_at : Reader Call
 call_at = field (number_at w16) λ kind place. field (number_at w32) λ key here. field (number_at w16) λ method there. field (values_at 8) λ args end.
     whole (record { grain = record { kind = kind; key = key }; method = method; args = args })
 
-unfoldable pub origin_at : Reader Origin
-origin_at = field (number_at w8) λ tag place.
+-- the number of a unit, or of a parent, that is one of those that are taken
+unfoldable pub unit_at : Numbers → Reader ℕ
+unit_at numbers = field (number_at w64) λ n place. choice (may_be_unit numbers n) (whole n) (refused (Unknown place))
+
+unfoldable pub parent_at : Numbers → Reader ℕ
+parent_at numbers = field (number_at w64) λ n place. choice (may_be_parent numbers n) (whole n) (refused (Unknown place))
+
+unfoldable pub origin_at : Numbers → Reader Origin
+origin_at numbers = field (number_at w8) λ tag place.
     choice (tag == 0) (field (number_at w32) λ line here. whole (Line line))
-    (choice (tag == 1) (field (number_at w64) λ parent here. field (number_at w32) λ index there. field (number_at w16) λ depth end. whole (Child (record { 0 = parent }) index depth))
+    (choice (tag == 1) (field (parent_at numbers) λ parent here. field (number_at w32) λ index there. field (number_at w16) λ depth end. whole (Child (record { 0 = parent }) index depth))
     (refused (BadTag place tag)))
 
 -- an outcome with the tag 1 or 2

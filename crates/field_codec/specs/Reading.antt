@@ -1,9 +1,9 @@
 -- Reading fields from left to right. The first fault that is met is the answer, with its place.
-use Rattle.std.specs.Prelude.{ℕ, zero, suc, ◌+◌, ◌*◌, List, [], ◌∷◌, length, take, drop, Result, Ok, Err, Bool, Option, Some, None, nat_lt, if◌then◌else◌}
+use Rattle.std.specs.Prelude.{ℕ, zero, suc, ◌+◌, ◌<◌, List, [], ◌∷◌, length, take, drop, slice_index, Result, Ok, Err, Bool, Option, Some, None, nat_lt, ◌==◌, if◌then◌else◌}
 use Rattle.std.specs.Int.{Width, w16, byte_len, from_le_bytes}
 use Rattle.std.specs.Str.{is_utf8}
 use Rattle.field_codec.specs.declared.faults.CodecFault.{CodecFault}
-use Rattle.field_codec.specs.declared.faults.CodecFault.TheVariants.{Short, NotUtf8, Over}
+use Rattle.field_codec.specs.declared.faults.CodecFault.TheVariants.{Short, NotUtf8, Over, Trailing}
 
 -- what stands in these bytes from a place on, and the place behind it
 abbrev pub Reader : Type 0 → Type 0
@@ -13,6 +13,10 @@ Reader A = List ℕ → ℕ → Result (A × ℕ) CodecFault
 abbrev pub and_then : {A B : Type 0} → Result A CodecFault → (A → Result B CodecFault) → Result B CodecFault
 and_then (Ok x) f = f x
 and_then (Err fault) f = Err fault
+
+-- each is a byte
+abbrev pub AreBytes : List ℕ → Type 0
+AreBytes bytes = (i : ℕ) → slice_index bytes i < 256
 
 -- ---- how readers are joined
 
@@ -45,6 +49,10 @@ chain read next s (suc n) bytes at = and_then (read s bytes at) (λ x. and_then 
 -- so many of a kind
 abbrev pub times : {A : Type 0} → Reader A → ℕ → Reader (List A)
 times read n = chain {S = Unit {0}} (λ s. read) (λ s x. s) tt n
+
+-- the one thing of a whole text, with nothing behind it
+abbrev pub whole_text : {A : Type 0} → Reader A → List ℕ → Result A CodecFault
+whole_text read text = and_then (read text 0) λ x. if x.1 == length text then Ok x.0 else Err (Trailing x.1)
 
 -- ---- the fields of every record
 

@@ -1,5 +1,5 @@
 -- What a function that reads says of its answer. Want of memory may come in place of any answer.
-use Rattle.std.specs.Prelude.{◌≡◌, ℕ, ◌≤◌, IfOk, IfErr, List, length, Result, Ok, Err}
+use Rattle.std.specs.Prelude.{◌≡◌, ℕ, ◌≤◌, IfOk, List, length, Option, Some, None, unwrap_or, Result, Ok, Err}
 use Rattle.field_codec.specs.declared.faults.CodecFault.{CodecFault}
 use Rattle.field_codec.specs.declared.faults.CodecFault.TheVariants.{Short, BadTag, NotUtf8, Over, BadOrder, Unknown, Trailing, Memory}
 use Rattle.field_codec.specs.Spelling.{Stands}
@@ -28,17 +28,17 @@ Found spell Fits bytes at result = at ≤ length bytes → IfOk result (λ x. Fi
 abbrev pub Only : {A : Type 0} → (A → List ℕ) → (A → Type 0) → List ℕ → ℕ → Result (A × ℕ) CodecFault → Type 0
 Only {A} spell Fits bytes at result = (x : A) (end : ℕ) → at ≤ length bytes → Fits x → Stands bytes at (spell x) end → Gives result (Ok (x, end))
 
--- the place that a fault names
-abbrev pub place_of : CodecFault → ℕ
-place_of Memory = 0
-place_of (Short place) = place
-place_of (BadTag place byte) = place
-place_of (NotUtf8 place) = place
-place_of (Over place limit) = place
-place_of (BadOrder place) = place
-place_of (Unknown place) = place
-place_of (Trailing place) = place
+-- the place that a fault names, none where memory ran out
+abbrev pub named_place : CodecFault → Option ℕ
+named_place Memory = None
+named_place (Short place) = Some place
+named_place (BadTag place byte) = Some place
+named_place (NotUtf8 place) = Some place
+named_place (Over place limit) = Some place
+named_place (BadOrder place) = Some place
+named_place (Unknown place) = Some place
+named_place (Trailing place) = Some place
 
--- a fault names a place in the bytes, or their end
-abbrev pub NamesWithin : {A : Type 0} → List ℕ → ℕ → Result A CodecFault → Type 0
-NamesWithin bytes at result = at ≤ length bytes → IfErr result (λ fault. place_of fault ≤ length bytes)
+-- the place, 0 where none is named
+abbrev pub place_of : CodecFault → ℕ
+place_of fault = unwrap_or (named_place fault) 0

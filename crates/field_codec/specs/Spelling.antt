@@ -1,6 +1,6 @@
 -- The one spelling of each thing that the files hold, and the limits within which it has one. Numbers are little-endian.
 use Rattle.std.specs.Prelude.{FitsSigned, ◌≡◌, ℕ, ◌+◌, ◌<◌, ◌≤◌, ◌^◌, List, [], ◌∷◌, ◌++◌, length, take, drop}
-use Rattle.std.specs.Int.{Width, w16, w32, w64, to_le_bytes, cast_unsigned}
+use Rattle.std.specs.Int.{w16, w32, w64, to_le_bytes, cast_unsigned}
 use Rattle.std.specs.List.{flat_map, AllByRecursion}
 use Rattle.std.specs.Str.{IsUtf8}
 use Rattle.base_types.specs.declared.calls.Value.{Value}

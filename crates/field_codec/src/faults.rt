@@ -20,8 +20,9 @@ pub enum CodecFault {
     /// The grain of the write at `place` isn't above the one before it.
     #[error("the write at {place} is out of order")]
     BadOrder { place: usize },
-    /// The type, the method or the count of arguments at `place` isn't the program's.
-    #[error("what is named at {place} isn't the program's")]
+    /// The type, the method or the count at `place` isn't the program's, or the unit's or parent's number there is none that
+    /// a log may have.
+    #[error("what is named at {place} isn't known")]
     Unknown { place: usize },
     /// Bytes follow the last record, from `place` on.
     #[error("bytes follow the last record at {place}")]
@@ -29,6 +30,27 @@ pub enum CodecFault {
     /// There was no memory.
     #[error("out of memory")]
     Memory,
+}
+
+impl CodecFault {
+    ghost use Rattle.std.specs.Prelude.{◌≡◌};
+    ghost use Rattle.field_codec.specs.Results.{named_place};
+
+    /// The place that the fault names, none where memory ran out.
+    pub fn place(self) -> Option<usize>
+        ensures { result ≡ named_place self }
+    {
+        match self {
+            CodecFault::Short { place }
+            | CodecFault::BadTag { place, .. }
+            | CodecFault::NotUtf8 { place }
+            | CodecFault::Over { place, .. }
+            | CodecFault::BadOrder { place }
+            | CodecFault::Unknown { place }
+            | CodecFault::Trailing { place } => Some(place),
+            CodecFault::Memory => None,
+        }
+    }
 }
 
 impl From<AllocError> for CodecFault {

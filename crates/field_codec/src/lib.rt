@@ -12,16 +12,19 @@ mod origins;
 mod outcomes;
 mod spelled;
 mod texts;
+mod units;
 mod values;
+mod versions;
 
 pub use calls::{get_call, put_call};
 pub use faults::CodecFault;
-pub use laws::spellings_are_apart;
+pub use laws::{first_version_is_spelled, spellings_are_apart};
 pub use numbers::{get_count, get_u8, get_u16, get_u32, get_u64, put_u16, put_u32, put_u64};
 pub use origins::get_origin;
 pub use outcomes::{get_answer, get_result};
 pub use spelled::{Spelled, append_all, put};
-pub use values::{get_state, get_value, get_values, put_state, put_value};
+pub use units::{Numbers, get_unit};
+pub use values::{get_exactly, get_state, get_value, put_state, put_value};
 
 #[cfg(test)]
 mod tests;

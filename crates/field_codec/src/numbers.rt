@@ -1,7 +1,8 @@
-ghost use Rattle.std.specs.Prelude.{◌≡◌, ◌++◌, ◌≤◌, is_ok, if◌then◌else◌, IfOk};
+ghost use Rattle.std.specs.Prelude.{◌≡◌, ◌++◌, ◌≤◌, is_ok, if◌then◌else◌, IfOk, IsErrOf};
 ghost use Rattle.std.specs.Int.{w8, w16, w32, w64, to_le_bytes};
 ghost use Rattle.field_codec.specs.Reading.{number_at, count_at};
 ghost use Rattle.field_codec.specs.Results.{Gives};
+ghost use Rattle.field_codec.specs.declared.faults.CodecFault.{CodecFault as Fault};
 
 use crate::faults::CodecFault;
 use std::alloc::AllocError;
@@ -29,7 +30,8 @@ pub fn put_u64(into: &mut Vec<u8>, number: u64) -> Result<(), AllocError>
 
 /// The byte at a place, and the place behind it. `Short` exactly where none is there.
 pub fn get_u8(bytes: &[u8], at: usize) -> Result<(u8, usize), CodecFault>
-    ensures { Gives result (number_at w8 bytes.now at) }
+    ensures exact { Gives result (number_at w8 bytes.now at) }
+    ensures quiet { IsErrOf result Fault.Memory → ⊥ }
 {
     if bytes.len() <= at {
         return Err(CodecFault::Short { place: at });
@@ -39,7 +41,8 @@ pub fn get_u8(bytes: &[u8], at: usize) -> Result<(u8, usize), CodecFault>
 
 /// The number that two bytes spell, and the place behind them. `Short` exactly where fewer remain.
 pub fn get_u16(bytes: &[u8], at: usize) -> Result<(u16, usize), CodecFault>
-    ensures { Gives result (number_at w16 bytes.now at) }
+    ensures exact { Gives result (number_at w16 bytes.now at) }
+    ensures quiet { IsErrOf result Fault.Memory → ⊥ }
 {
     if bytes.len() < at || bytes.len() - at < 2 {
         return Err(CodecFault::Short { place: at });
@@ -50,7 +53,8 @@ pub fn get_u16(bytes: &[u8], at: usize) -> Result<(u16, usize), CodecFault>
 
 /// The number that four bytes spell, and the place behind them. `Short` exactly where fewer remain.
 pub fn get_u32(bytes: &[u8], at: usize) -> Result<(u32, usize), CodecFault>
-    ensures { Gives result (number_at w32 bytes.now at) }
+    ensures exact { Gives result (number_at w32 bytes.now at) }
+    ensures quiet { IsErrOf result Fault.Memory → ⊥ }
 {
     if bytes.len() < at || bytes.len() - at < 4 {
         return Err(CodecFault::Short { place: at });
@@ -62,7 +66,8 @@ pub fn get_u32(bytes: &[u8], at: usize) -> Result<(u32, usize), CodecFault>
 
 /// The number that eight bytes spell, and the place behind them. `Short` exactly where fewer remain.
 pub fn get_u64(bytes: &[u8], at: usize) -> Result<(u64, usize), CodecFault>
-    ensures { Gives result (number_at w64 bytes.now at) }
+    ensures exact { Gives result (number_at w64 bytes.now at) }
+    ensures quiet { IsErrOf result Fault.Memory → ⊥ }
 {
     if bytes.len() < at || bytes.len() - at < 8 {
         return Err(CodecFault::Short { place: at });
@@ -79,6 +84,7 @@ pub fn get_u64(bytes: &[u8], at: usize) -> Result<(u64, usize), CodecFault>
 pub fn get_count(bytes: &[u8], at: usize, limit: u16) -> Result<(u16, usize), CodecFault>
     ensures exact { Gives result (count_at w16 limit bytes.now at) }
     ensures within { IfOk result (λ x. x.0 ≤ limit) }
+    ensures quiet { IsErrOf result Fault.Memory → ⊥ }
 {
     let (count, after) = get_u16(bytes, at)?;
     if limit < count {

@@ -1,9 +1,12 @@
+ghost use Rattle.std.specs.Prelude.{IsErrOf};
 ghost use Rattle.field_codec.specs.Fields.{origin_at};
 ghost use Rattle.field_codec.specs.Results.{Gives};
+ghost use Rattle.field_codec.specs.declared.faults.CodecFault.{CodecFault as Fault};
 
 use crate::faults::CodecFault;
-use crate::numbers::{get_u8, get_u16, get_u32, get_u64, put_u16, put_u32, put_u64};
+use crate::numbers::{get_u8, get_u16, get_u32, put_u16, put_u32, put_u64};
 use crate::spelled::Spelled;
+use crate::units::{Numbers, get_parent};
 use base_types::{Origin, UnitNo};
 use std::alloc::AllocError;
 
@@ -38,10 +41,12 @@ impl Spelled for Origin {
     }
 }
 
-/// The origin that stands at a place, and the place behind it. The fault is the first from left to right.
+/// The origin that stands at a place, and the place behind it. The fault is the first from left to right; `Unknown` names a
+/// parent's number that is none of those that are taken.
 #[tactic(auto, unfolding(crate::specs::Fields::origin_at, crate::specs::Reading::field, crate::specs::Reading::choice, crate::specs::Reading::refused, crate::specs::Reading::whole))]
-pub fn get_origin(bytes: &[u8], at: usize) -> Result<(Origin, usize), CodecFault>
-    ensures { Gives result (origin_at bytes.now at) }
+pub fn get_origin(bytes: &[u8], at: usize, numbers: Numbers) -> Result<(Origin, usize), CodecFault>
+    ensures exact { Gives result (origin_at numbers bytes.now at) }
+    ensures quiet { IsErrOf result Fault.Memory → ⊥ }
 {
     let (tag, after) = get_u8(bytes, at)?;
     if tag == 0 {
@@ -49,7 +54,7 @@ pub fn get_origin(bytes: &[u8], at: usize) -> Result<(Origin, usize), CodecFault
         return Ok((Origin::Line(line), after));
     }
     if tag == 1 {
-        let (parent, after) = get_u64(bytes, after)?;
+        let (parent, after) = get_parent(bytes, after, numbers)?;
         let (index, after) = get_u32(bytes, after)?;
         let (depth, after) = get_u16(bytes, after)?;
         let parent = UnitNo(parent);

@@ -1,6 +1,6 @@
 use crate::{
-    CodecFault, get_answer, get_call, get_origin, get_result, get_state, get_u16, get_u32, get_u64,
-    get_value, put, put_call, put_state, put_u16, put_u32, put_u64, put_value,
+    CodecFault, Numbers, get_answer, get_call, get_origin, get_result, get_state, get_u16, get_u32,
+    get_u64, get_unit, get_value, put, put_call, put_state, put_u16, put_u32, put_u64, put_value,
 };
 use base_types::{Call, GrainId, List, Origin, Outcome, State, Text, UnitNo, Value};
 use std::alloc::{AllocError, Global};
@@ -102,7 +102,7 @@ fn each_fault_names_its_place(rt: HostRuntime) -> Result<(), Fail> {
     let over = CodecFault::Over { place: 8, limit: 8 };
     assert_eq!(rt; get_call(alloc, &args, 0).err(), Some(over));
     let origin = CodecFault::BadTag { place: 0, byte: 7 };
-    assert_eq!(rt; get_origin(&[7], 0).err(), Some(origin));
+    assert_eq!(rt; get_origin(&[7], 0, Numbers::Free).err(), Some(origin));
     let none = CodecFault::BadTag { place: 0, byte: 0 };
     assert_eq!(rt; get_result(alloc, &[0], 0).err(), Some(none));
     Ok(())
@@ -136,8 +136,11 @@ fn origins_and_outcomes_come_back(rt: HostRuntime) -> Result<(), Fail> {
     put(&mut bytes, &Origin::Line(1))?;
     let spelled = [1, 2, 1, 0, 0, 0, 0, 0, 0, 3, 0, 0, 0, 4, 0, 0, 1, 0, 0, 0];
     assert!(rt; bytes.as_slice() == spelled.as_slice());
-    assert_eq!(rt; get_origin(&bytes, 0)?, (child, 15));
-    assert_eq!(rt; get_origin(&bytes, 15)?, (Origin::Line(1), 20));
+    assert_eq!(rt; get_origin(&bytes, 0, Numbers::Free)?, (child, 15));
+    assert_eq!(rt;
+        get_origin(&bytes, 15, Numbers::Logged)?,
+        (Origin::Line(1), 20)
+    );
     bytes.clear();
     let fault = Text::new(alloc, "funds")?.ok_or("long")?;
     put(&mut bytes, &Outcome::Aborted)?;
@@ -155,5 +158,91 @@ fn origins_and_outcomes_come_back(rt: HostRuntime) -> Result<(), Fail> {
             (Outcome::Value(Value::Int(1)), 19)
         )
     );
+    Ok(())
+}
+
+#[test]
+fn counts_and_lengths_have_their_limits(rt: HostRuntime) -> Result<(), Fail> {
+    let alloc = rt.alloc();
+    let mut bytes = Vec::new(alloc);
+    // A state of 16 values, and the arguments of a call.
+    put_u16(&mut bytes, 16)?;
+    for _ in 0..17 {
+        put_value(&mut bytes, &Value::Int(0))?;
+    }
+    assert_eq!(rt; get_state(alloc, &bytes, 0)?.1, 146);
+    bytes[0] = 17;
+    let state = CodecFault::Over {
+        place: 0,
+        limit: 16,
+    };
+    assert_eq!(rt; get_state(alloc, &bytes, 0).err(), Some(state));
+    let mut call = DEPOSIT[..8].to_vec(alloc)?;
+    call.extend_from_slice(&bytes)?;
+    if call.len() > 8 {
+        call[8] = 8;
+    }
+    assert_eq!(rt; get_call(alloc, &call, 0)?.1, 82);
+    // A fault's text of 256 bytes, and one of 257, as an answer and as a result.
+    let mut text = Vec::new(alloc);
+    text.extend_from_slice(&[2, 0, 1])?;
+    for _ in 0..257 {
+        text.push(97)?;
+    }
+    assert_eq!(rt; get_answer(alloc, &text, 0)?.1, 259);
+    assert_eq!(rt; get_result(alloc, &text, 0)?.1, 259);
+    if text.len() > 1 {
+        text[1] = 1;
+    }
+    let over = CodecFault::Over {
+        place: 1,
+        limit: 256,
+    };
+    assert_eq!(rt; get_answer(alloc, &text, 0).err(), Some(over));
+    assert_eq!(rt; get_result(alloc, &text, 0).err(), Some(over));
+    Ok(())
+}
+
+#[test]
+fn a_log_has_no_unit_0_and_none_from_2_to_the_63_on(rt: HostRuntime) -> Result<(), Fail> {
+    let alloc = rt.alloc();
+    // The number, and whether a log may have it as a unit's and as a parent's.
+    for (number, unit, parent) in [
+        (0, false, true),
+        (1, true, true),
+        (9223372036854775807, true, true),
+        (9223372036854775808, false, false),
+        (18446744073709551615, false, false),
+    ] {
+        let number: u64 = number;
+        let mut bytes = Vec::new(alloc);
+        put(
+            &mut bytes,
+            &Origin::Child {
+                parent: UnitNo(number),
+                index: 0,
+                depth: 2,
+            },
+        )?;
+        assert_eq!(rt;
+            get_unit(&bytes, 1, Numbers::Logged).is_ok(),
+            unit,
+            "{number}"
+        );
+        assert!(rt; get_unit(&bytes, 1, Numbers::Free).is_ok(), "{number}");
+        assert_eq!(rt;
+            get_origin(&bytes, 0, Numbers::Logged).is_ok(),
+            parent,
+            "{number}"
+        );
+        // Found at its own field, although the fields behind it are cut.
+        let cut = get_origin(&bytes[..9], 0, Numbers::Logged).err();
+        let place = if parent { 9 } else { 1 };
+        assert_eq!(rt;
+            cut.and_then(|fault| fault.place()),
+            Some(place),
+            "{number}"
+        );
+    }
     Ok(())
 }

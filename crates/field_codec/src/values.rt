@@ -1,6 +1,6 @@
 ghost use Rattle.std.specs.Prelude.{◌≡◌, ◌≤◌, ◌++◌, length, take, is_ok, if◌then◌else◌, IfOk, OnOk};
 ghost use Rattle.field_codec.specs.Reading.{times};
-ghost use Rattle.field_codec.specs.Fields.{value_at, values_at};
+ghost use Rattle.field_codec.specs.Fields.{value_at, values_at, exactly_at};
 ghost use Rattle.field_codec.specs.Results.{Gives, Found, Only};
 ghost use Rattle.field_codec.specs.Spelling.{spelling_of_value, spelling_of_values, ValueFits, ValuesFit};
 
@@ -130,6 +130,27 @@ pub fn values_there(
     let (count, after) = get_count(bytes, at, limit)?;
     let (values, after) = get_values(alloc, bytes, after, count)?;
     Ok((values, after))
+}
+
+/// A count of at most `limit`, and so many values, which are as many as are wanted. `Unknown` names the count where it is
+/// another number.
+#[tactic(auto, unfolding(crate::specs::Fields::exactly_at, crate::specs::Reading::field, crate::specs::Reading::choice, crate::specs::Reading::refused))]
+pub fn get_exactly(
+    alloc: Global,
+    bytes: &[u8],
+    at: usize,
+    limit: u16,
+    many: usize,
+) -> Result<(List<Value>, usize), CodecFault>
+    ensures exact { Gives result (exactly_at limit many bytes.now at) }
+    ensures within { IfOk result (λ x. length x.0 ≤ limit) }
+{
+    let (count, after) = get_count(bytes, at, limit)?;
+    if count as usize == many {
+        let (values, after) = get_values(alloc, bytes, after, count)?;
+        return Ok((values, after));
+    }
+    Err(CodecFault::Unknown { place: at })
 }
 
 /// The value that stands at a place, and the place behind it. The fault is the first from left to right.

@@ -1,0 +1,8 @@
+use Rattle.std.proofs.Common.{◌≡◌, ◌-◌}
+use Rattle.field_codec.specs.Reading.{times}
+use Rattle.field_codec.specs.Fields.{answer_at}
+use Rattle.field_codec.proofs.Looping.{with_front}
+use Rattle.commit_log.proofs.bodies.answers_there.Given as goal
+
+abbrev pub invariant-loop : goal.invariant-loop
+invariant-loop l = with_front l.answers (times answer_at (l.count - l.counter) l.bytes l.place) ≡ times answer_at l.count l.bytes l.at

@@ -1,0 +1,19 @@
+-- How the reading of a log agrees with the one that takes any number.
+use Rattle.std.specs.Prelude.{◌≡◌, ◌⊎◌, ℕ, false, List, Result, Ok, Err}
+use Rattle.std.specs.Int.{w64}
+use Rattle.field_codec.specs.declared.faults.CodecFault.{CodecFault}
+use Rattle.field_codec.specs.declared.faults.CodecFault.TheVariants.{Unknown}
+use Rattle.field_codec.specs.declared.units.Numbers.TheVariants.{Logged}
+use Rattle.field_codec.specs.Units.{may_be_unit}
+use Rattle.field_codec.specs.Reading.{number_at}
+
+-- a number that no unit of a log has stands at this place
+pub record IsNoUnitAt (bytes : List ℕ) (place : ℕ) : Type 0 where
+  pub number : ℕ
+  pub end : ℕ
+  pub there : number_at w64 bytes place ≡ Ok (number, end)
+  pub none : may_be_unit Logged number ≡ false
+
+-- the same is read, or the reading of a log names such a number
+abbrev pub Agrees : {A : Type 0} → List ℕ → Result A CodecFault → Result A CodecFault → Type 0
+Agrees bytes logged free = (logged ≡ free) ⊎ ((place : ℕ) × (logged ≡ Err (Unknown place)) × IsNoUnitAt bytes place)

@@ -1,0 +1,8 @@
+pub mod Orders
+pub mod Spelling
+pub mod Bodies
+pub mod Fields
+pub mod Agreement
+pub mod Encodable
+pub mod Examples
+pub mod Sealing

@@ -1,0 +1,167 @@
+ghost use Rattle.std.specs.Prelude.{◌≡◌, ◌≤◌, List, length, IfOk, IfErr, Ok};
+ghost use Rattle.std.specs.Int.{w32};
+ghost use Rattle.field_codec.specs.Reading.{times, count_at};
+ghost use Rattle.field_codec.specs.Fields.{answer_at};
+ghost use Rattle.field_codec.specs.Results.{Gives, place_of};
+ghost use Rattle.field_codec.specs.declared.units.Numbers.TheVariants.{Free, Logged};
+ghost use Rattle.commit_log.specs.Bodies.{IsBody};
+ghost use Rattle.commit_log.specs.Fields.{answers_at, record_in, records_in, body_in};
+ghost use Rattle.commit_log.specs.declared.records.CommitRecord.{CommitRecord as Record};
+
+use crate::grains::get_call_in;
+use crate::records::CommitRecord;
+use crate::writes::get_writes;
+use base_types::{List, Outcome, Shape, UnitNo};
+use field_codec::{
+    CodecFault, Numbers, get_answer, get_count, get_origin, get_result, get_u32, get_unit,
+};
+use std::alloc::Global;
+
+// So many answers.
+fn answers_there(
+    alloc: Global,
+    bytes: &[u8],
+    at: usize,
+    count: u16,
+) -> Result<(List<Outcome>, usize), CodecFault>
+    ensures { Gives result (times answer_at count bytes.now at) }
+{
+    let mut answers = List::new(alloc);
+    let mut place = at;
+    for _ in 0..count {
+        let (answer, after) = get_answer(alloc, bytes, place)?;
+        answers.push(answer)?;
+        place = after;
+    }
+    Ok((answers, place))
+}
+
+// The answers that stand at a place, at most 64.
+#[tactic(auto, unfolding(field_codec::specs::Reading::list_at, field_codec::specs::Reading::field))]
+fn get_answers(alloc: Global, bytes: &[u8], at: usize) -> Result<(List<Outcome>, usize), CodecFault>
+    ensures { Gives result (answers_at bytes.now at) }
+{
+    let (count, after) = get_count(bytes, at, 64)?;
+    let (answers, after) = answers_there(alloc, bytes, after, count)?;
+    Ok((answers, after))
+}
+
+// The record that stands at a place.
+#[tactic(auto, unfolding(crate::specs::Fields::record_in, field_codec::specs::Reading::field, field_codec::specs::Reading::whole))]
+fn get_record(
+    alloc: Global,
+    bytes: &[u8],
+    at: usize,
+    shape: &Shape,
+    numbers: Numbers,
+) -> Result<(CommitRecord, usize), CodecFault>
+    ensures { Gives result (record_in numbers shape.now bytes.now at) }
+{
+    let (unit, after) = get_unit(bytes, at, numbers)?;
+    let (origin, after) = get_origin(bytes, after, numbers)?;
+    let (call, after) = get_call_in(alloc, bytes, after, shape)?;
+    let (answers, after) = get_answers(alloc, bytes, after)?;
+    let (result, after) = get_result(alloc, bytes, after)?;
+    let (writes, after) = get_writes(alloc, bytes, after, shape)?;
+    let unit = UnitNo(unit);
+    let record = CommitRecord {
+        unit,
+        origin,
+        call,
+        answers,
+        result,
+        writes,
+    };
+    Ok((record, after))
+}
+
+// So many records.
+fn records_there(
+    alloc: Global,
+    bytes: &[u8],
+    at: usize,
+    shape: &Shape,
+    numbers: Numbers,
+    count: u32,
+) -> Result<(List<CommitRecord>, usize), CodecFault>
+    ensures { Gives result (times (record_in numbers shape.now) count bytes.now at) }
+{
+    let mut records = List::new(alloc);
+    let mut place = at;
+    for _ in 0..count {
+        let (record, after) = get_record(alloc, bytes, place, shape, numbers)?;
+        records.push(record)?;
+        place = after;
+    }
+    Ok((records, place))
+}
+
+// How many records the body has, at most 64.
+#[tactic(auto, unfolding(field_codec::specs::Reading::count_at, field_codec::specs::Reading::field, field_codec::specs::Reading::choice, field_codec::specs::Reading::refused, field_codec::specs::Reading::whole))]
+fn record_count(body: &[u8]) -> Result<(u32, usize), CodecFault>
+    ensures { Gives result (count_at w32 64 body.now 0) }
+{
+    let (count, after) = get_u32(body, 0)?;
+    if count > 64 {
+        return Err(CodecFault::Over {
+            place: 0,
+            limit: 64,
+        });
+    }
+    Ok((count, after))
+}
+
+#[tactic(auto, unfolding(field_codec::specs::Reading::list_at, field_codec::specs::Reading::field))]
+fn get_body(
+    alloc: Global,
+    body: &[u8],
+    shape: &Shape,
+    numbers: Numbers,
+) -> Result<List<CommitRecord>, CodecFault>
+    ensures { Gives result (body_in numbers shape.now body.now) }
+{
+    let (count, after) = record_count(body)?;
+    let (records, end) = records_there(alloc, body, after, shape, numbers, count)?;
+    if end == body.len() {
+        return Ok(records);
+    }
+    Err(CodecFault::Trailing { place: end })
+}
+
+/// The records of a block's body, under the program's shape. The fault is the first from left to right; its place is an offset
+/// in the body. `BadOrder`: a written grain isn't above the one before it. `Unknown`: a type, a method or a number of arguments
+/// isn't the shape's. `Trailing`: bytes follow the last record. A unit's or a parent's number may be any.
+pub fn decode_body(
+    alloc: Global,
+    body: &[u8],
+    shape: &Shape,
+) -> Result<List<CommitRecord>, CodecFault>
+    // It answers records exactly for the bodies of the grammar.
+    ensures found { IfOk result (λ records. IsBody Free shape.now records body.now) }
+    ensures only { (records : List Record) → IsBody Free shape.now records body.now → Gives result (Ok records) }
+
+    // Else it answers the first fault, which names a place in the body or its end.
+    ensures exact { Gives result (body_in Free shape.now body.now) }
+    ensures within { IfErr result (λ fault. place_of fault ≤ length body.now) }
+{
+    get_body(alloc, body, shape, Numbers::Free)
+}
+
+/// The records of a body in a log, as [`decode_body`] reads them, but for the numbers that no log has: a unit's that is 0 or
+/// 2 to the 63 or more, and a parent's that is 2 to the 63 or more. Such a number is `Unknown` at its own field, before any
+/// fault of a later one. So the fault's place is the first of all that is wrong in the body.
+pub fn read_records(
+    alloc: Global,
+    body: &[u8],
+    shape: &Shape,
+) -> Result<List<CommitRecord>, CodecFault>
+    // It answers records exactly for the bodies of the grammar with such numbers alone.
+    ensures found { IfOk result (λ records. IsBody Logged shape.now records body.now) }
+    ensures only { (records : List Record) → IsBody Logged shape.now records body.now → Gives result (Ok records) }
+
+    // Else it answers the first fault, which names a place in the body or its end.
+    ensures exact { Gives result (body_in Logged shape.now body.now) }
+    ensures within { IfErr result (λ fault. place_of fault ≤ length body.now) }
+{
+    get_body(alloc, body, shape, Numbers::Logged)
+}

@@ -1,0 +1,61 @@
+ghost use Rattle.std.specs.Prelude.{◌≡◌, IsErrOf};
+ghost use Rattle.field_codec.specs.Units.{may_be_unit, may_be_parent};
+ghost use Rattle.field_codec.specs.Fields.{unit_at, parent_at};
+ghost use Rattle.field_codec.specs.Results.{Gives};
+ghost use Rattle.field_codec.specs.declared.faults.CodecFault.{CodecFault as Fault};
+
+use crate::faults::CodecFault;
+use crate::numbers::get_u64;
+
+/// Which numbers of units a reading takes.
+#[derive(Clone, Copy, Debug, PartialEq, Eq)]
+pub enum Numbers {
+    /// Any number of 64 bits.
+    Free,
+    /// Those that a log may have: a unit's is above 0, and a unit's and a parent's are below 2 to the 63.
+    Logged,
+}
+
+fn may_be_unit(numbers: Numbers, number: u64) -> bool
+    ensures { result ≡ may_be_unit numbers number }
+{
+    match numbers {
+        Numbers::Free => true,
+        Numbers::Logged => 0 < number && number < 9223372036854775808,
+    }
+}
+
+fn may_be_parent(numbers: Numbers, number: u64) -> bool
+    ensures { result ≡ may_be_parent numbers number }
+{
+    match numbers {
+        Numbers::Free => true,
+        Numbers::Logged => number < 9223372036854775808,
+    }
+}
+
+/// The number of a unit that stands at a place, and the place behind it. `Unknown` where it is none that is taken.
+#[tactic(auto, unfolding(crate::specs::Fields::unit_at, crate::specs::Reading::field, crate::specs::Reading::choice, crate::specs::Reading::refused, crate::specs::Reading::whole))]
+pub fn get_unit(bytes: &[u8], at: usize, numbers: Numbers) -> Result<(u64, usize), CodecFault>
+    ensures exact { Gives result (unit_at numbers bytes.now at) }
+    ensures quiet { IsErrOf result Fault.Memory → ⊥ }
+{
+    let (number, after) = get_u64(bytes, at)?;
+    if may_be_unit(numbers, number) {
+        return Ok((number, after));
+    }
+    Err(CodecFault::Unknown { place: at })
+}
+
+/// The number of a parent that stands at a place, and the place behind it. `Unknown` where it is none that is taken.
+#[tactic(auto, unfolding(crate::specs::Fields::parent_at, crate::specs::Reading::field, crate::specs::Reading::choice, crate::specs::Reading::refused, crate::specs::Reading::whole))]
+pub fn get_parent(bytes: &[u8], at: usize, numbers: Numbers) -> Result<(u64, usize), CodecFault>
+    ensures exact { Gives result (parent_at numbers bytes.now at) }
+    ensures quiet { IsErrOf result Fault.Memory → ⊥ }
+{
+    let (number, after) = get_u64(bytes, at)?;
+    if may_be_parent(numbers, number) {
+        return Ok((number, after));
+    }
+    Err(CodecFault::Unknown { place: at })
+}

@@ -1,0 +1,37 @@
+-- Versions in a grain's file, one behind the other, and their places.
+use Rattle.std.specs.Prelude.{◌≡◌, ℕ, ◌+◌, List, [], ◌∷◌, length, take, drop, Option, Some, None}
+use Rattle.std.specs.List.{flat_map}
+use Rattle.base_types.specs.declared.stores.Place.{Place}
+use Rattle.base_types.specs.declared.stores.Version.{Version}
+use Rattle.field_codec.specs.Spelling.{Stands, spelling_of_version, VersionFits}
+
+-- one spelling behind the other
+abbrev pub spelling_of_versions : List Version → List ℕ
+spelling_of_versions versions = flat_map spelling_of_version versions
+
+-- the places of these versions, the first of which stands at this offset
+abbrev pub places_from : ℕ → List Version → List Place
+places_from at [] = []
+places_from at (version ∷ versions) = record { offset = at; len = length (spelling_of_version version) } ∷ places_from (at + length (spelling_of_version version)) versions
+
+-- these versions stand in the file, one behind the other, the first at this offset
+abbrev pub AllStand : List ℕ → ℕ → List Version → Type 0
+AllStand file at [] = Unit {0}
+AllStand file at (version ∷ versions) =
+    Stands file at (spelling_of_version version) (at + length (spelling_of_version version)) × AllStand file (at + length (spelling_of_version version)) versions
+
+-- this version has so many fields, and a spelling of this length
+pub record IsVersionOf (fields size : ℕ) (version : Version) : Type 0 where
+  pub fits : VersionFits version
+  pub count : length version.state ≡ fields
+  pub len : length (spelling_of_version version) ≡ size
+
+-- a version of a type: it has as many fields as the type, and there is such a type
+abbrev pub IsVersionIn : Option ℕ → ℕ → Version → Type 0
+IsVersionIn None size version = ⊥
+IsVersionIn (Some fields) size version = IsVersionOf fields size version
+
+-- this version, with so many fields, stands at this place of the file, with this length
+pub record IsVersionAt (fields : ℕ) (place : Place) (file : List ℕ) (version : Version) : Type 0 where
+  pub version_is : IsVersionOf fields place.len version
+  pub here : take place.len (drop place.offset file) ≡ spelling_of_version version

@@ -1,0 +1,69 @@
+-- What is read at a place of a grain's file: the version, or the offset at which the file is damaged.
+use Rattle.std.specs.Prelude.{◌≡◌, ℕ, ◌+◌, ◌-◌, List, length, take, drop, Bool, true, Option, Some, None, Result, Ok, Err, nat_lt, ◌||◌, if◌then◌else◌, slice_get}
+use Rattle.std.specs.Int.{w64}
+use Rattle.base_types.specs.declared.shapes.Shape.{Shape}
+use Rattle.base_types.specs.declared.shapes.TypeShape.{TypeShape}
+use Rattle.base_types.specs.declared.stores.Place.{Place}
+use Rattle.base_types.specs.declared.stores.Version.{Version}
+use Rattle.host_trait.specs.declared.channels.FileId.{FileId}
+use Rattle.host_trait.specs.declared.channels.FileId.TheVariants.{Program, Manager, Grain}
+use Rattle.field_codec.specs.declared.faults.CodecFault.{CodecFault}
+use Rattle.field_codec.specs.Reading.{Reader, whole_text, whole, field, number_at}
+use Rattle.field_codec.specs.Fields.{exactly_at}
+use Rattle.field_codec.specs.Results.{place_of}
+use Rattle.grain_log.specs.declared.faults.VersionFault.{VersionFault}
+use Rattle.grain_log.specs.declared.faults.VersionFault.TheVariants.{Failed, Damaged, Memory}
+
+-- how many fields a type has
+abbrev pub fields_of : Option TypeShape → Option ℕ
+fields_of None = None
+fields_of (Some type) = Some (length type.initial)
+
+-- how many fields the versions of a file have, none where it is no file of a grain of the program
+abbrev pub fields_in : Shape → FileId → Option ℕ
+fields_in shape (Program slot) = None
+fields_in shape (Manager slot) = None
+fields_in shape (Grain slot grain) = fields_of (slice_get shape.types grain.kind)
+
+-- a version with so many fields
+unfoldable pub version_in : ℕ → Reader Version
+version_in fields = field (number_at w64) λ unit place. field (exactly_at 16 fields) λ state here. whole (record { unit = record { 0 = unit }; state = state })
+
+-- the one version of a whole text
+abbrev pub version_of : ℕ → List ℕ → Result Version CodecFault
+version_of fields text = whole_text (version_in fields) text
+
+-- no version stands there, whatever the file: the offset is 2 to the 63 or more, or the place is longer than any version
+abbrev pub is_beyond : Place → Bool
+is_beyond place = nat_lt 9223372036854775807 place.offset || nat_lt 4154 place.len
+
+-- a fault's place, counted in the file
+abbrev pub in_file : ℕ → Result Version CodecFault → Result Version ℕ
+in_file offset (Ok version) = Ok version
+in_file offset (Err fault) = Err (offset + place_of fault)
+
+-- the fault of a text that stands at an offset of a file
+abbrev pub damage_at : ℕ → Option ℕ → VersionFault
+damage_at offset None = Memory
+damage_at offset (Some place) = Damaged (offset + place)
+
+-- a text that isn't there is damaged at its offset
+abbrev pub text_in : ℕ → Place → List ℕ → Result Version ℕ
+text_in fields place file = if nat_lt (length file - place.offset) place.len then Err place.offset else in_file place.offset (version_of fields (take place.len (drop place.offset file)))
+
+-- the version at a place of a file, or where the file is damaged
+abbrev pub version_at_place : Option ℕ → Place → List ℕ → Result Version ℕ
+version_at_place None place file = Err place.offset
+version_at_place (Some fields) place file = if is_beyond place then Err place.offset else text_in fields place file
+
+-- the answer is what stands there, unless a call failed or memory ran out
+abbrev pub GivesVersion : Result Version VersionFault → Result Version ℕ → Type 0
+GivesVersion (Ok version) found = found ≡ Ok version
+GivesVersion (Err (Damaged place)) found = found ≡ Err place
+GivesVersion (Err Failed) found = Unit {0}
+GivesVersion (Err Memory) found = Unit {0}
+
+-- there can be no version of the program there
+abbrev pub IsImpossible : Option ℕ → Place → Type 0
+IsImpossible None place = Unit {0}
+IsImpossible (Some fields) place = is_beyond place ≡ true

@@ -1,0 +1,12 @@
+//! The versions of a grain in its file: one write and one sync for those of a batch, and one read for one of them.
+//!
+//! A version counts only where a record of the log names its place. `docs/FORMATS.md` has the bytes.
+#![tactic(auto)]
+
+mod faults;
+mod reading;
+mod writing;
+
+pub use faults::{LogFault, VersionFault};
+pub use reading::read_version;
+pub use writing::write_versions;
