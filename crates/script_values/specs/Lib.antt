@@ -1,0 +1,6 @@
+pub mod Faults
+pub mod Values
+pub mod Expressions
+pub mod Reasons
+pub mod Stops
+pub mod Scopes
