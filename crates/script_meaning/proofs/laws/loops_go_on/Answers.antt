@@ -1,0 +1,5 @@
+use Rattle.script_meaning.proofs.Steady.{while_once}
+use Rattle.script_meaning.proofs.laws.loops_go_on.Goals as goal
+
+pub returns : goal.returns
+returns c = while_once

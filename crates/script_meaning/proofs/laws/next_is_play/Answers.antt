@@ -1,0 +1,5 @@
+use Rattle.script_meaning.proofs.Plays.{next_is_play_lem}
+use Rattle.script_meaning.proofs.laws.next_is_play.Goals as goal
+
+pub returns : goal.returns
+returns c = next_is_play_lem

@@ -1,0 +1,10 @@
+pub mod Requests
+pub mod Calls
+pub mod Statements
+pub mod Play
+pub mod Trails
+pub mod Laws
+pub mod Targets
+pub mod Playing
+pub mod Texts
+pub mod Worked

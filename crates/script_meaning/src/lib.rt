@@ -1,0 +1,28 @@
+//! What a call of the grain language does.
+//!
+//! `specs/` defines the run of a unit as a tree of what it asks for, and reads that tree in two ways: `play`
+//! over a store and the outcomes of its children, `next` over the locks and answers that a unit was given so
+//! far. [`play`] carries that meaning out.
+#![tactic(auto)]
+
+mod flows;
+mod frames;
+mod laws;
+mod player;
+mod statements;
+mod targets;
+mod units;
+mod worked;
+
+pub use frames::initial;
+pub use laws::{
+    equal_stores_play_alike, faults_are_known, loops_go_on, next_is_missing, next_is_play,
+    plain_runs_lock_nothing, play_is_again, play_is_next, play_rests_on_reads, plays_are_orderly,
+    trails_grow,
+};
+pub use targets::{Target, bind_arguments, target_at, target_named, type_number};
+pub use units::{Played, play};
+pub use worked::{worked_nexts, worked_plays};
+
+#[cfg(test)]
+mod tests;
