@@ -71,6 +71,13 @@ impl Holding {
         self.held.as_slice()
     }
 
+    /// The same, handed out. Takes no memory.
+    pub fn into_held(self) -> Vec<Held>
+        ensures { result.items ≡ self.held }
+    {
+        self.held
+    }
+
     /// How a grain is locked, none where it isn't held.
     pub fn mode_of(&self, grain: GrainId) -> Option<Mode>
         ensures { result ≡ mode_at grain self.now.held }

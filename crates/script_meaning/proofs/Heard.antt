@@ -1,5 +1,5 @@
 -- How far a play came, and what is left of it.
-use Rattle.std.proofs.Common.{◌≡◌, ◌+◌, ◌-◌, ◌<◌, ◌≤◌, ℕ, zero, suc, Bool, true, false, List, [], ◌∷◌, ◌++◌, drop, length, pos, negsuc, Option, Some, None, Result, Ok, Err, refl, ap, sym, ◌∙◌, append_assoc, arith}
+use Rattle.std.proofs.Common.{◌≡◌, ◌+◌, ℕ, zero, suc, Bool, true, false, List, [], ◌∷◌, ◌++◌, drop, length, pos, negsuc, Some, None, Result, Ok, Err, refl, ap, sym, ◌∙◌, append_assoc, arith}
 use Rattle.std.specs.Prelude.{◌^◌, if◌then◌else◌, nat_lt, slice_get, ℤ, int_lt}
 use Rattle.std.proofs.Math.Seq.{drop-cons}
 use Rattle.std.proofs.lemmas.List.{append-nil, drop_all}
@@ -20,7 +20,7 @@ use Rattle.script_tree.specs.declared.programs.FieldDecl.{FieldDecl}
 use Rattle.script_values.specs.Faults.{key, grains, units}
 use Rattle.script_holding.specs.Limits.{unit_limit, grain_limit}
 use Rattle.script_holding.specs.Holding.{Holding, newly_held, with_held, one_asked}
-use Rattle.script_meaning.specs.Requests.{Requests, End, AskLock, AskRaise, AskUnit, Back, Caught, stop, with_value, with_values}
+use Rattle.script_meaning.specs.Requests.{Requests, End, AskLock, AskRaise, AskUnit, Back, Caught, stop}
 use Rattle.script_meaning.specs.Calls.{answered, locked, in_own_unit, in_range}
 use Rattle.script_meaning.specs.Play.{Asked, Found, Played, asking, serve, found_in, writes_of}
 use Rattle.script_meaning.specs.Playing.{types_in, continued, heard, Ends, Leads}
@@ -37,17 +37,6 @@ ends_at world has progress (Fault found) text before says is =
     let same : found ≡ text = cc in
     ap (heard world progress) (ap (λ (t : List ℕ). stop t has) same ∙ sym is)
 ends_at world has progress Memory text before says is = tt
-
--- an expression's fault ends the unit
-pub value_ends : (world : World) (has : Holding) (progress : Progress) (why : Stop) (given : Given) (go : Value → Requests) → Stops why given →
-    Ends world (record { has = has; progress = progress }) progress why (with_value given has go)
-value_ends world has progress (Fault text) given go is = ap (λ (g : Given). heard world progress (with_value g has go)) (sym is)
-value_ends world has progress Memory given go is = tt
-
-pub values_end : (world : World) (has : Holding) (progress : Progress) (why : Stop) (given : Result (List Value) (List ℕ)) (go : List Value → Requests) → Stops why given →
-    Ends world (record { has = has; progress = progress }) progress why (with_values given has go)
-values_end world has progress (Fault text) given go is = ap (λ (g : Result (List Value) (List ℕ)). heard world progress (with_values g has go)) (sym is)
-values_end world has progress Memory given go is = tt
 
 -- what a part of a run leads to, where what was left before it is what an earlier part left
 pub leads_on : {A : Type 0} (world : World) (player : Player) (between old : Progress) (result : Result A Stop) (go : A → Requests) (middle before : Requests) →

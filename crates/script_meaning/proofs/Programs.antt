@@ -1,5 +1,5 @@
 -- What holds of each type of a program, and where its methods are found.
-use Rattle.std.proofs.Common.{◌≡◌, ◌≤◌, ℕ, zero, suc, List, [], ◌∷◌, map, length, Option, Some, None, refl, subst, sym, ap, ◌∙◌}
+use Rattle.std.proofs.Common.{◌≡◌, ℕ, zero, suc, List, [], ◌∷◌, map, Option, Some, None, subst, sym, ap, ◌∙◌}
 use Rattle.std.specs.Prelude.{slice_get}
 use Rattle.std.specs.Option.{option_map}
 use Rattle.std.specs.List.{All}
@@ -8,7 +8,7 @@ use Rattle.std.proofs.lemmas.List.Elements.{All-head, All-tail}
 use Rattle.script_tree.specs.declared.programs.TypeDecl.{TypeDecl}
 use Rattle.script_tree.specs.Programs.{ProgramTree, TypeTree, type_tree, method_tree}
 use Rattle.script_check.specs.Accepted.{IsType, IsProgram}
-use Rattle.script_meaning.specs.Calls.{Target, method_from, method_of, numbered, numbered_by}
+use Rattle.script_meaning.specs.Calls.{method_from, method_of, numbered, numbered_by}
 use Rattle.script_meaning.specs.Targets.{type_at}
 
 each_there : (all : ProgramTree) (types : List TypeDecl) (kind : ℕ) (of_type : TypeDecl) → All (IsType all) (map type_tree types) →

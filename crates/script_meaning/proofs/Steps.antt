@@ -1,5 +1,5 @@
 -- Steps that are taken, the frames that may be open, and calls that are reached.
-use Rattle.std.proofs.Common.{◌≡◌, ◌+◌, ◌-◌, ◌<◌, ◌≤◌, ℕ, zero, suc, Bool, true, false, List, Option, Some, None, Result, Ok, Err, refl, ap, sym, ◌∙◌, pos, arith}
+use Rattle.std.proofs.Common.{◌≡◌, ◌-◌, ◌<◌, ◌≤◌, ℕ, zero, suc, Bool, true, false, List, Some, None, Result, Ok, refl, ap, sym, ◌∙◌, pos, arith}
 use Rattle.std.specs.Prelude.{nat_lt, slice_get}
 use Rattle.std.proofs.lemmas.Bool.Decides.{nat_tests}
 use Rattle.base_types.specs.declared.calls.Call.{Call}
@@ -13,7 +13,7 @@ use Rattle.script_tree.specs.declared.options.MethodKind.TheVariants as kinds
 use Rattle.script_tree.specs.Options.{entered}
 use Rattle.script_tree.specs.Exprs.{ExprTree, CallTree}
 use Rattle.script_tree.specs.Stmts.{BlockTree, Repeat}
-use Rattle.script_tree.specs.Programs.{MethodTree, ProgramTree}
+use Rattle.script_tree.specs.Programs.{ProgramTree}
 use Rattle.script_values.specs.Expressions.{Locals, value_in, values_in}
 use Rattle.script_values.specs.Faults.{budget, depth, unknown}
 use Rattle.script_values.specs.Values.{Given}
@@ -34,7 +34,7 @@ taken_by (suc left) next locals has some =
     ap (λ n. next locals (with_left n has)) one
 
 -- a step is taken where one is left
-pub step_taken : (next : Next) (locals : Locals) (has after : Holding) → true ≡ nat_lt 0 has.left → after ≡ with_left (has.left - 1) has →
+step_taken : (next : Next) (locals : Locals) (has after : Holding) → true ≡ nat_lt 0 has.left → after ≡ with_left (has.left - 1) has →
     next locals after ≡ step next locals has
 step_taken next locals has after some is = ap (next locals) is ∙ taken_by has.left next locals has some
 
@@ -50,23 +50,17 @@ step_refused next locals has after none is =
     refused_by has.left next locals has none ∙ ap (λ (h : Holding). stop budget h) (sym (is ∙ ap (λ n. with_left n has) rest))
 
 -- a frame at this depth may be open
-pub room_at : (types : ProgramTree) (depth : ℕ) → depth ≤ 32 →
+room_at : (types : ProgramTree) (depth : ℕ) → depth ≤ 32 →
     deep types (33 - depth) ≡ Some (λ site method locals back. runs types (deep types (32 - depth)) site back method.body (λ after has. back (Int (pos 0)) has) locals)
 room_at types depth within =
     let more : 33 - depth ≡ suc (32 - depth) = omega (arith, within) in
     ap (deep types) more
 
 -- and none below the deepest
-pub no_room_at : (types : ProgramTree) (depth : ℕ) → 32 < depth → deep types (33 - depth) ≡ None
+no_room_at : (types : ProgramTree) (depth : ℕ) → 32 < depth → deep types (33 - depth) ≡ None
 no_room_at types depth past =
     let none : 33 - depth ≡ zero = omega (arith, past) in
     ap (deep types) none
-
--- the frames below one are those from the next depth on
-pub next_depth : (types : ProgramTree) (depth : ℕ) → deep types (33 - (depth + 1)) ≡ deep types (32 - depth)
-next_depth types depth =
-    let same : 33 - (depth + 1) ≡ 32 - depth = omega arith in
-    ap (deep types) same
 
 -- a call is reached when its place and its arguments are evaluated and the place is a key
 pub call_reached : (world : World) (progress : Progress) (types : ProgramTree) (runner : Runner) (site : Site) (back : Back) (call : CallTree) (onto : Back) (caught : Caught)

@@ -1,5 +1,5 @@
 -- The trees of the statements that the code holds.
-use Rattle.std.proofs.Common.{◌≡◌, ℕ, List, Option, Some, None}
+use Rattle.std.proofs.Common.{◌≡◌, ℕ, Option, Some, None}
 use Rattle.script_tree.specs.declared.expressions.Name.{Name}
 use Rattle.script_tree.specs.declared.expressions.CallExpr.{CallExpr}
 use Rattle.script_tree.specs.declared.expressions.Expr.{Expr}

@@ -1,7 +1,5 @@
 -- A play in progress, as the plain player keeps it.
 use Rattle.std.specs.Prelude.{◌≡◌, ℕ, ◌-◌, List, [], ◌++◌, drop, pos, None, Result, Ok, Err}
-use Rattle.base_types.specs.declared.calls.Outcome.{Outcome}
-use Rattle.base_types.specs.declared.calls.Value.{Value}
 use Rattle.base_types.specs.declared.calls.Value.TheVariants.{Int}
 use Rattle.script_tree.specs.Programs.{MethodTree, ProgramTree, program_tree}
 use Rattle.script_values.specs.Expressions.{Locals, Surroundings}
@@ -29,7 +27,8 @@ types_in world = program_tree world.program.now
 
 -- where the code's frame runs
 abbrev pub site_of : CodeSite → Site
-site_of site = record { fields = site.fields.now; kind = site.kind; grain = site.grain; context = site.context; depth = site.depth }
+site_of site =
+    record { fields = site.fields.now; kind = site.kind; grain = site.grain; context = site.context; depth = site.depth }
 
 -- what the expressions of a frame are evaluated in
 abbrev pub surrounds : Site → Locals → Holding → Surroundings
@@ -46,12 +45,14 @@ plays_method world site method locals back has =
 
 -- what a play gives whose first part asked for these units and read these grains
 abbrev pub continued : List Asked → List Found → Played → Played
-continued asked reads rest = record { result = rest.result; asked = asked ++ rest.asked; reads = reads ++ rest.reads; writes = rest.writes }
+continued asked reads rest =
+    record { result = rest.result; asked = asked ++ rest.asked; reads = reads ++ rest.reads; writes = rest.writes }
 
 -- what a play gives that came so far and has this left to run
 unfoldable pub heard : World → Progress → Requests → Played
 heard world progress rest =
-    continued progress.asked progress.reads (serve rest (found_in (types_in world) world.store.now) (drop progress.used world.answers.now))
+    continued progress.asked progress.reads
+    (serve rest (found_in (types_in world) world.store.now) (drop progress.used world.answers.now))
 
 -- where a statement leads, if not to the unit's end: to what follows it, or out of the method with a value
 abbrev pub flowing : Flow → Back → Next → Next
@@ -63,16 +64,18 @@ abbrev pub answering : Answer → Back → Caught → Holding → Requests
 answering (answer.Value value) back caught has = back value has
 answering (answer.Caught text) back caught has = caught text has
 
--- the unit ends with this fault, where that is what was left to run before; want of memory may come at any time
+-- the unit ends with this fault, which gives the same play as what was left to run before it; want of memory may
+-- come at any time
 abbrev pub Ends : World → Player → Progress → Stop → Requests → Type 0
 Ends world player old (Fault text) before = heard world player.progress (stop text player.has) ≡ heard world old before
 Ends world player old Memory before = Unit {0}
 
--- an answer goes on with what is left of what was left to run before, or the unit ends
+-- what an answer leads to gives the same play as what was left to run before it; or the unit ends
 abbrev pub Leads : {A : Type 0} → World → Player → Progress → Result A Stop → (A → Requests) → Requests → Type 0
 Leads world player old (Ok answer) go before = heard world player.progress (go answer) ≡ heard world old before
 Leads world player old (Err why) go before = Ends world player old why before
 
 -- what the code's play gives
 abbrev pub played_of : code.Played → Played
-played_of played = record { result = played.result; asked = played.asked; reads = played.reads; writes = played.writes }
+played_of played =
+    record { result = played.result; asked = played.asked; reads = played.reads; writes = played.writes }

@@ -7,7 +7,8 @@ use Rattle.script_meaning.specs.declared.targets.Target as code
 
 -- the method that the code found
 abbrev pub target_of : code.Target → Target
-target_of target = record { of_type = type_tree target.of_type.now; number = target.number; method = method_tree target.method.now }
+target_of target =
+    record { of_type = type_tree target.of_type.now; number = target.number; method = method_tree target.method.now }
 
 -- the type of this number
 abbrev pub type_at : List TypeDecl → ℕ → Option TypeTree

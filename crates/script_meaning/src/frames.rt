@@ -3,7 +3,6 @@ ghost use Rattle.std.specs.Option.{option_copied};
 ghost use Rattle.script_tree.specs.Programs.{program_tree};
 ghost use Rattle.script_check.specs.Accepted.{IsProgram};
 ghost use Rattle.script_meaning.specs.Play.{initial_of, found_in};
-ghost use Rattle.script_meaning.specs.Targets.{type_at};
 ghost use Rattle.script_meaning.specs.Playing.{types_in};
 
 use base_types::{GrainId, Outcome, State, Store};
@@ -34,7 +33,7 @@ pub struct Site<'a> {
 /// no such type.
 pub fn initial(alloc: Global, program: &Program, grain: GrainId) -> Result<State, AllocError>
     requires { IsProgram (program_tree program.now) }
-    ensures { IfOk result (λ state. state ≡ initial_of (type_at program.now.types.list.items grain.kind)) }
+    ensures { IfOk result (λ state. state ≡ initial_of (slice_get (program_tree program.now) grain.kind)) }
 {
     match program.types.get(grain.kind as usize) {
         Some(of_type) => initial_state(alloc, of_type.fields.as_slice()),

@@ -42,7 +42,8 @@ pub struct Player {
 
 /// What a caller does with a child's outcome: an abort is a fault.
 fn answered(alloc: Global, outcome: &Outcome) -> Result<Answer, AllocError>
-    ensures { IfOk result (λ answer. (back : Back) (caught : Caught) (has : Has) → answering answer back caught has ≡ answered outcome.now back caught has) }
+    ensures { IfOk result (λ answer. (back : Back) (caught : Caught) (has : Has) →
+        answering answer back caught has ≡ answered outcome.now back caught has) }
 {
     match outcome {
         Outcome::Value(value) => Ok(Answer::Value(value.copy()?)),
@@ -129,7 +130,9 @@ impl Player {
 
     /// What a condition's value means.
     fn truth_of(&self, alloc: Global, value: &Value) -> Result<bool, Stop>
-        ensures { (world : Worlds) (first second : Requests) → Leads world self.now self.now.progress result (λ holds. if holds then first else second) (chosen value.now self.now.has first second) }
+        ensures { (world : Worlds) (first second : Requests) →
+            Leads world self.now self.now.progress result (λ holds. if holds then first else second)
+            (chosen value.now self.now.has first second) }
     {
         match value {
             Value::Int(number) => Ok(is_true(*number)),
@@ -145,7 +148,10 @@ impl Player {
         test: &Expr,
         locals: &[Local],
     ) -> Result<bool, Stop>
-        ensures { (world : Worlds) (first second : Requests) → Leads world self.now self.now.progress result (λ holds. if holds then first else second) (with_value (value_in (surrounds (site_of site.now) locals.now self.now.has) (expr_tree test.now)) self.now.has (λ value. chosen value self.now.has first second)) }
+        ensures { (world : Worlds) (first second : Requests) →
+            Leads world self.now self.now.progress result (λ holds. if holds then first else second)
+            (with_value (value_in (surrounds (site_of site.now) locals.now self.now.has) (expr_tree test.now))
+            self.now.has (λ value. chosen value self.now.has first second)) }
     {
         let value = self.given(alloc, site, test, locals)?;
         self.truth_of(alloc, &value)
@@ -153,7 +159,8 @@ impl Player {
 
     /// The key at a place: a number from 0 on that fits 32 bits.
     pub fn key_at(&self, alloc: Global, place: &Value) -> Result<u32, Stop>
-        ensures { (world : Worlds) (go : ℕ → Requests) → Leads world self.now self.now.progress result go (with_key place.now self.now.has go) }
+        ensures { (world : Worlds) (go : ℕ → Requests) →
+            Leads world self.now self.now.progress result go (with_key place.now self.now.has go) }
     {
         match place {
             Value::Int(number) => {
@@ -178,7 +185,10 @@ impl Player {
         value: &Expr,
         locals: &[Local],
     ) -> Result<(), Stop>
-        ensures led { (world : Worlds) (types : ProgramTree) (runner : Runner) (back : Back) (next : Next) → Leads world self.new self.old.progress result (λ _. next locals.now self.new.has) (does types runner (site_of site.now) back (SetField name.now (expr_tree value.now)) next locals.now self.old.has) }
+        ensures led { (world : Worlds) (types : ProgramTree) (runner : Runner) (back : Back) (next : Next) →
+            Leads world self.new self.old.progress result (λ _. next locals.now self.new.has)
+            (does types runner (site_of site.now) back (SetField name.now (expr_tree value.now)) next
+            locals.now self.old.has) }
         ensures fewer { self.new.has.left ≤ self.old.has.left }
     {
         let value = self.given(alloc, site, value, locals)?;
@@ -200,7 +210,9 @@ impl Player {
         fields: &[FieldDecl],
     ) -> Result<(), Stop>
         requires { length fields.now ≤ 16 }
-        ensures led { (go : Has → Requests) → Leads world.now self.new self.old.progress result (λ _. go self.new.has) (locked None mode grain fields.now go self.old.has) }
+        ensures led { (go : Has → Requests) →
+            Leads world.now self.new self.old.progress result (λ _. go self.new.has)
+            (locked None mode grain fields.now go self.old.has) }
         ensures fewer { self.new.has.left ≤ self.old.has.left }
     {
         if !self.has.has_room() {
@@ -223,7 +235,9 @@ impl Player {
         fields: &[FieldDecl],
     ) -> Result<(), Stop>
         requires { length fields.now ≤ 16 }
-        ensures led { (go : Has → Requests) → Leads world.now self.new self.old.progress result (λ _. go self.new.has) (locked (mode_at grain self.old.has.held) mode grain fields.now go self.old.has) }
+        ensures led { (go : Has → Requests) →
+            Leads world.now self.new self.old.progress result (λ _. go self.new.has)
+            (locked (mode_at grain self.old.has.held) mode grain fields.now go self.old.has) }
         ensures fewer { self.new.has.left ≤ self.old.has.left }
     {
         match self.has.mode_of(grain) {
@@ -249,7 +263,9 @@ impl Player {
         fields: &[FieldDecl],
     ) -> Result<(), Stop>
         requires { length fields.now ≤ 16 }
-        ensures led { (go : Has → Requests) → Leads world.now self.new self.old.progress result (λ _. go self.new.has) (joined kind grain fields.now go self.old.has) }
+        ensures led { (go : Has → Requests) →
+            Leads world.now self.new self.old.progress result (λ _. go self.new.has)
+            (joined kind grain fields.now go self.old.has) }
         ensures fewer { self.new.has.left ≤ self.old.has.left }
     {
         match kind {
@@ -267,7 +283,9 @@ impl Player {
         call: Call,
         depth: u16,
     ) -> Result<Answer, Stop>
-        ensures led { (onto : Back) (caught : Caught) → Leads world.now self.new self.old.progress result (λ answer. answering answer onto caught self.new.has) (in_own_unit call depth onto caught self.old.has) }
+        ensures led { (onto : Back) (caught : Caught) →
+            Leads world.now self.new self.old.progress result (λ answer. answering answer onto caught self.new.has)
+            (in_own_unit call depth onto caught self.old.has) }
         ensures fewer { self.new.has.left ≤ self.old.has.left }
     {
         if !self.has.ask_unit() {

@@ -36,7 +36,10 @@ impl Player {
         locals: &mut Vec<Local>,
     ) -> Result<Flow, Stop>
         requires { site.now.depth ≤ 32 }
-        ensures led { (back : Back) (next : Next) → Leads world.now self.new self.old.progress result (λ flow. flowing flow back next locals.new.items self.new.has) (runs (types_in world.now) (below world.now site.now.depth) (site_of site.now) back (block_tree (stmt_trees block.now)) next locals.old.items self.old.has) }
+        ensures led { (back : Back) (next : Next) →
+            Leads world.now self.new self.old.progress result (λ flow. flowing flow back next locals.new.items self.new.has)
+            (runs (types_in world.now) (below world.now site.now.depth) (site_of site.now) back
+            (block_tree (stmt_trees block.now)) next locals.old.items self.old.has) }
         ensures fewer { self.new.has.left ≤ self.old.has.left }
     {
         for stmt in block {
@@ -59,7 +62,10 @@ impl Player {
         locals: &mut Vec<Local>,
     ) -> Result<Flow, Stop>
         requires { site.now.depth ≤ 32 }
-        ensures led { (back : Back) (next : Next) → Leads world.now self.new self.old.progress result (λ flow. flowing flow back next locals.new.items self.new.has) (step (does (types_in world.now) (below world.now site.now.depth) (site_of site.now) back (stmt_tree stmt.now) next) locals.old.items self.old.has) }
+        ensures led { (back : Back) (next : Next) →
+            Leads world.now self.new self.old.progress result (λ flow. flowing flow back next locals.new.items self.new.has)
+            (step (does (types_in world.now) (below world.now site.now.depth) (site_of site.now) back
+            (stmt_tree stmt.now) next) locals.old.items self.old.has) }
         ensures fewer { self.new.has.left ≤ self.old.has.left }
     {
         if !self.has.take_step() {
@@ -79,7 +85,10 @@ impl Player {
         locals: &mut Vec<Local>,
     ) -> Result<Flow, Stop>
         requires { site.now.depth ≤ 32 }
-        ensures led { (back : Back) (next : Next) → Leads world.now self.new self.old.progress result (λ flow. flowing flow back next locals.new.items self.new.has) (does (types_in world.now) (below world.now site.now.depth) (site_of site.now) back (stmt_tree stmt.now) next locals.old.items self.old.has) }
+        ensures led { (back : Back) (next : Next) →
+            Leads world.now self.new self.old.progress result (λ flow. flowing flow back next locals.new.items self.new.has)
+            (does (types_in world.now) (below world.now site.now.depth) (site_of site.now) back
+            (stmt_tree stmt.now) next locals.old.items self.old.has) }
         ensures fewer { self.new.has.left ≤ self.old.has.left }
     {
         match stmt {
@@ -155,7 +164,10 @@ impl Player {
         locals: &mut Vec<Local>,
     ) -> Result<Flow, Stop>
         requires { site.now.depth ≤ 32 }
-        ensures led { (back : Back) (next : Next) → Leads world.now self.new self.old.progress result (λ flow. flowing flow back next locals.new.items self.new.has) (does (types_in world.now) (below world.now site.now.depth) (site_of site.now) back (Repeat (expr_tree test.now) (block_tree (stmt_trees body.now))) next locals.old.items self.old.has) }
+        ensures led { (back : Back) (next : Next) →
+            Leads world.now self.new self.old.progress result (λ flow. flowing flow back next locals.new.items self.new.has)
+            (does (types_in world.now) (below world.now site.now.depth) (site_of site.now) back
+            (Repeat (expr_tree test.now) (block_tree (stmt_trees body.now))) next locals.old.items self.old.has) }
         ensures fewer { self.new.has.left ≤ self.old.has.left }
     {
         if !self.has.take_step() {
@@ -182,7 +194,10 @@ impl Player {
         locals: &[Local],
     ) -> Result<Value, Stop>
         requires { site.now.depth ≤ 32 }
-        ensures led { (back : Back) (onto : Values → Next) → Leads world.now self.new self.old.progress result (λ value. onto value locals.now self.new.has) (sourced (types_in world.now) (below world.now site.now.depth) (site_of site.now) back (source_tree source.now) onto locals.now self.old.has) }
+        ensures led { (back : Back) (onto : Values → Next) →
+            Leads world.now self.new self.old.progress result (λ value. onto value locals.now self.new.has)
+            (sourced (types_in world.now) (below world.now site.now.depth) (site_of site.now) back
+            (source_tree source.now) onto locals.now self.old.has) }
         ensures fewer { self.new.has.left ≤ self.old.has.left }
     {
         match source {
@@ -202,7 +217,10 @@ impl Player {
         locals: &[Local],
     ) -> Result<Value, Stop>
         requires { site.now.depth ≤ 32 }
-        ensures led { (back onto : Back) → Leads world.now self.new self.old.progress result (λ value. onto value self.new.has) (calls (types_in world.now) (below world.now site.now.depth) (site_of site.now) back (call_tree call.now) onto stop locals.now self.old.has) }
+        ensures led { (back onto : Back) →
+            Leads world.now self.new self.old.progress result (λ value. onto value self.new.has)
+            (calls (types_in world.now) (below world.now site.now.depth) (site_of site.now) back
+            (call_tree call.now) onto stop locals.now self.old.has) }
         ensures fewer { self.new.has.left ≤ self.old.has.left }
     {
         match self.play_call(alloc, world, site, call, locals)? {
@@ -222,7 +240,10 @@ impl Player {
         locals: &[Local],
     ) -> Result<Answer, Stop>
         requires { site.now.depth ≤ 32 }
-        ensures led { (back onto : Back) (caught : Caught) → Leads world.now self.new self.old.progress result (λ answer. answering answer onto caught self.new.has) (calls (types_in world.now) (below world.now site.now.depth) (site_of site.now) back (call_tree call.now) onto caught locals.now self.old.has) }
+        ensures led { (back onto : Back) (caught : Caught) →
+            Leads world.now self.new self.old.progress result (λ answer. answering answer onto caught self.new.has)
+            (calls (types_in world.now) (below world.now site.now.depth) (site_of site.now) back
+            (call_tree call.now) onto caught locals.now self.old.has) }
         ensures fewer { self.new.has.left ≤ self.old.has.left }
     {
         let place = self.given(alloc, site, &call.place, locals)?;
@@ -253,7 +274,10 @@ impl Player {
         args: List<Value>,
     ) -> Result<Answer, Stop>
         requires { length target.of_type.now.fields.list.items ≤ 16 }
-        ensures led { (onto : Back) (caught : Caught) → Leads world.now self.new self.old.progress result (λ answer. answering answer onto caught self.new.has) (enters (deep (types_in world.now) (33 - depth)) way depth grain (target_of target.entry) args onto caught self.old.has) }
+        ensures led { (onto : Back) (caught : Caught) →
+            Leads world.now self.new self.old.progress result (λ answer. answering answer onto caught self.new.has)
+            (enters (deep (types_in world.now) (33 - depth)) way depth grain (target_of target.entry) args
+            onto caught self.old.has) }
         ensures fewer { self.new.has.left ≤ self.old.has.left }
     {
         if let Entered::Refused(why) = way {
@@ -310,7 +334,10 @@ impl Player {
         args: List<Value>,
     ) -> Result<Value, Stop>
         requires { site.now.depth ≤ 32 }
-        ensures led { (back : Back) → Leads world.now self.new self.old.progress result (λ value. back value self.new.has) (plays_method world.now (site_of site.now) (method_tree method.now) (bound method.now.params.list.items args) back self.old.has) }
+        ensures led { (back : Back) →
+            Leads world.now self.new self.old.progress result (λ value. back value self.new.has)
+            (plays_method world.now (site_of site.now) (method_tree method.now)
+            (bound method.now.params.list.items args) back self.old.has) }
         ensures fewer { self.new.has.left ≤ self.old.has.left }
     {
         let mut locals = bind_arguments(alloc, &method.params, args)?;

@@ -53,7 +53,8 @@ fn is_below(one: GrainId, other: GrainId) -> bool
 /// Where a grain belongs among others in order.
 fn place_of(list: &[(GrainId, State)], grain: GrainId) -> usize
     ensures within { result ≤ length list.now }
-    ensures there { (state : Lists Values) → insert (grain, state) list.now ≡ take result list.now ++ ((grain, state) ∷ drop result list.now) }
+    ensures there { (state : Lists Values) →
+        insert (grain, state) list.now ≡ take result list.now ++ ((grain, state) ∷ drop result list.now) }
 {
     for (i, one) in list.iter().enumerate() {
         if is_below(grain, one.0) {
@@ -97,7 +98,9 @@ fn writes_of(
 
 /// How a unit ended.
 fn outcome_of(end: Result<Answer, Stop>) -> Result<Outcome, AllocError>
-    ensures { IfOk result (λ outcome. (world : Worlds) (player : Players) (old : Progresses) (before : Requests) → Leads world player old end (λ answer. answering answer ends stop player.has) before → heard world player.progress (End outcome player.has) ≡ heard world old before) }
+    ensures { IfOk result (λ outcome. (world : Worlds) (player : Players) (old : Progresses) (before : Requests) →
+        Leads world player old end (λ answer. answering answer ends stop player.has) before → heard world player.progress
+        (End outcome player.has) ≡ heard world old before) }
 {
     match end {
         Ok(Answer::Value(value)) => Ok(Outcome::Value(value)),
@@ -117,7 +120,8 @@ impl Player {
         depth: u16,
     ) -> Result<Answer, Stop>
         requires { self.old.has ≡ at_start }
-        ensures { Leads world.now self.new self.old.progress result (λ answer. answering answer ends stop self.new.has) (unit (types_in world.now) call.now depth) }
+        ensures { Leads world.now self.new self.old.progress result (λ answer. answering answer ends stop self.new.has)
+            (unit (types_in world.now) call.now depth) }
     {
         let Some(target) = target_at(world.types(), call.grain.kind, call.method) else {
             return Err(stop_at(alloc, Reason::Unknown));

@@ -1,4 +1,4 @@
-use Rattle.std.proofs.Common.{◌≡◌, ◌≤◌, IfOk, length, List, sym, ap, subst, ◌∙◌, arith}
+use Rattle.std.proofs.Common.{◌≡◌, IfOk, length, List, sym, ap, subst, ◌∙◌, arith}
 use Rattle.base_types.specs.declared.calls.Value.{Value}
 use Rattle.script_meaning.specs.Play.{initial_of}
 use Rattle.script_holding.specs.Holding.{initial_fields}

@@ -1,4 +1,4 @@
-use Rattle.std.proofs.Common.{◌≤◌, sym, arith}
+use Rattle.std.proofs.Common.{sym, arith}
 use Rattle.script_meaning.proofs.Programs.{type_there}
 use Rattle.script_meaning.proofs.targets.target_at.Goals as goal
 

@@ -1,4 +1,4 @@
-use Rattle.std.proofs.Common.{◌≡◌, ◌≤◌, length, List, map, Some, None, sym, ap, ◌∙◌, arith}
+use Rattle.std.proofs.Common.{length, List, map, sym, ap, ◌∙◌, arith}
 use Rattle.std.specs.Option.{option_map}
 use Rattle.std.proofs.lemmas.List.{length-map}
 use Rattle.script_tree.specs.Programs.{method_tree}

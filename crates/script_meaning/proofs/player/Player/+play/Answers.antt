@@ -1,4 +1,4 @@
-use Rattle.std.proofs.Common.{◌≡◌, ◌-◌, ◌<◌, ◌≤◌, ℕ, Bool, true, List, map, Option, Some, None, Result, Err, ap, sym, ◌∙◌, arith}
+use Rattle.std.proofs.Common.{◌-◌, ◌<◌, ◌≤◌, ℕ, Bool, true, List, map, Option, ap, sym, ◌∙◌, arith}
 use Rattle.std.specs.Prelude.{if◌then◌else◌, slice_get}
 use Rattle.std.proofs.lemmas.Result.{err_from_is_err_and}
 use Rattle.base_types.specs.declared.calls.GrainId.{GrainId}
@@ -14,14 +14,14 @@ use Rattle.script_tree.specs.declared.statements.Source.{Source}
 use Rattle.script_tree.specs.declared.statements.Stmt.{Stmt}
 use Rattle.script_tree.specs.Exprs.{expr_tree, call_tree}
 use Rattle.script_tree.specs.Stmts.{StmtTree, Repeat, source_tree, stmt_tree, stmt_trees, block_tree, else_tree}
-use Rattle.script_tree.specs.Programs.{method_tree, type_tree}
+use Rattle.script_tree.specs.Programs.{type_tree}
 use Rattle.script_values.specs.Expressions.{Locals, put, value_in, values_in}
 use Rattle.script_values.specs.Faults.{unknown, budget, depth}
 use Rattle.script_values.specs.Reasons.{reason_text}
 use Rattle.script_holding.specs.Holding.{Holding}
-use Rattle.script_meaning.specs.Requests.{Requests, Back, stop, with_value}
-use Rattle.script_meaning.specs.Calls.{Site, Target, bound, joined, enters, method_of, to_type, to_target, type_from}
-use Rattle.script_meaning.specs.Statements.{Next, around, calls, chosen, deep, does, runs, runs_else, sourced}
+use Rattle.script_meaning.specs.Requests.{Back, stop, with_value}
+use Rattle.script_meaning.specs.Calls.{Target, bound, joined, enters, method_of, to_type, to_target, type_from}
+use Rattle.script_meaning.specs.Statements.{around, calls, chosen, deep, does, runs, runs_else, sourced}
 use Rattle.script_meaning.specs.Targets.{target_of}
 use Rattle.script_meaning.specs.Playing.{types_in, site_of, surrounds, below, plays_method, heard, flowing, answering}
 use Rattle.script_meaning.specs.declared.flows.Flow.{Flow}

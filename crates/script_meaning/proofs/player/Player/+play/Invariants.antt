@@ -1,4 +1,4 @@
-use Rattle.std.proofs.Common.{◌≡◌, ◌≤◌, ℕ, ◌+◌, ◌*◌, drop}
+use Rattle.std.proofs.Common.{◌≡◌, ◌≤◌, ◌+◌, ◌*◌, drop}
 use Rattle.script_tree.specs.Stmts.{stmt_trees, block_tree}
 use Rattle.script_meaning.specs.Requests.{Back}
 use Rattle.script_meaning.specs.Statements.{Next, runs}

@@ -1,4 +1,4 @@
-use Rattle.std.proofs.Common.{◌≡◌, ◌+◌, ℕ, List, [], ◌∷◌, ◌++◌, ap, sym, ◌∙◌}
+use Rattle.std.proofs.Common.{◌+◌, ℕ, List, [], ◌∷◌, ◌++◌, ap, sym, ◌∙◌}
 use Rattle.script_values.specs.Faults.{units, aborted}
 use Rattle.script_holding.specs.Holding.{Holding, one_asked}
 use Rattle.script_meaning.specs.Requests.{Requests, stop}

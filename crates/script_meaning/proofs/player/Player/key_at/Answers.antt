@@ -1,4 +1,4 @@
-use Rattle.std.proofs.Common.{◌≡◌, ℤ, pos, true, ap, ◌∙◌, arith}
+use Rattle.std.proofs.Common.{◌≡◌, pos, true, ap, ◌∙◌, arith}
 use Rattle.std.specs.Prelude.{int_lt}
 use Rattle.std.proofs.lemmas.Int.{ints}
 use Rattle.base_types.specs.declared.calls.Value.{Value}

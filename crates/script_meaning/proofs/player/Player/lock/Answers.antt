@@ -1,4 +1,4 @@
-use Rattle.std.proofs.Common.{◌≡◌, Option, Some, ap, sym, ◌∙◌}
+use Rattle.std.proofs.Common.{Option, Some, ap, sym, ◌∙◌}
 use Rattle.base_types.specs.declared.calls.Mode.{Mode}
 use Rattle.base_types.specs.declared.calls.Mode.TheVariants.{Read}
 use Rattle.script_holding.specs.Holding.{Holding, change, raised, with_held}

@@ -1,4 +1,4 @@
-use Rattle.std.proofs.Common.{◌≡◌, List, [], ◌∷◌, ◌++◌, ap, sym, ◌∙◌}
+use Rattle.std.proofs.Common.{List, [], ◌∷◌, ◌++◌, ap, sym, ◌∙◌}
 use Rattle.base_types.specs.declared.calls.Value.{Value}
 use Rattle.script_values.specs.Faults.{grains}
 use Rattle.script_holding.specs.Holding.{Holding, newly_held, with_held}

@@ -1,4 +1,4 @@
-use Rattle.std.proofs.Common.{◌≡◌, ◌-◌, List, map, false, ap, sym, ◌∙◌}
+use Rattle.std.proofs.Common.{◌-◌, List, map, false, ap, sym, ◌∙◌}
 use Rattle.std.specs.Prelude.{slice_get}
 use Rattle.base_types.specs.declared.calls.Value.{Value}
 use Rattle.script_tree.specs.declared.options.Entered.{Entered}
@@ -10,7 +10,7 @@ use Rattle.script_holding.specs.Holding.{Holding}
 use Rattle.script_meaning.specs.Requests.{stop}
 use Rattle.script_meaning.specs.Calls.{enters, numbered}
 use Rattle.script_meaning.specs.Statements.{deep}
-use Rattle.script_meaning.specs.Play.{as_first, at_start, ends, unit}
+use Rattle.script_meaning.specs.Play.{as_first, ends, unit}
 use Rattle.script_meaning.specs.Targets.{target_of}
 use Rattle.script_meaning.specs.Playing.{types_in, answering, heard}
 use Rattle.script_meaning.proofs.Heard.{ends_at, leads_on}

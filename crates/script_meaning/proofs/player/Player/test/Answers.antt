@@ -1,4 +1,4 @@
-use Rattle.std.proofs.Common.{◌≡◌, ap, sym, ◌∙◌}
+use Rattle.std.proofs.Common.{ap, sym}
 use Rattle.std.specs.Prelude.{if◌then◌else◌}
 use Rattle.script_values.specs.Values.{Given}
 use Rattle.script_meaning.specs.Requests.{with_value}

@@ -1,4 +1,4 @@
-use Rattle.std.proofs.Common.{◌≡◌, ap, ◌∙◌}
+use Rattle.std.proofs.Common.{ap}
 use Rattle.base_types.specs.declared.calls.Value.{Value}
 use Rattle.script_values.specs.Faults.{kind}
 use Rattle.script_meaning.specs.Statements.{chosen}

@@ -1,0 +1,76 @@
+-- The blocks of a method, and what follows them.
+use Rattle.std.specs.Prelude.{ℕ, zero, suc, ◌+◌, List, [], ◌∷◌, Option, Some, None}
+use Rattle.base_types.specs.declared.calls.Value.{Value}
+use Rattle.base_types.specs.declared.calls.Value.TheVariants.{Text}
+use Rattle.script_tree.specs.Stmts.{StmtTree, BlockTree, ElseTree, Bind, Rebind, Choose, Repeat, Try, NoMore, Then, NoElse, Else}
+use Rattle.script_tree.specs.Programs.{ProgramTree}
+use Rattle.script_values.specs.Expressions.{put}
+use Rattle.script_meaning.specs.Requests.{Back, stop}
+use Rattle.script_meaning.specs.Calls.{Site, Runner}
+use Rattle.script_meaning.specs.Statements.{Next, does, runs}
+use Rattle.script_machine.specs.declared.frames.Part.{Part}
+use Rattle.script_machine.specs.declared.frames.Part.TheVariants.{First, Second}
+use Rattle.script_machine.specs.declared.frames.OpenBlock.{OpenBlock}
+
+-- a block from its statement of this number on
+abbrev pub from : ℕ → BlockTree → BlockTree
+from zero block = block
+from (suc n) NoMore = NoMore
+from (suc n) (Then first rest) = from n rest
+
+-- the first statement of a block, and that of this number
+abbrev pub first_in : BlockTree → Option StmtTree
+first_in NoMore = None
+first_in (Then first rest) = Some first
+
+abbrev pub statement_at : ℕ → BlockTree → Option StmtTree
+statement_at i block = first_in (from i block)
+
+-- a second block, no statements where it is left out
+abbrev pub else_block : ElseTree → BlockTree
+else_block NoElse = NoMore
+else_block (Else block) = block
+
+-- a block of a statement: a loop's body is its first
+abbrev pub part_of : Part → StmtTree → BlockTree
+part_of First (Choose test block other) = block
+part_of Second (Choose test block other) = else_block other
+part_of First (Repeat test block) = block
+part_of First (Try at name call block other) = block
+part_of Second (Try at name call block other) = other
+part_of part stmt = NoMore
+
+abbrev pub part_at : Part → Option StmtTree → BlockTree
+part_at part None = NoMore
+part_at part (Some stmt) = part_of part stmt
+
+-- a block within a block
+abbrev pub inner : BlockTree → OpenBlock → BlockTree
+inner block open_block = part_at open_block.part (statement_at open_block.at block)
+
+module _ (types : ProgramTree) (runner : Runner) (site : Site) (back : Back) where
+  -- what follows the end of a block of this statement: a loop begins its next turn
+  abbrev pub outer : Option StmtTree → Next → Next
+  outer (Some (Repeat test block)) next = does types runner site back (Repeat test block) next
+  outer stmt next = next
+
+  -- the same, where the statement is looked up in the block around it
+  abbrev pub follows : BlockTree → Next → OpenBlock → Next
+  follows block next open_block = outer (statement_at open_block.at block) (runs types runner site back (from (open_block.at + 1) block) next)
+
+  -- what follows the end of the innermost of these open blocks
+  abbrev pub beyond : BlockTree → Next → List OpenBlock → Next
+  beyond block next [] = next
+  beyond block next (open_block ∷ path) = beyond (inner block open_block) (follows block next open_block) path
+
+  -- what the call at this statement does with its value
+  abbrev pub received : Option StmtTree → Next → Value → Next
+  received (Some (Bind name source)) next value = λ locals. next (put name.text value locals)
+  received (Some (Rebind name source)) next value = λ locals. next (put name.text value locals)
+  received (Some (Try at name call block other)) next value = λ locals. runs types runner site back block next (put name.text value locals)
+  received stmt next value = next
+
+  -- and with the fault of a unit of its own
+  abbrev pub caught : Option StmtTree → Next → List ℕ → Next
+  caught (Some (Try at name call block other)) next text = λ locals. runs types runner site back other next (put name.text (Text text) locals)
+  caught stmt next text = λ locals. stop text

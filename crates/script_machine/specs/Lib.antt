@@ -1,0 +1,5 @@
+pub mod Blocks
+pub mod Callees
+pub mod Frames
+pub mod Runs
+pub mod Machines

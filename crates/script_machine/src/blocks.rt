@@ -1,0 +1,142 @@
+ghost use Rattle.std.specs.Prelude.{◌≡◌, ◌<◌, ◌+◌, ◌^◌, Some, IfOk, OnOk};
+ghost use Rattle.script_tree.specs.Exprs.{expr_tree};
+ghost use Rattle.script_tree.specs.Stmts.{NoMore, stmt_tree};
+ghost use Rattle.script_tree.specs.Programs.{ProgramTree, program_tree};
+ghost use Rattle.script_machine.specs.Blocks.{from, statement_at};
+ghost use Rattle.script_machine.specs.Frames.{block_of, from_at};
+ghost use Rattle.script_machine.specs.Runs.{stays, Goes, Shrinks, StandsAt, size, running, value_here, back_of, next_here, part_here, outer_here, GivesTruth, chosen_by};
+
+use crate::frames::{OpenBlock, Part};
+use crate::runs::{Flow, Run};
+use base_types::Value;
+use script_check::Checked;
+use script_tree::{Expr, Stmt};
+use script_values::{Reason, Stop, fault_of, is_true};
+use std::alloc::{AllocError, Global};
+
+impl Run {
+    /// Goes into a block of the statement at which the topmost frame stands.
+    pub fn go_into(&mut self, checked: &Checked, stmt: &Stmt, part: Part) -> Result<(), AllocError>
+        requires here { StandsAt (program_tree checked.now) self.old (stmt_tree stmt.now) }
+        ensures tree { OnOk result (part_here (program_tree checked.now) self.old part (stmt_tree stmt.now) ≡ running (program_tree checked.now) self.new) }
+        ensures less { OnOk result (size self.new ≡ size self.old + 1) }
+    {
+        self.top.path.push(OpenBlock {
+            at: self.top.at,
+            part,
+        })?;
+        self.top.at = 0;
+        Ok(())
+    }
+
+    /// What a condition in the topmost frame says.
+    fn condition(&self, alloc: Global, checked: &Checked, test: &Expr) -> Result<bool, Stop>
+        ensures { GivesTruth result (value_here (program_tree checked.now) self.now (expr_tree test.now)) }
+    {
+        match self.value(alloc, checked, test)? {
+            Value::Int(number) => Ok(is_true(number)),
+            Value::Text(_) => Err(Stop::Fault(fault_of(alloc, Reason::Kind)?)),
+        }
+    }
+
+    /// `if`, once its step is taken.
+    pub fn choose(
+        &mut self,
+        alloc: Global,
+        checked: &Checked,
+        stmt: &Stmt,
+        test: &Expr,
+    ) -> Result<Flow, Stop>
+        requires here { StandsAt (program_tree checked.now) self.old (stmt_tree stmt.now) }
+        ensures tree { Goes (chosen_by (value_here (program_tree checked.now) self.old (expr_tree test.now)) self.old.has (part_here (program_tree checked.now) self.old Part.First (stmt_tree stmt.now)) (part_here (program_tree checked.now) self.old Part.Second (stmt_tree stmt.now))) (program_tree checked.now) self.new result }
+        ensures less { IfOk result (Shrinks (size self.old + 4) self.new) }
+    {
+        if self.condition(alloc, checked, test)? {
+            self.go_into(checked, stmt, Part::First)?;
+            Ok(Flow::Moved)
+        } else {
+            self.go_into(checked, stmt, Part::Second)?;
+            Ok(Flow::Moved)
+        }
+    }
+
+    /// The test of the loop at which the topmost frame stands, once its step is taken.
+    fn turn(
+        &mut self,
+        alloc: Global,
+        checked: &Checked,
+        stmt: &Stmt,
+        test: &Expr,
+    ) -> Result<Flow, Stop>
+        requires here { StandsAt (program_tree checked.now) self.old (stmt_tree stmt.now) }
+        ensures tree { Goes (chosen_by (value_here (program_tree checked.now) self.old (expr_tree test.now)) self.old.has (part_here (program_tree checked.now) self.old Part.First (stmt_tree stmt.now)) (next_here (program_tree checked.now) self.old self.old.top.locals.items self.old.has)) (program_tree checked.now) self.new result }
+        ensures less { IfOk result (Shrinks (size self.old + 4) self.new) }
+    {
+        if self.condition(alloc, checked, test)? {
+            self.go_into(checked, stmt, Part::First)?;
+            Ok(Flow::Moved)
+        } else {
+            self.top.at += 1;
+            Ok(Flow::Moved)
+        }
+    }
+
+    /// A loop begins, or a block of this statement has ended.
+    pub fn again(&mut self, alloc: Global, checked: &Checked, stmt: &Stmt) -> Result<Flow, Stop>
+        requires here { StandsAt (program_tree checked.now) self.old (stmt_tree stmt.now) }
+        ensures tree { Goes (outer_here (program_tree checked.now) self.old (Some (stmt_tree stmt.now)) (next_here (program_tree checked.now) self.old) self.old.top.locals.items self.old.has) (program_tree checked.now) self.new result }
+        ensures less { IfOk result (Shrinks (size self.old + 1) self.new) }
+    {
+        match stmt {
+            Stmt::While { test, body: _ } => {
+                if !self.has.take_step() {
+                    return Err(Stop::Fault(fault_of(alloc, Reason::Budget)?));
+                }
+                self.turn(alloc, checked, stmt, test)
+            }
+            Stmt::Let { .. } => Ok(self.past()),
+            Stmt::Assign { .. } => Ok(self.past()),
+            Stmt::Set { .. } => Ok(self.past()),
+            Stmt::Call { .. } => Ok(self.past()),
+            Stmt::If { .. } => Ok(self.past()),
+            Stmt::Return { .. } => Ok(self.past()),
+            Stmt::Fail { .. } => Ok(self.past()),
+            Stmt::Attempt { .. } => Ok(self.past()),
+        }
+    }
+
+    /// The topmost frame goes on behind its statement.
+    fn past(&mut self) -> Flow
+        requires { self.old.top.at < 2 ^ 63 }
+        ensures tree { (types : ProgramTree) → next_here types self.old self.old.top.locals.items self.old.has ≡ stays types self.new result }
+        ensures less { Shrinks (size self.old + 1) self.new result }
+    {
+        self.top.at += 1;
+        Flow::Moved
+    }
+
+    /// The end of a block of the topmost frame, or of its method.
+    pub fn leave(&mut self, alloc: Global, checked: &Checked) -> Result<Flow, Stop>
+        requires past { from self.old.top.at (block_of (program_tree checked.now) self.old.top) ≡ NoMore }
+        ensures tree { Goes (running (program_tree checked.now) self.old) (program_tree checked.now) self.new result }
+        ensures less { IfOk result (Shrinks (size self.old) self.new) }
+    {
+        match self.top.path.pop() {
+            None => Ok(self.give(checked, Value::Int(0))?),
+            Some(opened) => self.back_to(alloc, checked, opened),
+        }
+    }
+
+    /// Goes on behind a block that was left.
+    fn back_to(&mut self, alloc: Global, checked: &Checked, opened: OpenBlock) -> Result<Flow, Stop>
+        ensures tree { Goes (outer_here (program_tree checked.now) self.old (statement_at opened.at (block_of (program_tree checked.now) self.old.top)) (from_at (program_tree checked.now) self.old.top.post (back_of (program_tree checked.now) self.old) self.old.top.path.items (opened.at + 1)) self.old.top.locals.items self.old.has) (program_tree checked.now) self.new result }
+        ensures less { IfOk result (Shrinks (size self.old + 1) self.new) }
+    {
+        self.top.at = opened.at;
+        let block = self.top.block(checked);
+        match self.statement(checked, block) {
+            None => Ok(Flow::Moved),
+            Some(stmt) => self.again(alloc, checked, stmt),
+        }
+    }
+}
