@@ -7,4 +7,4 @@ returns-clause-follows c =
     let types = program_tree c.args.checked.now in
     let known = follows_on types c.args.self.now c.feed.new.self c.args.input c.in_ok-feed.ensures.fed c.in_ok-feed.ensures.reads c.in_ok-feed.ensures.answers in
     all_ok c.pause.result _ (λ call depth trail follows.
-      record { named = (known call depth trail follows).named; left = (known call depth trail follows).left; reads = (known call depth trail follows).reads; answers = (known call depth trail follows).answers })
+    record { named = (known call depth trail follows).named; left = (known call depth trail follows).left; reads = (known call depth trail follows).reads; answers = (known call depth trail follows).answers })
