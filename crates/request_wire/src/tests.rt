@@ -1,21 +1,34 @@
 use crate::calls::call_of;
-use crate::{RequestFault, first_line, read_line, read_request, reply_text};
+use crate::names::CounterNames;
+use crate::{RequestFault, first_line, read_early, read_line, read_request, reply_text};
 use base_types::{
-    BadRequest, Entry, GrainId, List, Outcome, Settled, Shape, State, Text, TypeShape, UnitNo,
-    Value,
+    BadRequest, Call, Entry, GrainId, List, Outcome, Settled, Shape, State, Text, TypeShape,
+    UnitNo, Value,
 };
+use script_check::{Checked, check};
+use script_tree::{Chars, Items, Method, MethodKind, Name, Program, TxnOption, TypeDecl};
 use std::alloc::Global;
 use std::process::Abort;
 use std::test::Fail;
 
 /// The key and the number of a line that is carried, none where it is refused.
 fn added(alloc: Global, line: &[u8]) -> Result<Option<(u32, i64)>, Fail> {
-    match read_request(alloc, line) {
+    match read_early(alloc, line) {
         Ok(call) => match call.args.get(0) {
             Some(Value::Int(number)) => Ok(Some((call.grain.key, *number))),
             _ => Err("no number".into()),
         },
         Err(RequestFault::Bad(BadRequest::Early)) => Ok(None),
+        Err(RequestFault::Bad(_)) => Err("another test".into()),
+        Err(RequestFault::Memory) => Err("no memory".into()),
+    }
+}
+
+/// The test that a line fails for the counter program, none where it passes all.
+fn failed(alloc: Global, line: &[u8]) -> Result<Option<BadRequest>, Fail> {
+    match call_of(alloc, line, &CounterNames) {
+        Ok(_) => Ok(None),
+        Err(RequestFault::Bad(why)) => Ok(Some(why)),
         Err(RequestFault::Memory) => Err("no memory".into()),
     }
 }
@@ -62,15 +75,18 @@ fn a_line_that_adds_a_number_is_carried(rt: HostRuntime) -> Result<(), Fail> {
     Ok(())
 }
 
-const NO_OBJECT_OF_TWO: &[&str] = &[
+const NO_JSON: &[&str] = &[
     "",
     " ",
     "{",
+    "{\"args\":[5],\"call\":\"counter/1.add\"}{}",
+    "{\"args\":[5],\"call\":\"counter/1.add\",}",
+];
+
+const NO_OBJECT_OF_TWO: &[&str] = &[
     "[]",
     "null",
     "{}",
-    "{\"args\":[5],\"call\":\"counter/1.add\"}{}",
-    "{\"args\":[5],\"call\":\"counter/1.add\",}",
     "{\"args\":[5]}",
     "{\"call\":\"counter/1.add\"}",
     "{\"args\":[5],\"call\":\"counter/1.add\",\"more\":1}",
@@ -79,7 +95,7 @@ const NO_OBJECT_OF_TWO: &[&str] = &[
     "{\"args\":[5],\"call\":7}",
 ];
 
-const NO_METHOD_OF_A_GRAIN: &[&str] = &[
+const NO_GRAIN: &[&str] = &[
     "{\"args\":[5],\"call\":\"\"}",
     "{\"args\":[5],\"call\":\"counter\"}",
     "{\"args\":[5],\"call\":\"counter/1\"}",
@@ -94,6 +110,9 @@ const NO_METHOD_OF_A_GRAIN: &[&str] = &[
     "{\"args\":[5],\"call\":\"counter/4294967296.add\"}",
     "{\"args\":[5],\"call\":\"bank/1.add\"}",
     "{\"args\":[5],\"call\":\"Counter/1.add\"}",
+];
+
+const NO_METHOD: &[&str] = &[
     "{\"args\":[5],\"call\":\"counter/1.x\"}",
     "{\"args\":[5],\"call\":\"counter/1.\"}",
     "{\"args\":[5],\"call\":\"counter/1.add.add\"}",
@@ -115,14 +134,20 @@ const NO_ARGUMENTS: &[&str] = &[
 
 #[test]
 fn a_line_that_fails_a_test_is_refused(rt: HostRuntime) -> Result<(), Fail> {
-    for lines in [NO_OBJECT_OF_TWO, NO_METHOD_OF_A_GRAIN, NO_ARGUMENTS] {
+    for (lines, why) in [
+        (NO_JSON, BadRequest::Json),
+        (NO_OBJECT_OF_TWO, BadRequest::Shape),
+        (NO_GRAIN, BadRequest::Grain),
+        (NO_METHOD, BadRequest::Method),
+        (NO_ARGUMENTS, BadRequest::Args),
+    ] {
         for line in lines {
-            assert!(rt; call_of(rt.alloc(), line.as_bytes())?.is_none(), "{line}");
+            assert!(rt; failed(rt.alloc(), line.as_bytes())? == Some(why), "{line}");
             assert!(rt; added(rt.alloc(), line.as_bytes())?.is_none(), "{line}");
         }
     }
     let no_text = b"{\"args\":[5],\"call\":\"counter/1.add\xff\"}";
-    assert!(rt; added(rt.alloc(), no_text)?.is_none());
+    assert!(rt; failed(rt.alloc(), no_text)? == Some(BadRequest::Json));
     Ok(())
 }
 
@@ -136,17 +161,22 @@ fn with_text(alloc: Global, len: usize) -> Result<String, Fail> {
     Ok(line)
 }
 
+/// The call of a line that passes all tests for the counter program.
+fn passed(alloc: Global, line: &[u8]) -> Result<Call, Fail> {
+    call_of(alloc, line, &CounterNames).map_err(|_| "refused".into())
+}
+
 #[test]
 fn a_call_that_passes_the_tests_and_adds_no_number_is_refused(rt: HostRuntime) -> Result<(), Fail> {
     let alloc = rt.alloc();
     let longest = with_text(alloc, 256)?;
-    let call = call_of(alloc, longest.as_bytes())?.ok_or("refused")?;
+    let call = passed(alloc, longest.as_bytes())?;
     assert!(rt; matches!(call.args.get(0), Some(Value::Text(_))));
     assert!(rt; added(alloc, longest.as_bytes())?.is_none());
     let too_long = with_text(alloc, 257)?;
-    assert!(rt; call_of(alloc, too_long.as_bytes())?.is_none());
+    assert!(rt; failed(alloc, too_long.as_bytes())? == Some(BadRequest::Args));
     let read = b"{\"args\":[],\"call\":\"counter/7.read\"}";
-    let call = call_of(alloc, read)?.ok_or("refused")?;
+    let call = passed(alloc, read)?;
     assert_eq!(rt; call.grain, GrainId { kind: 0, key: 7 });
     assert_eq!(rt; call.method, 1);
     assert!(rt; added(alloc, read)?.is_none());
@@ -164,6 +194,99 @@ fn a_line_keeps_its_number(rt: HostRuntime) -> Result<(), Fail> {
     let line = read_line(alloc, 8, b"{")?;
     assert_eq!(rt; line.number, 8);
     assert!(rt; line.what.is_err());
+    Ok(())
+}
+
+fn name_of(alloc: Global, text: &str) -> Result<Name, Fail> {
+    let text = Chars::new(alloc, text)?;
+    Ok(Name { text, at: 0 })
+}
+
+/// A method with a parameter for each of these names, and no statement.
+fn method(alloc: Global, name: &str, params: &[&str]) -> Result<Method, Fail> {
+    let mut list = Items::new(alloc);
+    for param in params {
+        list.push(name_of(alloc, param)?)?;
+    }
+    let name = name_of(alloc, name)?;
+    let option = TxnOption::Create;
+    Ok(Method::new(name, list, option, 0, MethodKind::Plain, Items::new(alloc)))
+}
+
+fn type_with(alloc: Global, name: &str, first: Method, second: Method) -> Result<TypeDecl, Fail> {
+    let mut methods = Items::new(alloc);
+    methods.push(first)?;
+    methods.push(second)?;
+    Ok(TypeDecl::new(name_of(alloc, name)?, Items::new(alloc), methods))
+}
+
+/// The types `account` with `read()` and `move(to, n)`, and `atm` with `move(from)` and `stop()`.
+fn bank(alloc: Global) -> Result<Checked, Fail> {
+    let mut types = Items::new(alloc);
+    let read = method(alloc, "read", &[])?;
+    let to = method(alloc, "move", &["to", "n"])?;
+    types.push(type_with(alloc, "account", read, to)?)?;
+    let from = method(alloc, "move", &["from"])?;
+    let stop = method(alloc, "stop", &[])?;
+    types.push(type_with(alloc, "atm", from, stop)?)?;
+    check(alloc, Program::new(types)).map_err(|_| "no program".into())
+}
+
+const OF_THE_BANK: &[(&str, u16, u32, u16, usize)] = &[
+    ("{\"args\":[],\"call\":\"account/7.read\"}", 0, 7, 0, 0),
+    (
+        "{\"args\":[1,\"a\"],\"call\":\"account/0.move\"}",
+        0,
+        0,
+        1,
+        2,
+    ),
+    (
+        "{\"args\":[\"\"],\"call\":\"atm/4294967295.move\"}",
+        1,
+        4294967295,
+        0,
+        1,
+    ),
+    ("{\"args\":[],\"call\":\"atm/1.stop\"}", 1, 1, 1, 0),
+];
+
+const NOT_OF_THE_BANK: &[(&str, BadRequest)] = &[
+    ("{\"args\":[],\"call\":\"atm/1.stop\"", BadRequest::Json),
+    ("{\"args\":[],\"calls\":\"atm/1.stop\"}", BadRequest::Shape),
+    ("{\"args\":[],\"call\":\"bank/1.stop\"}", BadRequest::Grain),
+    (
+        "{\"args\":[],\"call\":\"account/1.stop\"}",
+        BadRequest::Method,
+    ),
+    (
+        "{\"args\":[1],\"call\":\"account/1.move\"}",
+        BadRequest::Args,
+    ),
+    ("{\"args\":[1,2],\"call\":\"atm/1.move\"}", BadRequest::Args),
+];
+
+#[test]
+fn a_request_names_a_grain_and_a_method_of_the_program(rt: HostRuntime) -> Result<(), Fail> {
+    let alloc = rt.alloc();
+    let checked = bank(alloc)?;
+    for (line, kind, key, method, args) in OF_THE_BANK {
+        let call = read_request(alloc, line.as_bytes(), &checked).map_err(|_| "refused")?;
+        let grain = GrainId {
+            kind: *kind,
+            key: *key,
+        };
+        assert!(rt; call.grain == grain, "{line}");
+        assert!(rt; call.method == *method, "{line}");
+        assert!(rt; call.args.len() == *args, "{line}");
+    }
+    for (line, why) in NOT_OF_THE_BANK {
+        let fault = read_request(alloc, line.as_bytes(), &checked);
+        assert!(rt;
+            matches!(fault, Err(RequestFault::Bad(bad)) if bad == *why),
+            "{line}"
+        );
+    }
     Ok(())
 }
 
@@ -279,8 +402,18 @@ fn doubt_and_bad_lines_have_their_words(rt: HostRuntime) -> Result<(), Fail> {
     let alloc = rt.alloc();
     let expected = "{\"in_doubt\":true,\"n\":9,\"unit\":19}\n";
     expect_reply(&rt, alloc, 9, Settled::InDoubt, expected)?;
-    let expected = "{\"bad\":\"early\",\"n\":10}\n";
-    expect_reply(&rt, alloc, 10, Settled::Bad(BadRequest::Early), expected)
+    for (why, word) in [
+        (BadRequest::Json, "json"),
+        (BadRequest::Shape, "shape"),
+        (BadRequest::Grain, "grain"),
+        (BadRequest::Method, "method"),
+        (BadRequest::Args, "args"),
+        (BadRequest::Early, "early"),
+    ] {
+        let expected = format!(in alloc; "{{\"bad\":\"{word}\",\"n\":10}}\n")?;
+        expect_reply(&rt, alloc, 10, Settled::Bad(why), expected.as_str())?;
+    }
+    Ok(())
 }
 
 #[test]
