@@ -1,5 +1,5 @@
 -- A called method's frame.
-use Rattle.std.proofs.Common.{◌≡◌, ℕ, suc, ◌-◌, List, [], ◌∷◌, length, drop, min, ◌⊎◌, inl, inr, Bool, true, None, refl, sym, ap, ◌∙◌, arith}
+use Rattle.std.proofs.Common.{◌≡◌, ℕ, suc, ◌-◌, List, [], ◌∷◌, length, drop, min, ◌⊎◌, inl, inr, Bool, true, refl, sym, ap, ◌∙◌, arith}
 use Rattle.std.specs.Prelude.{slice_get}
 use Rattle.std.proofs.lemmas.List.{drop_all}
 use Rattle.base_types.specs.declared.calls.Value.{Value}
@@ -8,32 +8,19 @@ use Rattle.script_tree.specs.declared.options.MethodKind.TheVariants as does
 use Rattle.script_tree.specs.declared.options.Entered.{Entered}
 use Rattle.script_tree.specs.declared.options.Entered.TheVariants.{Joined, NewUnit, Plain}
 use Rattle.script_tree.specs.Programs.{ProgramTree}
-use Rattle.script_values.specs.Faults.{depth}
 use Rattle.script_holding.specs.Limits.{depth_limit}
 use Rattle.script_holding.specs.Holding.{Holding}
-use Rattle.script_meaning.specs.Requests.{Requests, Back, Caught, stop}
+use Rattle.script_meaning.specs.Requests.{Requests, Back, Caught}
 use Rattle.script_meaning.specs.Calls.{bound, enters, in_own_unit, joined}
 use Rattle.script_meaning.specs.Statements.{runs, deep}
 use Rattle.script_machine.specs.declared.callees.Callee.{Callee}
 use Rattle.script_machine.specs.Callees.{IsThere, target_of, post_of}
 use Rattle.script_machine.specs.Frames.{begins, fields_of, gives_zero}
 
--- no frame opens past the deepest
-no_runner : (types : ProgramTree) (n : ℕ) → n ≡ 0 → deep types n ≡ None
-no_runner types n e = ap (deep types) e
-
 module _ (types : ProgramTree) (callee : Callee) (args : List Value) (back : Back) (caught : Caught) (has : Holding) where
+  -- a call, where so many frames may be open from its own on
   abbrev entered_as : ℕ → Entered → ℕ → Requests
   entered_as n way at = enters (deep types n) way at callee.grain (target_of callee) args back caught has
-
-  pub too_deep_joined : (n at : ℕ) → n ≡ 0 → entered_as n Joined at ≡ stop depth has
-  too_deep_joined n at e = ap (λ k. entered_as k Joined at) e
-
-  pub too_deep_plain : (n at : ℕ) (context : Bool) → n ≡ 0 → entered_as n (Plain context) at ≡ stop depth has
-  too_deep_plain n at context e = ap (λ k. entered_as k (Plain context) at) e
-
-  pub too_deep_unit : (n at : ℕ) → n ≡ 0 → entered_as n NewUnit at ≡ stop depth has
-  too_deep_unit n at e = ap (λ k. entered_as k NewUnit at) e
 
   -- a unit of its own
   pub enters_unit : (n at : ℕ) → n ≡ suc (depth_limit - at) → entered_as n NewUnit at ≡ in_own_unit (record { grain = callee.grain; method = callee.number; args = args }) at back caught has
@@ -54,14 +41,16 @@ module _ (types : ProgramTree) (callee : Callee) (args : List Value) (back : Bac
       ∙ ap (λ fields. joined (target_of callee).method.kind callee.grain fields (λ has. runs types (deep types (depth_limit - at)) (record { fields = fields; kind = (target_of callee).method.kind; grain = callee.grain; context = true; depth = at }) back (target_of callee).method.body (gives_zero back) (bound (target_of callee).method.params args) has) has)
       (sym (ap fields_of there.of_type))
 
--- at the end of one list there is nothing left to bind
+-- without arguments there is nothing to bind
 bound_none : (names : List Name) → bound names [] ≡ []
 bound_none [] = refl
 bound_none (name ∷ names) = refl
 
+-- and at the end of one list nothing is left to bind
 pub bound_end : (n : ℕ) (names : List Name) (values : List Value) → (n ≡ length names) ⊎ (n ≡ length values) → bound (drop n names) (drop n values) ≡ []
 bound_end n names values (inl e) = ap (λ (l : List Name). bound l (drop n values)) (drop_all n names (omega (arith, e)))
 bound_end n names values (inr e) = ap (bound (drop n names)) (drop_all n values (omega (arith, e))) ∙ bound_none (drop n names)
 
+-- the lesser of two numbers is one of them
 pub min_is_one : (a b : ℕ) → (min a b ≡ a) ⊎ (min a b ≡ b)
 min_is_one a b = grind arith

@@ -14,6 +14,7 @@ is_type : (types : ProgramTree) (i : ℕ) (of_type : TypeTree) → IsProgram typ
 is_type types i of_type program found =
     subst (IsType types) (get_or_from_slice_get types i of_type of_type found) (All-get_or (IsType types) types i of_type (slice_get_within types i of_type found) program.each)
 
+-- the same for what is found
 few_of : (types : List TypeDecl) (i : ℕ) → IsProgram (map type_tree types) → (found : Option TypeDecl) → slice_get types i ≡ found → IfSome found (λ of_type. IsFew (type_tree of_type))
 few_of types i program None e = tt
 few_of types i program (Some of_type) e =

@@ -9,6 +9,7 @@ abbrev pub onto : List Held → List Found → List Found
 onto [] writes = writes
 onto (first ∷ rest) writes = if first.written then insert (first.grain, first.state) (onto rest writes) else onto rest writes
 
+-- before none they are all
 pub onto_none : (held : List Held) → onto held [] ≡ written held
 onto_none [] = refl
 onto_none (first ∷ rest) = ap (λ (writes : List Found). if first.written then insert (first.grain, first.state) writes else writes) (onto_none rest)

@@ -54,6 +54,7 @@ map_at : (stmts : List Stmt) (i : ℕ) (found : Option Stmt) → slice_get stmts
 map_at stmts i None e = sym (ap first_in (past_end stmts i e))
 map_at stmts i (Some stmt) e = sym (ap first_in (found_at stmts i stmt e))
 
+-- so the code finds what the block has
 pub statement_map : (stmts : List Stmt) (i : ℕ) → option_map stmt_tree (slice_get stmts i) ≡ statement_at i (block_tree (stmt_trees stmts))
 statement_map stmts i = map_at stmts i (slice_get stmts i) refl
 
@@ -64,6 +65,7 @@ stands_with types run stmts (Some stmt) e block small =
     let within = slice_get_within stmts run.top.at stmt e in
     record { here = subst (λ (b : BlockTree). from run.top.at b ≡ Then (stmt_tree stmt) (from (run.top.at + 1) b)) block (found_at stmts run.top.at stmt e); small = omega (arith, within, small) }
 
+-- so the code finds where the frame stands
 pub stands_where : (types : ProgramTree) (run : Run) (stmts : List Stmt) → block_tree (stmt_trees stmts) ≡ block_of types run.top → length stmts < 2 ^ 63 → StandsWith types run (slice_get stmts run.top.at)
 stands_where types run stmts block small = stands_with types run stmts (slice_get stmts run.top.at) refl block small
 
@@ -74,6 +76,7 @@ past_next zero (Then first rest) past = absurd (cc)
 past_next (suc i) NoMore past = refl
 past_next (suc i) (Then first rest) past = past_next i rest past
 
+-- the same, as the code counts
 pub from_past : (i : ℕ) (block : BlockTree) → from i block ≡ NoMore → from (i + 1) block ≡ NoMore
 from_past i block past = ap (λ n. from n block) (add-one i) ∙ past_next i block past
 
@@ -122,6 +125,7 @@ pub receives_at : (types : ProgramTree) (run : Run) (stmt : StmtTree) → Stands
 receives_at types run stmt stands =
     ap (λ (o : Option StmtTree). λ value. received types (runner_of types run.top.post) (site_of types run.top.post) (back_of types run) o (next_here types run) value run.top.locals.items) (ap first_in stands.here)
 
+-- and the fault of a unit of its own
 pub catches_at : (types : ProgramTree) (run : Run) (stmt : StmtTree) → StandsAt types run stmt → caught_here types run ≡ refused_here types run stmt
 catches_at types run stmt stands =
     ap (λ (o : Option StmtTree). λ text. caught types (runner_of types run.top.post) (site_of types run.top.post) (back_of types run) o (next_here types run) text run.top.locals.items) (ap first_in stands.here)
@@ -135,6 +139,7 @@ receives_past types run past value =
     ap (λ (o : Option StmtTree). received types (runner_of types post) (site_of types post) back o (next_here types run) value run.top.locals.items run.has) (ap first_in past)
     ∙ ap (λ (k : Next). k run.top.locals.items run.has) (stands_past types post back path (run.top.at + 1) (from_past run.top.at (block_of types run.top) past) ∙ sym (stands_past types post back path run.top.at past))
 
+-- and the fault ends the unit
 pub catches_past : (types : ProgramTree) (run : Run) → from run.top.at (block_of types run.top) ≡ NoMore → (text : List ℕ) → caught_here types run text run.has ≡ End (Fault text) run.has
 catches_past types run past text =
     ap (λ (o : Option StmtTree). caught types (runner_of types run.top.post) (site_of types run.top.post) (back_of types run) o (next_here types run) text run.top.locals.items run.has) (ap first_in past)
@@ -149,6 +154,7 @@ begins_at types run stmt stands =
 same_call : (one other : CallTree) → Some one ≡ Some other → one ≡ other
 same_call one other e = cc
 
+-- no call is not one
 no_call : (call : CallTree) → ◌≡◌ {A = Option CallTree} None (Some call) → ⊥
 no_call call e = absurd (cc)
 

@@ -23,6 +23,7 @@ use Rattle.script_machine.specs.Blocks.{part_of, outer}
 use Rattle.script_machine.specs.Frames.{site_of, runner_of}
 use Rattle.script_machine.specs.Runs.{chosen_by}
 
+-- the same for a number of steps
 taken_at : (left : ℕ) (next : Next) (locals : Locals) (has then_has : Holding) → true ≡ nat_lt 0 left → then_has ≡ with_left (left - 1) has → with_step left next locals has ≡ next locals then_has
 taken_at zero next locals has then_has there taken = absurd (cc)
 taken_at (suc left) next locals has then_has there taken =
@@ -33,6 +34,7 @@ taken_at (suc left) next locals has then_has there taken =
 pub step_taken : (next : Next) (locals : Locals) (has then_has : Holding) → true ≡ nat_lt 0 has.left → then_has ≡ with_left (has.left - 1) has → step next locals has ≡ next locals then_has
 step_taken next locals has then_has there taken = taken_at has.left next locals has then_has there taken
 
+-- the same for a number of steps
 none_at : (left : ℕ) (next : Next) (locals : Locals) (has : Holding) → false ≡ nat_lt 0 left → with_step left next locals has ≡ stop budget has
 none_at zero next locals has none = refl
 none_at (suc left) next locals has none = absurd (grind (arith, none))
@@ -51,9 +53,11 @@ pub while_test : (test : Expr) (body : Items Stmt) → loop_test (stmt_tree (stm
 unfolding stmt.roll-Stmt denote.Hole.Carrier.roll
 while_test test body = ap loop_test (fold-roll-Stmt StmtTree stmt_step (open_stmt.While test body))
 
+-- one test is the other
 same_test : (one other : ExprTree) → Some one ≡ Some other → one ≡ other
 same_test one other e = cc
 
+-- no test is not one
 no_loop : (test : ExprTree) → ◌≡◌ {A = Option ExprTree} None (Some test) → ⊥
 no_loop test e = absurd (cc)
 

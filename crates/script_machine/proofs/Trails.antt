@@ -1,5 +1,5 @@
 -- What a machine was given leads through the unit's run.
-use Rattle.std.proofs.Common.{◌≡◌, ℕ, suc, List, [], ◌∷◌, ◌++◌, Bool, true, false, Result, Ok, Err, IfOk, refl, sym, ap, ◌∙◌, subst, arith}
+use Rattle.std.proofs.Common.{◌≡◌, ℕ, List, [], ◌∷◌, ◌++◌, Bool, true, false, Result, Ok, Err, IfOk, refl, sym, ap, ◌∙◌, subst}
 use Rattle.base_types.specs.declared.calls.Call.{Call}
 use Rattle.base_types.specs.declared.calls.GrainId.{GrainId}
 use Rattle.base_types.specs.declared.calls.Outcome.{Outcome}
@@ -7,9 +7,9 @@ use Rattle.base_types.specs.declared.calls.Value.{Value}
 use Rattle.script_tree.specs.Programs.{ProgramTree}
 use Rattle.script_holding.specs.Holding.{Holding}
 use Rattle.script_meaning.specs.Requests.{Requests, End, AskLock, AskRaise, AskUnit}
-use Rattle.script_meaning.specs.Play.{Played, Found, asks, next, rest_of, serve, unit, play_over, writes_of}
-use Rattle.script_meaning.specs.Trails.{Given, GivenLock, GivenRaise, GivenOutcome, IsTrail, wanted, locks_of, answers_of, asked_of, reads_of, Has}
-use Rattle.script_meaning.proofs.Leads.{Leads, goes, follows_leads, leads_follows, leads_on, leads_rest, leads_is_play}
+use Rattle.script_meaning.specs.Play.{Played, Found, next, serve, unit, play_over, writes_of}
+use Rattle.script_meaning.specs.Trails.{Given, GivenLock, GivenRaise, GivenOutcome, answers_of, asked_of, reads_of, Has}
+use Rattle.script_meaning.proofs.Leads.{Leads, follows_leads, leads_follows, leads_on, leads_rest, leads_is_play}
 use Rattle.std.proofs.lemmas.List.{append-nil}
 use Rattle.script_machine.specs.declared.runs.Run.{Run}
 use Rattle.script_machine.specs.declared.runs.Wait.TheVariants as wait
@@ -62,6 +62,7 @@ reads_by (End result has) input.First = refl
 reads_by (End result has) input.Held = refl
 reads_by (End result has) (input.Unit outcome) = refl
 
+-- and of outcomes
 answers_by : (left : Requests) (one : Input) → answers_of (given_by left one) ≡ answered_by left one
 answers_by (AskLock grain mode go) (input.Grain state) = refl
 answers_by (AskLock grain mode go) input.First = refl
@@ -80,12 +81,14 @@ answers_by (End result has) input.First = refl
 answers_by (End result has) input.Held = refl
 answers_by (End result has) (input.Unit outcome) = refl
 
+-- the states of a longer trail
 reads_on : (trail more : List Given) → reads_of (trail ++ more) ≡ reads_of trail ++ reads_of more
 reads_on [] more = refl
 reads_on (GivenLock grain mode state ∷ further) more = ap (λ (l : List Found). (grain, state) ∷ l) (reads_on further more)
 reads_on (GivenRaise grain ∷ further) more = reads_on further more
 reads_on (GivenOutcome call depth outcome ∷ further) more = reads_on further more
 
+-- and its outcomes
 answers_on : (trail more : List Given) → answers_of (trail ++ more) ≡ answers_of trail ++ answers_of more
 answers_on [] more = refl
 answers_on (GivenLock grain mode state ∷ further) more = answers_on further more

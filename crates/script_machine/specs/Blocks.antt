@@ -18,11 +18,12 @@ from zero block = block
 from (suc n) NoMore = NoMore
 from (suc n) (Then first rest) = from n rest
 
--- the first statement of a block, and that of this number
+-- the first statement of a block
 abbrev pub first_in : BlockTree → Option StmtTree
 first_in NoMore = None
 first_in (Then first rest) = Some first
 
+-- the statement of this number
 abbrev pub statement_at : ℕ → BlockTree → Option StmtTree
 statement_at i block = first_in (from i block)
 
@@ -40,6 +41,7 @@ part_of First (Try at name call block other) = block
 part_of Second (Try at name call block other) = other
 part_of part stmt = NoMore
 
+-- the same, no statements where there is no statement
 abbrev pub part_at : Part → Option StmtTree → BlockTree
 part_at part None = NoMore
 part_at part (Some stmt) = part_of part stmt

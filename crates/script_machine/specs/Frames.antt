@@ -27,10 +27,11 @@ abbrev pub body_of : Option Target → BlockTree
 body_of None = NoMore
 body_of (Some target) = target.method.body
 
--- where a frame runs, and what runs the frames that it opens
+-- where a frame runs
 abbrev pub site_of : ProgramTree → Post → Site
 site_of types post = record { fields = fields_of (slice_get types post.grain.kind); kind = post.kind; grain = post.grain; context = post.context; depth = post.depth }
 
+-- what runs the frames that it opens
 abbrev pub runner_of : ProgramTree → Post → Runner
 runner_of types post = deep types (depth_limit - post.depth)
 

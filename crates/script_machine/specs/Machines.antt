@@ -26,11 +26,12 @@ use Rattle.script_machine.specs.Callees.{post_of, target_of}
 use Rattle.script_machine.specs.Frames.{begins, fields_of}
 use Rattle.script_machine.specs.Runs.{running, rest_of_run}
 
--- the run that a machine still has before it: one that is ready goes on, one that is not waits or is over
+-- what a run has before it: one that is ready goes on, one that is not waits or is over
 abbrev pub rest_at : ProgramTree → Run → Bool → Requests
 rest_at types run true = running types run
 rest_at types run false = rest_of_run types run
 
+-- the run that a machine still has before it
 abbrev pub rest : ProgramTree → Machine → Requests
 rest types machine = rest_at types machine.run machine.ready
 
@@ -38,10 +39,11 @@ rest types machine = rest_at types machine.run machine.ready
 abbrev pub has_begun : Machine → Bool
 has_begun machine = not machine.ready
 
--- the states that it was given, each with its grain, and the outcomes, both in the order in which they came
+-- the states that it was given, each with its grain, in the order in which they came
 abbrev pub reads_in : Machine → List Found
 reads_in machine = machine.reads
 
+-- the outcomes that it was given
 abbrev pub answers_in : Machine → List Outcome
 answers_in machine = machine.answers
 
@@ -56,15 +58,17 @@ fed (AskRaise grain left) input.Held = left
 fed (AskUnit call at go) (input.Unit outcome) = go outcome
 fed left one = left
 
--- the state that was found, the outcome that came, and both with what they answer
+-- the state that was found, with its grain
 abbrev pub read_by : Requests → Input → List Found
 read_by (AskLock grain mode go) (input.Grain state) = (grain, state) ∷ []
 read_by left one = []
 
+-- the outcome that came
 abbrev pub answered_by : Requests → Input → List Outcome
 answered_by (AskUnit call at go) (input.Unit outcome) = outcome ∷ []
 answered_by left one = []
 
+-- what an input gives, with what it answers
 abbrev pub given_by : Requests → Input → List Given
 given_by (AskLock grain mode go) (input.Grain state) = GivenLock grain mode state ∷ []
 given_by (AskRaise grain left) input.Held = GivenRaise grain ∷ []
@@ -95,15 +99,17 @@ abbrev pub asks_raise : Requests → Bool
 asks_raise (AskRaise grain left) = true
 asks_raise left = false
 
--- the run is over
+-- the pause says that the run is over
 abbrev pub is_done : Pause → Bool
 is_done (Done outcome) = true
 is_done pause = false
 
+-- a run that is not ready and has an outcome is over
 abbrev pub is_over_at : Bool → Wait → Bool
 is_over_at false (wait.Over outcome) = true
 is_over_at ready waits = false
 
+-- the machine's run is over
 abbrev pub is_over : Machine → Bool
 is_over machine = is_over_at machine.ready machine.run.wait
 

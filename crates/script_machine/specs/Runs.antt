@@ -44,10 +44,11 @@ with_lock types run grain mode found =
 abbrev pub with_raise : ProgramTree → Run → GrainId → Requests
 with_raise types run grain = goes_on types run.top (back_of types run) (with_held run.has (change grain raised run.has.held))
 
--- what the value of a call of the topmost frame is followed by, and the fault of a unit of its own
+-- what the value of a call of the topmost frame is followed by
 abbrev pub back_here : ProgramTree → Run → Back
 back_here types run = waits types (back_of types run) run.top
 
+-- and the fault of a unit of its own
 abbrev pub caught_here : ProgramTree → Run → Caught
 caught_here types run = catches_in types (back_of types run) run.top
 
@@ -58,6 +59,7 @@ waiting types run (Raise grain) = AskRaise grain (with_raise types run grain)
 waiting types run (Child call depth) = AskUnit call depth (λ outcome. answered outcome (back_here types run) (caught_here types run) run.has)
 waiting types run (Over outcome) = End outcome run.has
 
+-- what a run that has paused has before it
 abbrev pub rest_of_run : ProgramTree → Run → Requests
 rest_of_run types run = waiting types run run.wait
 
@@ -66,6 +68,7 @@ abbrev pub stays : ProgramTree → Run → Flow → Requests
 stays types run Moved = running types run
 stays types run Paused = rest_of_run types run
 
+-- the same where it may have stayed within its block
 abbrev pub stays_within : ProgramTree → Run → Option Flow → Requests
 stays_within types run None = running types run
 stays_within types run (Some flow) = stays types run flow
@@ -75,10 +78,12 @@ abbrev pub Left : Requests → Run → Stop → Type 0
 Left left run (Fault text) = left ≡ stop text run.has
 Left left run Memory = Unit {0}
 
+-- what is left is what the run goes on or pauses with, or the fault that ends it
 abbrev pub Goes : Requests → ProgramTree → Run → Result Flow Stop → Type 0
 Goes left types run (Ok flow) = left ≡ stays types run flow
 Goes left types run (Err why) = Left left run why
 
+-- the same where it may have stayed within its block
 abbrev pub GoesWithin : Requests → ProgramTree → Run → Result (Option Flow) Stop → Type 0
 GoesWithin left types run (Ok flow) = left ≡ stays_within types run flow
 GoesWithin left types run (Err why) = Left left run why
@@ -88,21 +93,25 @@ abbrev pub Keeps : ProgramTree → Run → Run → Option Flow → Type 0
 Keeps types old new None = block_of types new.top ≡ block_of types old.top
 Keeps types old new (Some flow) = Unit {0}
 
--- how much a run may still do without a pause: four for each step, one for each open block and two for each frame
+-- how large a frame is: one for each open block, and two for the frame
 abbrev pub frame_size : Frame → ℕ
 frame_size frame = length frame.path.items + 2
 
+-- all the frames below
 abbrev pub sizes : List Frame → ℕ
 sizes [] = 0
 sizes (frame ∷ frames) = frame_size frame + sizes frames
 
+-- how much a run may still do without a pause: four for each step, and its frames
 abbrev pub size : Run → ℕ
 size run = 4 * run.has.left + frame_size run.top + sizes run.below.items
 
+-- less is left to do, unless the run has paused
 abbrev pub Shrinks : ℕ → Run → Flow → Type 0
 Shrinks n run Moved = size run < n
 Shrinks n run Paused = Unit {0}
 
+-- the same where it may have stayed within its block
 abbrev pub ShrinksWithin : ℕ → Run → Option Flow → Type 0
 ShrinksWithin n run None = size run < n
 ShrinksWithin n run (Some flow) = Shrinks n run flow
@@ -129,10 +138,11 @@ call_in stmt = None
 abbrev pub next_here : ProgramTree → Run → Next
 next_here types run = from_at types run.top.post (back_of types run) run.top.path.items (run.top.at + 1)
 
--- what an expression is evaluated in, and its value
+-- what an expression is evaluated in
 abbrev pub around_here : ProgramTree → Run → Surroundings
 around_here types run = around types (runner_of types run.top.post) (site_of types run.top.post) (back_of types run) run.top.locals.items run.has
 
+-- the value of an expression
 abbrev pub value_here : ProgramTree → Run → ExprTree → Given
 value_here types run expression = given types (runner_of types run.top.post) (site_of types run.top.post) (back_of types run) expression run.top.locals.items run.has
 
@@ -149,10 +159,11 @@ abbrev pub part_here : ProgramTree → Run → Part → StmtTree → Requests
 part_here types run part stmt =
     runs types (runner_of types run.top.post) (site_of types run.top.post) (back_of types run) (part_of part stmt) (outer_here types run (Some stmt) (next_here types run)) run.top.locals.items run.has
 
--- what this statement does with the value of its call, and with the fault of a unit of its own
+-- what this statement does with the value of its call
 abbrev pub received_here : ProgramTree → Run → StmtTree → Back
 received_here types run stmt value = received types (runner_of types run.top.post) (site_of types run.top.post) (back_of types run) (Some stmt) (next_here types run) value run.top.locals.items
 
+-- and with the fault of a unit of its own
 abbrev pub refused_here : ProgramTree → Run → StmtTree → Caught
 refused_here types run stmt text = caught types (runner_of types run.top.post) (site_of types run.top.post) (back_of types run) (Some stmt) (next_here types run) text run.top.locals.items
 
@@ -187,6 +198,7 @@ abbrev pub NextBlock : ProgramTree → Run → Option (List Stmt) → Type 0
 NextBlock types run None = Unit {0}
 NextBlock types run (Some block) = block_tree (stmt_trees block) ≡ block_of types run.top
 
+-- less is left to do in the next block
 abbrev pub ShrinksUnless : ℕ → Run → Option (List Stmt) → Type 0
 ShrinksUnless n run None = Unit {0}
 ShrinksUnless n run (Some block) = size run < n

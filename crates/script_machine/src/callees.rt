@@ -1,4 +1,4 @@
-ghost use Rattle.std.specs.Prelude.{◌≡◌, ◌≤◌, bytes_eq, IfSome, map, length, slice_get, option_map};
+ghost use Rattle.std.specs.Prelude.{◌≡◌, ◌≤◌, IfSome, map, length, slice_get, option_map};
 ghost use Rattle.std.specs.Option.{option_copied};
 ghost use Rattle.script_tree.specs.Programs.{method_tree, type_tree, program_tree};
 ghost use Rattle.script_meaning.specs.Calls.{numbered, method_of, type_from, method_from};
@@ -7,6 +7,7 @@ ghost use Rattle.script_machine.specs.Callees.{IsFew, IsThere, target_of};
 
 use base_types::GrainId;
 use script_check::Checked;
+use script_scopes::is_same;
 use script_tree::{Chars, FieldDecl, Method, TypeDecl};
 
 /// A called method: the grain, the number of the method in the grain's type, the type and the method.
@@ -16,12 +17,6 @@ pub struct Callee<'a> {
     pub number: u16,
     pub of_type: &'a TypeDecl,
     pub method: &'a Method,
-}
-
-fn is_same(one: &Chars, other: &Chars) -> bool
-    ensures { result ≡ bytes_eq one.now other.now }
-{
-    one.as_str().as_bytes() == other.as_str().as_bytes()
 }
 
 /// The type of this number.
