@@ -170,16 +170,18 @@ impl Player {
             (Repeat (expr_tree test.now) (block_tree (stmt_trees body.now))) next locals.old.items self.old.has) }
         ensures fewer { self.new.has.left ≤ self.old.has.left }
     {
-        if !self.has.take_step() {
-            return Err(stop_at(alloc, Reason::Budget));
-        }
-        let holds = self.test(alloc, site, test, locals.as_slice())?;
-        if !holds {
-            return Ok(Flow::Next);
-        }
-        match self.play_block(alloc, world, site, body, locals)? {
-            Flow::Next => self.play_loop(alloc, world, site, test, body, locals),
-            Flow::Return(value) => Ok(Flow::Return(value)),
+        'turns: loop {
+            if !self.has.take_step() {
+                return Err(stop_at(alloc, Reason::Budget));
+            }
+            let holds = self.test(alloc, site, test, locals.as_slice())?;
+            if !holds {
+                return Ok(Flow::Next);
+            }
+            match self.play_block(alloc, world, site, body, locals)? {
+                Flow::Next => {}
+                Flow::Return(value) => return Ok(Flow::Return(value)),
+            }
         }
     }
 

@@ -1,4 +1,4 @@
-use Rattle.std.proofs.Common.{◌-◌, ◌<◌, ◌≤◌, ℕ, Bool, true, List, map, Option, ap, sym, ◌∙◌, arith}
+use Rattle.std.proofs.Common.{◌≡◌, ◌-◌, ◌<◌, ◌≤◌, ℕ, Bool, true, List, map, Option, ap, sym, ◌∙◌, arith}
 use Rattle.std.specs.Prelude.{if◌then◌else◌, slice_get}
 use Rattle.std.proofs.lemmas.Result.{err_from_is_err_and}
 use Rattle.base_types.specs.declared.calls.GrainId.{GrainId}
@@ -80,115 +80,127 @@ play_call-returns-in_default-target_named-clause-led t c = λ back onto caught.
 pub play_loop-returns-then-not-take_step-clause-led : goal.play_loop-returns-then-not-take_step-clause-led
 play_loop-returns-then-not-take_step-clause-led t c = λ back next.
     let world = c.args.world.now in
+    let types = types_in world in
+    let progress = c.turns.self.progress in
     let n = 32 - c.args.site.now.depth in
     let site = site_of c.args.site.now in
     let test = expr_tree c.args.test.now in
     let block = block_tree (stmt_trees c.args.body.now) in
-    let locals = c.args.locals.now.items in
-    let has = c.args.self.now.has in
+    let locals = c.turns.locals.items in
+    let has = c.turns.self.has in
+    let after = c.take_step.new.self in
     let refused = c.if-not-take_step.ensures {u = tt} in
-    ends_at world c.take_step.new.self c.args.self.now.progress c.stop_at.result budget
-    (does (types_in world) (deep (types_in world) n) site back (Repeat test block) next locals has) c.stop_at.ensures
-    (turn_refused (types_in world) n site back test block next locals has c.take_step.new.self refused.there refused.taken)
+    let again = does types (deep types n) site back (Repeat test block) next in
+    ends_on world (record { has = after; progress = progress }) progress c.args.self.now.progress c.stop_at.result (again locals has) (again c.args.locals.now.items c.args.self.now.has)
+    (ends_at world after progress c.stop_at.result budget (again locals has) c.stop_at.ensures
+    (turn_refused types n site back test block next locals has after refused.there refused.taken))
+    (c.turns.invariant.led back next)
 
 pub play_loop-returns-in_err-holds-clause-led : goal.play_loop-returns-in_err-holds-clause-led
 play_loop-returns-in_err-holds-clause-led t c = λ back next.
     let world = c.args.world.now in
-    let progress = c.args.self.now.progress in
     let types = types_in world in
+    let progress = c.turns.self.progress in
     let n = 32 - c.args.site.now.depth in
     let site = site_of c.args.site.now in
     let test = expr_tree c.args.test.now in
     let block = block_tree (stmt_trees c.args.body.now) in
-    let locals = c.args.locals.now.items in
+    let locals = c.turns.locals.items in
     let found = c.as_slice.result.now in
-    let has = c.args.self.now.has in
     let after = c.take_step.new.self in
     let granted = c.if-not-take_step.ensures {u = tt} in
-    let first = runs types (deep types n) site back block (does types (deep types n) site back (Repeat test block) next) locals after in
+    let again = does types (deep types n) site back (Repeat test block) next in
+    let first = runs types (deep types n) site back block again locals after in
     let second = next locals after in
     let p = err_from_is_err_and c.from_residual.result c.from_residual.ensures.1 in
-    rw (p.1, p.2) (ends_on world (record { has = after; progress = progress }) progress progress c.in_err-holds.field-0.0
+    rw (p.1, p.2) (ends_on world (record { has = after; progress = progress }) progress c.args.self.now.progress c.in_err-holds.field-0.0
     (with_value (value_in (surrounds site found after) test) after (λ value. chosen value after first second))
-    (does types (deep types n) site back (Repeat test block) next locals has)
+    (again c.args.locals.now.items c.args.self.now.has)
     (c.in_err-holds.ensures {u = tt} world first second)
-    (turn_reached world progress n site back test block next locals found has after c.as_slice.ensures.value granted.there granted.taken))
+    (turn_reached world progress n site back test block next locals found c.turns.self.has after c.as_slice.ensures.value granted.there granted.taken
+    ∙ c.turns.invariant.led back next))
 
 pub play_loop-returns-then-not-holds-clause-led : goal.play_loop-returns-then-not-holds-clause-led
 play_loop-returns-then-not-holds-clause-led t c = λ back next.
     let world = c.args.world.now in
-    let progress = c.args.self.now.progress in
     let types = types_in world in
+    let progress = c.turns.self.progress in
     let n = 32 - c.args.site.now.depth in
     let site = site_of c.args.site.now in
     let test = expr_tree c.args.test.now in
     let block = block_tree (stmt_trees c.args.body.now) in
-    let locals = c.args.locals.now.items in
+    let locals = c.turns.locals.items in
     let after = c.take_step.new.self in
     let granted = c.if-not-take_step.ensures {u = tt} in
     let first = runs types (deep types n) site back block (does types (deep types n) site back (Repeat test block) next) locals after in
     let second = next locals after in
     ap (λ (b : Bool). heard world progress (if b then first else second)) (sym c.if-not-holds.true)
     ∙ c.in_ok-holds.ensures {u = tt} world first second
-    ∙ turn_reached world progress n site back test block next locals c.as_slice.result.now c.args.self.now.has after c.as_slice.ensures.value granted.there granted.taken
+    ∙ turn_reached world progress n site back test block next locals c.as_slice.result.now c.turns.self.has after c.as_slice.ensures.value granted.there granted.taken
+    ∙ c.turns.invariant.led back next
 
 pub play_loop-returns-in_err-play_block-clause-led : goal.play_loop-returns-in_err-play_block-clause-led
 play_loop-returns-in_err-play_block-clause-led t c = λ back next.
     let world = c.args.world.now in
-    let progress = c.args.self.now.progress in
     let types = types_in world in
+    let progress = c.turns.self.progress in
     let n = 32 - c.args.site.now.depth in
     let site = site_of c.args.site.now in
     let test = expr_tree c.args.test.now in
     let block = block_tree (stmt_trees c.args.body.now) in
-    let locals = c.args.locals.now.items in
+    let locals = c.turns.locals.items in
     let after = c.take_step.new.self in
     let granted = c.if-not-take_step.ensures {u = tt} in
     let again = does types (deep types n) site back (Repeat test block) next in
     let first = runs types (deep types n) site back block again locals after in
     let second = next locals after in
     let p = err_from_is_err_and c.from_residual-in_err-play_block.result c.from_residual-in_err-play_block.ensures.1 in
-    rw (p.1, p.2) (ends_on world c.play_block.new.self progress progress c.in_err-play_block.field-0.0 first (again locals c.args.self.now.has)
+    rw (p.1, p.2) (ends_on world c.play_block.new.self progress c.args.self.now.progress c.in_err-play_block.field-0.0 first (again c.args.locals.now.items c.args.self.now.has)
     ((c.in_err-play_block.ensures {u = tt}).led back again)
     (ap (λ (b : Bool). heard world progress (if b then first else second)) (sym c.if-not-holds.false)
     ∙ c.in_ok-holds.ensures {u = tt} world first second
-    ∙ turn_reached world progress n site back test block next locals c.as_slice.result.now c.args.self.now.has after c.as_slice.ensures.value granted.there granted.taken))
+    ∙ turn_reached world progress n site back test block next locals c.as_slice.result.now c.turns.self.has after c.as_slice.ensures.value granted.there granted.taken
+    ∙ c.turns.invariant.led back next))
 
-pub play_loop-returns-in-Next-clause-led : goal.play_loop-returns-in-Next-clause-led
-play_loop-returns-in-Next-clause-led t c = λ back next.
-    let world = c.args.world.now in
-    let progress = c.args.self.now.progress in
-    let types = types_in world in
-    let n = 32 - c.args.site.now.depth in
-    let site = site_of c.args.site.now in
-    let test = expr_tree c.args.test.now in
-    let block = block_tree (stmt_trees c.args.body.now) in
-    let locals = c.args.locals.now.items in
+pub play_loop-turns-preserved : goal.play_loop-turns-preserved
+play_loop-turns-preserved t c =
     let after = c.take_step.new.self in
     let granted = c.if-not-take_step.ensures {u = tt} in
-    let again = does types (deep types n) site back (Repeat test block) next in
-    let first = runs types (deep types n) site back block again locals after in
-    let second = next locals after in
-    let turned = c.play_block.new.self in
-    let left = c.play_block.new.locals.items in
-    leads_on world c.play_loop.new.self turned.progress progress c.play_loop.result (λ flow. flowing flow back next c.play_loop.new.locals.items c.play_loop.new.self.has)
-    (again left turned.has) (again locals c.args.self.now.has) (c.play_loop.ensures.led back next)
-    (ap (λ (f : Flow). heard world turned.progress (flowing f back again left turned.has)) (sym c.in-Next.is)
-    ∙ (c.in_ok-play_block.ensures {u = tt}).led back again
-    ∙ ap (λ (b : Bool). heard world progress (if b then first else second)) (sym c.if-not-holds.false)
-    ∙ c.in_ok-holds.ensures {u = tt} world first second
-    ∙ turn_reached world progress n site back test block next locals c.as_slice.result.now c.args.self.now.has after c.as_slice.ensures.value granted.there granted.taken)
+    let ran = c.in_ok-play_block.ensures {u = tt} in
+    let taken : after.left ≡ c.turns.self.has.left - 1 = ap (λ (h : Holding). h.left) granted.taken in
+    record {
+      fewer = omega (arith, taken, ran.fewer, c.turns.invariant.fewer);
+      led = λ back next.
+          let world = c.args.world.now in
+          let types = types_in world in
+          let progress = c.turns.self.progress in
+          let n = 32 - c.args.site.now.depth in
+          let site = site_of c.args.site.now in
+          let test = expr_tree c.args.test.now in
+          let block = block_tree (stmt_trees c.args.body.now) in
+          let locals = c.turns.locals.items in
+          let again = does types (deep types n) site back (Repeat test block) next in
+          let first = runs types (deep types n) site back block again locals after in
+          let second = next locals after in
+          let turned = c.play_block.new.self in
+          ap (λ (f : Flow). heard world turned.progress (flowing f back again c.play_block.new.locals.items turned.has)) (sym c.in-Next.is)
+          ∙ ran.led back again
+          ∙ ap (λ (b : Bool). heard world progress (if b then first else second)) (sym c.if-not-holds.false)
+          ∙ c.in_ok-holds.ensures {u = tt} world first second
+          ∙ turn_reached world progress n site back test block next locals c.as_slice.result.now c.turns.self.has after c.as_slice.ensures.value granted.there granted.taken
+          ∙ c.turns.invariant.led back next;
+    }
 
 pub play_loop-returns-in-Return-clause-led : goal.play_loop-returns-in-Return-clause-led
 play_loop-returns-in-Return-clause-led t c = λ back next.
     let world = c.args.world.now in
-    let progress = c.args.self.now.progress in
     let types = types_in world in
+    let progress = c.turns.self.progress in
     let n = 32 - c.args.site.now.depth in
     let site = site_of c.args.site.now in
     let test = expr_tree c.args.test.now in
     let block = block_tree (stmt_trees c.args.body.now) in
-    let locals = c.args.locals.now.items in
+    let locals = c.turns.locals.items in
     let after = c.take_step.new.self in
     let granted = c.if-not-take_step.ensures {u = tt} in
     let again = does types (deep types n) site back (Repeat test block) next in
@@ -199,7 +211,8 @@ play_loop-returns-in-Return-clause-led t c = λ back next.
     ∙ (c.in_ok-play_block.ensures {u = tt}).led back again
     ∙ ap (λ (b : Bool). heard world progress (if b then first else second)) (sym c.if-not-holds.false)
     ∙ c.in_ok-holds.ensures {u = tt} world first second
-    ∙ turn_reached world progress n site back test block next locals c.as_slice.result.now c.args.self.now.has after c.as_slice.ensures.value granted.there granted.taken
+    ∙ turn_reached world progress n site back test block next locals c.as_slice.result.now c.turns.self.has after c.as_slice.ensures.value granted.there granted.taken
+    ∙ c.turns.invariant.led back next
 
 pub play_plainly-returns-in-Value-clause-led : goal.play_plainly-returns-in-Value-clause-led
 play_plainly-returns-in-Value-clause-led t c = λ back onto.

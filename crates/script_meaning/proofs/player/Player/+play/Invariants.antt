@@ -1,7 +1,8 @@
 use Rattle.std.proofs.Common.{◌≡◌, ◌≤◌, ◌+◌, ◌*◌, drop}
-use Rattle.script_tree.specs.Stmts.{stmt_trees, block_tree}
+use Rattle.script_tree.specs.Exprs.{expr_tree}
+use Rattle.script_tree.specs.Stmts.{Repeat, stmt_trees, block_tree}
 use Rattle.script_meaning.specs.Requests.{Back}
-use Rattle.script_meaning.specs.Statements.{Next, runs}
+use Rattle.script_meaning.specs.Statements.{Next, does, runs}
 use Rattle.script_meaning.specs.Playing.{types_in, site_of, below, heard}
 use Rattle.script_meaning.proofs.player.Player.+play.Given as goal
 
@@ -39,3 +40,14 @@ invariant-play_block-loop-stmt l = record {
       heard l.world l.self.progress (runs (types_in l.world) (below l.world l.site.depth) (site_of l.site) back (block_tree (stmt_trees (drop l.stmt-index l.block))) next l.locals.items l.self.has)
       ≡ heard l.world l.fn.self.progress (runs (types_in l.world) (below l.world l.site.depth) (site_of l.site) back (block_tree (stmt_trees l.block)) next l.fn.locals.items l.fn.self.has);
 }
+
+abbrev pub invariant-play_loop-turns : goal.invariant-play_loop-turns
+invariant-play_loop-turns l = record {
+  fewer : l.self.has.left ≤ l.fn.self.has.left;
+  led : (back : Back) (next : Next) →
+      heard l.world l.self.progress (does (types_in l.world) (below l.world l.site.depth) (site_of l.site) back (Repeat (expr_tree l.test) (block_tree (stmt_trees l.body))) next l.locals.items l.self.has)
+      ≡ heard l.world l.fn.self.progress (does (types_in l.world) (below l.world l.site.depth) (site_of l.site) back (Repeat (expr_tree l.test) (block_tree (stmt_trees l.body))) next l.fn.locals.items l.fn.self.has);
+}
+
+abbrev pub decreases-play_loop-turns : goal.decreases-play_loop-turns
+decreases-play_loop-turns l = l.self.has.left
