@@ -1,0 +1,11 @@
+pub mod Lists
+pub mod OneLog
+pub mod Journaled
+pub mod FirstDeposit
+pub mod EmptyRun
+pub mod WrongRuns
+pub mod EntryLines
+pub mod DepositRules
+pub mod DepositRun
+pub mod FirstFamily
+pub mod DoubtRun

@@ -1,0 +1,11 @@
+use Rattle.promise_spec.proofs.WrongRuns.{grain_fault, done_in_doubt, not_opened}
+use Rattle.promise_spec.proofs.wrong_runs.endings_are_true.Goals as goal
+
+pub returns-clause-grain : goal.returns-clause-grain
+returns-clause-grain c = grain_fault
+
+pub returns-clause-doubt : goal.returns-clause-doubt
+returns-clause-doubt c = done_in_doubt
+
+pub returns-clause-unopened : goal.returns-clause-unopened
+returns-clause-unopened c = not_opened

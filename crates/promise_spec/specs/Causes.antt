@@ -1,0 +1,74 @@
+-- Why units are aborted, by the core's events, and what the counts of faults say of them.
+use Rattle.std.specs.Prelude.{◌≡◌, ℕ, ◌+◌, ◌-◌, ◌^◌, ◌≤◌, min, Bool, true, false, ◌&&◌, not, List, ◌∷◌, ◌++◌, ⊤}
+use Rattle.base_types.specs.declared.entries.Settled.{Settled}
+use Rattle.base_types.specs.declared.entries.Settled.TheVariants.{Done, Lock, Vote as VotedDown, Dependency, Disk, InDoubt, Bad}
+use Rattle.host_trait.specs.declared.channels.Channel.{Channel}
+use Rattle.host_trait.specs.declared.channels.Channel.TheVariants.{File}
+use Rattle.host_trait.specs.declared.channels.FileId.TheVariants.{Grain}
+use Rattle.core_model.specs.declared.phases.Verdict.TheVariants.{Aborted}
+use Rattle.core_model.specs.World.{UnitNo, GrainId, same_grain, Member, Entry, Batch, World}
+use Rattle.core_model.specs.Causes.{HasCause, IsCaused, decided_state}
+use Rattle.core_model.specs.Dead.{IsDead}
+use Rattle.core_model.specs.declared.events.CoreEvent.{CoreEvent}
+use Rattle.core_model.specs.declared.events.CoreEvent.TheVariants.{Vote, NotSealed, Doubt}
+use Rattle.core_model.specs.Events.{applies, step, run}
+use Rattle.core_model.specs.Legal.{Run, begins, ends}
+use Rattle.silo_spec.specs.Silos.{manager}
+use Rattle.promise_spec.specs.Cores.{AppliesAt, how_many}
+
+-- what may become of a unit that is aborted
+abbrev pub IsAbort : Settled → Type 0
+IsAbort (Done outcome) = ⊥
+IsAbort (Lock by grain) = ⊤
+IsAbort (VotedDown grain) = ⊤
+IsAbort (Dependency on) = ⊤
+IsAbort Disk = ⊤
+IsAbort InDoubt = ⊥
+IsAbort (Bad why) = ⊥
+
+-- an event of the run aborted the unit, with this cause
+pub record IsAbortedFor (r : Run) (u : UnitNo) (why : Settled) : Type 0 where
+  pub before : List CoreEvent
+  pub event : CoreEvent
+  pub later : List CoreEvent
+  pub split : r.events ≡ before ++ (event ∷ later)
+  pub applied : applies (run (begins r) before) event ≡ true
+  pub abort : IsAbort why
+  pub cause : HasCause (run (begins r) before) event (step (run (begins r) before) event) u why
+
+-- Each entry is settled by an event, with the cause that it names, and each aborted unit is aborted so, a child too.
+pub record AreCaused (r : Run) : Type 0 where
+  pub entries : (x : Entry) → Member x (ends r).manager.settled → IsCaused r x
+  pub units : (u : UnitNo) → (ends r).manager.verdict u ≡ Aborted → (why : Settled) × IsAbortedFor r u why
+
+-- the unit isn't dead in a state, and isn't where the event decides the open batch
+pub record IsAlive (w : World) (e : CoreEvent) (u : UnitNo) : Type 0 where
+  pub before : IsDead w u → ⊥
+  pub decided : (b : Batch) → IsDead (decided_state w e b) u → ⊥
+
+-- a count rose by at least so much, or stands at its last value
+abbrev pub RoseBy : ℕ → ℕ → ℕ → Type 0
+RoseBy n old new = min (old + n) (2 ^ 64 - 1) ≤ new
+
+-- a vote that a grain's file wasn't written
+abbrev pub is_no : GrainId → CoreEvent → Bool
+is_no g (Vote number h kept) = same_grain h g && not kept
+is_no g e = false
+
+-- a batch that isn't on disk, or of which nobody knows
+abbrev pub is_unsealed : CoreEvent → Bool
+is_unsealed (NotSealed number) = true
+is_unsealed (Doubt number) = true
+is_unsealed e = false
+
+-- No more votes of no came on a grain than its file's count of faults rose by, and no more batches failed to be
+-- sealed than the manager file's rose by.
+pub record AreFaults (r : Run) (old new : Channel → ℕ) : Type 0 where
+  pub votes : (g : GrainId) → RoseBy (how_many (is_no g) r) (old (File (Grain 0 g))) (new (File (Grain 0 g)))
+  pub seals : RoseBy (how_many is_unsealed r) (old (File manager)) (new (File manager))
+
+-- a batch was left in doubt
+pub record HasDoubt (r : Run) : Type 0 where
+  pub at : ℕ
+  pub number : ℕ
+  pub doubt : AppliesAt r at (Doubt number)

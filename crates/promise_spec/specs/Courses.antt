@@ -1,0 +1,62 @@
+-- What a run was given, saw and did, and the course that it took.
+use Rattle.std.specs.Prelude.{ℕ, Bool, List, ◌++◌}
+use Rattle.base_types.specs.declared.entries.Entry.{Entry}
+use Rattle.host_trait.specs.declared.channels.Channel.{Channel}
+use Rattle.host_trait.specs.World.{World, Moment}
+use Rattle.core_model.specs.World as core
+use Rattle.core_model.specs.declared.events.CoreEvent.{CoreEvent}
+use Rattle.core_model.specs.Legal as legal
+use Rattle.request_wire.specs.Lines.{lines_of}
+use Rattle.promise_spec.specs.Records.{Commit, Standing, standing_of}
+use Rattle.promise_spec.specs.Programs.{Program}
+use Rattle.promise_spec.specs.Moments.{counted}
+use Rattle.promise_spec.specs.Cores.{core_from}
+use Rattle.promise_spec.specs.Endings.{Ending}
+
+-- What a run shows: the words' choices, the host's contents and counts before and after, and how it ended.
+pub record Observed : Type 0 where
+  pub understood : Bool  -- the words are those of a run
+  pub threaded : Bool  -- with workers
+  pub width : ℕ  -- how many lines may be in flight, on one thread
+  pub picks : List ℕ
+  pub old : World
+  pub new : World
+  pub faults_before : Channel → ℕ
+  pub faults_after : Channel → ℕ
+  pub ending : Ending
+
+-- What there is where a run opened the folder: the log that it opened with, the records that it added, the moments up
+-- to the one at which the opening's last sync returned and those after it, the core's events, and the entries that
+-- were written, with a rest that is none.
+pub record Course : Type 0 where
+  pub opening : List Commit
+  pub added : List Commit
+  pub early : List Moment
+  pub late : List Moment
+  pub events : List CoreEvent
+  pub entries : List Entry
+  pub rest : List ℕ
+
+-- the order of the run
+abbrev pub order : Course → List Commit
+order c = c.opening ++ c.added
+
+-- the moments that count for crashes
+abbrev pub moments : Observed → Course → List Moment
+moments r c = counted r.old c.early c.late r.new
+
+-- the lines of the input
+abbrev pub lines : Observed → List (List ℕ)
+lines r = lines_of r.old.input
+
+-- what the opening log stands for
+abbrev pub opening_standing : Program → Course → Standing
+opening_standing p c = standing_of p.types c.opening
+
+-- the core's run
+abbrev pub core_run : Program → Course → legal.Run
+core_run p c = core_from p.types (opening_standing p c) c.events
+
+-- the core's last state
+abbrev pub core_end : Program → Course → core.World
+core_end p c = legal.ends (core_run p c)

@@ -1,0 +1,31 @@
+-- A run that reads no line.
+use Rattle.std.specs.Prelude.{◌≡◌, List, [], ◌∷◌, ◌++◌, true}
+use Rattle.host_trait.specs.declared.channels.Channel.{Channel}
+use Rattle.host_trait.specs.World.{Image, IsImage, moment_of}
+use Rattle.promise_spec.specs.Programs.{Program, shape_in}
+use Rattle.promise_spec.specs.Records.{Commit}
+use Rattle.promise_spec.specs.Logs.{IsLog}
+use Rattle.promise_spec.specs.Images.{IsSoundIfSilo}
+use Rattle.promise_spec.specs.Endings.{Done}
+use Rattle.promise_spec.specs.Courses.{Observed, Course}
+
+-- The run synced the log, read that the input is empty, and ended. Each image is one of those at entry, has this log
+-- and is sound; there is one. No count of faults changed.
+pub record IsEmptyRun (p : Program) (r : Observed) (opening : List Commit) : Type 0 where
+  pub understood : r.understood ≡ true
+  pub ending : r.ending ≡ Done
+  pub input : r.old.input ≡ []
+  pub left : r.new.input ≡ []
+  pub output : r.new.output ≡ r.old.output
+  pub synced : r.new.past ≡ r.old.past ++ moment_of r.new ∷ []
+  pub entry : (image : Image) → IsImage r.new.disk image → IsImage r.old.disk image
+  pub logs : (image : Image) → IsImage r.new.disk image → IsLog (shape_in p) image opening
+  pub sound : (image : Image) → IsImage r.new.disk image → IsSoundIfSilo p image
+  pub some : Image
+  pub possible : IsImage r.new.disk some
+  pub faults : (channel : Channel) → r.faults_after channel ≡ r.faults_before channel
+
+-- the course of such a run: nothing was added, and no event came
+abbrev pub empty_course : Observed → List Commit → Course
+empty_course r opening =
+    record { opening = opening; added = []; early = moment_of r.new ∷ []; late = []; events = []; entries = []; rest = [] }

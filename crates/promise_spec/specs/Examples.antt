@@ -1,0 +1,235 @@
+-- Examples: a silo of accounts, in which one deposit of 5 was logged.
+use Rattle.std.specs.Prelude.{ℕ, ◌+◌, true, false, List, [], ◌∷◌, ◌++◌, take, pos, codes}
+use Rattle.base_types.specs.declared.calls.Call.{Call}
+use Rattle.base_types.specs.declared.calls.GrainId.{GrainId}
+use Rattle.base_types.specs.declared.calls.Mode.TheVariants as mode
+use Rattle.base_types.specs.declared.calls.Origin.TheVariants.{Line}
+use Rattle.base_types.specs.declared.calls.UnitNo.{UnitNo}
+use Rattle.base_types.specs.declared.calls.Outcome.TheVariants as outcome
+use Rattle.base_types.specs.declared.calls.Value.TheVariants.{Int}
+use Rattle.base_types.specs.declared.entries.Entry.{Entry}
+use Rattle.base_types.specs.declared.entries.Settled.TheVariants.{Done, Lock, Vote as VotedDown, Dependency, InDoubt}
+use Rattle.base_types.specs.declared.stores.Version.{Version}
+use Rattle.host_trait.specs.declared.channels.FileId.TheVariants.{Manager, Program as ProgramFile, Grain}
+use Rattle.host_trait.specs.World.{Image}
+use Rattle.script_tree.specs.declared.expressions.Name.{Name}
+use Rattle.script_tree.specs.declared.expressions.Literal.TheVariants as literal
+use Rattle.script_tree.specs.declared.expressions.BinaryOp.TheVariants.{Add}
+use Rattle.script_tree.specs.declared.options.MethodKind.TheVariants as kinds
+use Rattle.script_tree.specs.declared.options.TxnOption.TheVariants.{CreateOrJoin}
+use Rattle.script_tree.specs.Exprs.{Variable, Joined}
+use Rattle.script_tree.specs.Stmts.{SetField, Give, NoMore, Then}
+use Rattle.script_tree.specs.Programs.{MethodTree, ProgramTree}
+use Rattle.commit_log.specs.declared.records.CommitRecord.{CommitRecord}
+use Rattle.core_model.specs.declared.effects.Effect.{Effect}
+use Rattle.core_model.specs.declared.events.CoreEvent.{CoreEvent}
+use Rattle.core_model.specs.declared.events.CoreEvent.TheVariants as event
+use Rattle.core_model.specs.Legal.{Run}
+use Rattle.promise_spec.specs.Programs.{Program}
+use Rattle.promise_spec.specs.Records.{Commit, new_silo}
+use Rattle.promise_spec.specs.Logs.{magic}
+use Rattle.promise_spec.specs.Lines.{IsLineCall}
+use Rattle.promise_spec.specs.Cores.{core_from}
+
+-- a name, wherever it stands
+abbrev pub name : List ℕ → Name
+name text = record { text = text; at = 0 }
+
+-- `method deposit(n) createorjoin update { set balance = balance + n; return balance; }`
+abbrev pub deposit_method : MethodTree
+deposit_method = record {
+  name = name (codes "deposit");
+  params = name (codes "n") ∷ [];
+  option = CreateOrJoin;
+  option_at = 0;
+  kind = kinds.Update;
+  body = Then (SetField (name (codes "balance")) (Joined Add (Variable (name (codes "balance"))) (Variable (name (codes "n")))))
+      (Then (Give (Variable (name (codes "balance")))) NoMore);
+}
+
+-- `method read() createorjoin read { return balance; }`
+abbrev pub read_method : MethodTree
+read_method = record {
+  name = name (codes "read");
+  params = [];
+  option = CreateOrJoin;
+  option_at = 0;
+  kind = kinds.Read;
+  body = Then (Give (Variable (name (codes "balance")))) NoMore;
+}
+
+-- a program with one type, `account`, which has a field `balance` and these methods
+abbrev pub accounts : ProgramTree
+accounts = record {
+  name = name (codes "account");
+  fields = record { name = name (codes "balance"); initial = literal.Int (pos 0) } ∷ [];
+  methods = deposit_method ∷ read_method ∷ [];
+} ∷ []
+
+abbrev pub account_program : Program
+account_program = record { text = []; types = accounts }
+
+-- `account/1`
+abbrev pub account_1 : GrainId
+account_1 = record { kind = 0; key = 1 }
+
+-- the call `account/1.deposit` with 5
+abbrev pub deposit_call : Call
+deposit_call = record { grain = account_1; method = 0; args = Int (pos 5) ∷ [] }
+
+-- the record of that call on line 1. It found 0 there
+abbrev pub deposit : CommitRecord
+deposit = record {
+  unit = record { 0 = 1 };
+  origin = Line 1;
+  call = deposit_call;
+  answers = [];
+  result = outcome.Value (Int (pos 5));
+  writes = record { grain = account_1; place = record { offset = 0; len = 19 } } ∷ [];
+}
+
+abbrev pub first_commit : Commit
+first_commit = record { logged = deposit; states = (Int (pos 5) ∷ []) ∷ [] }
+
+-- a second deposit, of n, that says it found so much: it leaves `sum`
+abbrev pub next_commit : ℕ → ℕ → Commit
+next_commit n sum = record {
+  logged = record {
+    unit = record { 0 = 2 };
+    origin = Line 2;
+    call = record { grain = account_1; method = 0; args = Int (pos n) ∷ [] };
+    answers = [];
+    result = outcome.Value (Int (pos sum));
+    writes = record { grain = account_1; place = record { offset = 19; len = 19 } } ∷ [];
+  };
+  states = (Int (pos sum) ∷ []) ∷ [];
+}
+
+-- the version, and the 19 bytes of the grain's file
+abbrev pub first_version : Version
+first_version = record { unit = record { 0 = 1 }; state = Int (pos 5) ∷ [] }
+
+abbrev pub grain_bytes : List ℕ
+grain_bytes = 1 ∷ 0 ∷ 0 ∷ 0 ∷ 0 ∷ 0 ∷ 0 ∷ 0 ∷ 1 ∷ 0 ∷ 0 ∷ 5 ∷ 0 ∷ 0 ∷ 0 ∷ 0 ∷ 0 ∷ 0 ∷ 0 ∷ []
+
+-- the block: the body's length, the body, and the closed gate of the next block
+abbrev pub block_bytes : List ℕ
+block_bytes =
+    68 ∷ 0 ∷ 0 ∷ 0 ∷ 1 ∷ 0 ∷ 0 ∷ 0 ∷
+    1 ∷ 0 ∷ 0 ∷ 0 ∷ 0 ∷ 0 ∷ 0 ∷ 0 ∷ 0 ∷ 1 ∷ 0 ∷ 0 ∷ 0 ∷
+    0 ∷ 0 ∷ 1 ∷ 0 ∷ 0 ∷ 0 ∷ 0 ∷ 0 ∷ 1 ∷ 0 ∷
+    0 ∷ 5 ∷ 0 ∷ 0 ∷ 0 ∷ 0 ∷ 0 ∷ 0 ∷ 0 ∷
+    0 ∷ 0 ∷ 1 ∷ 0 ∷ 5 ∷ 0 ∷ 0 ∷ 0 ∷ 0 ∷ 0 ∷ 0 ∷ 0 ∷
+    1 ∷ 0 ∷ 0 ∷ 0 ∷ 1 ∷ 0 ∷ 0 ∷ 0 ∷ 0 ∷ 0 ∷ 0 ∷ 0 ∷ 0 ∷ 0 ∷ 0 ∷ 0 ∷ 19 ∷ 0 ∷ 0 ∷ 0 ∷ 0 ∷ []
+
+-- the manager file, with this byte as the gate of the first block
+abbrev pub manager_bytes : ℕ → List ℕ
+manager_bytes gate = 1 ∷ (magic ++ 0 ∷ 0 ∷ 0 ∷ 0 ∷ 0 ∷ 0 ∷ gate ∷ block_bytes)
+
+-- the folder: every grain's file is that one
+abbrev pub folder : ℕ → List ℕ → Image
+folder gate grain_file (ProgramFile slot) = []
+folder gate grain_file (Manager slot) = manager_bytes gate
+folder gate grain_file (Grain slot grain) = grain_file
+
+-- the same, where the manager file has only its first bytes
+abbrev pub torn_folder : ℕ → Image
+torn_folder size (ProgramFile slot) = []
+torn_folder size (Manager slot) = take size (manager_bytes 1)
+torn_folder size (Grain slot grain) = grain_bytes
+
+-- the reply to line 1
+abbrev pub first_entry : Entry
+first_entry = record { line = 1; unit = record { 0 = 1 }; what = Done (outcome.Value (Int (pos 5))) }
+
+-- ---- the core's events
+
+-- the unit of number n
+abbrev pub unit_no : ℕ → UnitNo
+unit_no n = record { 0 = n }
+
+-- the deposit of n as unit u's effect, which found `before`, left by that source
+abbrev pub deposited : ℕ → ℕ → ℕ → ℕ → Effect
+deposited u n before source = record {
+  unit = unit_no u;
+  origin = Line u;
+  call = record { grain = account_1; method = 0; args = Int (pos n) ∷ [] };
+  answers = [];
+  reads = record { grain = account_1; state = Int (pos before) ∷ []; source = unit_no source } ∷ [];
+  writes = (account_1, Int (pos (before + n)) ∷ []) ∷ [];
+  result = outcome.Value (Int (pos (before + n)));
+}
+
+-- line u begins with a deposit of n
+abbrev pub begin_deposit : ℕ → ℕ → CoreEvent
+begin_deposit u n = event.Begin (Line u) (record { grain = account_1; method = 0; args = Int (pos n) ∷ [] }) false
+
+-- one deposit of 5: it runs to its end, its batch is taken, written, decided and sealed, and its reply is written
+abbrev pub deposit_events : List CoreEvent
+deposit_events =
+    begin_deposit 1 5 ∷ event.Grant (unit_no 1) account_1 mode.Update ∷ event.Finish (unit_no 1) (deposited 1 5 0 0)
+    ∷ event.Release (unit_no 1) account_1 ∷ event.Take ∷ event.Vote 1 account_1 true ∷ event.Decide 1 ∷ event.Sealed 1
+    ∷ event.Learn (unit_no 1) account_1 ∷ event.Emitted ∷ []
+
+-- two deposits at once, of which the second meets the first one's lock and dies
+abbrev pub conflict_events : List CoreEvent
+conflict_events =
+    begin_deposit 1 5 ∷ begin_deposit 2 4 ∷ event.Grant (unit_no 1) account_1 mode.Update
+    ∷ event.Refuse (unit_no 2) account_1 mode.Update
+    ∷ event.Emitted ∷ event.Finish (unit_no 1) (deposited 1 5 0 0) ∷ event.Release (unit_no 1) account_1
+    ∷ event.Take ∷ event.Vote 1 account_1 true ∷ event.Decide 1 ∷ event.Doubt 1 ∷ event.Emitted ∷ []
+
+-- what these lines are told: the second that it met a lock, and the first that nobody knows
+abbrev pub locked_entry : Entry
+locked_entry = record { line = 2; unit = unit_no 2; what = Lock (unit_no 1) account_1 }
+
+abbrev pub doubt_entry : Entry
+doubt_entry = record { line = 1; unit = unit_no 1; what = InDoubt }
+
+abbrev pub conflict_entries : List Entry
+conflict_entries = locked_entry ∷ doubt_entry ∷ []
+
+-- the call `account/1.read`
+abbrev pub read_call : Call
+read_call = record { grain = account_1; method = 1; args = [] }
+
+-- what unit 2 does that reads what unit 1 left
+abbrev pub looked : Effect
+looked = record {
+  unit = unit_no 2;
+  origin = Line 2;
+  call = read_call;
+  answers = [];
+  reads = record { grain = account_1; state = Int (pos 5) ∷ []; source = unit_no 1 } ∷ [];
+  writes = [];
+  result = outcome.Value (Int (pos 5));
+}
+
+-- a deposit, and a read of what it left before it is logged: the deposit's file can't be written, and both are aborted
+abbrev pub vote_events : List CoreEvent
+vote_events =
+    begin_deposit 1 5 ∷ event.Begin (Line 2) read_call false ∷ event.Grant (unit_no 1) account_1 mode.Update
+    ∷ event.Finish (unit_no 1) (deposited 1 5 0 0) ∷ event.Release (unit_no 1) account_1
+    ∷ event.Grant (unit_no 2) account_1 mode.Read ∷ event.Finish (unit_no 2) looked ∷ event.Release (unit_no 2) account_1
+    ∷ event.Take ∷ event.Vote 1 account_1 false ∷ event.Decide 1 ∷ event.Learn (unit_no 1) account_1 ∷ event.Emitted
+    ∷ event.Emitted ∷ []
+
+-- what these lines are told
+abbrev pub vote_entries : List Entry
+vote_entries =
+    record { line = 1; unit = unit_no 1; what = VotedDown account_1 }
+    ∷ record { line = 2; unit = unit_no 2; what = Dependency (unit_no 1) } ∷ []
+
+-- line 1 asks for the deposit, and line 2 for the read
+pub record AskBoth (lines : List (List ℕ)) : Type 0 where
+  pub first : IsLineCall accounts lines 1 deposit_call
+  pub second : IsLineCall accounts lines 2 read_call
+
+-- the core's run of these events over an empty log
+abbrev pub account_run : List CoreEvent → Run
+account_run events = core_from accounts (new_silo accounts) events
+
+-- the lines 1 and 2 ask for deposits of 5 and 4
+pub record AskDeposits (lines : List (List ℕ)) : Type 0 where
+  pub first : IsLineCall accounts lines 1 deposit_call
+  pub second : IsLineCall accounts lines 2 (record { grain = account_1; method = 0; args = Int (pos 4) ∷ [] })

@@ -1,0 +1,80 @@
+-- The exit clause: the log at the end of a run, and what is in doubt.
+use Rattle.std.specs.Prelude.{◌≡◌, ◌≢◌, ◌⊎◌, ℕ, ◌+◌, List, ◌++◌, length, map, take, drop, slice_index, Some}
+use Rattle.base_types.specs.declared.entries.Entry.{Entry}
+use Rattle.base_types.specs.declared.entries.Settled.TheVariants.{InDoubt}
+use Rattle.core_model.specs.World.{UnitNo, Member, World}
+use Rattle.core_model.specs.Serial.{chosen}
+use Rattle.gate_block.specs.Blocks.{block_of}
+use Rattle.host_trait.specs.declared.channels.Channel.TheVariants.{File}
+use Rattle.host_trait.specs.Faults.{Rose}
+use Rattle.host_trait.specs.World.{Image, IsImage}
+use Rattle.silo_spec.specs.Silos.{manager}
+use Rattle.promise_spec.specs.Records.{Commit}
+use Rattle.promise_spec.specs.Logs.{IsLog, body_of}
+use Rattle.promise_spec.specs.Programs.{Program, shape_in}
+use Rattle.promise_spec.specs.Endings.{MayDoubt}
+use Rattle.promise_spec.specs.Courses.{Observed, Course, order, core_run, core_end}
+use Rattle.promise_spec.specs.Causes.{HasDoubt}
+use Rattle.promise_spec.specs.Replies.{HasNoRecord}
+
+-- the units to commit of the batch in doubt, in their order
+abbrev pub doubtful : World → List UnitNo
+doubtful w = map (λ e. e.unit) (chosen w)
+
+-- the records are those of these units, one for each
+abbrev pub AreOf : List UnitNo → List Commit → Type 0
+AreOf units log = map (λ l. l.logged.unit) log ≡ units
+
+-- the log lacks the records of the batch in doubt, which stand last in the order
+pub record LacksDoubtful (c : Course) (w : World) (log : List Commit) : Type 0 where
+  pub begins : ℕ
+  pub doubt : w.manager.doubt ≡ Some begins
+  pub last : List Commit
+  pub split : order c ≡ log ++ last
+  pub units : AreOf (doubtful w) last
+
+-- the image has the whole order as its log, or the order without the records of the batch in doubt
+pub record EndsWith (p : Program) (c : Course) (w : World) (image : Image) : Type 0 where
+  pub log : List Commit
+  pub is : IsLog (shape_in p) image log
+  pub which : (log ≡ order c) ⊎ LacksDoubtful c w log
+
+-- Where images have different logs the manager file's count of faults rose, the ending is one of three, and each unit
+-- of the batch is told to be in doubt or has no entry.
+pub record IsDoubt (r : Observed) (c : Course) (w : World) : Type 0 where
+  pub rose : Rose (r.faults_before (File manager)) (r.faults_after (File manager))
+  pub ending : MayDoubt r.ending
+  pub told : (e : Entry) → Member e c.entries → Member e.unit (doubtful w) → e.what ≡ InDoubt
+
+-- no image at the exit has a record of the unit
+abbrev pub IsNowhere : Program → Observed → UnitNo → Type 0
+IsNowhere p r u =
+    (image : Image) (log : List Commit) (l : Commit) → IsImage r.new.disk image → IsLog (shape_in p) image log →
+    Member l log → l.logged.unit ≢ u
+
+-- the whole block of a batch stands behind a gate, which is open or not
+abbrev pub HasBlock : ℕ → List Commit → Image → Type 0
+HasBlock gate batch image =
+    take (length (block_of (body_of batch))) (drop (gate + 1) (image manager)) ≡ block_of (body_of batch)
+
+-- the two manager files differ at most in this byte
+pub record DifferAt (gate : ℕ) (one other : List ℕ) : Type 0 where
+  pub long : length one ≡ length other
+  pub same : (i : ℕ) → i ≢ gate → slice_index one i ≡ slice_index other i
+
+-- every image at the exit has the whole block of the batch in doubt, and they differ at most in the gate before it
+pub record HasDoubtfulBlock (r : Observed) (w : World) : Type 0 where
+  pub gate : ℕ
+  pub batch : List Commit
+  pub units : AreOf (doubtful w) batch
+  pub block : (image : Image) → IsImage r.new.disk image → HasBlock gate batch image
+  pub differ : (one other : Image) → IsImage r.new.disk one → IsImage r.new.disk other →
+      DifferAt gate (one manager) (other manager)
+
+-- The log at the exit, where lines are in doubt too.
+pub record IsLeft (p : Program) (r : Observed) (c : Course) : Type 0 where
+  pub logs : (image : Image) → IsImage r.new.disk image → EndsWith p c (core_end p c) image
+  pub doubt : (one other : Image) (a b : List Commit) → IsImage r.new.disk one → IsImage r.new.disk other →
+      IsLog (shape_in p) one a → IsLog (shape_in p) other b → a ≢ b → IsDoubt r c (core_end p c)
+  pub nowhere : (e : Entry) → Member e c.entries → e.what ≡ InDoubt → IsNowhere p r e.unit → HasNoRecord c e.unit
+  pub block : HasDoubt (core_run p c) → HasDoubtfulBlock r (core_end p c)

@@ -1,0 +1,41 @@
+-- Sound images, and chains of images.
+use Rattle.std.specs.Prelude.{◌≢◌, ◌⊎◌, ℕ, ◌<◌, ◌≤◌, List, [], ◌∷◌, ⊤}
+use Rattle.std.specs.List.{AllByRecursion}
+use Rattle.base_types.specs.declared.calls.Origin.{Origin}
+use Rattle.base_types.specs.declared.calls.Origin.TheVariants.{Line, Child}
+use Rattle.host_trait.specs.World.{Image}
+use Rattle.silo_spec.specs.Silos.{manager, program_file, IsSilo, HasProgram}
+use Rattle.promise_spec.specs.Programs.{Program, shape_in}
+use Rattle.promise_spec.specs.Records.{Commit, new_silo}
+use Rattle.promise_spec.specs.Serial.{IsSerial}
+use Rattle.promise_spec.specs.Logs.{magic, IsLog, HasLog, IsPrefix}
+
+-- a child is above its parent
+abbrev pub IsAboveParent : Origin → ℕ → Type 0
+IsAboveParent (Line n) unit = ⊤
+IsAboveParent (Child parent index depth) unit = parent.0 < unit
+
+-- unit numbers are not below the first, all different, and each above its parent's
+abbrev pub AreNumbered : ℕ → List Commit → Type 0
+AreNumbered first [] = ⊤
+AreNumbered first (c ∷ later) =
+    (first ≤ c.logged.unit.0) × IsAboveParent c.logged.origin c.logged.unit.0
+    × AllByRecursion (λ d. d.logged.unit ≢ c.logged.unit) later × AreNumbered first later
+
+-- The image is a silo of this program. All that it names is in the format and whole, its records are what the
+-- one-thread store gives from a new silo's states, and their units are numbered.
+pub record IsSound (p : Program) (image : Image) : Type 0 where
+  pub log : List Commit
+  pub is : IsLog (shape_in p) image log
+  pub program : HasProgram p.text (image program_file)
+  pub serial : IsSerial p.types (new_silo p.types).states log
+  pub numbered : AreNumbered (new_silo p.types).next log
+
+-- an image that is a silo is sound
+abbrev pub IsSoundIfSilo : Program → Image → Type 0
+IsSoundIfSilo p image = IsSilo magic (image manager) → IsSound p image
+
+-- Of the logs of the two, one is a prefix of the other, with equal states. An image that is no silo counts as before
+-- every log.
+abbrev pub AreChained : Program → Image → Image → Type 0
+AreChained p one other = HasLog (shape_in p) one (λ a. HasLog (shape_in p) other (λ b. IsPrefix a b ⊎ IsPrefix b a))

@@ -1,0 +1,29 @@
+-- The moments of a run, and the order that they leave.
+use Rattle.std.specs.Prelude.{List, [], ◌∷◌, ◌++◌, fold}
+use Rattle.host_trait.specs.World.{World, Moment, Image, IsImage, moment_of}
+use Rattle.cell_model.specs.Units.{Member}
+use Rattle.promise_spec.specs.Programs.{Program, shape_in}
+use Rattle.promise_spec.specs.Records.{Commit}
+use Rattle.promise_spec.specs.Logs.{IsLog, HasLog, IsPrefix}
+
+-- a crash at one of these moments may leave this image
+pub record IsImageOf (moments : List Moment) (image : Image) : Type 0 where
+  pub moment : Moment
+  pub member : Member moment moments
+  pub left : IsImage moment.disk image
+
+-- the last of some moments, or the one before them where there is none
+abbrev pub last_of : Moment → List Moment → Moment
+last_of before moments = fold (λ earlier later. later) before moments
+
+-- The moments that count for crashes: the one at which the opening's last sync returned, the later ones, and the
+-- exit. The early moments are those up to that sync's.
+abbrev pub counted : World → List Moment → List Moment → World → List Moment
+counted old early late new = last_of (moment_of old) early ∷ (late ++ moment_of new ∷ [])
+
+-- the order of a run: the longest log that an image of these moments has
+pub record IsLongest (p : Program) (moments : List Moment) (order : List Commit) : Type 0 where
+  pub image : Image
+  pub left : IsImageOf moments image
+  pub log : IsLog (shape_in p) image order
+  pub longest : (other : Image) → IsImageOf moments other → HasLog (shape_in p) other (λ log. IsPrefix log order)

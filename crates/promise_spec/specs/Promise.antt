@@ -1,0 +1,107 @@
+-- The whole promise of a run.
+use Rattle.std.specs.Prelude.{◌≡◌, ◌⊎◌, ℕ, ◌≤◌, false, [], length, ⊤, ◌≢◌, true}
+use Rattle.base_types.specs.declared.calls.Call.{Call}
+use Rattle.base_types.specs.declared.calls.Origin.TheVariants.{Child}
+use Rattle.base_types.specs.declared.entries.Entry.{Entry}
+use Rattle.base_types.specs.declared.entries.Settled.{Settled}
+use Rattle.base_types.specs.declared.entries.Settled.TheVariants as settled
+use Rattle.core_model.specs.World.{UnitNo, Member}
+use Rattle.core_model.specs.declared.events.CoreEvent.TheVariants.{Begin}
+use Rattle.host_trait.specs.declared.channels.FileId.{FileId}
+use Rattle.host_trait.specs.Faults.{NoneFailed}
+use Rattle.host_trait.specs.World.{World, Image, IsImage}
+use Rattle.silo_spec.specs.Silos.{manager, IsSilo}
+use Rattle.silo_spec.specs.Moments.{IsUntouched}
+use Rattle.promise_spec.specs.Logs.{magic}
+use Rattle.promise_spec.specs.Programs.{Program, IsChecked}
+use Rattle.promise_spec.specs.Images.{IsSound, AreChained, IsSoundIfSilo}
+use Rattle.promise_spec.specs.Cores.{AppliesAt}
+use Rattle.promise_spec.specs.Endings.{Done, BadUse, NotASilo, Damaged, HasRisen, IsRefusal, IsCarried, IsCalm, HasLength}
+use Rattle.promise_spec.specs.Courses.{Observed, Course, lines, core_run}
+use Rattle.promise_spec.specs.Orders.{IsOrdered}
+use Rattle.promise_spec.specs.Replies.{AreReplies}
+use Rattle.promise_spec.specs.Crashes.{SurvivesCrashes}
+use Rattle.promise_spec.specs.Exits.{IsLeft}
+use Rattle.promise_spec.specs.Explained.{IsExplained}
+
+-- ---- statuses
+
+-- the input was read to its end, and each line has its entry
+pub record IsDone (r : Observed) (c : Course) : Type 0 where
+  pub input : r.new.input ≡ []
+  pub answered : (n : ℕ) → 1 ≤ n → n ≤ length (lines r) → (e : Entry) × Member e c.entries × (e.line ≡ n)
+
+-- no fault of a file has a part in it
+abbrev pub IsUndisturbed : Settled → Type 0
+IsUndisturbed (settled.Done outcome) = ⊤
+IsUndisturbed (settled.Lock by grain) = ⊤
+IsUndisturbed (settled.Vote grain) = ⊥
+IsUndisturbed (settled.Dependency on) = ⊥
+IsUndisturbed settled.Disk = ⊥
+IsUndisturbed settled.InDoubt = ⊥
+IsUndisturbed (settled.Bad why) = ⊤
+
+-- the run went through, and no line was aborted for a fault
+pub record GoesThrough (r : Observed) (c : Course) : Type 0 where
+  pub calm : IsCalm r.ending
+  pub undisturbed : (e : Entry) → Member e c.entries → IsUndisturbed e.what
+
+-- no unit began as another's child
+abbrev pub HasNoChild : Program → Course → Type 0
+HasNoChild p c =
+    (at : ℕ) (parent : UnitNo) (index depth : ℕ) (call : Call) →
+    AppliesAt (core_run p c) at (Begin (Child parent index depth) call false) → ⊥
+
+-- no line waited for another, or was aborted for one
+abbrev pub IsNoLock : Settled → Type 0
+IsNoLock (settled.Lock by grain) = ⊥
+IsNoLock what = ⊤
+
+-- How a run that opened the folder ends: its words were a run's; a fault is shown by its count, and an input that is
+-- too long by its length; all is done only where each line has its entry; and where no count rises it goes through,
+-- at width 1 without nested units with no abort.
+pub record HasEnded (p : Program) (r : Observed) (c : Course) : Type 0 where
+  pub understood : r.understood ≡ true
+  pub risen : HasRisen r.ending r.faults_before r.faults_after
+  pub carried : IsCarried r.ending
+  pub long : HasLength r.ending (length r.old.input)
+  pub done : r.ending ≡ Done → IsDone r c
+  pub complete : NoneFailed r.faults_before r.faults_after → GoesThrough r c
+  pub alone : r.threaded ≡ false → r.width ≡ 1 → HasNoChild p c → (e : Entry) → Member e c.entries → IsNoLock e.what
+
+-- ---- the promise
+
+-- all six clauses of one course
+pub record Keeps (p : Program) (r : Observed) (c : Course) : Type 0 where
+  pub ordered : IsOrdered p r c
+  pub replies : AreReplies p r c
+  pub crashes : SurvivesCrashes p r c
+  pub exit : IsLeft p r c
+  pub explained : IsExplained p r c
+  pub ended : HasEnded p r c
+
+-- the files as they read at entry
+abbrev pub seen_at_entry : Observed → Image
+seen_at_entry r file = (r.old.disk file).seen
+
+-- The folder wasn't opened: nothing was written, and at each moment each image is one of those at entry. The ending
+-- is a refusal, a fault is shown by its count, a folder that is called no silo reads as none, and one that is called
+-- damaged doesn't read as sound.
+pub record IsUnopened (p : Program) (r : Observed) : Type 0 where
+  pub untouched : IsUntouched r.old r.new
+  pub refused : IsRefusal r.ending
+  pub risen : HasRisen r.ending r.faults_before r.faults_after
+  pub unused : r.ending ≡ BadUse → (r.understood ≡ false) × (r.new ≡ r.old)
+  pub used : r.ending ≢ BadUse → r.understood ≡ true
+  pub no_silo : r.ending ≡ NotASilo → IsSilo magic (seen_at_entry r manager) → ⊥
+  pub damaged : (file : FileId) (place : ℕ) → r.ending ≡ Damaged file place → IsSound p (seen_at_entry r) → ⊥
+
+-- the images at entry are a chain, and each that is a silo is sound
+pub record IsSoundFolder (p : Program) (w : World) : Type 0 where
+  pub chain : (one other : Image) → IsImage w.disk one → IsImage w.disk other → AreChained p one other
+  pub sound : (image : Image) → IsImage w.disk image → IsSoundIfSilo p image
+
+-- What `run` promises: over a sound folder it doesn't open it and leaves all as it was, or it takes a course that
+-- keeps all six clauses.
+abbrev pub Promises : Observed → Type 0
+Promises r = (p : Program) → IsChecked p → IsSoundFolder p r.old → IsUnopened p r ⊎ ((c : Course) × Keeps p r c)

@@ -1,0 +1,53 @@
+-- What the log keeps of a committed unit, and what a log stands for.
+use Rattle.std.specs.Prelude.{ℕ, ◌+◌, max, if◌then◌else◌, List, map, zip, fold, slice_get}
+use Rattle.base_types.specs.declared.calls.GrainId.{GrainId}
+use Rattle.base_types.specs.declared.calls.Value.{Value}
+use Rattle.commit_log.specs.declared.records.CommitRecord.{CommitRecord}
+use Rattle.script_holding.specs.Holding.{same_grain}
+use Rattle.script_tree.specs.Programs.{ProgramTree}
+use Rattle.script_meaning.specs.Play.{initial_of}
+
+-- a record of the log, and the states that stand at the places which it names, in their order
+pub record Commit : Type 0 where
+  pub logged : CommitRecord
+  pub states : List (List Value)
+
+-- the state of every grain
+abbrev pub States : Type 0
+States = GrainId → List Value
+
+-- the grains that a unit wrote, in its record's order, each with its new state
+abbrev pub written : Commit → List (GrainId × List Value)
+written c = zip (map (λ w. w.grain) c.logged.writes) c.states
+
+-- one grain has a new state
+abbrev pub put_state : States → GrainId × List Value → States
+put_state states new grain = if same_grain new.0 grain then new.1 else states grain
+
+-- the states after a unit's writes
+abbrev pub after_writes : States → Commit → States
+after_writes states c = fold put_state states (written c)
+
+-- What a log stands for: how many records it has, the number of the next unit, and the state of each grain.
+pub record Standing : Type 0 where
+  pub count : ℕ
+  pub next : ℕ
+  pub states : States
+
+-- What every log begins from, that of a new silo: no record, the unit 1 is next, and each grain has its type's
+-- initial fields.
+abbrev pub new_silo : ProgramTree → Standing
+new_silo types = record { count = 0; next = 1; states = λ grain. initial_of (slice_get types grain.kind) }
+
+-- what stands after one more record
+abbrev pub after_record : Standing → Commit → Standing
+after_record before c =
+    record { count = before.count + 1; next = max before.next (c.logged.unit.0 + 1); states = after_writes before.states c }
+
+-- what stands after these records
+abbrev pub after_records : Standing → List Commit → Standing
+after_records before log = fold after_record before log
+
+-- what a log stands for
+abbrev pub standing_of : ProgramTree → List Commit → Standing
+standing_of types log = after_records (new_silo types) log

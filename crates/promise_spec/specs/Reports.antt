@@ -1,0 +1,112 @@
+-- What the commands print that only read.
+use Rattle.std.specs.Prelude.{ℕ, if◌then◌else◌, List, [], ◌∷◌, ◌++◌, codes, length, map, option_map, unwrap_or, slice_get, Option, Some, None}
+use Rattle.std.specs.List.{flat_map}
+use Rattle.base_types.specs.declared.calls.Call.{Call}
+use Rattle.base_types.specs.declared.calls.GrainId.{GrainId}
+use Rattle.base_types.specs.declared.calls.Origin.{Origin}
+use Rattle.base_types.specs.declared.calls.Origin.TheVariants.{Line, Child}
+use Rattle.base_types.specs.declared.calls.Outcome.{Outcome}
+use Rattle.base_types.specs.declared.calls.Outcome.TheVariants as outcome
+use Rattle.base_types.specs.declared.calls.Value.{Value}
+use Rattle.core_model.specs.Tests.{is_before}
+use Rattle.cell_model.specs.Units.{same_grain}
+use Rattle.request_wire.specs.Reply.{grain_text, value_data, counted}
+use Rattle.script_tree.specs.declared.programs.FieldDecl.{FieldDecl}
+use Rattle.script_meaning.specs.Calls.{Target, numbered}
+use Rattle.serde_json.specs.Data.{Data, null, number, unsigned, string, array, object, Items, no_items, item, Members, no_members, member, put}
+use Rattle.serde_json.specs.Written.{compact_text}
+use Rattle.promise_spec.specs.Programs.{Program, shape_in}
+use Rattle.promise_spec.specs.Records.{Commit, standing_of}
+
+-- compact JSON, and a line feed
+abbrev pub line_of : Data → List ℕ
+line_of data_of_line = compact_text data_of_line ++ 10 ∷ []
+
+-- ---- show
+
+-- one more grain in an ascending list, each once
+abbrev pub with_grain : GrainId → List GrainId → List GrainId
+with_grain g [] = g ∷ []
+with_grain g (h ∷ hs) = if same_grain g h then h ∷ hs else (if is_before g h then g ∷ h ∷ hs else h ∷ with_grain g hs)
+
+-- the grains with a logged write, ascending
+abbrev pub grains_in : List Commit → List GrainId
+grains_in [] = []
+grains_in (c ∷ log) = with_all (map (λ w. w.grain) c.logged.writes) (grains_in log) where
+  with_all : List GrainId → List GrainId → List GrainId
+  with_all [] found = found
+  with_all (g ∷ gs) found = with_grain g (with_all gs found)
+
+-- the fields by name, in byte order of their names
+abbrev pub fields_data : List FieldDecl → List Value → Members
+fields_data [] values = no_members
+fields_data (f ∷ fields) [] = no_members
+fields_data (f ∷ fields) (v ∷ values) = put f.name.text (value_data v) (fields_data fields values)
+
+-- the fields of a grain's type
+abbrev pub fields_at : Program → GrainId → List FieldDecl
+fields_at p g = unwrap_or (option_map (λ t. t.fields) (slice_get p.types g.kind)) []
+
+-- a grain with its state
+abbrev pub grain_line : Program → List Commit → GrainId → List ℕ
+grain_line p log g =
+    let fields = object (fields_data (fields_at p g) ((standing_of p.types log).states g)) in
+    line_of (object (member (codes "fields") fields (member (codes "grain") (string (grain_text (shape_in p) g)) no_members)))
+
+-- each grain with a logged write, and at last the number of records
+abbrev pub show_text : Program → List Commit → List ℕ
+show_text p log =
+    flat_map (grain_line p log) (grains_in log) ++ line_of (object (counted (codes "count") (length log) no_members))
+
+-- ---- history
+
+-- arguments as an array
+abbrev pub items_of : List Value → Items
+items_of [] = no_items
+items_of (v ∷ values) = item (value_data v) (items_of values)
+
+-- a method's name, empty where there is none
+abbrev pub method_name : Option Target → List ℕ
+method_name None = []
+method_name (Some target) = target.method.name.text
+
+-- a call as `type/key.method`
+abbrev pub call_text : Program → Call → List ℕ
+call_text p call =
+    grain_text (shape_in p) call.grain ++ (46 ∷ method_name (numbered (slice_get p.types call.grain.kind) call.method))
+
+-- the line's number, or the parent's
+abbrev pub origin_count : Origin → Members → Members
+origin_count (Line n) rest = counted (codes "n") n rest
+origin_count (Child parent index depth) rest = counted (codes "parent") parent.0 rest
+
+-- how a unit ended, with its origin and number; no record has an abort here
+abbrev pub ended_as : Origin → ℕ → Outcome → Members
+ended_as origin unit (outcome.Value v) =
+    origin_count origin (member (codes "reply") (value_data v) (counted (codes "unit") unit no_members))
+ended_as origin unit (outcome.Fault text) =
+    member (codes "fault") (string text) (origin_count origin (counted (codes "unit") unit no_members))
+ended_as origin unit outcome.Aborted = no_members
+
+-- a record
+abbrev pub record_line : Program → Commit → List ℕ
+record_line p c =
+    let how = ended_as c.logged.origin c.logged.unit.0 c.logged.result in
+    let args = array (items_of c.logged.call.args) in
+    line_of (object (member (codes "args") args (member (codes "call") (string (call_text p c.logged.call)) how)))
+
+-- each record of the log
+abbrev pub history_text : Program → List Commit → List ℕ
+history_text p log = flat_map (record_line p) log
+
+-- ---- audit
+
+-- a unit's number, or null
+abbrev pub unit_data : Option ℕ → Data
+unit_data None = null
+unit_data (Some unit) = number (unsigned unit)
+
+-- the number of records, and the first unit whose record isn't what the one-thread store gives
+abbrev pub audit_text : List Commit → Option ℕ → List ℕ
+audit_text log first_bad =
+    line_of (object (counted (codes "count") (length log) (member (codes "first_bad") (unit_data first_bad) no_members)))

@@ -1,0 +1,29 @@
+-- Serial execution: the logged units, played whole, one after another.
+use Rattle.std.specs.Prelude.{◌≡◌, ℕ, List, [], ◌∷◌, length, ⊤}
+use Rattle.base_types.specs.declared.calls.Origin.{Origin}
+use Rattle.base_types.specs.declared.calls.Origin.TheVariants.{Line, Child}
+use Rattle.commit_log.specs.declared.records.CommitRecord.{CommitRecord}
+use Rattle.script_tree.specs.Programs.{ProgramTree}
+use Rattle.script_meaning.specs.Play.{Played, play_over}
+use Rattle.promise_spec.specs.Records.{Commit, States, written, after_writes}
+
+-- the depth of a unit's first frame
+abbrev pub depth_of : Origin → ℕ
+depth_of (Line n) = 1
+depth_of (Child parent index depth) = depth
+
+-- what the one-thread store gives for a logged unit's call and answers
+abbrev pub played : ProgramTree → States → CommitRecord → Played
+played types states r = play_over types r.call (depth_of r.origin) states r.answers
+
+-- over these states the one-thread store gives what the log says: the result, as many children as there are answers,
+-- and exactly the written grains with their states
+pub record Replays (types : ProgramTree) (states : States) (c : Commit) : Type 0 where
+  pub result : (played types states c.logged).result ≡ c.logged.result
+  pub asked : length (played types states c.logged).asked ≡ length c.logged.answers
+  pub writes : (played types states c.logged).writes ≡ written c
+
+-- each unit replays over the states that those before it left
+abbrev pub IsSerial : ProgramTree → States → List Commit → Type 0
+IsSerial types states [] = ⊤
+IsSerial types states (c ∷ later) = Replays types states c × IsSerial types (after_writes states c) later

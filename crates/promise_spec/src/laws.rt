@@ -1,0 +1,57 @@
+ghost use Rattle.std.specs.Prelude.{◌≡◌, ◌⊎◌, ◌++◌, ℕ, List};
+ghost use Rattle.base_types.specs.declared.shapes.Shape.{Shape};
+ghost use Rattle.base_types.specs.declared.entries.Entry.{Entry};
+ghost use Rattle.core_model.specs.World.{Member};
+ghost use Rattle.host_trait.specs.World.{Image, IsImage, Moment};
+ghost use Rattle.silo_spec.specs.Silos.{program_file, HasProgram};
+ghost use Rattle.promise_spec.specs.Programs.{Program, shape_in};
+ghost use Rattle.promise_spec.specs.Records.{Commit, new_silo};
+ghost use Rattle.promise_spec.specs.Serial.{IsSerial};
+ghost use Rattle.promise_spec.specs.Logs.{IsLog, IsPrefix};
+ghost use Rattle.promise_spec.specs.Images.{AreChained, AreNumbered, IsSoundIfSilo};
+ghost use Rattle.promise_spec.specs.Moments.{IsImageOf, IsLongest};
+ghost use Rattle.request_wire.specs.Reply.{reply_line};
+ghost use Rattle.promise_spec.specs.Outputs.{HavePlainNames, IsProper, Grew};
+ghost use Rattle.promise_spec.specs.Courses.{Observed, Course};
+ghost use Rattle.promise_spec.specs.Crashes.{Holds};
+ghost use Rattle.promise_spec.specs.Journals.{Settlement, KeepsJournal, AllKeep, Backs, commits_of, entries_of};
+
+/// An image has at most one log under a program's shape: the records and their states are the bytes'. So where a
+/// definition says that an image has a log, it is the log.
+pub fn one_log()
+    ensures { (shape : Shape) (image : Image) (a b : List Commit) → IsLog shape image a → IsLog shape image b → a ≡ b }
+{}
+
+/// The line of an entry determines the entry, where types are known by their names.
+pub fn one_entry()
+    ensures { (shape : Shape) (d e : Entry) → HavePlainNames shape.types → IsProper shape d → IsProper shape e
+        → reply_line shape d ≡ reply_line shape e → d ≡ e }
+{}
+
+/// An output is cut into entries and a rest in one way. So where a definition says that an output grew by entries, they are
+/// the entries.
+pub fn one_output()
+    ensures { (shape : Shape) (before now : List ℕ) (ds es : List Entry) (r s : List ℕ) → HavePlainNames shape.types
+        → Grew shape before now ds r → Grew shape before now es s → (ds ≡ es) × (r ≡ s) }
+{}
+
+/// Of whatever logs two chained images have, one is a first part of the other.
+pub fn chains_compare()
+    ensures { (p : Program) (one other : Image) (a b : List Commit) → AreChained p one other
+        → IsLog (shape_in p) one a → IsLog (shape_in p) other b → IsPrefix a b ⊎ IsPrefix b a }
+{}
+
+/// From a journal that each image keeps: the images of any moments are a chain, the order is the opening log with the
+/// journal's records, each image is sound where the order is serial, and each holds what was acknowledged by then.
+pub fn journals_survive()
+    ensures chained { (p : Program) (opening : List Commit) (before : List ℕ) (journal : List Settlement) (m n : Moment) (a b : Image)
+        → KeepsJournal p opening before journal m a → KeepsJournal p opening before journal n b → AreChained p a b }
+    ensures longest { (p : Program) (opening : List Commit) (before : List ℕ) (journal : List Settlement) (moments : List Moment) (image : Image)
+        → IsImageOf moments image → IsLog (shape_in p) image (opening ++ commits_of journal)
+        → ((m : Moment) → Member m moments → AllKeep p opening before journal m) → IsLongest p moments (opening ++ commits_of journal) }
+    ensures sound { (p : Program) (opening : List Commit) (before : List ℕ) (journal : List Settlement) (m : Moment) (image : Image)
+        → KeepsJournal p opening before journal m image → HasProgram p.text (image program_file)
+        → IsSerial p.types (new_silo p.types).states (opening ++ commits_of journal) → AreNumbered 1 (opening ++ commits_of journal) → IsSoundIfSilo p image }
+    ensures holds { (p : Program) (r : Observed) (c : Course) (journal : List Settlement) (m : Moment) (image : Image) → Backs journal c.added
+        → (k : KeepsJournal p c.opening r.old.output journal m image) → IsPrefix (entries_of k.said) c.entries → Holds p r c m image }
+{}

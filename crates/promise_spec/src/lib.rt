@@ -1,0 +1,25 @@
+//! What a run of a silo promises, as definitions that contracts cite. There is no code but public functions with
+//! empty bodies, whose contracts are laws about the definitions. `docs/DEFINITIONS.md` reads them in plain words.
+//!
+//! In reading order: `Programs`, `Records`, `Serial`, `Logs`, `Images`, `Moments` (what a log is, stands for and may
+//! look like after a crash), `Lines`, `Outputs` (what is asked and answered), `Cores`, `Gotten`, `UnitRule`,
+//! `TurnRule`, `Causes`, `Family` (what the core's events are, and where records come from), `Endings`, `Courses`,
+//! and the six clauses `Orders`, `Replies`, `Crashes`, `Exits`, `Explained` and `Promise`. `Journals` has what a run's
+//! loop carries, `Reports` and `Commands` the other commands, and the rest are examples.
+#![tactic(auto)]
+
+mod examples;
+mod laws;
+mod wrong_runs;
+
+pub use examples::{
+    deposit_runs_keep, deposits_are_serial, deposits_keep_the_rules, doubt_runs_keep,
+    empty_runs_keep, first_deposit_reads, reports_tell_the_first_deposit, torn_folders_have_no_log,
+    votes_keep_the_rules,
+};
+pub use laws::{chains_compare, journals_survive, one_entry, one_log, one_output};
+pub use wrong_runs::{
+    aborted_units_have_no_record, aborts_have_causes, batches_are_small, endings_are_true,
+    lines_are_answered_once, logs_are_not_lost, records_come_from_lines, replies_are_serial,
+    replies_come_after_records, the_opening_log_is_the_disks,
+};

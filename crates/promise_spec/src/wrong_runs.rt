@@ -1,0 +1,122 @@
+ghost use Rattle.std.specs.Prelude.{◌≡◌, ◌≢◌, ◌<◌, ◌++◌, ◌∷◌, [], ℕ, Bool, List, length};
+ghost use Rattle.base_types.specs.declared.calls.Call.{Call};
+ghost use Rattle.base_types.specs.declared.calls.GrainId.{GrainId};
+ghost use Rattle.base_types.specs.declared.calls.Origin.TheVariants.{Line, Child};
+ghost use Rattle.base_types.specs.declared.calls.Outcome.{Outcome};
+ghost use Rattle.base_types.specs.declared.calls.UnitNo.{UnitNo};
+ghost use Rattle.base_types.specs.declared.entries.Entry.{Entry};
+ghost use Rattle.base_types.specs.declared.entries.Settled.TheVariants as settled;
+ghost use Rattle.base_types.specs.declared.shapes.Shape.{Shape};
+ghost use Rattle.commit_log.specs.declared.records.CommitRecord.{CommitRecord};
+ghost use Rattle.commit_log.specs.Spelling.{spelling_of_body};
+ghost use Rattle.core_model.specs.declared.effects.Effect.{Effect};
+ghost use Rattle.core_model.specs.declared.events.CoreEvent.{CoreEvent};
+ghost use Rattle.core_model.specs.declared.events.CoreEvent.TheVariants as event;
+ghost use Rattle.core_model.specs.Events.{run};
+ghost use Rattle.core_model.specs.Legal.{begins};
+ghost use Rattle.core_model.specs.Serial.{committed};
+ghost use Rattle.core_model.specs.World.{Member, Mode};
+ghost use Rattle.gate_block.specs.Log.{LogsUpTo};
+ghost use Rattle.host_trait.specs.declared.channels.FileId.TheVariants as file;
+ghost use Rattle.host_trait.specs.World.{Image, IsImage, Moment, moment_of};
+ghost use Rattle.script_meaning.specs.Play.{IsTransaction};
+ghost use Rattle.silo_spec.specs.Silos.{manager, IsSilo};
+ghost use Rattle.promise_spec.specs.Programs.{Program, shape_in};
+ghost use Rattle.promise_spec.specs.Records.{Commit, States};
+ghost use Rattle.promise_spec.specs.Serial.{played};
+ghost use Rattle.promise_spec.specs.Logs.{magic, IsLog, IsPrefix};
+ghost use Rattle.promise_spec.specs.Moments.{IsImageOf, last_of};
+ghost use Rattle.promise_spec.specs.Lines.{IsLineCall};
+ghost use Rattle.promise_spec.specs.Cores.{AppliesAt};
+ghost use Rattle.promise_spec.specs.Causes.{HasDoubt, IsAlive};
+ghost use Rattle.promise_spec.specs.Family.{states_after};
+ghost use Rattle.promise_spec.specs.Endings as ending;
+ghost use Rattle.promise_spec.specs.Courses.{Observed, Course, moments, lines, opening_standing, core_run, core_end};
+ghost use Rattle.promise_spec.specs.Replies.{IsEntryOf};
+ghost use Rattle.promise_spec.specs.Crashes.{Acknowledges};
+ghost use Rattle.promise_spec.specs.Promise.{Keeps, IsUnopened};
+
+/// The opening log is the disk's: no run can take another for it, as one that answers from an old log again would.
+pub fn the_opening_log_is_the_disks()
+    ensures { (p : Program) (r : Observed) (c : Course) (image : Image) (log : List Commit) → Keeps p r c
+        → IsImage (last_of (moment_of r.old) c.early).disk image → IsLog (shape_in p) image log → c.opening ≡ log }
+{}
+
+/// No run keeps the promise that at some moment may leave a log without all that it opened with, as where an earlier gate is
+/// closed for a moment, or that leaves a folder that is no silo.
+pub fn logs_are_not_lost()
+    ensures shorter { (p : Program) (r : Observed) (c : Course) (image : Image) (log : List Commit) → Keeps p r c
+        → IsImageOf (moments r c) image → IsLog (shape_in p) image log → (IsPrefix c.opening log → ⊥) → ⊥ }
+    ensures closed { (p : Program) (r : Observed) (c : Course) (image : Image) → Keeps p r c
+        → IsImage r.new.disk image → (IsSilo magic (image manager) → ⊥) → ⊥ }
+{}
+
+/// No run keeps the promise that writes a reply before its record is in every image.
+pub fn replies_come_after_records()
+    ensures { (p : Program) (r : Observed) (c : Course) (m : Moment) (image : Image) (more : List ℕ) → Keeps p r c
+        → Member m (moments r c) → IsImage m.disk image → IsLog (shape_in p) image c.opening
+        → m.output ≡ r.old.output ++ more → Member 10 more
+        → ((e : Entry) → Member e c.entries → (l : Commit) × Member l c.added × Acknowledges e l × (Member l c.opening → ⊥)) → ⊥ }
+{}
+
+/// No run keeps the promise that answers a line twice.
+pub fn lines_are_answered_once()
+    ensures { (p : Program) (r : Observed) (c : Course) (front between back : List Entry) (d e : Entry) → Keeps p r c
+        → c.entries ≡ front ++ (d ∷ (between ++ (e ∷ back))) → d.line ≡ e.line → ⊥ }
+{}
+
+/// No run keeps the promise that names a unit aborted whose record it added, or refused where some image has its record.
+pub fn aborted_units_have_no_record()
+    ensures lock { (p : Program) (r : Observed) (c : Course) (e : Entry) (l : Commit) (by : UnitNo) (grain : GrainId) → Keeps p r c
+        → Member e c.entries → e.what ≡ settled.Lock by grain → Member l c.added → l.logged.unit ≡ e.unit → ⊥ }
+    ensures doubt { (p : Program) (r : Observed) (c : Course) (e : Entry) (l : Commit) (image : Image) (log : List Commit) → Keeps p r c
+        → Member e c.entries → e.what ≡ settled.Disk → IsImage r.new.disk image → IsLog (shape_in p) image log → Member l log
+        → (Member l c.opening → ⊥) → l.logged.unit ≡ e.unit → ⊥ }
+{}
+
+/// No run keeps the promise that adds a record of a line that isn't there, or of a child for which its parent's play doesn't
+/// ask, or that begins a line with another call than it asks for.
+pub fn records_come_from_lines()
+    ensures line { (p : Program) (r : Observed) (c : Course) (l : Commit) (n : ℕ) → Keeps p r c
+        → Member l c.added → l.logged.origin ≡ Line n → length (lines r) < n → ⊥ }
+    ensures child { (p : Program) (r : Observed) (c : Course) (l parent : Commit) (index depth : ℕ) → Keeps p r c
+        → Member l c.added → Member parent c.added → l.logged.origin ≡ Child parent.logged.unit index depth
+        → ((states : States) → (played p.types states parent.logged).asked ≡ []) → ⊥ }
+    ensures call { (p : Program) (r : Observed) (c : Course) (at n : ℕ) (call other : Call) (plain : Bool) → Keeps p r c
+        → AppliesAt (core_run p c) at (event.Begin (Line n) call plain) → IsLineCall p.types (lines r) n other → call ≢ other → ⊥ }
+{}
+
+/// No run keeps the promise that replies with another outcome than the one-thread store gives at the record's place, or whose
+/// records stand in another order than the core's units finished.
+pub fn replies_are_serial()
+    ensures total { (p : Program) (r : Observed) (c : Course) (e : Entry) (l : Commit) (front back : List Commit) (outcome : Outcome) → Keeps p r c
+        → Member e c.entries → e.what ≡ settled.Done outcome → c.added ≡ front ++ (l ∷ back) → IsEntryOf e l → IsTransaction p.types l.logged.call
+        → (played p.types (states_after (opening_standing p c).states front) l.logged).result ≢ outcome → ⊥ }
+    ensures order { (p : Program) (r : Observed) (c : Course) (first : Effect) (later : List Effect) (l : Commit) (more : List Commit) → Keeps p r c
+        → committed (core_end p c) ≡ first ∷ later → c.added ≡ l ∷ more → l.logged.unit ≢ first.unit → ⊥ }
+{}
+
+/// No run keeps the promise that names a lock as the cause of an abort where the core refused the unit no lock, or blames a
+/// unit that isn't dead at any event, as one that died only afterwards.
+pub fn aborts_have_causes()
+    ensures lock { (p : Program) (r : Observed) (c : Course) (e : Entry) (by : UnitNo) (grain : GrainId) → Keeps p r c
+        → Member e c.entries → e.what ≡ settled.Lock by grain
+        → ((at : ℕ) (mode : Mode) → AppliesAt (core_run p c) at (event.Refuse e.unit grain mode) → ⊥) → ⊥ }
+    ensures dead { (p : Program) (r : Observed) (c : Course) (e : Entry) (on : UnitNo) → Keeps p r c
+        → Member e c.entries → e.what ≡ settled.Dependency on
+        → ((before later : List CoreEvent) (event : CoreEvent) → c.events ≡ before ++ (event ∷ later) → IsAlive (run (begins (core_run p c)) before) event on) → ⊥ }
+{}
+
+/// No run keeps the promise that ends with a fault of a grain's file, or as done after a doubt, or as done without having
+/// opened the folder.
+pub fn endings_are_true()
+    ensures grain { (p : Program) (r : Observed) (c : Course) (slot : ℕ) (grain : GrainId) → Keeps p r c → r.ending ≡ ending.DiskFault (file.Grain slot grain) → ⊥ }
+    ensures doubt { (p : Program) (r : Observed) (c : Course) → Keeps p r c → HasDoubt (core_run p c) → r.ending ≡ ending.Done → ⊥ }
+    ensures unopened { (p : Program) (r : Observed) → IsUnopened p r → r.ending ≡ ending.Done → ⊥ }
+{}
+
+/// A manager file with a block of 65 records has no log.
+pub fn batches_are_small()
+    ensures { (shape : Shape) (image : Image) (records : List CommitRecord) (gate : ℕ) (log : List Commit) → length records ≡ 65
+        → LogsUpTo (spelling_of_body records ∷ []) gate (image manager) → IsLog shape image log → ⊥ }
+{}
