@@ -1,13 +1,13 @@
-ghost use Rattle.std.specs.Prelude.{◌≡◌, ◌≤◌, IfSome, map, length, slice_get, option_map};
+ghost use Rattle.std.specs.Prelude.{◌≡◌, ◌≤◌, IfSome, length, slice_get, option_map};
 ghost use Rattle.std.specs.Option.{option_copied};
 ghost use Rattle.script_tree.specs.Programs.{method_tree, type_tree, program_tree};
-ghost use Rattle.script_meaning.specs.Calls.{numbered, method_of, type_from, method_from};
+ghost use Rattle.script_meaning.specs.Calls.{numbered, method_of, type_from};
 ghost use Rattle.script_machine.specs.Frames.{fields_of};
 ghost use Rattle.script_machine.specs.Callees.{IsFew, IsThere, target_of};
 
 use base_types::GrainId;
 use script_check::Checked;
-use script_scopes::is_same;
+use script_meaning::{method_number, type_number};
 use script_tree::{Chars, FieldDecl, Method, TypeDecl};
 
 /// A called method: the grain, the number of the method in the grain's type, the type and the method.
@@ -63,32 +63,6 @@ pub fn callee_at<'a>(checked: &'a Checked, grain: GrainId, number: u16) -> Optio
             }),
         },
     }
-}
-
-/// The number of the type of this name.
-fn type_number(types: &[TypeDecl], name: &Chars) -> Option<u16>
-    requires { length types.now ≤ 64 }
-    ensures { result ≡ type_from 0 name.now (map type_tree types.now) }
-{
-    for (i, of_type) in types.iter().enumerate() {
-        if is_same(&of_type.name.text, name) {
-            return Some(i as u16);
-        }
-    }
-    None
-}
-
-/// The number of the method of this name.
-fn method_number(methods: &[Method], name: &Chars) -> Option<u16>
-    requires { length methods.now ≤ 64 }
-    ensures { result ≡ method_from 0 name.now (map method_tree methods.now) }
-{
-    for (i, method) in methods.iter().enumerate() {
-        if is_same(&method.name.text, name) {
-            return Some(i as u16);
-        }
-    }
-    None
 }
 
 /// The number of the type of this name in a program.

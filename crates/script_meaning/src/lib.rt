@@ -20,7 +20,7 @@ pub use laws::{
     plain_runs_lock_nothing, play_is_again, play_is_next, play_rests_on_reads, plays_are_orderly,
     trails_grow,
 };
-pub use targets::{Target, bind_arguments, target_at, target_named, type_number};
+pub use targets::{Target, bind_arguments, method_number, target_at, target_named, type_number};
 pub use units::{Played, play};
 pub use worked::{worked_nexts, worked_plays};
 

@@ -33,7 +33,7 @@ pub fn type_number(types: &[TypeDecl], name: &Chars) -> Option<u16>
 }
 
 /// The number of the method of this name in its type, the first declared first.
-fn method_number(methods: &[Method], name: &Chars) -> Option<u16>
+pub fn method_number(methods: &[Method], name: &Chars) -> Option<u16>
     requires { length methods.now ≤ 64 }
     ensures { result ≡ method_from 0 name.now (map method_tree methods.now) }
 {
