@@ -1,5 +1,5 @@
 -- A run of one deposit keeps the whole promise.
-use Rattle.std.proofs.Common.{◌≡◌, inl, inr, ℕ, ◌≤◌, Bool, true, false, List, [], ◌∷◌, ◌++◌, length, take, drop, refl, sym, ◌∙◌, ap, subst, arith, lit<, lit≤}
+use Rattle.std.proofs.Common.{◌≡◌, inl, inr, ℕ, ◌≤◌, Bool, true, false, List, [], ◌∷◌, ◌++◌, length, take, drop, refl, sym, ◌∙◌, ap, subst, arith, lit<}
 use Rattle.std.specs.Prelude.{count_by, if◌then◌else◌}
 use Rattle.std.proofs.lemmas.List.{append-nil}
 use Rattle.base_types.specs.declared.calls.GrainId.{GrainId}
@@ -29,7 +29,7 @@ use Rattle.promise_spec.specs.Endings as ending
 use Rattle.promise_spec.specs.Courses.{Observed, Course, moments, lines, core_end}
 use Rattle.promise_spec.specs.Orders.{IsOrdered}
 use Rattle.promise_spec.specs.Replies.{AreReplies, IsTrueOf, HasNoRecord}
-use Rattle.promise_spec.specs.Crashes.{SurvivesCrashes}
+use Rattle.promise_spec.specs.Crashes.{LeavesAlone, SurvivesCrashes}
 use Rattle.promise_spec.specs.Exits.{IsLeft, IsNowhere}
 use Rattle.promise_spec.specs.Explained.{AreAdded, IsExplained}
 use Rattle.promise_spec.specs.Journals.{Settlement, KeepsJournal, Backs, commits_of, entries_of}
@@ -156,6 +156,7 @@ module _ (r : Observed) (opened sealing : Moment) (run : IsDepositRun r opened s
 
   ordered : IsOrdered account_program r course
   ordered = record {
+    read = run.read;
     opened = λ image left. record { entry = (run.entry image left).0; log = (run.entry image left).1.0 };
     longest = longest account_program [] r.old.output journal (moments r course) run.some (record { moment = moment_of r.new; member = inr (inr (inl refl)); left = run.possible }) (run.logged run.some run.possible).0
         (λ m there image left. (known m there image left).0.0);
@@ -178,6 +179,14 @@ module _ (r : Observed) (opened sealing : Moment) (run : IsDepositRun r opened s
         absurd (omega arith);
   }
 
+  -- at each moment other files and the header are as they were
+  alone : (m : Moment) → Member m (moments r course) → LeavesAlone r m
+  alone m (inl same) = subst (LeavesAlone r) (sym same) run.alone.0
+  alone m (inr (inl same)) = subst (LeavesAlone r) (sym same) run.alone.1
+  alone m (inr (inr (inl same))) = subst (LeavesAlone r) (sym same) run.alone.2
+  alone m (inr (inr (inr (inl same)))) = subst (LeavesAlone r) (sym same) run.alone.2
+  alone m (inr (inr (inr (inr none)))) = absurd none
+
   crashes : SurvivesCrashes account_program r course
   crashes = record {
     past = run.past;
@@ -187,6 +196,7 @@ module _ (r : Observed) (opened sealing : Moment) (run : IsDepositRun r opened s
     sound = λ image is. sound account_program [] r.old.output journal is.moment image (keeps_at image is) (known is.moment is.member image is.left).1 serial numbered;
     keeps = λ image is. let k = keeps_at image is in record { log = commits_of (k.said ++ k.unsaid); is = k.log; longer = (commits_of (k.said ++ k.unsaid), refl) };
     holds = λ m image there left. let k = (known m there image left).0 in holds account_program r course journal m image backs k.0 k.1;
+    alone = alone;
   }
 
   exit : IsLeft account_program r course
@@ -209,6 +219,10 @@ module _ (r : Observed) (opened sealing : Moment) (run : IsDepositRun r opened s
   unfolding put put_grain
   settled_is = refl
 
+  few_emitted : (core_end account_program course).manager.emitted ≤ 1
+  unfolding put put_grain
+  few_emitted = omega arith
+
   no_seals : how_many is_unsealed core ≡ 0
   unfolding put put_grain
   no_seals = refl
@@ -222,6 +236,8 @@ module _ (r : Observed) (opened sealing : Moment) (run : IsDepositRun r opened s
   explained = record {
     entries = ([], settled_is);
     all = λ done. sym settled_is;
+    told = few_emitted;
+    cut = inl refl;
     records = records;
     units = one_unit_rule (lines r) run.asks;
     turns = λ single. turns;
@@ -234,10 +250,12 @@ module _ (r : Observed) (opened sealing : Moment) (run : IsDepositRun r opened s
     ended = λ doubt. absurd (no_doubt doubt);
   }
 
+  begins : ending.IsBegun r.ending
+  begins = subst ending.IsBegun (sym run.ending) tt
+
   statuses : ending.HasRisen r.ending r.faults_before r.faults_after × ending.IsCarried r.ending × ending.HasLength r.ending (length r.old.input) × ending.IsCalm r.ending
   statuses =
-      let few : length r.old.input ≤ 16777216 = subst (λ n. n ≤ 16777216) (sym run.small) (lit≤ tt) in
-      subst (λ e. ending.HasRisen e r.faults_before r.faults_after × ending.IsCarried e × ending.HasLength e (length r.old.input) × ending.IsCalm e) (sym run.ending) (tt, tt, few, tt)
+      subst (λ e. ending.HasRisen e r.faults_before r.faults_after × ending.IsCarried e × ending.HasLength e (length r.old.input) × ending.IsCalm e) (sym run.ending) (tt, tt, run.small, tt)
 
   ended : HasEnded account_program r course
   ended = record {
@@ -245,6 +263,7 @@ module _ (r : Observed) (opened sealing : Moment) (run : IsDepositRun r opened s
     risen = statuses.0;
     carried = statuses.1;
     long = statuses.2;
+    begun = inr (record { ending = begins; input = run.left; short = run.small });
     done = λ is. record { input = run.left; answered = λ n low high. (first_entry, inl refl, (let one : length (lines r) ≡ 1 = run.one in omega arith)) };
     complete = λ calm. record { calm = statuses.3; undisturbed = λ e there. only (λ (d : Entry). IsUndisturbed d.what) first_entry e tt there };
     alone = λ single one none e there. only (λ (d : Entry). IsNoLock d.what) first_entry e tt there;

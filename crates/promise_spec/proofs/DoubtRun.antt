@@ -1,5 +1,5 @@
 -- A run with a lock that is refused and a batch in doubt keeps the whole promise.
-use Rattle.std.proofs.Common.{◌≡◌, ◌≢◌, ◌⊎◌, inl, inr, ℕ, zero, suc, ◌+◌, ◌<◌, ◌≤◌, Bool, true, false, List, [], ◌∷◌, ◌++◌, length, Some, refl, sym, ◌∙◌, ap, subst, arith, lit<, lit≤}
+use Rattle.std.proofs.Common.{◌≡◌, ◌≢◌, ◌⊎◌, inl, inr, ℕ, zero, suc, ◌+◌, ◌<◌, ◌≤◌, Bool, true, false, List, [], ◌∷◌, ◌++◌, length, Some, refl, sym, ◌∙◌, ap, subst, arith, lit<}
 use Rattle.std.specs.Prelude.{slice_get, count_by, ◌==◌, if◌then◌else◌}
 use Rattle.std.proofs.lemmas.Bool.{eqb-true}
 use Rattle.std.proofs.lemmas.List.{append-nil}
@@ -13,28 +13,29 @@ use Rattle.core_model.specs.declared.phases.Verdict.TheVariants as verdict
 use Rattle.core_model.specs.Causes.{IsCaused}
 use Rattle.core_model.specs.Changes.{leave}
 use Rattle.core_model.specs.Legal.{Run, IsLegal}
+use Rattle.core_model.specs.Serial.{chosen}
 use Rattle.core_model.specs.World.{Member, same_grain, put, put_grain}
 use Rattle.core_model.proofs.Caused.{caused-ends}
-use Rattle.host_trait.specs.Faults.{Rose, NoneFailed}
+use Rattle.host_trait.specs.Faults.{Rose}
 use Rattle.host_trait.specs.declared.channels.Channel.TheVariants.{File}
 use Rattle.host_trait.specs.declared.channels.FileId.{FileId}
 use Rattle.host_trait.specs.declared.channels.FileId.TheVariants.{Manager, Grain}
 use Rattle.host_trait.specs.World.{Moment, Image, IsImage, moment_of}
 use Rattle.silo_spec.specs.Silos.{manager, program_file, HasProgram}
 use Rattle.promise_spec.specs.Programs.{shape_in}
-use Rattle.promise_spec.specs.Records.{Commit}
+use Rattle.promise_spec.specs.Records.{Commit, AreRecordsOf}
 use Rattle.promise_spec.specs.Logs.{IsPrefix}
 use Rattle.promise_spec.specs.Moments.{IsImageOf}
 use Rattle.promise_spec.specs.Outputs.{IsProper, reply_lines}
 use Rattle.promise_spec.specs.Cores.{HasBegun, applied_in, how_many}
 use Rattle.promise_spec.specs.TurnRule.{KeepsTurnRule}
-use Rattle.promise_spec.specs.Causes.{IsAbortedFor, RoseBy, HasDoubt, AreCaused, is_no, is_unsealed}
+use Rattle.promise_spec.specs.Causes.{IsAbortedFor, NoneRose, RoseBy, HasDoubt, AreCaused, is_no, is_unsealed}
 use Rattle.promise_spec.specs.Family.{IsUnitOf, IsReached, by_line}
 use Rattle.promise_spec.specs.Endings as ending
 use Rattle.promise_spec.specs.Courses.{Observed, Course, moments, lines, core_end}
 use Rattle.promise_spec.specs.Orders.{IsOrdered}
 use Rattle.promise_spec.specs.Replies.{AreReplies, IsTrueOf, HasNoRecord}
-use Rattle.promise_spec.specs.Crashes.{HasOutcome, SurvivesCrashes}
+use Rattle.promise_spec.specs.Crashes.{HasOutcome, LeavesAlone, SurvivesCrashes}
 use Rattle.promise_spec.specs.Exits.{IsLeft, IsDoubt, EndsWith, IsNowhere, doubtful}
 use Rattle.promise_spec.specs.Explained.{AreAdded, IsExplained}
 use Rattle.promise_spec.specs.Journals.{Settlement, KeepsJournal, Backs, commits_of, entries_of}
@@ -214,6 +215,7 @@ module _ (r : Observed) (opened told doubting : Moment) (run : IsDoubtRun r open
 
   ordered : IsOrdered account_program r course
   ordered = record {
+    read = run.read;
     opened = λ image left. record { entry = (run.entry image left).0; log = (run.entry image left).1.0 };
     longest = longest account_program [] r.old.output journal (moments r course) run.some (record { moment = moment_of r.new; member = inr (inr (inr (inl refl))); left = run.possible }) run.there.0
         (λ m there image left. (known m there image left).0.0);
@@ -238,6 +240,15 @@ module _ (r : Observed) (opened told doubting : Moment) (run : IsDoubtRun r open
         absurd (not_one (sym (ap (λ (x : Commit). x.logged.unit) commit ∙ of.unit ∙ ap (λ (x : Entry). x.unit) same)));
   }
 
+  -- at each moment other files and the header are as they were
+  alone : (m : Moment) → Member m (moments r course) → LeavesAlone r m
+  alone m (inl same) = subst (LeavesAlone r) (sym same) run.alone.0
+  alone m (inr (inl same)) = subst (LeavesAlone r) (sym same) run.alone.1
+  alone m (inr (inr (inl same))) = subst (LeavesAlone r) (sym same) run.alone.2
+  alone m (inr (inr (inr (inl same)))) = subst (LeavesAlone r) (sym same) run.alone.3
+  alone m (inr (inr (inr (inr (inl same))))) = subst (LeavesAlone r) (sym same) run.alone.3
+  alone m (inr (inr (inr (inr (inr none))))) = absurd none
+
   crashes : SurvivesCrashes account_program r course
   crashes = record {
     past = run.past;
@@ -247,6 +258,7 @@ module _ (r : Observed) (opened told doubting : Moment) (run : IsDoubtRun r open
     sound = λ image is. sound account_program [] r.old.output journal is.moment image (keeps_at image is) (known is.moment is.member image is.left).1 serial numbered;
     keeps = λ image is. let k = keeps_at image is in record { log = commits_of (k.said ++ k.unsaid); is = k.log; longer = (commits_of (k.said ++ k.unsaid), refl) };
     holds = λ m image there left. let k = (known m there image left).0 in holds account_program r course journal m image backs k.0 k.1;
+    alone = alone;
   }
 
   doubtful_is : doubtful (core_end account_program course) ≡ unit_no 1 ∷ []
@@ -278,6 +290,10 @@ module _ (r : Observed) (opened told doubting : Moment) (run : IsDoubtRun r open
         (λ is. refl) there unit_there;
   }
 
+  chosen_is : AreRecordsOf (chosen (core_end account_program course)) (first_commit ∷ [])
+  unfolding put put_grain
+  chosen_is = (record { unit = refl; origin = refl; call = refl; answers = refl; result = refl; writes = refl }, tt)
+
   exit : IsLeft account_program r course
   exit = record {
     logs = λ image left. ends_with image (run.exit image left);
@@ -286,12 +302,25 @@ module _ (r : Observed) (opened told doubting : Moment) (run : IsDoubtRun r open
         either_of (λ (d : Entry). d.what ≡ settled.InDoubt → IsNowhere account_program r d.unit → HasNoRecord course d.unit) locked_entry doubt_entry e
         (λ is. absurd (cc is))
         (λ is nowhere. absurd (nowhere run.some (first_commit ∷ []) first_commit run.possible run.there.0 (inl refl) refl)) there;
-    block = λ doubt. record { gate = 15; batch = first_commit ∷ []; units = sym doubtful_is; block = run.block; differ = run.differ };
+    block = λ doubt. record {
+      gate = 15;
+      batch = first_commit ∷ [];
+      batches = [];
+      records = chosen_is;
+      log = inr refl;
+      front = run.front;
+      block = run.block;
+      differ = run.differ;
+    };
   }
 
   records : AreAdded (core_end account_program course) (first_commit ∷ [])
   unfolding put put_grain
   records = inr (record { begins = 0; doubt = refl; records = (record { unit = refl; origin = refl; call = refl; answers = refl; result = refl; writes = refl }, tt) })
+
+  few_emitted : (core_end account_program course).manager.emitted ≤ 2
+  unfolding put put_grain
+  few_emitted = omega arith
 
   turns : KeepsTurnRule accounts (length (lines r)) r.width r.picks core
   turns =
@@ -316,6 +345,8 @@ module _ (r : Observed) (opened told doubting : Moment) (run : IsDoubtRun r open
   explained = record {
     entries = ([], two_settled);
     all = λ done. sym two_settled;
+    told = few_emitted;
+    cut = inl refl;
     records = records;
     units = two_unit_rule (lines r) run.asks;
     turns = λ single. turns;
@@ -325,14 +356,16 @@ module _ (r : Observed) (opened told doubting : Moment) (run : IsDoubtRun r open
     ended = λ doubt. may_doubt;
   }
 
+  begins : ending.IsBegun r.ending
+  begins = subst ending.IsBegun (sym run.ending) tt
+
   statuses : ending.HasRisen r.ending r.faults_before r.faults_after × ending.IsCarried r.ending × ending.HasLength r.ending (length r.old.input)
   statuses =
-      let few : length r.old.input ≤ 16777216 = subst (λ n. n ≤ 16777216) (sym run.small) (lit≤ tt) in
-      subst (λ e. ending.HasRisen e r.faults_before r.faults_after × ending.IsCarried e × ending.HasLength e (length r.old.input)) (sym run.ending) (rose, tt, few)
+      subst (λ e. ending.HasRisen e r.faults_before r.faults_after × ending.IsCarried e × ending.HasLength e (length r.old.input)) (sym run.ending) (rose, tt, run.small)
 
-  not_calm : NoneFailed r.faults_before r.faults_after → ⊥
+  not_calm : NoneRose r.faults_before r.faults_after → ⊥
   not_calm calm =
-      let same : r.faults_after (File manager) ≡ r.faults_before (File manager) = calm (File manager) in
+      let same : r.faults_after (File manager) ≡ r.faults_before (File manager) = (calm (File manager)).0 in
       let one : r.faults_after (File manager) ≡ r.faults_before (File manager) + 1 = run.rose in
       omega arith
 
@@ -342,6 +375,7 @@ module _ (r : Observed) (opened told doubting : Moment) (run : IsDoubtRun r open
     risen = statuses.0;
     carried = statuses.1;
     long = statuses.2;
+    begun = inr (record { ending = begins; input = run.left; short = run.small });
     done = λ is. absurd (let e : ending.DiskFault manager ≡ ending.Done = sym run.ending ∙ is in cc e);
     complete = λ calm. absurd (not_calm calm);
     alone = λ single one none e there. absurd (let two : r.width ≡ 2 = run.pair.1 in let width : r.width ≡ 1 = one in omega arith);

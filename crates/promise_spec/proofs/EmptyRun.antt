@@ -11,6 +11,7 @@ use Rattle.promise_spec.specs.Logs.{IsLog}
 use Rattle.promise_spec.specs.Moments.{IsImageOf}
 use Rattle.promise_spec.specs.Causes.{RoseBy}
 use Rattle.promise_spec.specs.Endings.{Done, DiskFault, HasRisen, IsCarried, HasLength, IsCalm}
+use Rattle.promise_spec.specs.Crashes.{LeavesAlone}
 use Rattle.promise_spec.specs.Courses.{Observed, moments, lines}
 use Rattle.promise_spec.specs.Promise.{Keeps}
 use Rattle.promise_spec.proofs.Lists.{none_at}
@@ -54,6 +55,7 @@ module _ (p : Program) (r : Observed) (opening : List Commit) (run : IsEmptyRun 
   pub kept : Keeps p r (empty_course r opening)
   kept = record {
     ordered = record {
+      read = run.read;
       opened = λ image is. record { entry = run.entry image is; log = run.logs image is };
       longest = record {
         image = run.some;
@@ -96,6 +98,10 @@ module _ (p : Program) (r : Observed) (opening : List Commit) (run : IsEmptyRun 
         is = run.logs image (disk_of m image there left);
         has = λ e l none. absurd none;
       };
+      alone = λ m there. elim there [
+        | inl same ↦ subst (LeavesAlone r) (sym same) run.alone
+        | inr more ↦ elim more [ inl same ↦ subst (LeavesAlone r) (sym same) run.alone | inr none ↦ absurd none ]
+      ];
     };
     exit = record {
       logs = λ image is. record { log = opening ++ []; is = whole image is; which = inl refl };
@@ -106,6 +112,8 @@ module _ (p : Program) (r : Observed) (opening : List Commit) (run : IsEmptyRun 
     explained = record {
       entries = ([], refl);
       all = λ done. refl;
+      told = omega arith;
+      cut = inl refl;
       records = inl tt;
       units = λ at e is. absurd (none_at at e is.there);
       turns = λ single at e is. absurd (none_at at e is.there);
@@ -119,6 +127,7 @@ module _ (p : Program) (r : Observed) (opening : List Commit) (run : IsEmptyRun 
       risen = ended.0;
       carried = ended.1;
       long = ended.2;
+      begun = inl refl;
       done = λ is. record { input = run.left; answered = λ n low high. absurd (omega (arith, no_lines)) };
       complete = λ calm. record { calm = ended.3; undisturbed = λ e none. absurd none };
       alone = λ single one none e there. absurd there;

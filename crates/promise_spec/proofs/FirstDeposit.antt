@@ -57,7 +57,7 @@ logged = record {
         writes = (omega arith, tt);
       };
       whole = (
-        record { fields = refl; version = record { version_is = record { fits = record { unit = lit< tt; state = (omega arith, (five, tt)) }; count = refl; len = refl }; here = refl } },
+        record { near = lit< tt; fields = refl; version = record { version_is = record { fits = record { unit = lit< tt; state = (omega arith, (five, tt)) }; count = refl; len = refl }; here = refl } },
         tt,
       );
     },

@@ -9,3 +9,5 @@ pub mod DepositRules
 pub mod DepositRun
 pub mod FirstFamily
 pub mod DoubtRun
+pub mod PlainNames
+pub mod Emitting

@@ -1,5 +1,5 @@
 -- Members, parts and places of lists.
-use Rattle.std.proofs.Common.{◌≡◌, ◌⊎◌, inl, inr, ℕ, List, [], ◌∷◌, ◌++◌, length, Some, refl, sym, subst}
+use Rattle.std.proofs.Common.{◌≡◌, ◌⊎◌, inl, inr, ℕ, zero, suc, List, [], ◌∷◌, ◌++◌, length, Some, refl, sym, subst}
 use Rattle.std.specs.Prelude.{slice_get}
 use Rattle.std.specs.List.{AllByRecursion}
 use Rattle.core_model.specs.World.{Member}
@@ -58,3 +58,9 @@ fronts {A} (x ∷ a) (y ∷ c) b d same =
 pub get_seam : {A : Type 0} (xs : List A) (y : A) (ys : List A) → slice_get (xs ++ (y ∷ ys)) (length xs) ≡ Some y
 get_seam [] y ys = refl
 get_seam (x ∷ xs) y ys = get_seam xs y ys
+
+-- what stands at a place is a member
+pub member_at : {A : Type 0} (i : ℕ) (x : A) (xs : List A) → slice_get xs i ≡ Some x → Member x xs
+member_at i x [] there = none_at i x there
+member_at zero x (y ∷ xs) there = inl (sym (some_is y x there))
+member_at (suc i) x (y ∷ xs) there = inr (member_at i x xs there)

@@ -1,5 +1,5 @@
 -- Runs that don't keep the promise.
-use Rattle.std.proofs.Common.{◌≡◌, ◌≢◌, inl, inr, ℕ, ◌+◌, ◌<◌, ◌≤◌, ◌^◌, Bool, true, List, [], ◌∷◌, ◌++◌, length, map, take, Some, Ok, Result, refl, sym, ap, subst, ◌∙◌, arith}
+use Rattle.std.proofs.Common.{◌≡◌, ◌≢◌, inl, inr, ℕ, ◌+◌, ◌<◌, ◌≤◌, ◌^◌, Bool, true, false, List, [], ◌∷◌, ◌++◌, length, map, take, Some, Ok, Result, refl, sym, ap, subst, ◌∙◌, arith}
 use Rattle.std.specs.Prelude.{slice_get}
 use Rattle.std.specs.Int.{w32, to_le_bytes, from_le_bytes}
 use Rattle.std.specs.List.{flat_map, AllByRecursion}
@@ -24,36 +24,41 @@ use Rattle.core_model.specs.declared.events.CoreEvent.{CoreEvent}
 use Rattle.core_model.specs.declared.events.CoreEvent.TheVariants as event
 use Rattle.core_model.specs.Causes.{HasCause, IsCaused, IsRefusedBy}
 use Rattle.core_model.specs.Events.{applies, run, step}
-use Rattle.core_model.specs.Legal.{begins}
+use Rattle.core_model.specs.Legal.{begins, ends}
 use Rattle.core_model.specs.Lines.{DifferInLine}
 use Rattle.core_model.specs.Serial.{committed, chosen}
 use Rattle.core_model.specs.World.{Member, Mode}
 use Rattle.gate_block.proofs.Logs as blocks
-use Rattle.gate_block.specs.Log.{LogsUpTo}
+use Rattle.gate_block.specs.Log.{HasBlocks, LogsUpTo}
+use Rattle.host_trait.specs.declared.channels.FileId.{FileId}
 use Rattle.host_trait.specs.declared.channels.FileId.TheVariants as file
 use Rattle.host_trait.specs.World.{Image, IsImage, Moment, moment_of}
 use Rattle.request_wire.specs.Names.{names_in}
 use Rattle.request_wire.specs.Request.{call_of}
+use Rattle.request_wire.specs.Reply.{reply_line}
 use Rattle.script_tree.specs.Programs.{ProgramTree}
 use Rattle.script_meaning.specs.Play.{IsTransaction}
-use Rattle.silo_spec.specs.Silos.{manager, IsSilo}
+use Rattle.silo_spec.specs.Silos.{manager, program_file, IsSilo, HasProgram}
 use Rattle.promise_spec.specs.Programs.{Program, shape_in}
-use Rattle.promise_spec.specs.Records.{Commit, States, after_writes}
+use Rattle.promise_spec.specs.Records.{Commit, Standing, States, after_writes, AreRecordsOf}
 use Rattle.promise_spec.specs.Serial.{IsSerial, played}
 use Rattle.promise_spec.specs.Logs.{magic, IsLog, IsPrefix, body_of}
 use Rattle.promise_spec.specs.Moments.{IsImageOf, last_of}
 use Rattle.promise_spec.specs.Lines.{Reads, IsLineCall}
 use Rattle.promise_spec.specs.Outputs.{reply_lines}
-use Rattle.promise_spec.specs.Cores.{AppliesAt}
+use Rattle.promise_spec.specs.Cores.{AppliesAt, state_before, core_from}
 use Rattle.promise_spec.specs.Causes.{HasDoubt, IsAlive}
 use Rattle.promise_spec.specs.Family.{states_after}
 use Rattle.promise_spec.specs.Endings as ending
-use Rattle.promise_spec.specs.Courses.{Observed, Course, order, moments, lines, opening_standing, core_run, core_end}
+use Rattle.promise_spec.specs.Courses.{Observed, Course, order, moments, seen_at_entry, lines, opening_standing, core_run, core_end}
 use Rattle.promise_spec.specs.Replies.{IsEntryOf, IsTrueOf, HasNoRecord}
-use Rattle.promise_spec.specs.Crashes.{Acknowledges}
-use Rattle.promise_spec.specs.Explained.{AreRecordsOf}
-use Rattle.promise_spec.specs.Promise.{Keeps, IsUnopened}
-use Rattle.promise_spec.proofs.Lists.{head_of, none_is, none_at, some_is, each_of, in_append, either_in, get_seam}
+use Rattle.promise_spec.specs.Crashes.{Acknowledges, IsAside}
+use Rattle.promise_spec.specs.Explained.{AreAdded}
+use Rattle.promise_spec.specs.Exits.{HasBlock}
+use Rattle.promise_spec.specs.Promise.{Keeps, IsUnopened, HasReadAll}
+use Rattle.promise_spec.specs.Commands.{MakesSilo, IsReported}
+use Rattle.promise_spec.proofs.Lists.{head_of, none_is, none_at, some_is, each_of, in_append, either_in, get_seam, member_at}
+use Rattle.promise_spec.proofs.Emitting.{emitted_before, nothing_unwritten}
 use Rattle.promise_spec.proofs.OneLog.{one_log}
 
 ok_is : (x y : Result Call BadRequest) (a b : Call) → x ≡ Ok a → y ≡ Ok b → x ≡ y → a ≡ b
@@ -108,7 +113,35 @@ too_many shape image records gate log long blocks_are is =
 pub not_opened : (p : Program) (r : Observed) → IsUnopened p r → r.ending ≡ ending.Done → ⊥
 not_opened p r unopened is = subst ending.IsRefusal is unopened.refused
 
+pub read_unopened : (p : Program) (r : Observed) → IsUnopened p r → r.old.input ≢ [] → r.new.input ≡ [] → ⊥
+read_unopened p r unopened some all = some (sym unopened.unread ∙ all)
+
+pub damaged_no_silo : (p : Program) (r : Observed) (f : FileId) (place : ℕ) → IsUnopened p r → r.ending ≡ ending.Damaged f place → (IsSilo magic (seen_at_entry r manager) → ⊥) → ⊥
+damaged_no_silo p r f place unopened is none = none (unopened.damaged f place is).0
+
+pub another_text : (p : Program) (text : List Commit → List ℕ) (r : Observed) (log : List Commit) → IsReported p text r → r.ending ≡ ending.Done → IsLog (shape_in p) (seen_at_entry r) log → r.new.output ≢ r.old.output ++ text log → ⊥
+another_text p text r log reported done is differ =
+    let same : reported.log ≡ log = one_log (shape_in p) (seen_at_entry r) reported.log log reported.is is in
+    differ (reported.prints.output ∙ ap (λ (l : List ℕ). r.old.output ++ l) (reported.prints.whole done ∙ ap text same))
+
+pub changed_by_report : (p : Program) (text : List Commit → List ℕ) (r : Observed) (image : Image) → IsReported p text r → IsImage r.new.disk image → (IsImage r.old.disk image → ⊥) → ⊥
+changed_by_report p text r image reported left new = new (reported.now image left)
+
+pub another_program : (r : Observed) (image : Image) → MakesSilo r → r.ending ≡ ending.Done → IsImage r.new.disk image → (HasProgram r.old.input (image program_file) → ⊥) → ⊥
+another_program r image makes done left other =
+    let made = makes.made done in
+    other (subst (λ (text : List ℕ). HasProgram text (image program_file)) made.1.given (made.1.new image left).program)
+
+-- without events no record is added
+nothing_added : (types : ProgramTree) (standing : Standing) (added : List Commit) → AreAdded (ends (core_from types standing [])) added → (l : Commit) → Member l added → ⊥
+nothing_added types standing [] are l there = there
+nothing_added types standing (x ∷ added) (inl none) l there = absurd none
+nothing_added types standing (x ∷ added) (inr follow) l there = absurd (cc follow.doubt)
+
 module _ (p : Program) (r : Observed) (c : Course) where
+  pub read_at_entry : (log : List Commit) → Keeps p r c → IsLog (shape_in p) (seen_at_entry r) log → c.opening ≡ log
+  read_at_entry log keeps is = one_log (shape_in p) (seen_at_entry r) c.opening log keeps.ordered.read is
+
   pub opening_is : (image : Image) (log : List Commit) → Keeps p r c → IsImage (last_of (moment_of r.old) c.early).disk image → IsLog (shape_in p) image log → c.opening ≡ log
   opening_is image log keeps left is = one_log (shape_in p) image c.opening log (keeps.ordered.opened image left).log is
 
@@ -120,6 +153,12 @@ module _ (p : Program) (r : Observed) (c : Course) where
   pub closed : (image : Image) → Keeps p r c → IsImage r.new.disk image → (IsSilo magic (image manager) → ⊥) → ⊥
   closed image keeps left none = none (keeps.exit.logs image left).is.silo
 
+  pub changed_aside : (m : Moment) (f : FileId) → Keeps p r c → Member m (moments r c) → IsAside f → m.disk f ≢ r.old.disk f → ⊥
+  changed_aside m f keeps there aside differ = differ ((keeps.crashes.alone m there).aside f aside)
+
+  pub changed_header : (m : Moment) (image : Image) → Keeps p r c → Member m (moments r c) → IsImage m.disk image → take 15 (image manager) ≢ take 15 (seen_at_entry r manager) → ⊥
+  changed_header m image keeps there left differ = differ ((keeps.crashes.alone m there).header image left)
+
   pub early_reply : (m : Moment) (image : Image) (more : List ℕ) → Keeps p r c → Member m (moments r c) → IsImage m.disk image → IsLog (shape_in p) image c.opening → m.output ≡ r.old.output ++ more → Member 10 more
       → ((e : Entry) → Member e c.entries → (l : Commit) × Member l c.added × Acknowledges e l × (Member l c.opening → ⊥)) → ⊥
   early_reply m image more keeps there left is grew feed backed =
@@ -129,6 +168,21 @@ module _ (p : Program) (r : Observed) (c : Course) where
       let b = backed w.0 w.2 in
       let has : Member b.0 h.log = h.has w.0 b.0 w.1 b.1 b.2 in
       b.3 (subst (λ (l : List Commit). Member b.0 l) (one_log (shape_in p) image h.log c.opening h.is is) has)
+
+  pub untold : Keeps p r c → length c.entries < (core_end p c).manager.emitted → ⊥
+  untold keeps more = let told : (core_end p c).manager.emitted ≤ length c.entries = keeps.explained.told in omega arith
+
+  pub taken_unwritten : (at : ℕ) → Keeps p r c → r.threaded ≡ false → AppliesAt (core_run p c) at event.Take → length c.entries < length (state_before (core_run p c) at).manager.settled → ⊥
+  taken_unwritten at keeps single takes more =
+      let told : (core_end p c).manager.emitted ≤ length c.entries = keeps.explained.told in
+      let before : (state_before (core_run p c) at).manager.emitted ≤ (core_end p c).manager.emitted = emitted_before (core_run p c) at in
+      nothing_unwritten p.types (length (lines r)) r.width r.picks (core_run p c) at (keeps.explained.turns single) takes (omega arith)
+
+  pub cut_elsewhere : Keeps p r c → c.rest ≢ [] → ((e : Entry) → Member e (core_end p c).manager.settled → IsPrefix c.rest (reply_line (shape_in p) e) → ⊥) → ⊥
+  cut_elsewhere keeps some none = elim keeps.explained.cut [
+    | inl empty ↦ some empty
+    | inr next ↦ none next.0 (member_at (length c.entries) next.0 (core_end p c).manager.settled next.1) next.2
+  ]
 
   pub answered_twice : (front between back : List Entry) (d e : Entry) → Keeps p r c → c.entries ≡ front ++ (d ∷ (between ++ (e ∷ back))) → d.line ≡ e.line → ⊥
   answered_twice front between back d e keeps split same = twice front between back d e (subst DifferInLine split keeps.replies.once) same
@@ -150,6 +204,12 @@ module _ (p : Program) (r : Observed) (c : Course) where
   refused_in_doubt e l image log keeps there is left log_is in_log not_old same =
       let none : HasNoRecord c e.unit = subst (λ (w : Settled). IsTrueOf p r c e w) is (keeps.replies.true_each e there) in
       elim (either_in l c.opening c.added (in_order image log l keeps left log_is in_log)) [ inl old ↦ not_old old | inr added ↦ none l added same ]
+
+  pub another_block : (image : Image) → Keeps p r c → HasDoubt (core_run p c) → IsImage r.new.disk image
+      → ((gate : ℕ) (batch : List Commit) (batches : List (List Commit)) → AreRecordsOf (chosen (core_end p c)) batch → HasBlocks (map body_of batches) gate (image manager) → HasBlock gate batch image → ⊥) → ⊥
+  another_block image keeps doubt left none =
+      let b = keeps.exit.block doubt in
+      none b.gate b.batch b.batches b.records (b.front image left) (b.block image left)
 
   pub no_such_line : (l : Commit) (n : ℕ) → Keeps p r c → Member l c.added → l.logged.origin ≡ Line n → length (lines r) < n → ⊥
   no_such_line l n keeps added is beyond =
@@ -193,9 +253,12 @@ module _ (p : Program) (r : Observed) (c : Course) where
         | inr follow ↦ differ (first_of (committed (core_end p c) ++ chosen (core_end p c)) first (later ++ chosen (core_end p c)) l more follow.records (ap (λ (x : List Effect). x ++ chosen (core_end p c)) is) split)
       ]
 
+  in_settled : (e : Entry) → Keeps p r c → Member e c.entries → Member e (core_end p c).manager.settled
+  in_settled e keeps there = subst (λ (x : List Entry). Member e x) (sym keeps.explained.entries.1) (in_append e c.entries keeps.explained.entries.0 (inl there))
+
   settled_too : (e : Entry) → Keeps p r c → Member e c.entries → IsCaused (core_run p c) e
   settled_too e keeps there =
-      keeps.explained.caused.entries e (subst (λ (x : List Entry). Member e x) (sym keeps.explained.entries.1) (in_append e c.entries keeps.explained.entries.0 (inl there)))
+      keeps.explained.caused.entries e (in_settled e keeps there)
 
   pub no_refusal : (e : Entry) (by : UnitNo) (grain : GrainId) → Keeps p r c → Member e c.entries → e.what ≡ settled.Lock by grain
       → ((at : ℕ) (mode : Mode) → AppliesAt (core_run p c) at (event.Refuse e.unit grain mode) → ⊥) → ⊥
@@ -221,6 +284,35 @@ module _ (p : Program) (r : Observed) (c : Course) where
         | inl refused ↦ lives.before refused.dead
         | inr decided ↦ lives.decided decided.0 decided.3.dead
       ]
+
+  -- where an event applies the input was read whole
+  read_all : (at : ℕ) (e : CoreEvent) → Keeps p r c → AppliesAt (core_run p c) at e → HasReadAll r
+  read_all at e keeps applies_it = elim keeps.ended.begun [
+    | inl none ↦ absurd (none_at at e (subst (λ (events : List CoreEvent). slice_get events at ≡ Some e) none applies_it.there))
+    | inr all ↦ all
+  ]
+
+  pub begun_unread : (at : ℕ) (e : CoreEvent) → Keeps p r c → AppliesAt (core_run p c) at e → r.new.input ≢ [] → ⊥
+  begun_unread at e keeps applies_it some = some (read_all at e keeps applies_it).input
+
+  pub begun_too_long : (at : ℕ) (e : CoreEvent) → Keeps p r c → AppliesAt (core_run p c) at e → ending.input_limit < length r.old.input → ⊥
+  begun_too_long at e keeps applies_it long = let short : length r.old.input ≤ ending.input_limit = (read_all at e keeps applies_it).short in omega arith
+
+  pub begun_and_unreadable : (at : ℕ) (e : CoreEvent) → Keeps p r c → AppliesAt (core_run p c) at e → r.ending ≡ ending.ReadFault → ⊥
+  begun_and_unreadable at e keeps applies_it is = subst ending.IsBegun is (read_all at e keeps applies_it).ending
+
+  -- a run that ends as none does that has begun has no events
+  no_events : Keeps p r c → (ending.IsBegun r.ending → ⊥) → c.events ≡ []
+  no_events keeps never = elim keeps.ended.begun [ inl none ↦ none | inr all ↦ absurd (never all.ending) ]
+
+  pub unbegun_entry : (e : Entry) → Keeps p r c → (ending.IsBegun r.ending → ⊥) → Member e c.entries → ⊥
+  unbegun_entry e keeps never there =
+      let settled_is : (core_end p c).manager.settled ≡ [] = ap (λ (events : List CoreEvent). (ends (core_from p.types (opening_standing p c) events)).manager.settled) (no_events keeps never) in
+      subst (λ (x : List Entry). Member e x) settled_is (in_settled e keeps there)
+
+  pub unbegun_record : (l : Commit) → Keeps p r c → (ending.IsBegun r.ending → ⊥) → Member l c.added → ⊥
+  unbegun_record l keeps never there =
+      nothing_added p.types (opening_standing p c) c.added (subst (λ (events : List CoreEvent). AreAdded (ends (core_from p.types (opening_standing p c) events)) c.added) (no_events keeps never) keeps.explained.records) l there
 
   pub grain_fault : (slot : ℕ) (grain : GrainId) → Keeps p r c → r.ending ≡ ending.DiskFault (file.Grain slot grain) → ⊥
   grain_fault slot grain keeps is = let same : file.Grain slot grain ≡ manager = (keeps.explained.doubted (file.Grain slot grain) is).0 in absurd (cc same)

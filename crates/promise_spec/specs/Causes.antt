@@ -1,5 +1,5 @@
 -- Why units are aborted, by the core's events, and what the counts of faults say of them.
-use Rattle.std.specs.Prelude.{◌≡◌, ℕ, ◌+◌, ◌-◌, ◌^◌, ◌≤◌, min, Bool, true, false, ◌&&◌, not, List, ◌∷◌, ◌++◌, ⊤}
+use Rattle.std.specs.Prelude.{◌≡◌, ℕ, ◌+◌, ◌-◌, ◌^◌, ◌<◌, ◌≤◌, min, Bool, true, false, ◌&&◌, not, List, ◌∷◌, ◌++◌, ⊤}
 use Rattle.base_types.specs.declared.entries.Settled.{Settled}
 use Rattle.base_types.specs.declared.entries.Settled.TheVariants.{Done, Lock, Vote as VotedDown, Dependency, Disk, InDoubt, Bad}
 use Rattle.host_trait.specs.declared.channels.Channel.{Channel}
@@ -45,6 +45,10 @@ pub record AreCaused (r : Run) : Type 0 where
 pub record IsAlive (w : World) (e : CoreEvent) (u : UnitNo) : Type 0 where
   pub before : IsDead w u → ⊥
   pub decided : (b : Batch) → IsDead (decided_state w e b) u → ⊥
+
+-- no count rose, and none stands at its last value, where a rise can't be seen
+abbrev pub NoneRose : (Channel → ℕ) → (Channel → ℕ) → Type 0
+NoneRose old new = (c : Channel) → (new c ≡ old c) × (old c < 2 ^ 64 - 1)
 
 -- a count rose by at least so much, or stands at its last value
 abbrev pub RoseBy : ℕ → ℕ → ℕ → Type 0

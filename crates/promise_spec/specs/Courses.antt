@@ -2,7 +2,7 @@
 use Rattle.std.specs.Prelude.{ℕ, Bool, List, ◌++◌}
 use Rattle.base_types.specs.declared.entries.Entry.{Entry}
 use Rattle.host_trait.specs.declared.channels.Channel.{Channel}
-use Rattle.host_trait.specs.World.{World, Moment}
+use Rattle.host_trait.specs.World.{World, Moment, Image}
 use Rattle.core_model.specs.World as core
 use Rattle.core_model.specs.declared.events.CoreEvent.{CoreEvent}
 use Rattle.core_model.specs.Legal as legal
@@ -15,7 +15,7 @@ use Rattle.promise_spec.specs.Endings.{Ending}
 
 -- What a run shows: the words' choices, the host's contents and counts before and after, and how it ended.
 pub record Observed : Type 0 where
-  pub understood : Bool  -- the words are those of a run
+  pub understood : Bool  -- the words are those of the command
   pub threaded : Bool  -- with workers
   pub width : ℕ  -- how many lines may be in flight, on one thread
   pub picks : List ℕ
@@ -44,6 +44,10 @@ order c = c.opening ++ c.added
 -- the moments that count for crashes
 abbrev pub moments : Observed → Course → List Moment
 moments r c = counted r.old c.early c.late r.new
+
+-- the files as they read at entry
+abbrev pub seen_at_entry : Observed → Image
+seen_at_entry r file = (r.old.disk file).seen
 
 -- the lines of the input
 abbrev pub lines : Observed → List (List ℕ)

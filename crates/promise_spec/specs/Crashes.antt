@@ -1,18 +1,21 @@
 -- The crash clause: a crash at any moment leaves a prefix of the order, with every commit whose reply was written.
-use Rattle.std.specs.Prelude.{◌≡◌, ◌⊎◌, ℕ, List, ◌++◌, ⊤}
+use Rattle.std.specs.Prelude.{◌≡◌, ◌≢◌, ◌⊎◌, ℕ, List, ◌++◌, take, ⊤}
 use Rattle.base_types.specs.declared.calls.Origin.TheVariants.{Child}
 use Rattle.base_types.specs.declared.entries.Entry.{Entry}
 use Rattle.base_types.specs.declared.entries.Settled.{Settled}
 use Rattle.base_types.specs.declared.entries.Settled.TheVariants.{Done, Lock, Vote, Dependency, Disk, InDoubt, Bad}
 use Rattle.core_model.specs.World.{Member}
+use Rattle.host_trait.specs.declared.channels.FileId.{FileId}
+use Rattle.host_trait.specs.declared.channels.FileId.TheVariants.{Program as ProgramFile, Manager, Grain}
 use Rattle.host_trait.specs.World.{Moment, Image, IsImage}
+use Rattle.silo_spec.specs.Silos.{manager}
 use Rattle.promise_spec.specs.Records.{Commit}
 use Rattle.promise_spec.specs.Logs.{IsLog, IsPrefix}
 use Rattle.promise_spec.specs.Programs.{Program, shape_in}
 use Rattle.promise_spec.specs.Images.{AreChained, IsSoundIfSilo}
 use Rattle.promise_spec.specs.Moments.{IsImageOf}
 use Rattle.promise_spec.specs.Outputs.{Grew}
-use Rattle.promise_spec.specs.Courses.{Observed, Course, moments}
+use Rattle.promise_spec.specs.Courses.{Observed, Course, moments, seen_at_entry}
 use Rattle.promise_spec.specs.Replies.{IsEntryOf}
 
 -- an entry with an outcome
@@ -50,10 +53,21 @@ pub record KeepsOpening (p : Program) (c : Course) (image : Image) : Type 0 wher
   pub is : IsLog (shape_in p) image log
   pub longer : IsPrefix c.opening log
 
+-- a file that a run leaves alone: one that isn't of the first slot, and the program's
+abbrev pub IsAside : FileId → Type 0
+IsAside (ProgramFile slot) = ⊤
+IsAside (Manager slot) = slot ≢ 0
+IsAside (Grain slot grain) = slot ≢ 0
+
+-- such files are as they were at entry, and the manager file's header, up to the first gate, is as it read then
+pub record LeavesAlone (r : Observed) (m : Moment) : Type 0 where
+  pub aside : (file : FileId) → IsAside file → m.disk file ≡ r.old.disk file
+  pub header : (image : Image) → IsImage m.disk image → take 15 (image manager) ≡ take 15 (seen_at_entry r manager)
+
 -- The moments of the run are the early ones and the late ones. At the early ones nothing is written and each image is
 -- one of those at entry. From the opening's last sync on, inside a call too, the images are a chain, each that is a
 -- silo is sound, each has a log that begins with the opening log, and each holds what the output by then
--- acknowledges.
+-- acknowledges; other files and the header stay as they were.
 pub record SurvivesCrashes (p : Program) (r : Observed) (c : Course) : Type 0 where
   pub past : r.new.past ≡ r.old.past ++ (c.early ++ c.late)
   pub quiet : (m : Moment) → Member m c.early → m.output ≡ r.old.output
@@ -62,3 +76,4 @@ pub record SurvivesCrashes (p : Program) (r : Observed) (c : Course) : Type 0 wh
   pub sound : (image : Image) → IsImageOf (moments r c) image → IsSoundIfSilo p image
   pub keeps : (image : Image) → IsImageOf (moments r c) image → KeepsOpening p c image
   pub holds : (m : Moment) (image : Image) → Member m (moments r c) → IsImage m.disk image → Holds p r c m image
+  pub alone : (m : Moment) → Member m (moments r c) → LeavesAlone r m

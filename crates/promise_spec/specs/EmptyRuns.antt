@@ -7,20 +7,24 @@ use Rattle.promise_spec.specs.Records.{Commit}
 use Rattle.promise_spec.specs.Logs.{IsLog}
 use Rattle.promise_spec.specs.Images.{IsSoundIfSilo}
 use Rattle.promise_spec.specs.Endings.{Done}
-use Rattle.promise_spec.specs.Courses.{Observed, Course}
+use Rattle.promise_spec.specs.Crashes.{LeavesAlone}
+use Rattle.promise_spec.specs.Courses.{Observed, Course, seen_at_entry}
 
--- The run synced the log, read that the input is empty, and ended. Each image is one of those at entry, has this log
--- and is sound; there is one. No count of faults changed.
+-- The files read as this log at entry. The run synced it, read that the input is empty, and ended. Each image is one of
+-- those at entry, has this log and is sound; there is one. No count of faults changed,
+-- nor did another file or the header.
 pub record IsEmptyRun (p : Program) (r : Observed) (opening : List Commit) : Type 0 where
   pub understood : r.understood ≡ true
   pub ending : r.ending ≡ Done
   pub input : r.old.input ≡ []
   pub left : r.new.input ≡ []
   pub output : r.new.output ≡ r.old.output
+  pub read : IsLog (shape_in p) (seen_at_entry r) opening
   pub synced : r.new.past ≡ r.old.past ++ moment_of r.new ∷ []
   pub entry : (image : Image) → IsImage r.new.disk image → IsImage r.old.disk image
   pub logs : (image : Image) → IsImage r.new.disk image → IsLog (shape_in p) image opening
   pub sound : (image : Image) → IsImage r.new.disk image → IsSoundIfSilo p image
+  pub alone : LeavesAlone r (moment_of r.new)
   pub some : Image
   pub possible : IsImage r.new.disk some
   pub faults : (channel : Channel) → r.faults_after channel ≡ r.faults_before channel

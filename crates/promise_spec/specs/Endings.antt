@@ -54,6 +54,18 @@ IsCarried NotASilo = ⊥
 IsCarried (Damaged file place) = ⊥
 IsCarried (InputTooLong line) = ⊤
 
+-- a run may end so after its first line has begun
+abbrev pub IsBegun : Ending → Type 0
+IsBegun Done = ⊤
+IsBegun BadUse = ⊥
+IsBegun Memory = ⊤
+IsBegun ReadFault = ⊥
+IsBegun WriteFault = ⊤
+IsBegun (DiskFault file) = ⊤
+IsBegun NotASilo = ⊥
+IsBegun (Damaged file place) = ⊥
+IsBegun (InputTooLong line) = ⊥
+
 -- all that is settled has been written
 abbrev pub IsAllWritten : Ending → Type 0
 IsAllWritten Done = ⊤

@@ -1,15 +1,17 @@
 -- The exit clause: the log at the end of a run, and what is in doubt.
 use Rattle.std.specs.Prelude.{◌≡◌, ◌≢◌, ◌⊎◌, ℕ, ◌+◌, List, ◌++◌, length, map, take, drop, slice_index, Some}
+use Rattle.std.specs.List.{flat_map}
 use Rattle.base_types.specs.declared.entries.Entry.{Entry}
 use Rattle.base_types.specs.declared.entries.Settled.TheVariants.{InDoubt}
 use Rattle.core_model.specs.World.{UnitNo, Member, World}
 use Rattle.core_model.specs.Serial.{chosen}
 use Rattle.gate_block.specs.Blocks.{block_of}
+use Rattle.gate_block.specs.Log.{HasBlocks}
 use Rattle.host_trait.specs.declared.channels.Channel.TheVariants.{File}
 use Rattle.host_trait.specs.Faults.{Rose}
 use Rattle.host_trait.specs.World.{Image, IsImage}
 use Rattle.silo_spec.specs.Silos.{manager}
-use Rattle.promise_spec.specs.Records.{Commit}
+use Rattle.promise_spec.specs.Records.{Commit, AreRecordsOf}
 use Rattle.promise_spec.specs.Logs.{IsLog, body_of}
 use Rattle.promise_spec.specs.Programs.{Program, shape_in}
 use Rattle.promise_spec.specs.Endings.{MayDoubt}
@@ -62,11 +64,16 @@ pub record DifferAt (gate : ℕ) (one other : List ℕ) : Type 0 where
   pub long : length one ≡ length other
   pub same : (i : ℕ) → i ≢ gate → slice_index one i ≡ slice_index other i
 
--- every image at the exit has the whole block of the batch in doubt, and they differ at most in the gate before it
-pub record HasDoubtfulBlock (r : Observed) (w : World) : Type 0 where
+-- The batch has the records of the units to commit of the batch in doubt, and the order is that of the batches before
+-- it, or has it last. In every image at the exit those before it end at the gate, its whole block stands behind that,
+-- and the images differ at most in the gate.
+pub record HasDoubtfulBlock (r : Observed) (c : Course) (w : World) : Type 0 where
   pub gate : ℕ
   pub batch : List Commit
-  pub units : AreOf (doubtful w) batch
+  pub batches : List (List Commit)
+  pub records : AreRecordsOf (chosen w) batch
+  pub log : (order c ≡ flat_map (λ b. b) batches) ⊎ (order c ≡ flat_map (λ b. b) batches ++ batch)
+  pub front : (image : Image) → IsImage r.new.disk image → HasBlocks (map body_of batches) gate (image manager)
   pub block : (image : Image) → IsImage r.new.disk image → HasBlock gate batch image
   pub differ : (one other : Image) → IsImage r.new.disk one → IsImage r.new.disk other →
       DifferAt gate (one manager) (other manager)
@@ -77,4 +84,4 @@ pub record IsLeft (p : Program) (r : Observed) (c : Course) : Type 0 where
   pub doubt : (one other : Image) (a b : List Commit) → IsImage r.new.disk one → IsImage r.new.disk other →
       IsLog (shape_in p) one a → IsLog (shape_in p) other b → a ≢ b → IsDoubt r c (core_end p c)
   pub nowhere : (e : Entry) → Member e c.entries → e.what ≡ InDoubt → IsNowhere p r e.unit → HasNoRecord c e.unit
-  pub block : HasDoubt (core_run p c) → HasDoubtfulBlock r (core_end p c)
+  pub block : HasDoubt (core_run p c) → HasDoubtfulBlock r c (core_end p c)

@@ -1,34 +1,20 @@
 -- The causes clause: a list of core events shows why each line ended as it did.
-use Rattle.std.specs.Prelude.{◌≡◌, ◌⊎◌, ℕ, false, List, [], ◌∷◌, ◌++◌, length, Some, ⊤}
-use Rattle.core_model.specs.declared.effects.Effect.{Effect}
+use Rattle.std.specs.Prelude.{◌≡◌, ◌⊎◌, ℕ, ◌≤◌, false, List, [], ◌++◌, length, slice_get, Some}
+use Rattle.base_types.specs.declared.entries.Entry.{Entry}
+use Rattle.base_types.specs.declared.shapes.Shape.{Shape}
 use Rattle.core_model.specs.World.{World}
 use Rattle.core_model.specs.Serial.{committed, chosen}
 use Rattle.host_trait.specs.declared.channels.FileId.{FileId}
 use Rattle.silo_spec.specs.Silos.{manager}
-use Rattle.promise_spec.specs.Records.{Commit, written}
+use Rattle.promise_spec.specs.Records.{Commit, AreRecordsOf}
 use Rattle.promise_spec.specs.Logs.{IsPrefix}
-use Rattle.promise_spec.specs.Programs.{Program}
+use Rattle.request_wire.specs.Reply.{reply_line}
+use Rattle.promise_spec.specs.Programs.{Program, shape_in}
 use Rattle.promise_spec.specs.Endings.{DiskFault, IsAllWritten, IsDiskFault, MayDoubt}
 use Rattle.promise_spec.specs.UnitRule.{KeepsUnitRule}
 use Rattle.promise_spec.specs.TurnRule.{KeepsTurnRule}
 use Rattle.promise_spec.specs.Causes.{AreCaused, AreFaults, HasDoubt}
 use Rattle.promise_spec.specs.Courses.{Observed, Course, lines, core_run, core_end}
-
--- the record is that of a unit with this effect, and its states are those that the unit wrote
-pub record IsRecordOf (e : Effect) (l : Commit) : Type 0 where
-  pub unit : l.logged.unit ≡ e.unit
-  pub origin : l.logged.origin ≡ e.origin
-  pub call : l.logged.call ≡ e.call
-  pub answers : l.logged.answers ≡ e.answers
-  pub result : l.logged.result ≡ e.result
-  pub writes : written l ≡ e.writes
-
--- the records are those of the units with these effects, one for each, in this order
-abbrev pub AreRecordsOf : List Effect → List Commit → Type 0
-AreRecordsOf [] [] = ⊤
-AreRecordsOf [] (l ∷ log) = ⊥
-AreRecordsOf (e ∷ effects) [] = ⊥
-AreRecordsOf (e ∷ effects) (l ∷ log) = IsRecordOf e l × AreRecordsOf effects log
 
 -- the records of the batch in doubt follow those of the committed units
 pub record FollowInDoubt (w : World) (added : List Commit) : Type 0 where
@@ -45,13 +31,21 @@ AreAdded w added = AreRecordsOf (committed w) added ⊎ FollowInDoubt w added
 abbrev pub EndsWritten : Program → Observed → Course → Type 0
 EndsWritten p r c = IsAllWritten r.ending ⊎ (IsDiskFault r.ending × HasDoubt (core_run p c))
 
--- The entries are a first part of those that the core settles, and all of them where the run ended so. The records
--- are those of the core's committed units. The events keep the unit rule, and on one thread the turn rule. Each abort
--- has its cause, and no more faults than were counted. Of files the manager file alone may end a run, and only with a
--- batch in doubt; and a doubt ends the run.
+-- where the output was cut within a line, it is that of the next entry that the core settled
+abbrev pub IsCutShort : Shape → List Entry → Course → Type 0
+IsCutShort shape settled c =
+    (c.rest ≡ []) ⊎ ((e : Entry) × (slice_get settled (length c.entries) ≡ Some e) × IsPrefix c.rest (reply_line shape e))
+
+-- The entries are a first part of those that the core settles, all of them where the run ended so, and no fewer than
+-- the core was told to be written; a line that was cut short is the next one's. The records are those of the core's
+-- committed units. The events keep the unit rule, and on one thread the turn rule. Each abort has its cause, and no
+-- more faults than were counted. Of files the manager file alone may end a run, and only with a batch in doubt; and a
+-- doubt ends the run.
 pub record IsExplained (p : Program) (r : Observed) (c : Course) : Type 0 where
   pub entries : IsPrefix c.entries (core_end p c).manager.settled
   pub all : EndsWritten p r c → c.entries ≡ (core_end p c).manager.settled
+  pub told : (core_end p c).manager.emitted ≤ length c.entries
+  pub cut : IsCutShort (shape_in p) (core_end p c).manager.settled c
   pub records : AreAdded (core_end p c) c.added
   pub units : KeepsUnitRule p.types (lines r) (core_run p c)
   pub turns : r.threaded ≡ false → KeepsTurnRule p.types (length (lines r)) r.width r.picks (core_run p c)

@@ -1,5 +1,5 @@
 -- The log of an image, and when one log is a prefix of another.
-use Rattle.std.specs.Prelude.{◌≡◌, ℕ, ◌≤◌, List, [], ◌∷◌, ◌++◌, length, map, codes, slice_get, Some, ⊤}
+use Rattle.std.specs.Prelude.{◌≡◌, ℕ, ◌^◌, ◌<◌, ◌≤◌, List, [], ◌∷◌, ◌++◌, length, map, codes, slice_get, Some, ⊤}
 use Rattle.std.specs.List.{flat_map, AllByRecursion}
 use Rattle.base_types.specs.declared.calls.UnitNo.{UnitNo}
 use Rattle.base_types.specs.declared.calls.Value.{Value}
@@ -20,9 +20,10 @@ use Rattle.promise_spec.specs.Records.{Commit}
 abbrev pub magic : List ℕ
 magic = codes "OTXLOG01"
 
--- the version of a unit stands whole at the place that its write names, with this state, which has the fields of its
--- type
+-- the version of a unit stands whole at the place that its write names, below 2 to the 63, with this state, which has
+-- the fields of its type
 pub record Stands (shape : Shape) (image : Image) (unit : UnitNo) (w : Written) (state : List Value) : Type 0 where
+  pub near : w.place.offset < 2 ^ 63
   pub fields : fields_of (slice_get shape.types w.grain.kind) ≡ Some (length state)
   pub version : IsVersionAt (length state) w.place (image (Grain 0 w.grain)) (record { unit = unit; state = state })
 

@@ -16,8 +16,9 @@ use Rattle.promise_spec.specs.Logs.{magic}
 use Rattle.promise_spec.specs.Programs.{Program, IsChecked}
 use Rattle.promise_spec.specs.Images.{IsSound, AreChained, IsSoundIfSilo}
 use Rattle.promise_spec.specs.Cores.{AppliesAt}
-use Rattle.promise_spec.specs.Endings.{Done, BadUse, NotASilo, Damaged, HasRisen, IsRefusal, IsCarried, IsCalm, HasLength}
-use Rattle.promise_spec.specs.Courses.{Observed, Course, lines, core_run}
+use Rattle.promise_spec.specs.Causes.{NoneRose}
+use Rattle.promise_spec.specs.Endings.{Done, BadUse, NotASilo, Damaged, HasRisen, IsRefusal, IsCarried, IsBegun, IsCalm, HasLength, input_limit}
+use Rattle.promise_spec.specs.Courses.{Observed, Course, seen_at_entry, lines, core_run}
 use Rattle.promise_spec.specs.Orders.{IsOrdered}
 use Rattle.promise_spec.specs.Replies.{AreReplies}
 use Rattle.promise_spec.specs.Crashes.{SurvivesCrashes}
@@ -57,16 +58,24 @@ abbrev pub IsNoLock : Settled → Type 0
 IsNoLock (settled.Lock by grain) = ⊥
 IsNoLock what = ⊤
 
+-- the whole input was read, and is within the limit, and a run that has begun may end so
+pub record HasReadAll (r : Observed) : Type 0 where
+  pub ending : IsBegun r.ending
+  pub input : r.new.input ≡ []
+  pub short : length r.old.input ≤ input_limit
+
 -- How a run that opened the folder ends: its words were a run's; a fault is shown by its count, and an input that is
--- too long by its length; all is done only where each line has its entry; and where no count rises it goes through,
--- at width 1 without nested units with no abort.
+-- too long by its length; nothing begins before the input is read whole and found within the limit; all is done only
+-- where each line has its entry; and where no count rises, and none stands at its last value, it goes through, at
+-- width 1 without nested units with no abort.
 pub record HasEnded (p : Program) (r : Observed) (c : Course) : Type 0 where
   pub understood : r.understood ≡ true
   pub risen : HasRisen r.ending r.faults_before r.faults_after
   pub carried : IsCarried r.ending
   pub long : HasLength r.ending (length r.old.input)
+  pub begun : (c.events ≡ []) ⊎ HasReadAll r
   pub done : r.ending ≡ Done → IsDone r c
-  pub complete : NoneFailed r.faults_before r.faults_after → GoesThrough r c
+  pub complete : NoneRose r.faults_before r.faults_after → GoesThrough r c
   pub alone : r.threaded ≡ false → r.width ≡ 1 → HasNoChild p c → (e : Entry) → Member e c.entries → IsNoLock e.what
 
 -- ---- the promise
@@ -80,21 +89,19 @@ pub record Keeps (p : Program) (r : Observed) (c : Course) : Type 0 where
   pub explained : IsExplained p r c
   pub ended : HasEnded p r c
 
--- the files as they read at entry
-abbrev pub seen_at_entry : Observed → Image
-seen_at_entry r file = (r.old.disk file).seen
-
--- The folder wasn't opened: nothing was written, and at each moment each image is one of those at entry. The ending
--- is a refusal, a fault is shown by its count, a folder that is called no silo reads as none, and one that is called
--- damaged doesn't read as sound.
+-- The folder wasn't opened: nothing was written, no input was read, and at each moment each image is one of those at
+-- entry. The ending is a refusal, a fault is shown by its count, a folder that is called no silo reads as none, and one
+-- that is called damaged reads as a silo, and not as a sound one.
 pub record IsUnopened (p : Program) (r : Observed) : Type 0 where
   pub untouched : IsUntouched r.old r.new
+  pub unread : r.new.input ≡ r.old.input
   pub refused : IsRefusal r.ending
   pub risen : HasRisen r.ending r.faults_before r.faults_after
-  pub unused : r.ending ≡ BadUse → (r.understood ≡ false) × (r.new ≡ r.old)
+  pub unused : r.ending ≡ BadUse → (r.understood ≡ false) × (r.new ≡ r.old) × NoneFailed r.faults_before r.faults_after
   pub used : r.ending ≢ BadUse → r.understood ≡ true
   pub no_silo : r.ending ≡ NotASilo → IsSilo magic (seen_at_entry r manager) → ⊥
-  pub damaged : (file : FileId) (place : ℕ) → r.ending ≡ Damaged file place → IsSound p (seen_at_entry r) → ⊥
+  pub damaged : (file : FileId) (place : ℕ) → r.ending ≡ Damaged file place →
+      IsSilo magic (seen_at_entry r manager) × (IsSound p (seen_at_entry r) → ⊥)
 
 -- the images at entry are a chain, and each that is a silo is sound
 pub record IsSoundFolder (p : Program) (w : World) : Type 0 where

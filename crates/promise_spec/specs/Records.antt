@@ -1,7 +1,8 @@
 -- What the log keeps of a committed unit, and what a log stands for.
-use Rattle.std.specs.Prelude.{ℕ, ◌+◌, max, if◌then◌else◌, List, map, zip, fold, slice_get}
+use Rattle.std.specs.Prelude.{◌≡◌, ℕ, ◌+◌, max, if◌then◌else◌, List, [], ◌∷◌, map, zip, fold, slice_get, ⊤}
 use Rattle.base_types.specs.declared.calls.GrainId.{GrainId}
 use Rattle.base_types.specs.declared.calls.Value.{Value}
+use Rattle.core_model.specs.declared.effects.Effect.{Effect}
 use Rattle.commit_log.specs.declared.records.CommitRecord.{CommitRecord}
 use Rattle.script_holding.specs.Holding.{same_grain}
 use Rattle.script_tree.specs.Programs.{ProgramTree}
@@ -51,3 +52,19 @@ after_records before log = fold after_record before log
 -- what a log stands for
 abbrev pub standing_of : ProgramTree → List Commit → Standing
 standing_of types log = after_records (new_silo types) log
+
+-- the record is that of a unit with this effect, and its states are those that the unit wrote
+pub record IsRecordOf (e : Effect) (l : Commit) : Type 0 where
+  pub unit : l.logged.unit ≡ e.unit
+  pub origin : l.logged.origin ≡ e.origin
+  pub call : l.logged.call ≡ e.call
+  pub answers : l.logged.answers ≡ e.answers
+  pub result : l.logged.result ≡ e.result
+  pub writes : written l ≡ e.writes
+
+-- the records are those of the units with these effects, one for each, in this order
+abbrev pub AreRecordsOf : List Effect → List Commit → Type 0
+AreRecordsOf [] [] = ⊤
+AreRecordsOf [] (l ∷ log) = ⊥
+AreRecordsOf (e ∷ effects) [] = ⊥
+AreRecordsOf (e ∷ effects) (l ∷ log) = IsRecordOf e l × AreRecordsOf effects log

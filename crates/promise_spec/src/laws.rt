@@ -4,7 +4,7 @@ ghost use Rattle.base_types.specs.declared.entries.Entry.{Entry};
 ghost use Rattle.core_model.specs.World.{Member};
 ghost use Rattle.host_trait.specs.World.{Image, IsImage, Moment};
 ghost use Rattle.silo_spec.specs.Silos.{program_file, HasProgram};
-ghost use Rattle.promise_spec.specs.Programs.{Program, shape_in};
+ghost use Rattle.promise_spec.specs.Programs.{Program, IsChecked, shape_in};
 ghost use Rattle.promise_spec.specs.Records.{Commit, new_silo};
 ghost use Rattle.promise_spec.specs.Serial.{IsSerial};
 ghost use Rattle.promise_spec.specs.Logs.{IsLog, IsPrefix};
@@ -33,6 +33,11 @@ pub fn one_entry()
 pub fn one_output()
     ensures { (shape : Shape) (before now : List ℕ) (ds es : List Entry) (r s : List ℕ) → HavePlainNames shape.types
         → Grew shape before now ds r → Grew shape before now es s → (ds ≡ es) × (r ≡ s) }
+{}
+
+/// The types of a checked program are known by their names. So the laws of entries and outputs hold of every run of one.
+pub fn checked_programs_have_plain_names()
+    ensures { (p : Program) → IsChecked p → HavePlainNames (shape_in p).types }
 {}
 
 /// Of whatever logs two chained images have, one is a first part of the other.

@@ -17,9 +17,14 @@ pub use examples::{
     empty_runs_keep, first_deposit_reads, reports_tell_the_first_deposit, torn_folders_have_no_log,
     votes_keep_the_rules,
 };
-pub use laws::{chains_compare, journals_survive, one_entry, one_log, one_output};
+pub use laws::{
+    chains_compare, checked_programs_have_plain_names, journals_survive, one_entry, one_log,
+    one_output,
+};
 pub use wrong_runs::{
-    aborted_units_have_no_record, aborts_have_causes, batches_are_small, endings_are_true,
-    lines_are_answered_once, logs_are_not_lost, records_come_from_lines, replies_are_serial,
-    replies_come_after_records, the_opening_log_is_the_disks,
+    aborted_units_have_no_record, aborts_have_causes, batches_are_small, cut_lines_are_replies,
+    endings_are_true, lines_are_answered_once, lines_begin_after_the_input, logs_are_not_lost,
+    other_files_stay, records_come_from_lines, replies_are_serial, replies_come_after_records,
+    reports_tell_the_folder, the_block_in_doubt_is_the_batchs, the_opening_log_is_the_disks,
+    told_replies_are_written,
 };

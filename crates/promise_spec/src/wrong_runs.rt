@@ -1,4 +1,4 @@
-ghost use Rattle.std.specs.Prelude.{◌≡◌, ◌≢◌, ◌<◌, ◌++◌, ◌∷◌, [], ℕ, Bool, List, length};
+ghost use Rattle.std.specs.Prelude.{◌≡◌, ◌≢◌, ◌<◌, ◌++◌, ◌∷◌, [], ℕ, Bool, false, List, length, map, take};
 ghost use Rattle.base_types.specs.declared.calls.Call.{Call};
 ghost use Rattle.base_types.specs.declared.calls.GrainId.{GrainId};
 ghost use Rattle.base_types.specs.declared.calls.Origin.TheVariants.{Line, Child};
@@ -14,31 +14,38 @@ ghost use Rattle.core_model.specs.declared.events.CoreEvent.{CoreEvent};
 ghost use Rattle.core_model.specs.declared.events.CoreEvent.TheVariants as event;
 ghost use Rattle.core_model.specs.Events.{run};
 ghost use Rattle.core_model.specs.Legal.{begins};
-ghost use Rattle.core_model.specs.Serial.{committed};
+ghost use Rattle.core_model.specs.Serial.{committed, chosen};
 ghost use Rattle.core_model.specs.World.{Member, Mode};
-ghost use Rattle.gate_block.specs.Log.{LogsUpTo};
+ghost use Rattle.gate_block.specs.Log.{HasBlocks, LogsUpTo};
+ghost use Rattle.host_trait.specs.declared.channels.FileId.{FileId};
 ghost use Rattle.host_trait.specs.declared.channels.FileId.TheVariants as file;
 ghost use Rattle.host_trait.specs.World.{Image, IsImage, Moment, moment_of};
+ghost use Rattle.request_wire.specs.Reply.{reply_line};
 ghost use Rattle.script_meaning.specs.Play.{IsTransaction};
-ghost use Rattle.silo_spec.specs.Silos.{manager, IsSilo};
+ghost use Rattle.silo_spec.specs.Silos.{manager, program_file, IsSilo, HasProgram};
 ghost use Rattle.promise_spec.specs.Programs.{Program, shape_in};
-ghost use Rattle.promise_spec.specs.Records.{Commit, States};
+ghost use Rattle.promise_spec.specs.Records.{Commit, States, AreRecordsOf};
 ghost use Rattle.promise_spec.specs.Serial.{played};
-ghost use Rattle.promise_spec.specs.Logs.{magic, IsLog, IsPrefix};
+ghost use Rattle.promise_spec.specs.Logs.{magic, IsLog, IsPrefix, body_of};
 ghost use Rattle.promise_spec.specs.Moments.{IsImageOf, last_of};
 ghost use Rattle.promise_spec.specs.Lines.{IsLineCall};
-ghost use Rattle.promise_spec.specs.Cores.{AppliesAt};
+ghost use Rattle.promise_spec.specs.Cores.{AppliesAt, state_before};
 ghost use Rattle.promise_spec.specs.Causes.{HasDoubt, IsAlive};
 ghost use Rattle.promise_spec.specs.Family.{states_after};
 ghost use Rattle.promise_spec.specs.Endings as ending;
-ghost use Rattle.promise_spec.specs.Courses.{Observed, Course, moments, lines, opening_standing, core_run, core_end};
+ghost use Rattle.promise_spec.specs.Courses.{Observed, Course, moments, seen_at_entry, lines, opening_standing, core_run, core_end};
 ghost use Rattle.promise_spec.specs.Replies.{IsEntryOf};
-ghost use Rattle.promise_spec.specs.Crashes.{Acknowledges};
+ghost use Rattle.promise_spec.specs.Crashes.{Acknowledges, IsAside};
+ghost use Rattle.promise_spec.specs.Exits.{HasBlock};
 ghost use Rattle.promise_spec.specs.Promise.{Keeps, IsUnopened};
+ghost use Rattle.promise_spec.specs.Commands.{MakesSilo, IsReported};
 
-/// The opening log is the disk's: no run can take another for it, as one that answers from an old log again would.
+/// The opening log is the disk's: no run can take another for it, as one that answers from an old log again would, or one
+/// that opens or closes a gate of a batch left in doubt before the log is synced.
 pub fn the_opening_log_is_the_disks()
-    ensures { (p : Program) (r : Observed) (c : Course) (image : Image) (log : List Commit) → Keeps p r c
+    ensures entry { (p : Program) (r : Observed) (c : Course) (log : List Commit) → Keeps p r c
+        → IsLog (shape_in p) (seen_at_entry r) log → c.opening ≡ log }
+    ensures synced { (p : Program) (r : Observed) (c : Course) (image : Image) (log : List Commit) → Keeps p r c
         → IsImage (last_of (moment_of r.old) c.early).disk image → IsLog (shape_in p) image log → c.opening ≡ log }
 {}
 
@@ -51,12 +58,35 @@ pub fn logs_are_not_lost()
         → IsImage r.new.disk image → (IsSilo magic (image manager) → ⊥) → ⊥ }
 {}
 
+/// No run keeps the promise that changes the program file or a file that isn't of the first slot, or that may leave another
+/// header before the first gate.
+pub fn other_files_stay()
+    ensures aside { (p : Program) (r : Observed) (c : Course) (m : Moment) (f : FileId) → Keeps p r c → Member m (moments r c)
+        → IsAside f → m.disk f ≢ r.old.disk f → ⊥ }
+    ensures header { (p : Program) (r : Observed) (c : Course) (m : Moment) (image : Image) → Keeps p r c → Member m (moments r c)
+        → IsImage m.disk image → take 15 (image manager) ≢ take 15 (seen_at_entry r manager) → ⊥ }
+{}
+
 /// No run keeps the promise that writes a reply before its record is in every image.
 pub fn replies_come_after_records()
     ensures { (p : Program) (r : Observed) (c : Course) (m : Moment) (image : Image) (more : List ℕ) → Keeps p r c
         → Member m (moments r c) → IsImage m.disk image → IsLog (shape_in p) image c.opening
         → m.output ≡ r.old.output ++ more → Member 10 more
         → ((e : Entry) → Member e c.entries → (l : Commit) × Member l c.added × Acknowledges e l × (Member l c.opening → ⊥)) → ⊥ }
+{}
+
+/// No run keeps the promise that tells the core of more replies than it wrote; so none, on one thread, that takes a batch
+/// while an entry is settled that it never writes.
+pub fn told_replies_are_written()
+    ensures told { (p : Program) (r : Observed) (c : Course) → Keeps p r c → length c.entries < (core_end p c).manager.emitted → ⊥ }
+    ensures taken { (p : Program) (r : Observed) (c : Course) (at : ℕ) → Keeps p r c → r.threaded ≡ false → AppliesAt (core_run p c) at event.Take
+        → length c.entries < length (state_before (core_run p c) at).manager.settled → ⊥ }
+{}
+
+/// No run keeps the promise whose output ends within a line that is no settled entry's.
+pub fn cut_lines_are_replies()
+    ensures { (p : Program) (r : Observed) (c : Course) → Keeps p r c → c.rest ≢ []
+        → ((e : Entry) → Member e (core_end p c).manager.settled → IsPrefix c.rest (reply_line (shape_in p) e) → ⊥) → ⊥ }
 {}
 
 /// No run keeps the promise that answers a line twice.
@@ -72,6 +102,14 @@ pub fn aborted_units_have_no_record()
     ensures doubt { (p : Program) (r : Observed) (c : Course) (e : Entry) (l : Commit) (image : Image) (log : List Commit) → Keeps p r c
         → Member e c.entries → e.what ≡ settled.Disk → IsImage r.new.disk image → IsLog (shape_in p) image log → Member l log
         → (Member l c.opening → ⊥) → l.logged.unit ≡ e.unit → ⊥ }
+{}
+
+/// No run keeps the promise that is left with a batch in doubt, and has no block of the records of its units behind the blocks
+/// of the log, as where other records stand there, or the block stands elsewhere.
+pub fn the_block_in_doubt_is_the_batchs()
+    ensures { (p : Program) (r : Observed) (c : Course) (image : Image) → Keeps p r c → HasDoubt (core_run p c) → IsImage r.new.disk image
+        → ((gate : ℕ) (batch : List Commit) (batches : List (List Commit)) → AreRecordsOf (chosen (core_end p c)) batch
+        → HasBlocks (map body_of batches) gate (image manager) → HasBlock gate batch image → ⊥) → ⊥ }
 {}
 
 /// No run keeps the promise that adds a record of a line that isn't there, or of a child for which its parent's play doesn't
@@ -108,11 +146,39 @@ pub fn aborts_have_causes()
 {}
 
 /// No run keeps the promise that ends with a fault of a grain's file, or as done after a doubt, or as done without having
-/// opened the folder.
+/// opened the folder; and none that read its input to the end may say that it hasn't opened the folder, as one that calls a
+/// grain file's fault a refusal would; nor may one that calls a folder damaged that reads as no silo.
 pub fn endings_are_true()
     ensures grain { (p : Program) (r : Observed) (c : Course) (slot : ℕ) (grain : GrainId) → Keeps p r c → r.ending ≡ ending.DiskFault (file.Grain slot grain) → ⊥ }
     ensures doubt { (p : Program) (r : Observed) (c : Course) → Keeps p r c → HasDoubt (core_run p c) → r.ending ≡ ending.Done → ⊥ }
     ensures unopened { (p : Program) (r : Observed) → IsUnopened p r → r.ending ≡ ending.Done → ⊥ }
+    ensures read { (p : Program) (r : Observed) → IsUnopened p r → r.old.input ≢ [] → r.new.input ≡ [] → ⊥ }
+    ensures damaged { (p : Program) (r : Observed) (f : FileId) (place : ℕ) → IsUnopened p r → r.ending ≡ ending.Damaged f place
+        → (IsSilo magic (seen_at_entry r manager) → ⊥) → ⊥ }
+{}
+
+/// No run keeps the promise in which anything begins before the input is read whole, or where it is too long, or couldn't be
+/// read; or that has an entry or a record where it couldn't be read or is too long.
+pub fn lines_begin_after_the_input()
+    ensures unread { (p : Program) (r : Observed) (c : Course) (at : ℕ) (e : CoreEvent) → Keeps p r c
+        → AppliesAt (core_run p c) at e → r.new.input ≢ [] → ⊥ }
+    ensures long { (p : Program) (r : Observed) (c : Course) (at : ℕ) (e : CoreEvent) → Keeps p r c
+        → AppliesAt (core_run p c) at e → ending.input_limit < length r.old.input → ⊥ }
+    ensures fault { (p : Program) (r : Observed) (c : Course) (at : ℕ) (e : CoreEvent) → Keeps p r c
+        → AppliesAt (core_run p c) at e → r.ending ≡ ending.ReadFault → ⊥ }
+    ensures entry { (p : Program) (r : Observed) (c : Course) (e : Entry) → Keeps p r c → (ending.IsBegun r.ending → ⊥) → Member e c.entries → ⊥ }
+    ensures record { (p : Program) (r : Observed) (c : Course) (l : Commit) → Keeps p r c → (ending.IsBegun r.ending → ⊥) → Member l c.added → ⊥ }
+{}
+
+/// No report of a folder prints the text of another log than the one that it reads as, or may leave what couldn't stand there
+/// before; and no `init` makes a silo of another program than its input.
+pub fn reports_tell_the_folder()
+    ensures text { (p : Program) (text : List Commit → List ℕ) (r : Observed) (log : List Commit) → IsReported p text r → r.ending ≡ ending.Done
+        → IsLog (shape_in p) (seen_at_entry r) log → r.new.output ≢ r.old.output ++ text log → ⊥ }
+    ensures changed { (p : Program) (text : List Commit → List ℕ) (r : Observed) (image : Image) → IsReported p text r
+        → IsImage r.new.disk image → (IsImage r.old.disk image → ⊥) → ⊥ }
+    ensures program { (r : Observed) (image : Image) → MakesSilo r → r.ending ≡ ending.Done → IsImage r.new.disk image
+        → (HasProgram r.old.input (image program_file) → ⊥) → ⊥ }
 {}
 
 /// A manager file with a block of 65 records has no log.

@@ -1,4 +1,4 @@
-use Rattle.promise_spec.proofs.WrongRuns.{grain_fault, done_in_doubt, not_opened}
+use Rattle.promise_spec.proofs.WrongRuns.{grain_fault, done_in_doubt, not_opened, read_unopened, damaged_no_silo}
 use Rattle.promise_spec.proofs.wrong_runs.endings_are_true.Goals as goal
 
 pub returns-clause-grain : goal.returns-clause-grain
@@ -9,3 +9,9 @@ returns-clause-doubt c = done_in_doubt
 
 pub returns-clause-unopened : goal.returns-clause-unopened
 returns-clause-unopened c = not_opened
+
+pub returns-clause-read : goal.returns-clause-read
+returns-clause-read c = read_unopened
+
+pub returns-clause-damaged : goal.returns-clause-damaged
+returns-clause-damaged c = damaged_no_silo
