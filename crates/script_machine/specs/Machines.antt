@@ -35,7 +35,7 @@ rest_at types run false = rest_of_run types run
 abbrev pub rest : ProgramTree → Machine → Requests
 rest types machine = rest_at types machine.run machine.ready
 
--- whether it has had its first input
+-- whether it is past its start: it has had its first input, or it waits or is over already
 abbrev pub has_begun : Machine → Bool
 has_begun machine = not machine.ready
 
