@@ -1,6 +1,7 @@
 pub mod Sizes
 pub mod Stands
 pub mod Steps
+pub mod Around
 pub mod Entries
 pub mod Few
 pub mod Orders

@@ -82,7 +82,7 @@ Answers (AskRaise grain left) input.Held = Unit {0}
 Answers (AskUnit call at go) (input.Unit outcome) = Unit {0}
 Answers left one = ⊥
 
--- the first input fits always, another one where it answers what a machine that has begun asks for
+-- the first input fits always, another one where it answers what a machine past its start asks for
 abbrev pub Fits : ProgramTree → Machine → Input → Type 0
 Fits types machine input.First = Unit {0}
 Fits types machine one = (has_begun machine ≡ true) × Answers (rest types machine) one

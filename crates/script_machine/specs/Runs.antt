@@ -5,7 +5,7 @@ use Rattle.base_types.specs.declared.calls.Mode.{Mode}
 use Rattle.base_types.specs.declared.calls.Value.{Value}
 use Rattle.script_tree.specs.Exprs.{ExprTree, CallTree}
 use Rattle.script_tree.specs.declared.statements.Stmt.{Stmt}
-use Rattle.script_tree.specs.Stmts.{Called, StmtTree, Bind, Rebind, Perform, Try, NoMore, Then, block_tree, stmt_tree, stmt_trees}
+use Rattle.script_tree.specs.Stmts.{Called, StmtTree, Bind, Rebind, Perform, Try, NoMore, Then, stmt_tree}
 use Rattle.script_tree.specs.Programs.{ProgramTree}
 use Rattle.script_values.specs.declared.stops.Stop.{Stop}
 use Rattle.script_values.specs.declared.stops.Stop.TheVariants.{Fault, Memory}
@@ -24,8 +24,14 @@ use Rattle.script_machine.specs.declared.runs.Wait.{Wait}
 use Rattle.script_machine.specs.declared.runs.Wait.TheVariants.{Lock, Raise, Child, Over}
 use Rattle.script_machine.specs.declared.runs.Flow.{Flow}
 use Rattle.script_machine.specs.declared.runs.Flow.TheVariants.{Moved, Paused}
+use Rattle.script_machine.specs.declared.runs.Onward.{Onward}
+use Rattle.script_machine.specs.declared.runs.Onward.TheVariants.{Here, Into, Away}
+use Rattle.script_machine.specs.declared.frames.OpenBlock.{OpenBlock}
+use Rattle.script_machine.specs.declared.frames.Post.{Post}
+use Rattle.script_machine.specs.declared.opened.Open.{Open}
 use Rattle.script_machine.specs.Blocks.{from, part_of, outer, received, caught}
-use Rattle.script_machine.specs.Frames.{fields_of, site_of, runner_of, block_of, from_at, goes_on, waits, catches_in, below_of}
+use Rattle.script_machine.specs.Opened.{IsOpen}
+use Rattle.script_machine.specs.Frames.{fields_of, site_of, runner_of, block_of, body_at, from_at, goes_on, waits, catches_in, below_of}
 
 -- what becomes of the value of the topmost frame
 abbrev pub back_of : ProgramTree → Run → Back
@@ -68,10 +74,11 @@ abbrev pub stays : ProgramTree → Run → Flow → Requests
 stays types run Moved = running types run
 stays types run Paused = rest_of_run types run
 
--- the same where it may have stayed within its block
-abbrev pub stays_within : ProgramTree → Run → Option Flow → Requests
-stays_within types run None = running types run
-stays_within types run (Some flow) = stays types run flow
+-- the same wherever it goes on
+abbrev pub goes_to : ProgramTree → Run → Onward → Requests
+goes_to types run Here = running types run
+goes_to types run (Into one) = running types run
+goes_to types run (Away flow) = stays types run flow
 
 -- this is what is left: the run goes on or pauses with it, or it is the fault that ends the unit
 abbrev pub Left : Requests → Run → Stop → Type 0
@@ -83,15 +90,31 @@ abbrev pub Goes : Requests → ProgramTree → Run → Result Flow Stop → Type
 Goes left types run (Ok flow) = left ≡ stays types run flow
 Goes left types run (Err why) = Left left run why
 
--- the same where it may have stayed within its block
-abbrev pub GoesWithin : Requests → ProgramTree → Run → Result (Option Flow) Stop → Type 0
-GoesWithin left types run (Ok flow) = left ≡ stays_within types run flow
-GoesWithin left types run (Err why) = Left left run why
+-- the same wherever it goes on
+abbrev pub GoesOn : Requests → ProgramTree → Run → Result Onward Stop → Type 0
+GoesOn left types run (Ok onward) = left ≡ goes_to types run onward
+GoesOn left types run (Err why) = Left left run why
 
--- a run that stays within a block keeps it
-abbrev pub Keeps : ProgramTree → Run → Run → Option Flow → Type 0
-Keeps types old new None = block_of types new.top ≡ block_of types old.top
-Keeps types old new (Some flow) = Unit {0}
+-- the open blocks of the topmost frame are those of this path, or one more
+abbrev pub Moves : Post → List OpenBlock → Run → Onward → Type 0
+Moves post path run Here = (run.top.post ≡ post) × (run.top.path.items ≡ path)
+Moves post path run (Into one) = (run.top.post ≡ post) × (run.top.path.items ≡ path ++ one ∷ [])
+Moves post path run (Away flow) = Unit {0}
+
+-- the code keeps the open blocks of the topmost frame
+abbrev pub HasOpen : ProgramTree → Run → Open → Type 0
+HasOpen types run blocks = IsOpen (body_at types run.top.post) run.top.path.items blocks
+
+-- the same, but for the block that is gone into
+abbrev pub Tracks : ProgramTree → Run → Open → Onward → Type 0
+Tracks types run blocks Here = HasOpen types run blocks
+Tracks types run blocks (Into one) = (path : List OpenBlock) × (run.top.path.items ≡ path ++ one ∷ []) × IsOpen (body_at types run.top.post) path blocks
+Tracks types run blocks (Away flow) = Unit {0}
+
+-- the same, unless the run has paused
+abbrev pub OpenUnless : ProgramTree → Run → Open → Flow → Type 0
+OpenUnless types run blocks Moved = HasOpen types run blocks
+OpenUnless types run blocks Paused = Unit {0}
 
 -- how large a frame is: one for each open block, and two for the frame
 abbrev pub frame_size : Frame → ℕ
@@ -111,10 +134,11 @@ abbrev pub Shrinks : ℕ → Run → Flow → Type 0
 Shrinks n run Moved = size run < n
 Shrinks n run Paused = Unit {0}
 
--- the same where it may have stayed within its block
-abbrev pub ShrinksWithin : ℕ → Run → Option Flow → Type 0
-ShrinksWithin n run None = size run < n
-ShrinksWithin n run (Some flow) = Shrinks n run flow
+-- the same wherever it goes on
+abbrev pub ShrinksOn : ℕ → Run → Onward → Type 0
+ShrinksOn n run Here = size run < n
+ShrinksOn n run (Into one) = size run < n
+ShrinksOn n run (Away flow) = Shrinks n run flow
 
 -- the topmost frame stands at this statement
 pub record StandsAt (types : ProgramTree) (run : Run) (stmt : StmtTree) : Type 0 where
@@ -187,21 +211,6 @@ abbrev pub sets_here : ProgramTree → Run → List ℕ → Value → Requests
 sets_here types run name value =
     sets types (runner_of types run.top.post) (site_of types run.top.post) (back_of types run)
     (field_named name (settable run.top.post.kind (fields_of (slice_get types run.top.post.grain.kind)))) value (next_here types run) run.top.locals.items run.has
-
--- a run that goes on in a block, or has paused
-abbrev pub rests : ProgramTree → Run → Option (List Stmt) → Requests
-rests types run None = rest_of_run types run
-rests types run (Some block) = running types run
-
--- the block is the innermost one
-abbrev pub NextBlock : ProgramTree → Run → Option (List Stmt) → Type 0
-NextBlock types run None = Unit {0}
-NextBlock types run (Some block) = block_tree (stmt_trees block) ≡ block_of types run.top
-
--- less is left to do in the next block
-abbrev pub ShrinksUnless : ℕ → Run → Option (List Stmt) → Type 0
-ShrinksUnless n run None = Unit {0}
-ShrinksUnless n run (Some block) = size run < n
 
 -- the key that a place is, or its fault
 abbrev pub GivesKey : Result ℕ Stop → Value → Type 0

@@ -102,7 +102,7 @@ fn statement_in(block: &[Stmt], at: usize) -> Option<&Stmt>
 }
 
 /// A block within a block.
-fn within<'a>(block: &'a [Stmt], opened: OpenBlock) -> &'a [Stmt]
+pub fn within<'a>(block: &'a [Stmt], opened: OpenBlock) -> &'a [Stmt]
     ensures { block_tree (stmt_trees result.now) ≡ inner (block_tree (stmt_trees block.now)) opened }
 {
     match statement_in(block, opened.at) {
@@ -112,7 +112,7 @@ fn within<'a>(block: &'a [Stmt], opened: OpenBlock) -> &'a [Stmt]
 }
 
 /// The body of a frame's method.
-fn body<'a>(post: Post, checked: &'a Checked) -> &'a [Stmt]
+pub fn body<'a>(post: Post, checked: &'a Checked) -> &'a [Stmt]
     ensures { block_tree (stmt_trees result.now) ≡ body_at (program_tree checked.now) post }
 {
     match callee_at(checked, post.grain, post.method) {

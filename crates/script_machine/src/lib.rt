@@ -11,6 +11,7 @@ mod frames;
 mod inputs;
 mod locks;
 mod machine;
+mod opened;
 mod runs;
 mod starts;
 mod statements;

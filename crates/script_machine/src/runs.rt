@@ -11,7 +11,7 @@ ghost use Rattle.script_machine.specs.Frames.{block_of, fields_of};
 ghost use Rattle.script_machine.specs.Runs.{around_here, value_here, back_of, back_here, caught_here, received_here, refused_here, running, Shrinks, StandsAt, StandsWith, size, stays};
 
 use crate::callees::fields_at;
-use crate::frames::{Frame, Part, Post, item};
+use crate::frames::{Frame, OpenBlock, Part, Post, item};
 use base_types::{Call, GrainId, Mode, Outcome, Text, Value};
 use script_check::Checked;
 use script_holding::Holding;
@@ -29,11 +29,20 @@ pub enum Wait {
     Over { outcome: Outcome },
 }
 
-/// Whether a run goes on, with another innermost block, or has paused.
+/// Whether a run goes on, in blocks that are looked up anew, or has paused.
 #[derive(Clone, Copy, Debug, PartialEq, Eq)]
 pub enum Flow {
     Moved,
     Paused,
+}
+
+/// Where a run goes on after a statement or a block's end: in the innermost block that is kept, in this block
+/// within it, or elsewhere unless it has paused.
+#[derive(Clone, Copy, Debug, PartialEq, Eq)]
+pub enum Onward {
+    Here,
+    Into(OpenBlock),
+    Away(Flow),
 }
 
 /// A run of a unit: the topmost frame, those that wait for it from the lowest up, what the unit has, and what it

@@ -1,17 +1,17 @@
 ghost use Rattle.std.specs.Prelude.{◌≡◌, ◌<◌, ◌+◌, ◌^◌, IfOk, OnOk, slice_get};
-ghost use Rattle.std.specs.Option.{option_copied};
 ghost use Rattle.script_tree.specs.Exprs.{expr_tree};
-ghost use Rattle.script_tree.specs.Stmts.{stmt_tree, stmt_trees, block_tree};
+ghost use Rattle.script_tree.specs.Stmts.{stmt_tree};
 ghost use Rattle.script_tree.specs.Programs.{program_tree};
 ghost use Rattle.script_values.specs.Expressions.{put};
 ghost use Rattle.script_meaning.specs.Requests.{with_value};
 ghost use Rattle.script_meaning.specs.Calls.{settable};
-ghost use Rattle.script_machine.specs.Frames.{block_of, fields_of};
-ghost use Rattle.script_machine.specs.Runs.{Goes, GoesWithin, Keeps, Shrinks, ShrinksWithin, StandsAt, back_of, does_here, next_here, rest_of_run, running, sets_here, size, value_here, rests, NextBlock, ShrinksUnless};
+ghost use Rattle.script_machine.specs.Frames.{fields_of};
+ghost use Rattle.script_machine.specs.Runs.{Goes, GoesOn, HasOpen, Moves, OpenUnless, Shrinks, ShrinksOn, StandsAt, Tracks, back_of, does_here, next_here, rest_of_run, running, sets_here, size, stays, value_here};
 
 use crate::callees::fields_at;
 use crate::frames::Post;
-use crate::runs::{Flow, Run, Wait};
+use crate::opened::Open;
+use crate::runs::{Flow, Onward, Run, Wait};
 use base_types::Outcome;
 use script_check::{Checked, fitted};
 use script_tree::{Chars, Expr, FieldDecl, MethodKind, Source, Stmt};
@@ -37,16 +37,16 @@ impl Run {
         checked: &Checked,
         name: &Chars,
         value: &Expr,
-    ) -> Result<Option<Flow>, Stop>
+    ) -> Result<Onward, Stop>
         requires here { self.old.top.at < 2 ^ 63 }
-        ensures tree { GoesWithin (with_value (value_here (program_tree checked.now) self.old (expr_tree value.now)) self.old.has (λ found. next_here (program_tree checked.now) self.old (put name.now found self.old.top.locals.items) self.old.has)) (program_tree checked.now) self.new result }
-        ensures keeps { IfOk result (Keeps (program_tree checked.now) self.old self.new) }
-        ensures less { IfOk result (ShrinksWithin (size self.old + 4) self.new) }
+        ensures tree { GoesOn (with_value (value_here (program_tree checked.now) self.old (expr_tree value.now)) self.old.has (λ found. next_here (program_tree checked.now) self.old (put name.now found self.old.top.locals.items) self.old.has)) (program_tree checked.now) self.new result }
+        ensures moves { IfOk result (Moves self.old.top.post self.old.top.path.items self.new) }
+        ensures less { IfOk result (ShrinksOn (size self.old + 4) self.new) }
     {
         let value = self.value(alloc, checked, value)?;
         assign(&mut self.top.locals, name, value)?;
         self.top.at += 1;
-        Ok(None)
+        Ok(Onward::Here)
     }
 
     /// A field of the topmost frame's grain gets the value of an expression, once the step is taken.
@@ -56,11 +56,11 @@ impl Run {
         checked: &Checked,
         name: &Chars,
         value: &Expr,
-    ) -> Result<Option<Flow>, Stop>
+    ) -> Result<Onward, Stop>
         requires here { self.old.top.at < 2 ^ 63 }
-        ensures tree { GoesWithin (with_value (value_here (program_tree checked.now) self.old (expr_tree value.now)) self.old.has (sets_here (program_tree checked.now) self.old name.now)) (program_tree checked.now) self.new result }
-        ensures keeps { IfOk result (Keeps (program_tree checked.now) self.old self.new) }
-        ensures less { IfOk result (ShrinksWithin (size self.old + 4) self.new) }
+        ensures tree { GoesOn (with_value (value_here (program_tree checked.now) self.old (expr_tree value.now)) self.old.has (sets_here (program_tree checked.now) self.old name.now)) (program_tree checked.now) self.new result }
+        ensures moves { IfOk result (Moves self.old.top.post self.old.top.path.items self.new) }
+        ensures less { IfOk result (ShrinksOn (size self.old + 4) self.new) }
     {
         let value = self.value(alloc, checked, value)?;
         let Some(field) = field_number(name, settable(checked, self.top.post)) else {
@@ -68,7 +68,7 @@ impl Run {
         };
         self.has.set_field(self.top.post.grain, field, value);
         self.top.at += 1;
-        Ok(None)
+        Ok(Onward::Here)
     }
 
     /// `return`, once its step is taken.
@@ -81,42 +81,37 @@ impl Run {
     }
 
     /// Carries out the statement at which the topmost frame stands, once its step is taken.
-    fn carry_out(
-        &mut self,
-        alloc: Global,
-        checked: &Checked,
-        stmt: &Stmt,
-    ) -> Result<Option<Flow>, Stop>
+    fn carry_out(&mut self, alloc: Global, checked: &Checked, stmt: &Stmt) -> Result<Onward, Stop>
         requires here { StandsAt (program_tree checked.now) self.old (stmt_tree stmt.now) }
-        ensures tree { GoesWithin (does_here (program_tree checked.now) self.old (stmt_tree stmt.now)) (program_tree checked.now) self.new result }
-        ensures keeps { IfOk result (Keeps (program_tree checked.now) self.old self.new) }
-        ensures less { IfOk result (ShrinksWithin (size self.old + 4) self.new) }
+        ensures tree { GoesOn (does_here (program_tree checked.now) self.old (stmt_tree stmt.now)) (program_tree checked.now) self.new result }
+        ensures moves { IfOk result (Moves self.old.top.post self.old.top.path.items self.new) }
+        ensures less { IfOk result (ShrinksOn (size self.old + 4) self.new) }
     {
         match stmt {
             Stmt::Let { name, value } => match value {
                 Source::Expr(value) => self.assign(alloc, checked, &name.text, value),
-                Source::Call(call) => Ok(Some(self.call(alloc, checked, stmt, call)?)),
+                Source::Call(call) => Ok(Onward::Away(self.call(alloc, checked, stmt, call)?)),
             },
             Stmt::Assign { name, value } => match value {
                 Source::Expr(value) => self.assign(alloc, checked, &name.text, value),
-                Source::Call(call) => Ok(Some(self.call(alloc, checked, stmt, call)?)),
+                Source::Call(call) => Ok(Onward::Away(self.call(alloc, checked, stmt, call)?)),
             },
             Stmt::Set { name, value } => self.set(alloc, checked, &name.text, value),
-            Stmt::Call { call } => Ok(Some(self.call(alloc, checked, stmt, call)?)),
-            Stmt::If { test, .. } => Ok(Some(self.choose(alloc, checked, stmt, test)?)),
-            Stmt::While { .. } => Ok(Some(self.again(alloc, checked, stmt)?)),
-            Stmt::Return { value } => Ok(Some(self.answer(alloc, checked, value)?)),
+            Stmt::Call { call } => Ok(Onward::Away(self.call(alloc, checked, stmt, call)?)),
+            Stmt::If { test, .. } => self.choose(alloc, checked, stmt, test),
+            Stmt::While { .. } => self.again(alloc, checked, stmt),
+            Stmt::Return { value } => Ok(Onward::Away(self.answer(alloc, checked, value)?)),
             Stmt::Fail { text } => Err(Stop::Fault(fitted(alloc, text)?)),
-            Stmt::Attempt { call, .. } => Ok(Some(self.call(alloc, checked, stmt, call)?)),
+            Stmt::Attempt { call, .. } => Ok(Onward::Away(self.call(alloc, checked, stmt, call)?)),
         }
     }
 
     /// Begins the statement at which the topmost frame stands.
-    fn begin(&mut self, alloc: Global, checked: &Checked, stmt: &Stmt) -> Result<Option<Flow>, Stop>
+    fn begin(&mut self, alloc: Global, checked: &Checked, stmt: &Stmt) -> Result<Onward, Stop>
         requires here { StandsAt (program_tree checked.now) self.old (stmt_tree stmt.now) }
-        ensures tree { GoesWithin (running (program_tree checked.now) self.old) (program_tree checked.now) self.new result }
-        ensures keeps { IfOk result (Keeps (program_tree checked.now) self.old self.new) }
-        ensures less { IfOk result (ShrinksWithin (size self.old) self.new) }
+        ensures tree { GoesOn (running (program_tree checked.now) self.old) (program_tree checked.now) self.new result }
+        ensures moves { IfOk result (Moves self.old.top.post self.old.top.path.items self.new) }
+        ensures less { IfOk result (ShrinksOn (size self.old) self.new) }
     {
         if !self.has.take_step() {
             return Err(Stop::Fault(fault_of(alloc, Reason::Budget)?));
@@ -129,40 +124,47 @@ impl Run {
         &mut self,
         alloc: Global,
         checked: &Checked,
-        block: &[Stmt],
-    ) -> Result<Option<Flow>, Stop>
-        requires block { block_tree (stmt_trees block.now) ≡ block_of (program_tree checked.now) self.old.top }
-        ensures tree { GoesWithin (running (program_tree checked.now) self.old) (program_tree checked.now) self.new result }
-        ensures keeps { IfOk result (Keeps (program_tree checked.now) self.old self.new) }
-        ensures less { IfOk result (ShrinksWithin (size self.old) self.new) }
+        blocks: &mut Open,
+    ) -> Result<Onward, Stop>
+        requires blocks { HasOpen (program_tree checked.now) self.old blocks.old }
+        ensures tree { GoesOn (running (program_tree checked.now) self.old) (program_tree checked.now) self.new result }
+        ensures tracks { IfOk result (Tracks (program_tree checked.now) self.new blocks.new) }
+        ensures less { IfOk result (ShrinksOn (size self.old) self.new) }
     {
-        match self.statement(checked, block) {
-            None => Ok(Some(self.leave(alloc, checked)?)),
+        match self.statement(checked, blocks.block) {
+            None => self.leave(alloc, checked, blocks),
             Some(stmt) => self.begin(alloc, checked, stmt),
         }
     }
 
-    /// The same, with the innermost block that the run goes on in, or none where it has paused.
+    /// The same, with the open blocks that the run goes on in.
     fn step<'a>(
         &mut self,
         alloc: Global,
         checked: &'a Checked,
-        block: &'a [Stmt],
-    ) -> Result<Option<&'a [Stmt]>, AllocError>
-        requires block { block_tree (stmt_trees block.now) ≡ block_of (program_tree checked.now) self.old.top }
-        ensures tree { IfOk result (λ next. running (program_tree checked.now) self.old ≡ rests (program_tree checked.now) self.new (option_copied next)) }
-        ensures block { IfOk result (λ next. NextBlock (program_tree checked.now) self.new (option_copied next)) }
-        ensures less { IfOk result (λ next. ShrinksUnless (size self.old) self.new (option_copied next)) }
+        blocks: &mut Open<'a>,
+    ) -> Result<Flow, AllocError>
+        requires blocks { HasOpen (program_tree checked.now) self.old blocks.old }
+        ensures tree { IfOk result (λ flow. running (program_tree checked.now) self.old ≡ stays (program_tree checked.now) self.new flow) }
+        ensures blocks { IfOk result (OpenUnless (program_tree checked.now) self.new blocks.new) }
+        ensures less { IfOk result (Shrinks (size self.old) self.new) }
     {
-        match self.advance(alloc, checked, block) {
-            Ok(None) => Ok(Some(block)),
-            Ok(Some(Flow::Moved)) => Ok(Some(self.top.block(checked))),
-            Ok(Some(Flow::Paused)) => Ok(None),
+        match self.advance(alloc, checked, blocks) {
+            Ok(Onward::Here) => Ok(Flow::Moved),
+            Ok(Onward::Into(opened)) => {
+                blocks.enter(opened)?;
+                Ok(Flow::Moved)
+            }
+            Ok(Onward::Away(Flow::Moved)) => {
+                blocks.follow(checked, &self.top)?;
+                Ok(Flow::Moved)
+            }
+            Ok(Onward::Away(Flow::Paused)) => Ok(Flow::Paused),
             Err(Stop::Fault(text)) => {
                 self.wait = Wait::Over {
                     outcome: Outcome::Fault(text),
                 };
-                Ok(None)
+                Ok(Flow::Paused)
             }
             Err(Stop::Memory) => Err(AllocError),
         }
@@ -172,11 +174,12 @@ impl Run {
     pub fn go(&mut self, alloc: Global, checked: &Checked) -> Result<(), AllocError>
         ensures { OnOk result (running (program_tree checked.now) self.old ≡ rest_of_run (program_tree checked.now) self.new) }
     {
-        let mut block = self.top.block(checked);
+        let mut blocks = Open::new(alloc);
+        blocks.follow(checked, &self.top)?;
         'steps: loop {
-            match self.step(alloc, checked, block)? {
-                Some(next) => block = next,
-                None => return Ok(()),
+            match self.step(alloc, checked, &mut blocks)? {
+                Flow::Moved => {}
+                Flow::Paused => return Ok(()),
             }
         }
     }

@@ -1,14 +1,12 @@
 use Rattle.std.proofs.Common.{◌≡◌}
-use Rattle.script_tree.specs.Stmts.{stmt_trees, block_tree}
 use Rattle.script_tree.specs.Programs.{program_tree}
-use Rattle.script_machine.specs.Frames.{block_of}
-use Rattle.script_machine.specs.Runs.{running, size}
+use Rattle.script_machine.specs.Runs.{HasOpen, running, size}
 use Rattle.script_machine.proofs.runs.Run.go.Given as goal
 
 abbrev pub invariant-steps : goal.invariant-steps
 invariant-steps l = record {
   same : running (program_tree l.checked) l.fn.self ≡ running (program_tree l.checked) l.self;
-  block : block_tree (stmt_trees l.block) ≡ block_of (program_tree l.checked) l.self.top;
+  blocks : HasOpen (program_tree l.checked) l.self l.blocks;
 }
 
 abbrev pub decreases-steps : goal.decreases-steps
