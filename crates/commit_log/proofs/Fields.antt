@@ -139,7 +139,7 @@ module _ (shape : Shape) where
   abbrev WritesFitIn : List Written → Type 0
   WritesFitIn ws = WritesFit ws × AreTypes ws
 
-  writes_reads : (low : ℕ) → Reads low Any (λ ws. to_le_bytes w16 (length ws) ++ flat_map spelling_of_write ws) WritesFitIn (writes_in shape)
+  pub writes_reads : (low : ℕ) → Reads low Any (λ ws. to_le_bytes w16 (length ws) ++ flat_map spelling_of_write ws) WritesFitIn (writes_in shape)
   unfolding writes_in
   writes_reads low =
       let spell : List Written → List ℕ = λ ws. to_le_bytes w16 (length ws) ++ flat_map spelling_of_write ws in
@@ -149,6 +149,9 @@ module _ (shape : Shape) where
       chain_reads spelling_of_write WriteFitsIn (write_in shape) grain_after write_reads from None n)
 
 -- ---- records and bodies
+
+pub answers_read : (low : ℕ) → Reads low Any (λ xs. to_le_bytes w16 (length xs) ++ flat_map spelling_of_outcome xs) AnswersFit answers_at
+answers_read low = list_reads spelling_of_outcome AnswerFits answer_at answer_reads w16 (2 ^ 16) 64 wide16 (omega arith) low
 
 module _ (numbers : Numbers) (shape : Shape) where
   abbrev FieldsFit : CommitRecord → Type 0
@@ -165,14 +168,14 @@ module _ (numbers : Numbers) (shape : Shape) where
   record_out : (r : CommitRecord) → IsRecordIn numbers shape r → FieldsFit r
   record_out r is = ((is.fits.unit, is.units.unit), ((is.fits.origin, is.units.parent), ((is.fits.call, is.call), (is.fits.answers, (is.fits.result, ((is.fits.writes, is.writes), tt))))))
 
-  record_reads : (low : ℕ) → Reads low Any spelling_of_record (IsRecordIn numbers shape) (record_in numbers shape)
+  pub record_reads : (low : ℕ) → Reads low Any spelling_of_record (IsRecordIn numbers shape) (record_in numbers shape)
   unfolding record_in
   record_reads low =
       said low Any Any _ spelling_of_record FieldsFit (IsRecordIn numbers shape) (record_in numbers shape) (λ r p. tt) (λ r p. tt) (λ r p. simp append-nil) (λ r p. record_into r) (λ r p. record_out r)
       (then (λ (r : CommitRecord). r.unit.0) (to_le_bytes w64) (λ n. (n < 2 ^ 64) × (may_be_unit numbers n ≡ true)) (unit_at numbers) low Any _ _ _ (unit_reads numbers low) λ unit from1.
       then (λ (r : CommitRecord). r.origin) spelling_of_origin (OriginFitsIn numbers) (origin_at numbers) from1 _ _ _ _ (origin_reads numbers from1) λ origin from2.
       then (λ (r : CommitRecord). r.call) spelling_of_call (CallFitsIn shape) (call_in shape) from2 _ _ _ _ (call_reads shape from2) λ call from3.
-      then (λ (r : CommitRecord). r.answers) (λ xs. to_le_bytes w16 (length xs) ++ flat_map spelling_of_outcome xs) AnswersFit answers_at from3 _ _ _ _ (list_reads spelling_of_outcome AnswerFits answer_at answer_reads w16 (2 ^ 16) 64 wide16 (omega arith) from3) λ answers from4.
+      then (λ (r : CommitRecord). r.answers) (λ xs. to_le_bytes w16 (length xs) ++ flat_map spelling_of_outcome xs) AnswersFit answers_at from3 _ _ _ _ (answers_read from3) λ answers from4.
       then (λ (r : CommitRecord). r.result) spelling_of_outcome ResultFits result_at from4 _ _ _ _ (result_reads from4) λ result from5.
       then (λ (r : CommitRecord). r.writes) (λ ws. to_le_bytes w16 (length ws) ++ flat_map spelling_of_write ws) (WritesFitIn shape) (writes_in shape) from5 _ _ _ _ (writes_reads shape from5) λ writes from6.
       done from6 _ (record { unit = record { 0 = unit }; origin = origin; call = call; answers = answers; result = result; writes = writes }) ((((((tt, refl), refl), refl), refl), refl), refl)

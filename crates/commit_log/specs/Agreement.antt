@@ -1,11 +1,12 @@
 -- How the reading of a log agrees with the one that takes any number.
-use Rattle.std.specs.Prelude.{◌≡◌, ◌⊎◌, ℕ, false, List, Result, Ok, Err}
+use Rattle.std.specs.Prelude.{◌≡◌, ◌⊎◌, ◌<◌, ℕ, false, List, Result, Ok, Err, IfErr}
 use Rattle.std.specs.Int.{w64}
 use Rattle.field_codec.specs.declared.faults.CodecFault.{CodecFault}
 use Rattle.field_codec.specs.declared.faults.CodecFault.TheVariants.{Unknown}
 use Rattle.field_codec.specs.declared.units.Numbers.TheVariants.{Logged}
 use Rattle.field_codec.specs.Units.{may_be_unit}
 use Rattle.field_codec.specs.Reading.{number_at}
+use Rattle.field_codec.specs.Results.{place_of}
 
 -- a number that no unit of a log has stands at this place
 pub record IsNoUnitAt (bytes : List ℕ) (place : ℕ) : Type 0 where
@@ -14,6 +15,6 @@ pub record IsNoUnitAt (bytes : List ℕ) (place : ℕ) : Type 0 where
   pub there : number_at w64 bytes place ≡ Ok (number, end)
   pub none : may_be_unit Logged number ≡ false
 
--- the same is read, or the reading of a log names such a number
+-- the same is read, or the reading of a log names such a number, which stands before the other reading's fault
 abbrev pub Agrees : {A : Type 0} → List ℕ → Result A CodecFault → Result A CodecFault → Type 0
-Agrees bytes logged free = (logged ≡ free) ⊎ ((place : ℕ) × (logged ≡ Err (Unknown place)) × IsNoUnitAt bytes place)
+Agrees bytes logged free = (logged ≡ free) ⊎ ((place : ℕ) × (logged ≡ Err (Unknown place)) × IsNoUnitAt bytes place × IfErr free (λ fault. place < place_of fault))

@@ -95,7 +95,8 @@ fn set_length(block: &mut Vec<u8>, size: u32)
 }
 
 /// The block of a batch: its body's length, its body, and the closed gate of the next block. A batch has at most 64 records,
-/// each with at most 8 arguments, 64 answers and 64 writes, and with its writes in ascending grain order.
+/// each with at most 8 arguments, 64 answers and 64 writes, with its writes in ascending grain order, and with a result that is
+/// no abort.
 pub fn encode_block(alloc: Global, records: &List<CommitRecord>) -> Result<List<u8>, AllocError>
     requires count { length records.now ≤ 64 }
     requires each { AllByRecursion MaySpell records.now }

@@ -20,7 +20,7 @@ pub enum Sealing {
     Sealed { next_gate: u64 },
     /// No image has the block. A call on the manager file failed before the gate was written.
     NotSealed,
-    /// Each image has the block or it doesn't. The gate's write or its sync failed.
+    /// Each image has the block behind the gate, which is open in it or closed. A call on the manager file failed.
     InDoubt,
 }
 

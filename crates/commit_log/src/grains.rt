@@ -21,7 +21,7 @@ pub fn get_grain(bytes: &[u8], at: usize, shape: &Shape) -> Result<(GrainId, usi
 }
 
 // The number of parameters of the grain's method.
-fn params_of(shape: &Shape, grain: GrainId, method: u16) -> Option<u16>
+fn params_in(shape: &Shape, grain: GrainId, method: u16) -> Option<u16>
     ensures { result ≡ params_in shape.now grain.kind method }
 {
     match shape.types.get(grain.kind as usize) {
@@ -42,7 +42,7 @@ pub fn get_call_in(
 {
     let (grain, place) = get_grain(bytes, at, shape)?;
     let (method, after) = get_u16(bytes, place)?;
-    let Some(params) = params_of(shape, grain, method) else {
+    let Some(params) = params_in(shape, grain, method) else {
         return Err(CodecFault::Unknown { place });
     };
     let (args, after) = get_exactly(alloc, bytes, after, 8, params as usize)?;

@@ -13,7 +13,7 @@ use Rattle.field_codec.specs.Spelling.{Stands, spelling_of_text, TextFits}
 use Rattle.field_codec.specs.Reading.{AreBytes, Reader, whole, refused, field, choice, number_at, count_at, letters, text_at, times, list_at}
 use Rattle.field_codec.specs.Results.{place_of}
 use Rattle.field_codec.proofs.Standing.{stands_end, stands_within}
-use Rattle.field_codec.proofs.Readers.{Reads, Any, then, done, choose, never, said, past, chosen}
+use Rattle.field_codec.proofs.Readers.{Reads, Any, then, done, choose, never, said, past, chosen, ok_is}
 use Rattle.field_codec.proofs.Chains.{times_reads}
 
 -- ---- numbers
@@ -103,6 +103,13 @@ number_reads w limit wide low = record {
   falls = λ bytes at fault are low_le le e.
       let is : Short at ≡ fault = stopped (ltb (length bytes) (at + byte_len w)) (Short at) (from_le_bytes w (take (byte_len w) (drop at bytes)), at + byte_len w) fault e in
       subst (λ (f : CodecFault). place_of f ≤ length bytes) is le;
+  goes = λ bytes at n end e.
+      let g = past (ltb (length bytes) (at + byte_len w)) (Short at) (Ok (from_le_bytes w (take (byte_len w) (drop at bytes)), at + byte_len w)) (n, end) e in
+      let is = ok_is (from_le_bytes w (take (byte_len w) (drop at bytes))) n (at + byte_len w) end g.1 in
+      omega (arith, is.1);
+  later = λ bytes at fault low_le e.
+      let is : Short at ≡ fault = stopped (ltb (length bytes) (at + byte_len w)) (Short at) (from_le_bytes w (take (byte_len w) (drop at bytes)), at + byte_len w) fault e in
+      subst (λ (f : CodecFault). low ≤ place_of f) is low_le;
 }
 
 pub byte_reads : (low : ℕ) → Reads low Any (to_le_bytes w8) (λ n. n < 2 ^ 8) (number_at w8)
@@ -134,7 +141,7 @@ count_reads w limit most wide lt low =
     (done from (P n) n (tt, refl) (λ d known. known.1))))
 
 -- a number that passes a test, else a fault that names it
-pub tested_reads : (w : Width) (limit : ℕ) → IsWide w limit → (test : ℕ → Bool) (fault : ℕ → CodecFault) → ((from : ℕ) → place_of (fault from) ≤ from) → (low : ℕ)
+pub tested_reads : (w : Width) (limit : ℕ) → IsWide w limit → (test : ℕ → Bool) (fault : ℕ → CodecFault) → ((from : ℕ) → place_of (fault from) ≡ from) → (low : ℕ)
     → Reads low Any (to_le_bytes w) (λ n. (n < limit) × (test n ≡ true)) (field (number_at w) λ n place. choice (test n) (whole n) (refused (fault place)))
 tested_reads w limit wide test fault placed low =
     let P : ℕ → ℕ → Type 0 = λ n c. Any c × (c ≡ n) in
@@ -157,10 +164,10 @@ list_reads {A} spell Fits read reads w limit most wide lt low =
 
 -- ---- texts
 
-either_stopped : {A : Type 0} (b also : Bool) (c d : CodecFault) (x : A) (e : CodecFault) (n : ℕ) → place_of c ≤ n → place_of d ≤ n → cond b (Err c) (cond also (Ok x) (Err d)) ≡ Err e → place_of e ≤ n
-either_stopped true also c d x e n one two h = let is : c ≡ e = cc in subst (λ (f : CodecFault). place_of f ≤ n) is one
-either_stopped false true c d x e n one two h = absurd cc
-either_stopped false false c d x e n one two h = let is : d ≡ e = cc in subst (λ (f : CodecFault). place_of f ≤ n) is two
+either_stopped : {A : Type 0} (P : CodecFault → Type 0) (b also : Bool) (c d : CodecFault) (x : A) (e : CodecFault) → P c → P d → cond b (Err c) (cond also (Ok x) (Err d)) ≡ Err e → P e
+either_stopped P true also c d x e one two h = let is : c ≡ e = cc in subst P is one
+either_stopped P false true c d x e one two h = absurd cc
+either_stopped P false false c d x e one two h = let is : d ≡ e = cc in subst P is two
 
 letters_read : (low n : ℕ) → Reads low (λ t. Any t × (length t ≡ n)) (λ t. t) IsUtf8 (letters n)
 unfolding letters
@@ -181,7 +188,15 @@ letters_read low n = record {
       let short : ltb (length bytes) (at + n) ≡ false = le-ltb _ _ (subst (λ (k : ℕ). k ≤ length bytes) end_is (stands_end bytes at end t le stands)) in
       rw (short, text_is, is_utf8-from_IsUtf8 t fits, end_is) refl;
   falls = λ bytes at fault are low_le le e.
-      either_stopped (ltb (length bytes) (at + n)) (is_utf8 (take n (drop at bytes))) (Short at) (NotUtf8 at) (take n (drop at bytes), at + n) fault (length bytes) le le e;
+      either_stopped (λ f. place_of f ≤ length bytes) (ltb (length bytes) (at + n)) (is_utf8 (take n (drop at bytes))) (Short at) (NotUtf8 at) (take n (drop at bytes), at + n) fault le le e;
+  goes = λ bytes at t end e.
+      let text = take n (drop at bytes) in
+      let one = past (ltb (length bytes) (at + n)) (Short at) (cond (is_utf8 text) (Ok (text, at + n)) (Err (NotUtf8 at))) (t, end) e in
+      let two = chosen (is_utf8 text) (text, at + n) (NotUtf8 at) (t, end) one.1 in
+      let end_is : at + n ≡ end = ap (λ (p : List ℕ × ℕ). p.1) two.1 in
+      omega (arith, end_is);
+  later = λ bytes at fault low_le e.
+      either_stopped (λ f. low ≤ place_of f) (ltb (length bytes) (at + n)) (is_utf8 (take n (drop at bytes))) (Short at) (NotUtf8 at) (take n (drop at bytes), at + n) fault low_le low_le e;
 }
 
 pub text_reads : (low : ℕ) → Reads low Any spelling_of_text TextFits text_at

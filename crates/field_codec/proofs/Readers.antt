@@ -8,12 +8,14 @@ use Rattle.field_codec.specs.Results.{place_of, Gives, Found, Only}
 use Rattle.field_codec.specs.Apart.{AreApart}
 use Rattle.field_codec.proofs.Standing.{stands_both, stands_first, stands_second, stands_empty, stands_end}
 
--- Where P is known of the value, and a field stood at `low`: what is read stands there, what stands there is read, and a fault
--- is named within the bytes.
+-- Where P is known of the value, and a field stood at `low`: what is read stands there, what stands there is read, a fault is
+-- named within the bytes, and reading only goes on: nothing ends, and no fault is named, before it.
 pub record Reads {C : Type 0} (low : ℕ) (P : C → Type 0) (spell : C → List ℕ) (Fits : C → Type 0) (read : Reader C) : Type 0 where
   pub takes : (bytes : List ℕ) (at : ℕ) (c : C) (end : ℕ) → AreBytes bytes → at ≤ length bytes → read bytes at ≡ Ok (c, end) → P c × Fits c × Stands bytes at (spell c) end
   pub again : (bytes : List ℕ) (at : ℕ) (c : C) (end : ℕ) → at ≤ length bytes → P c → Fits c → Stands bytes at (spell c) end → read bytes at ≡ Ok (c, end)
   pub falls : (bytes : List ℕ) (at : ℕ) (fault : CodecFault) → AreBytes bytes → low ≤ at → at ≤ length bytes → read bytes at ≡ Err fault → place_of fault ≤ length bytes
+  pub goes : (bytes : List ℕ) (at : ℕ) (c : C) (end : ℕ) → read bytes at ≡ Ok (c, end) → at ≤ end
+  pub later : (bytes : List ℕ) (at : ℕ) (fault : CodecFault) → low ≤ at → read bytes at ≡ Err fault → low ≤ place_of fault
 
 -- nothing is known
 abbrev pub Any : {C : Type 0} → C → Type 0
@@ -74,6 +76,19 @@ then get spell Fits read low P rest RestFits k first others = record {
             let end_at : later.0.1 ≡ at + length (spell later.0.0) = one.2.end_at in
             (others later.0.0 at).falls bytes later.0.1 fault are (omega (arith, end_at)) (stands_end bytes at later.0.1 (spell later.0.0) le one.2) later.2
       ];
+  goes = λ bytes at c end e.
+      let b = then_ok (read bytes at) (λ x. k x.0 at bytes x.1) (c, end) e in
+      let one = first.goes bytes at b.0.0 b.0.1 b.1 in
+      let two = (others b.0.0 at).goes bytes b.0.1 c end b.2 in
+      omega (arith, one, two);
+  later = λ bytes at fault low_le e.
+      elim (then_err (read bytes at) (λ x. k x.0 at bytes x.1) fault e) [
+        | inl here ↦ first.later bytes at fault low_le here
+        | inr more ↦
+            let one = first.goes bytes at more.0.0 more.0.1 more.1 in
+            let two = (others more.0.0 at).later bytes more.0.1 fault one more.2 in
+            omega (arith, low_le, two)
+      ];
 }
 
 -- all is read
@@ -88,6 +103,8 @@ done low P c known only = record {
       let two : end ≡ at = omega (arith, stands.end_at) in
       rw (one, two) refl;
   falls = λ bytes at fault are low_le le e. absurd cc;
+  goes = λ bytes at d end e. let is = ok_is c d at end e in omega (arith, is.1);
+  later = λ bytes at fault low_le e. absurd cc;
 }
 
 -- a test of what is known, by which there are two ways to go on
@@ -98,7 +115,7 @@ choose low P spell Fits true k l this other = this refl
 choose low P spell Fits false k l this other = other refl
 
 -- what is there goes on, and where nothing is, no value does
-pub where_known : {A C : Type 0} (low : ℕ) (P : C → Type 0) (spell : C → List ℕ) (Fits : C → Type 0) (o : Option A) (fault : CodecFault) (k : A → Reader C) → place_of fault ≤ low
+pub where_known : {A C : Type 0} (low : ℕ) (P : C → Type 0) (spell : C → List ℕ) (Fits : C → Type 0) (o : Option A) (fault : CodecFault) (k : A → Reader C) → place_of fault ≡ low
     → ((a : A) → o ≡ Some a → Reads low P spell Fits (k a)) → (o ≡ None → (c : C) → P c → Fits c → ⊥) → Reads low P spell Fits (known o fault k)
 unfolding known
 where_known low P spell Fits (Some a) fault k placed there none = there a refl
@@ -107,18 +124,26 @@ where_known low P spell Fits None fault k placed there none = record {
   again = λ bytes at c end le also fits stands. absurd (none refl c also fits);
   falls = λ bytes at other are low_le le e.
       let is : fault ≡ other = cc in
-      subst (λ (f : CodecFault). place_of f ≤ length bytes) is (omega arith);
+      subst (λ (f : CodecFault). place_of f ≤ length bytes) is (omega (arith, placed));
+  goes = λ bytes at c end e. absurd cc;
+  later = λ bytes at other low_le e.
+      let is : fault ≡ other = cc in
+      subst (λ (f : CodecFault). low ≤ place_of f) is (omega (arith, placed));
 }
 
 -- no value goes on from here
-pub never : {C : Type 0} (low : ℕ) (P : C → Type 0) (spell : C → List ℕ) (Fits : C → Type 0) (fault : CodecFault) → place_of fault ≤ low → ((c : C) → P c → Fits c → ⊥) → Reads low P spell Fits (refused fault)
+pub never : {C : Type 0} (low : ℕ) (P : C → Type 0) (spell : C → List ℕ) (Fits : C → Type 0) (fault : CodecFault) → place_of fault ≡ low → ((c : C) → P c → Fits c → ⊥) → Reads low P spell Fits (refused fault)
 unfolding refused
 never low P spell Fits fault placed none = record {
   takes = λ bytes at c end are le e. absurd cc;
   again = λ bytes at c end le known fits stands. absurd (none c known fits);
   falls = λ bytes at other are low_le le e.
       let is : fault ≡ other = cc in
-      subst (λ (f : CodecFault). place_of f ≤ length bytes) is (omega arith);
+      subst (λ (f : CodecFault). place_of f ≤ length bytes) is (omega (arith, placed));
+  goes = λ bytes at c end e. absurd cc;
+  later = λ bytes at other low_le e.
+      let is : fault ≡ other = cc in
+      subst (λ (f : CodecFault). low ≤ place_of f) is (omega (arith, placed));
 }
 
 -- one field, put into a value
@@ -142,6 +167,16 @@ put_in {A} {C} f spell Fits read low P all AllFit back known same into reads = r
         | inl here ↦ reads.falls bytes at fault are low_le le here
         | inr later ↦ absurd (let clash : is_read {A = C × ℕ} (f later.0.0, later.0.1) ≡ Err fault = later.2 in cc)
       ];
+  goes = λ bytes at c end e.
+      let b = then_ok (read bytes at) (λ x. Ok (f x.0, x.1)) (c, end) e in
+      let one = reads.goes bytes at b.0.0 b.0.1 b.1 in
+      let is = ok_is (f b.0.0) c b.0.1 end b.2 in
+      omega (arith, one, is.1);
+  later = λ bytes at fault low_le e.
+      elim (then_err (read bytes at) (λ x. Ok (f x.0, x.1)) fault e) [
+        | inl here ↦ reads.later bytes at fault low_le here
+        | inr more ↦ absurd (let clash : is_read {A = C × ℕ} (f more.0.0, more.0.1) ≡ Err fault = more.2 in cc)
+      ];
 }
 
 -- the same reader, spelling and limits, said in other words
@@ -155,6 +190,8 @@ said low P Q spell also Fits AlsoFits read pq qp same into out reads = record {
   again = λ bytes at c end le known fits stands.
       reads.again bytes at c end le (qp c known) (out c (qp c known) fits) (subst (λ (l : List ℕ). Stands bytes at l end) (sym (same c (qp c known))) stands);
   falls = λ bytes at fault are low_le le e. reads.falls bytes at fault are low_le le e;
+  goes = λ bytes at c end e. reads.goes bytes at c end e;
+  later = λ bytes at fault low_le e. reads.later bytes at fault low_le e;
 }
 
 -- ---- what the laws give

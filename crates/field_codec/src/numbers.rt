@@ -1,7 +1,7 @@
-ghost use Rattle.std.specs.Prelude.{◌≡◌, ◌++◌, ◌≤◌, is_ok, if◌then◌else◌, IfOk, IsErrOf};
+ghost use Rattle.std.specs.Prelude.{◌≡◌, ◌++◌, ◌≤◌, ◌<◌, ◌^◌, is_ok, if◌then◌else◌, IfOk, IsErrOf};
 ghost use Rattle.std.specs.Int.{w8, w16, w32, w64, to_le_bytes};
 ghost use Rattle.field_codec.specs.Reading.{number_at, count_at};
-ghost use Rattle.field_codec.specs.Results.{Gives};
+ghost use Rattle.field_codec.specs.Results.{Gives, Found, Only};
 ghost use Rattle.field_codec.specs.declared.faults.CodecFault.{CodecFault as Fault};
 
 use crate::faults::CodecFault;
@@ -39,8 +39,7 @@ pub fn get_u8(bytes: &[u8], at: usize) -> Result<(u8, usize), CodecFault>
     Ok((bytes[at], at + 1))
 }
 
-/// The number that two bytes spell, and the place behind them. `Short` exactly where fewer remain.
-pub fn get_u16(bytes: &[u8], at: usize) -> Result<(u16, usize), CodecFault>
+fn u16_there(bytes: &[u8], at: usize) -> Result<(u16, usize), CodecFault>
     ensures exact { Gives result (number_at w16 bytes.now at) }
     ensures quiet { IsErrOf result Fault.Memory → ⊥ }
 {
@@ -51,8 +50,17 @@ pub fn get_u16(bytes: &[u8], at: usize) -> Result<(u16, usize), CodecFault>
     Ok((u16::from_le_bytes([rest[0], rest[1]]), at + 2))
 }
 
-/// The number that four bytes spell, and the place behind them. `Short` exactly where fewer remain.
-pub fn get_u32(bytes: &[u8], at: usize) -> Result<(u32, usize), CodecFault>
+/// The number that two bytes spell, and the place behind them. `Short` exactly where fewer remain.
+pub fn get_u16(bytes: &[u8], at: usize) -> Result<(u16, usize), CodecFault>
+    ensures found { Found (to_le_bytes w16) (λ n. n < 2 ^ 16) bytes.now at result }
+    ensures only { Only (to_le_bytes w16) (λ n. n < 2 ^ 16) bytes.now at result }
+    ensures exact { Gives result (number_at w16 bytes.now at) }
+    ensures quiet { IsErrOf result Fault.Memory → ⊥ }
+{
+    u16_there(bytes, at)
+}
+
+fn u32_there(bytes: &[u8], at: usize) -> Result<(u32, usize), CodecFault>
     ensures exact { Gives result (number_at w32 bytes.now at) }
     ensures quiet { IsErrOf result Fault.Memory → ⊥ }
 {
@@ -64,8 +72,17 @@ pub fn get_u32(bytes: &[u8], at: usize) -> Result<(u32, usize), CodecFault>
     Ok((number, at + 4))
 }
 
-/// The number that eight bytes spell, and the place behind them. `Short` exactly where fewer remain.
-pub fn get_u64(bytes: &[u8], at: usize) -> Result<(u64, usize), CodecFault>
+/// The number that four bytes spell, and the place behind them. `Short` exactly where fewer remain.
+pub fn get_u32(bytes: &[u8], at: usize) -> Result<(u32, usize), CodecFault>
+    ensures found { Found (to_le_bytes w32) (λ n. n < 2 ^ 32) bytes.now at result }
+    ensures only { Only (to_le_bytes w32) (λ n. n < 2 ^ 32) bytes.now at result }
+    ensures exact { Gives result (number_at w32 bytes.now at) }
+    ensures quiet { IsErrOf result Fault.Memory → ⊥ }
+{
+    u32_there(bytes, at)
+}
+
+fn u64_there(bytes: &[u8], at: usize) -> Result<(u64, usize), CodecFault>
     ensures exact { Gives result (number_at w64 bytes.now at) }
     ensures quiet { IsErrOf result Fault.Memory → ⊥ }
 {
@@ -77,6 +94,16 @@ pub fn get_u64(bytes: &[u8], at: usize) -> Result<(u64, usize), CodecFault>
         rest[0], rest[1], rest[2], rest[3], rest[4], rest[5], rest[6], rest[7],
     ]);
     Ok((number, at + 8))
+}
+
+/// The number that eight bytes spell, and the place behind them. `Short` exactly where fewer remain.
+pub fn get_u64(bytes: &[u8], at: usize) -> Result<(u64, usize), CodecFault>
+    ensures found { Found (to_le_bytes w64) (λ n. n < 2 ^ 64) bytes.now at result }
+    ensures only { Only (to_le_bytes w64) (λ n. n < 2 ^ 64) bytes.now at result }
+    ensures exact { Gives result (number_at w64 bytes.now at) }
+    ensures quiet { IsErrOf result Fault.Memory → ⊥ }
+{
+    u64_there(bytes, at)
 }
 
 /// A count or a length of two bytes, and the place behind it. `Over` exactly where it is above the limit.

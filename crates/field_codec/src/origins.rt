@@ -1,6 +1,8 @@
 ghost use Rattle.std.specs.Prelude.{IsErrOf};
 ghost use Rattle.field_codec.specs.Fields.{origin_at};
-ghost use Rattle.field_codec.specs.Results.{Gives};
+ghost use Rattle.field_codec.specs.Results.{Gives, Found, Only};
+ghost use Rattle.field_codec.specs.Spelling.{spelling_of_origin, OriginFits};
+ghost use Rattle.field_codec.specs.Units.{HasParent};
 ghost use Rattle.field_codec.specs.declared.faults.CodecFault.{CodecFault as Fault};
 
 use crate::faults::CodecFault;
@@ -41,10 +43,8 @@ impl Spelled for Origin {
     }
 }
 
-/// The origin that stands at a place, and the place behind it. The fault is the first from left to right; `Unknown` names a
-/// parent's number that is none of those that are taken.
 #[tactic(auto, unfolding(crate::specs::Fields::origin_at, crate::specs::Reading::field, crate::specs::Reading::choice, crate::specs::Reading::refused, crate::specs::Reading::whole))]
-pub fn get_origin(bytes: &[u8], at: usize, numbers: Numbers) -> Result<(Origin, usize), CodecFault>
+fn origin_there(bytes: &[u8], at: usize, numbers: Numbers) -> Result<(Origin, usize), CodecFault>
     ensures exact { Gives result (origin_at numbers bytes.now at) }
     ensures quiet { IsErrOf result Fault.Memory → ⊥ }
 {
@@ -71,4 +71,15 @@ pub fn get_origin(bytes: &[u8], at: usize, numbers: Numbers) -> Result<(Origin, 
         place: at,
         byte: tag,
     })
+}
+
+/// The origin that stands at a place, and the place behind it. The fault is the first from left to right; `Unknown` names a
+/// parent's number that is none of those that are taken.
+pub fn get_origin(bytes: &[u8], at: usize, numbers: Numbers) -> Result<(Origin, usize), CodecFault>
+    ensures found { Found spelling_of_origin (λ origin. OriginFits origin × HasParent numbers origin) bytes.now at result }
+    ensures only { Only spelling_of_origin (λ origin. OriginFits origin × HasParent numbers origin) bytes.now at result }
+    ensures exact { Gives result (origin_at numbers bytes.now at) }
+    ensures quiet { IsErrOf result Fault.Memory → ⊥ }
+{
+    origin_there(bytes, at, numbers)
 }

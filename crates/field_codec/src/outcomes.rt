@@ -1,5 +1,6 @@
 ghost use Rattle.field_codec.specs.Fields.{ended, answer_at, result_at};
-ghost use Rattle.field_codec.specs.Results.{Gives};
+ghost use Rattle.field_codec.specs.Results.{Gives, Found, Only};
+ghost use Rattle.field_codec.specs.Spelling.{spelling_of_outcome, AnswerFits, ResultFits};
 
 use crate::faults::CodecFault;
 use crate::numbers::get_u8;
@@ -60,9 +61,8 @@ fn get_ended(
     Err(CodecFault::BadTag { place, byte: tag })
 }
 
-/// The answer to a nested call that stands at a place, and the place behind it. The fault is the first from left to right.
 #[tactic(auto, unfolding(crate::specs::Fields::answer_at, crate::specs::Reading::field, crate::specs::Reading::choice, crate::specs::Reading::whole))]
-pub fn get_answer(alloc: Global, bytes: &[u8], at: usize) -> Result<(Outcome, usize), CodecFault>
+fn answer_there(alloc: Global, bytes: &[u8], at: usize) -> Result<(Outcome, usize), CodecFault>
     ensures { Gives result (answer_at bytes.now at) }
 {
     let (tag, after) = get_u8(bytes, at)?;
@@ -73,13 +73,30 @@ pub fn get_answer(alloc: Global, bytes: &[u8], at: usize) -> Result<(Outcome, us
     Ok((outcome, after))
 }
 
-/// The result of a unit that stands at a place, which is no abort, and the place behind it. The fault is the first from left
-/// to right.
+/// The answer to a nested call that stands at a place, and the place behind it. The fault is the first from left to right.
+pub fn get_answer(alloc: Global, bytes: &[u8], at: usize) -> Result<(Outcome, usize), CodecFault>
+    ensures found { Found spelling_of_outcome AnswerFits bytes.now at result }
+    ensures only { Only spelling_of_outcome AnswerFits bytes.now at result }
+    ensures exact { Gives result (answer_at bytes.now at) }
+{
+    answer_there(alloc, bytes, at)
+}
+
 #[tactic(auto, unfolding(crate::specs::Fields::result_at, crate::specs::Reading::field))]
-pub fn get_result(alloc: Global, bytes: &[u8], at: usize) -> Result<(Outcome, usize), CodecFault>
+fn result_there(alloc: Global, bytes: &[u8], at: usize) -> Result<(Outcome, usize), CodecFault>
     ensures { Gives result (result_at bytes.now at) }
 {
     let (tag, after) = get_u8(bytes, at)?;
     let (outcome, after) = get_ended(alloc, bytes, after, tag, at)?;
     Ok((outcome, after))
+}
+
+/// The result of a unit that stands at a place, which is no abort, and the place behind it. The fault is the first from left
+/// to right.
+pub fn get_result(alloc: Global, bytes: &[u8], at: usize) -> Result<(Outcome, usize), CodecFault>
+    ensures found { Found spelling_of_outcome ResultFits bytes.now at result }
+    ensures only { Only spelling_of_outcome ResultFits bytes.now at result }
+    ensures exact { Gives result (result_at bytes.now at) }
+{
+    result_there(alloc, bytes, at)
 }

@@ -58,6 +58,7 @@ impl Spelled for State {
     ghost fits = { ValuesFit 16 };
 
     fn append(&self, into: &mut Vec<u8>) -> Result<(), AllocError> {
+        // Its contract bounds the count.
         let _count = self.len();
         append_values(into, self.as_slice())
     }

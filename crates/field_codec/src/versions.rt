@@ -14,6 +14,7 @@ impl Spelled for Version {
     ghost fits = { VersionFits };
 
     fn append(&self, into: &mut Vec<u8>) -> Result<(), AllocError> {
+        // Its contract bounds the count.
         let _count = self.state.len();
         put_u64(into, self.unit.0)?;
         append_values(into, self.state.as_slice())?;

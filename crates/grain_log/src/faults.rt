@@ -5,7 +5,8 @@ use thiserror::Error;
 /// Why versions weren't written.
 #[derive(Clone, Copy, Debug, PartialEq, Eq, Error)]
 pub enum LogFault {
-    /// A call on the file failed, and its count has risen. The bytes from the offset on may be any.
+    /// A call on the file failed, and its count has risen. The bytes of the versions' range may be any; all others are as
+    /// before.
     #[error("the grain's file couldn't be written")]
     Failed,
     /// There was no memory. Nothing was written.
@@ -42,8 +43,8 @@ pub enum VersionFault {
     #[error("the grain's file couldn't be read")]
     Failed,
     /// The bytes at the place aren't one version of that length with the type's fields. `place` is an offset in the file: the
-    /// first field that can't be read, or the version's offset where the place is longer than any version or doesn't lie in the
-    /// file.
+    /// first field that can't be read, or the first byte behind the version, or the version's offset where the place is longer
+    /// than any version, doesn't lie in the file or begins at 2 to the 63 or beyond, or where the program has no such type.
     #[error("the version at {place} is damaged")]
     Damaged { place: u64 },
     /// There was no memory.

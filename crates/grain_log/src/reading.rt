@@ -122,6 +122,8 @@ fn read_text<H: Host>(
     ensures asked { IsTrue H.tells → OnlyAsked (H.world host.old) (H.world host.new) }
     ensures calm { OnOk result (NoneFailed (H.faults host.old) (H.faults host.new)) }
     ensures fault { IfErr result (λ e. ReadFaulted file e (H.faults host.old) (H.faults host.new)) }
+    ensures readied { OnOk result (IsTrue (H.is_ready host.new file)) }
+    ensures failed { IsErrOf result Fault.Failed → IsTrue (H.is_ready host.new file) }
     ensures ready { StaysReady (H.is_ready host.old) (H.is_ready host.new) }
 {
     host.ready(file)?;
@@ -152,6 +154,8 @@ fn read_there<H: Host>(
     ensures asked { IsTrue H.tells → OnlyAsked (H.world host.old) (H.world host.new) }
     ensures calm { OnOk result (NoneFailed (H.faults host.old) (H.faults host.new)) }
     ensures fault { IfErr result (λ e. ReadFaulted file e (H.faults host.old) (H.faults host.new)) }
+    ensures readied { OnOk result (IsTrue (H.is_ready host.new file)) }
+    ensures failed { IsErrOf result Fault.Failed → IsTrue (H.is_ready host.new file) }
     ensures ready { StaysReady (H.is_ready host.old) (H.is_ready host.new) }
 {
     let damaged = VersionFault::Damaged {
@@ -171,9 +175,9 @@ fn read_there<H: Host>(
 }
 
 /// Reads the version at a place of a grain's file, by one read, and changes no file. `Damaged` comes exactly where no version of
-/// the grain's type stands there with that length: at the first field that can't be read; at the place's offset where the
-/// place doesn't lie in the file, or is longer than any version, or begins at 2 to the 63 or beyond, or where the program
-/// has no such type. In the last three cases no host call is made.
+/// the grain's type stands there with that length: at the first field that can't be read; at the first byte behind the
+/// version; at the place's offset where the place doesn't lie in the file, or is longer than any version, or begins at 2 to
+/// the 63 or beyond, or where the program has no such type. In the last three cases no host call is made.
 pub fn read_version<H: Host>(
     alloc: Global,
     host: &mut H,
@@ -202,6 +206,10 @@ pub fn read_version<H: Host>(
     // No count changes unless the answer is `Failed`; then the file's rose, and no other changed.
     ensures calm { OnOk result (NoneFailed (H.faults host.old) (H.faults host.new)) }
     ensures fault { IfErr result (λ e. ReadFaulted file e (H.faults host.old) (H.faults host.new)) }
+
+    // The file is ready once a version was read, or a call on it failed.
+    ensures readied { OnOk result (IsTrue (H.is_ready host.new file)) }
+    ensures failed { IsErrOf result Fault.Failed → IsTrue (H.is_ready host.new file) }
     ensures ready { StaysReady (H.is_ready host.old) (H.is_ready host.new) }
 {
     read_there(alloc, host, file, place, shape)

@@ -74,7 +74,10 @@ pub fn write_versions<H: Host>(
     // No count changes unless the answer is `Failed`; then the file's rose, and no other changed.
     ensures calm { OnOk result (NoneFailed (H.faults host.old) (H.faults host.new)) }
     ensures fault { IfErr result (λ e. WriteFaulted file e (H.faults host.old) (H.faults host.new)) }
+
+    // The file is ready once versions were written, or a call on it failed.
     ensures readied { OnOk result (IsTrue (H.is_ready host.new file)) }
+    ensures failed { IsErrOf result LogFault.Failed → IsTrue (H.is_ready host.new file) }
     ensures ready { StaysReady (H.is_ready host.old) (H.is_ready host.new) }
 {
     host.ready(file)?;

@@ -1,5 +1,5 @@
-use crate::folder::{GRAIN, GRAIN_BYTES, folder_of, shape_of};
-use base_types::{List, Place, State, UnitNo, Value, Version};
+use crate::folder::{GRAIN, GRAIN_BYTES, folder_of, shape_of, shape_with};
+use base_types::{List, Place, State, Text, UnitNo, Value, Version};
 use grain_log::{LogFault, VersionFault, read_version, write_versions};
 use std::alloc::Global;
 use std::test::Fail;
@@ -51,6 +51,40 @@ fn versions_stand_one_behind_the_other(rt: HostRuntime) -> Result<(), Fail> {
     assert_eq!(rt; host.writes, 1, "one write");
     let version = read_version(alloc, &mut host, GRAIN, last, &shape)?;
     assert_eq!(rt; version.unit, UnitNo(3));
+    Ok(())
+}
+
+// A state of 16 fields, each a text of these letters.
+fn sixteen(alloc: Global, letters: &[u8]) -> Result<State, Fail> {
+    let mut state = State::new(alloc);
+    for _ in 0..16 {
+        let text = std::str::from_utf8(letters).ok().ok_or("no letters")?;
+        let text = Text::new(alloc, text)?.ok_or("long")?;
+        if state.len() < 16 {
+            state.push(Value::Text(text))?;
+        }
+    }
+    Ok(state)
+}
+
+#[test]
+fn the_longest_version_is_written_and_read(rt: HostRuntime) -> Result<(), Fail> {
+    let alloc = rt.alloc();
+    let shape = shape_with(alloc, sixteen(alloc, &[])?)?;
+    let mut host = folder_of(alloc, &[], &[])?;
+    let mut versions = List::new(alloc);
+    versions.push(Version {
+        unit: UnitNo(1),
+        state: sixteen(alloc, &[97; 256])?,
+    })?;
+    let places = write_versions(alloc, &mut host, GRAIN, 0, &versions)?;
+    let place = Place {
+        offset: 0,
+        len: 4154,
+    };
+    assert_eq!(rt; places.get(0), Some(&place));
+    let version = read_version(alloc, &mut host, GRAIN, place, &shape)?;
+    assert_eq!(rt; version.state.len(), 16);
     Ok(())
 }
 
