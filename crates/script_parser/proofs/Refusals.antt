@@ -1,4 +1,5 @@
--- A program begins with the tokens before the one that a refusal names, and none with those up to it and with it.
+-- Where one more may be open, a program begins with the tokens before the one that a refusal names; within the limit
+-- none begins with those up to it and with it.
 use Rattle.std.proofs.Common.{◌≡◌, ℕ, ◌⊎◌, inl, inr, List, [], ◌∷◌, ◌++◌, Result, Ok, Err, Bool, true, false, cond, refl, sym, ap, subst, ◌∙◌, append_assoc, length}
 use Rattle.std.specs.Prelude.{IfErr, nat_lt}
 use Rattle.std.proofs.lemmas.List.{append-nil}

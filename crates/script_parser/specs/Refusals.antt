@@ -24,15 +24,16 @@ pub record TokenAt (tokens : List Spanned) (at : ℕ) : Type 0 where
   pub are : tokens ≡ before ++ (token ∷ after)
   pub place : at ≡ token.at
 
--- The token at the place is the first that can't follow those before it, even if one more might be open than may: a program
--- begins with those before it, and none with those and the token, whatever stands behind it.
+-- Where one more may be open, the token at the place is the first that can't follow those before it: a program begins
+-- with those before it, and none with those and the token, whatever stands behind it. One before it may be too deep.
 pub record IsUnexpectedAt (tokens : List Spanned) (at : ℕ) : Type 0 where
   pub here : TokenAt tokens at
   pub begins : Begin 33 here.before
   pub ends : ¬ (Begin 33 (here.before ++ (here.token ∷ [])))
 
--- The token at the place is too deep: no program begins with the tokens up to it and with it; but one does begin with those
--- before it where one more may be open, and goes on with the token too, or the token is an operator between operands.
+-- No program begins with the tokens up to the one at the place and with it. Where one more may be open one begins with
+-- those before it, and with it too, or it is an operator between operands. It need open nothing, and one before it may
+-- be too deep.
 pub record IsTooDeepAt (tokens : List Spanned) (at : ℕ) : Type 0 where
   pub here : TokenAt tokens at
   pub begins : Begin 33 here.before

@@ -34,7 +34,9 @@ pub fn parse(alloc: Global, text: &[u8]) -> Result<Program, ParseFault>
     // The names of the tree stand at rising places, in the order of the text.
     ensures placed { IfOk result (λ program. AreInOrder (names_in_program (program_tree program))) }
 
-    // A program begins with the tokens before the one that a refusal names, and none with those up to it and with it.
+    // What a refusal says over the grammar alone: where one more may be open, a program begins with the tokens before
+    // the one that it names; with that token none begins within the limit. That no token before is too deep is said by
+    // `exact` alone.
     ensures refused { IfErr result (λ fault. IsRefusal text.now fault) }
 
     // Which tree and which fault.
