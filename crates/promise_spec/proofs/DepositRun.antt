@@ -29,9 +29,9 @@ use Rattle.promise_spec.specs.Endings as ending
 use Rattle.promise_spec.specs.Courses.{Observed, Course, moments, lines, core_end}
 use Rattle.promise_spec.specs.Orders.{IsOrdered}
 use Rattle.promise_spec.specs.Replies.{AreReplies, IsTrueOf, HasNoRecord}
-use Rattle.promise_spec.specs.Crashes.{LeavesAlone, SurvivesCrashes}
+use Rattle.promise_spec.specs.Crashes.{LeavesAlone, SurvivesCrashes, HoldsReplies}
 use Rattle.promise_spec.specs.Exits.{IsLeft, IsNowhere}
-use Rattle.promise_spec.specs.Explained.{AreAdded, IsExplained}
+use Rattle.promise_spec.specs.Explained.{AreAdded, AreSettled, IsExplained}
 use Rattle.promise_spec.specs.Journals.{Settlement, KeepsJournal, Backs, commits_of, entries_of}
 use Rattle.promise_spec.specs.Promise.{IsUndisturbed, IsNoLock, HasEnded, Keeps}
 use Rattle.promise_spec.specs.Examples.{accounts, account_program, account_1, unit_no, first_commit, first_entry, deposit_events, account_run}
@@ -195,9 +195,11 @@ module _ (r : Observed) (opened sealing : Moment) (run : IsDepositRun r opened s
     chain = λ one other a b. chained account_program [] r.old.output journal a.moment b.moment one other (keeps_at one a) (keeps_at other b);
     sound = λ image is. sound account_program [] r.old.output journal is.moment image (keeps_at image is) (known is.moment is.member image is.left).1 serial numbered;
     keeps = λ image is. let k = keeps_at image is in record { log = commits_of (k.said ++ k.unsaid); is = k.log; longer = (commits_of (k.said ++ k.unsaid), refl) };
-    holds = λ m image there left. let k = (known m there image left).0 in holds account_program r course journal m image backs k.0 k.1;
     alone = alone;
   }
+
+  replied : HoldsReplies account_program r course
+  replied m image there left = let k = (known m there image left).0 in holds account_program r course journal m image backs k.0 k.1
 
   exit : IsLeft account_program r course
   exit = record {
@@ -232,12 +234,16 @@ module _ (r : Observed) (opened sealing : Moment) (run : IsDepositRun r opened s
       subst (λ n. KeepsTurnRule accounts n r.width r.picks core) (sym run.one)
       (subst (λ w. KeepsTurnRule accounts 1 w r.picks core) (sym run.single.1) (subst (λ (picks : List ℕ). KeepsTurnRule accounts 1 1 picks core) (sym run.single.2) one_turn_rule))
 
-  explained : IsExplained account_program r course
-  explained = record {
+  written : AreSettled account_program r course
+  written = record {
     entries = ([], settled_is);
     all = λ done. sym settled_is;
     told = few_emitted;
     cut = inl refl;
+  }
+
+  explained : IsExplained account_program r course
+  explained = record {
     records = records;
     units = one_unit_rule (lines r) run.asks;
     turns = λ single. turns;
@@ -260,6 +266,7 @@ module _ (r : Observed) (opened sealing : Moment) (run : IsDepositRun r opened s
   ended : HasEnded account_program r course
   ended = record {
     understood = run.understood;
+    given = run.given;
     risen = statuses.0;
     carried = statuses.1;
     long = statuses.2;
@@ -270,4 +277,4 @@ module _ (r : Observed) (opened sealing : Moment) (run : IsDepositRun r opened s
   }
 
   pub kept : Keeps account_program r course
-  kept = record { ordered = ordered; replies = replies; crashes = crashes; exit = exit; explained = explained; ended = ended }
+  kept = record { ordered = ordered; replies = replies; crashes = crashes; holds = replied; exit = exit; settled = written; explained = explained; ended = ended }

@@ -35,9 +35,9 @@ use Rattle.promise_spec.specs.Endings as ending
 use Rattle.promise_spec.specs.Courses.{Observed, Course, moments, lines, core_end}
 use Rattle.promise_spec.specs.Orders.{IsOrdered}
 use Rattle.promise_spec.specs.Replies.{AreReplies, IsTrueOf, HasNoRecord}
-use Rattle.promise_spec.specs.Crashes.{HasOutcome, LeavesAlone, SurvivesCrashes}
+use Rattle.promise_spec.specs.Crashes.{HasOutcome, LeavesAlone, SurvivesCrashes, HoldsReplies}
 use Rattle.promise_spec.specs.Exits.{IsLeft, IsDoubt, EndsWith, IsNowhere, doubtful}
-use Rattle.promise_spec.specs.Explained.{AreAdded, IsExplained}
+use Rattle.promise_spec.specs.Explained.{AreAdded, AreSettled, IsExplained}
 use Rattle.promise_spec.specs.Journals.{Settlement, KeepsJournal, Backs, commits_of, entries_of}
 use Rattle.promise_spec.specs.Promise.{HasEnded, Keeps}
 use Rattle.promise_spec.specs.Examples.{accounts, account_program, account_1, unit_no, first_commit, locked_entry, doubt_entry, conflict_entries, conflict_events, account_run}
@@ -45,13 +45,8 @@ use Rattle.promise_spec.specs.DepositRuns.{HasNone, HasDeposit}
 use Rattle.promise_spec.specs.DoubtRuns.{IsDoubtRun, doubt_course}
 use Rattle.promise_spec.proofs.Lists.{none_at, some_is, in_append}
 use Rattle.promise_spec.proofs.Journaled.{chained, longest, holds, sound}
-use Rattle.promise_spec.proofs.FirstFamily.{only, serial, numbered, none_of, none_counted, family_of}
+use Rattle.promise_spec.proofs.FirstFamily.{only, either_of, serial, numbered, none_of, none_counted, family_of}
 use Rattle.promise_spec.proofs.DepositRules.{two_unit_rule, two_turn_rule, two_settled}
-
--- either of two
-either_of : {A : Type 0} (P : A → Type 0) (x y z : A) → P x → P y → Member z (x ∷ y ∷ []) → P z
-either_of P x y z first second (inl same) = subst P (sym same) first
-either_of P x y z first second (inr there) = only P y z second there
 
 abbrev locked : Settlement
 locked = record { commits = []; entries = locked_entry ∷ [] }
@@ -257,7 +252,6 @@ module _ (r : Observed) (opened told doubting : Moment) (run : IsDoubtRun r open
     chain = λ one other a b. chained account_program [] r.old.output journal a.moment b.moment one other (keeps_at one a) (keeps_at other b);
     sound = λ image is. sound account_program [] r.old.output journal is.moment image (keeps_at image is) (known is.moment is.member image is.left).1 serial numbered;
     keeps = λ image is. let k = keeps_at image is in record { log = commits_of (k.said ++ k.unsaid); is = k.log; longer = (commits_of (k.said ++ k.unsaid), refl) };
-    holds = λ m image there left. let k = (known m there image left).0 in holds account_program r course journal m image backs k.0 k.1;
     alone = alone;
   }
 
@@ -293,6 +287,9 @@ module _ (r : Observed) (opened told doubting : Moment) (run : IsDoubtRun r open
   chosen_is : AreRecordsOf (chosen (core_end account_program course)) (first_commit ∷ [])
   unfolding put put_grain
   chosen_is = (record { unit = refl; origin = refl; call = refl; answers = refl; result = refl; writes = refl }, tt)
+
+  replied : HoldsReplies account_program r course
+  replied m image there left = let k = (known m there image left).0 in holds account_program r course journal m image backs k.0 k.1
 
   exit : IsLeft account_program r course
   exit = record {
@@ -341,12 +338,16 @@ module _ (r : Observed) (opened told doubting : Moment) (run : IsDoubtRun r open
   file_is : (file : FileId) → r.ending ≡ ending.DiskFault file → file ≡ manager
   file_is file is = let e : ending.DiskFault manager ≡ ending.DiskFault file = sym run.ending ∙ is in cc e
 
-  explained : IsExplained account_program r course
-  explained = record {
+  written : AreSettled account_program r course
+  written = record {
     entries = ([], two_settled);
     all = λ done. sym two_settled;
     told = few_emitted;
     cut = inl refl;
+  }
+
+  explained : IsExplained account_program r course
+  explained = record {
     records = records;
     units = two_unit_rule (lines r) run.asks;
     turns = λ single. turns;
@@ -372,6 +373,7 @@ module _ (r : Observed) (opened told doubting : Moment) (run : IsDoubtRun r open
   ended : HasEnded account_program r course
   ended = record {
     understood = run.understood;
+    given = run.given;
     risen = statuses.0;
     carried = statuses.1;
     long = statuses.2;
@@ -382,4 +384,4 @@ module _ (r : Observed) (opened told doubting : Moment) (run : IsDoubtRun r open
   }
 
   pub kept : Keeps account_program r course
-  kept = record { ordered = ordered; replies = replies; crashes = crashes; exit = exit; explained = explained; ended = ended }
+  kept = record { ordered = ordered; replies = replies; crashes = crashes; holds = replied; exit = exit; settled = written; explained = explained; ended = ended }

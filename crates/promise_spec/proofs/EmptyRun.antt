@@ -16,6 +16,7 @@ use Rattle.promise_spec.specs.Courses.{Observed, moments, lines}
 use Rattle.promise_spec.specs.Promise.{Keeps}
 use Rattle.promise_spec.proofs.Lists.{none_at}
 use Rattle.promise_spec.proofs.OneLog.{one_log}
+use Rattle.promise_spec.proofs.FirstFamily.{no_family}
 use Rattle.promise_spec.specs.EmptyRuns.{IsEmptyRun, empty_course}
 
 module _ (p : Program) (r : Observed) (opening : List Commit) (run : IsEmptyRun p r opening) where
@@ -50,7 +51,7 @@ module _ (p : Program) (r : Observed) (opening : List Commit) (run : IsEmptyRun 
       subst (λ e. HasRisen e r.faults_before r.faults_after × IsCarried e × HasLength e (length r.old.input) × IsCalm e) (sym run.ending) (tt, tt, few, tt)
 
   no_lines : length (lines r) ≡ 0
-  no_lines = ap (λ (l : List ℕ). length (lines_of l)) run.input
+  no_lines = ap (λ (l : List (List ℕ)). length l) run.given ∙ ap (λ (l : List ℕ). length (lines_of l)) run.input
 
   pub kept : Keeps p r (empty_course r opening)
   kept = record {
@@ -64,15 +65,7 @@ module _ (p : Program) (r : Observed) (opening : List Commit) (run : IsEmptyRun 
         longest = λ other is silo. (opening ++ [], whole other (at_exit other is), ([], sym (append-nil (opening ++ []))));
       };
       serial = tt;
-      family = record {
-        line = λ c n none is. absurd none;
-        one_each = λ c d n none other is also. absurd none;
-        answers = λ c none. absurd none;
-        younger = λ c parent index depth none is. absurd none;
-        asked = λ c d index depth none other is. absurd none;
-        units = λ c none. absurd none;
-        reached = λ c none. absurd none;
-      };
+      family = no_family p.types (lines r) _ _ _;
     };
     replies = record {
       output = record { output = run.output ∙ sym (append-nil r.old.output); unended = tt; proper = tt };
@@ -89,19 +82,19 @@ module _ (p : Program) (r : Observed) (opening : List Commit) (run : IsEmptyRun 
       chain = λ one other a b silo. (opening ++ [], whole one (at_exit one a), λ silo_too. (opening ++ [], whole other (at_exit other b), inl ([], sym (append-nil (opening ++ [])))));
       sound = λ image is. run.sound image (at_exit image is);
       keeps = λ image is. record { log = opening; is = run.logs image (at_exit image is); longer = ([], sym (append-nil opening)) };
-      holds = λ m image there left. record {
-        written = [];
-        rest = [];
-        output = record { output = same_output m there ∙ sym (append-nil r.old.output); unended = tt; proper = tt };
-        front = ([], refl);
-        log = opening;
-        is = run.logs image (disk_of m image there left);
-        has = λ e l none. absurd none;
-      };
       alone = λ m there. elim there [
         | inl same ↦ subst (LeavesAlone r) (sym same) run.alone
         | inr more ↦ elim more [ inl same ↦ subst (LeavesAlone r) (sym same) run.alone | inr none ↦ absurd none ]
       ];
+    };
+    holds = λ m image there left. record {
+      written = [];
+      rest = [];
+      output = record { output = same_output m there ∙ sym (append-nil r.old.output); unended = tt; proper = tt };
+      front = ([], refl);
+      log = opening;
+      is = run.logs image (disk_of m image there left);
+      has = λ e l none. absurd none;
     };
     exit = record {
       logs = λ image is. record { log = opening ++ []; is = whole image is; which = inl refl };
@@ -109,11 +102,13 @@ module _ (p : Program) (r : Observed) (opening : List Commit) (run : IsEmptyRun 
       nowhere = λ e none. absurd none;
       block = λ doubt. absurd (none_at doubt.at _ doubt.doubt.there);
     };
-    explained = record {
+    settled = record {
       entries = ([], refl);
       all = λ done. refl;
       told = omega arith;
       cut = inl refl;
+    };
+    explained = record {
       records = inl tt;
       units = λ at e is. absurd (none_at at e is.there);
       turns = λ single at e is. absurd (none_at at e is.there);
@@ -124,6 +119,7 @@ module _ (p : Program) (r : Observed) (opening : List Commit) (run : IsEmptyRun 
     };
     ended = record {
       understood = run.understood;
+      given = run.given;
       risen = ended.0;
       carried = ended.1;
       long = ended.2;

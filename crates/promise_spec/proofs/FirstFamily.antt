@@ -1,11 +1,12 @@
--- The first deposit's record alone: its family, and what is shared by the runs that have it.
+-- The families of the first deposit's record alone and of no record, and what is shared by the runs that have them.
 use Rattle.std.proofs.Common.{◌≡◌, inl, inr, ℕ, zero, suc, ◌<◌, Bool, true, false, List, [], ◌∷◌, Some, refl, sym, subst, arith}
 use Rattle.std.specs.Prelude.{slice_get, count_by, ◌&&◌}
 use Rattle.base_types.specs.declared.calls.Origin.TheVariants.{Line, Child}
 use Rattle.base_types.specs.declared.calls.UnitNo.{UnitNo}
 use Rattle.core_model.specs.World.{Member, World}
+use Rattle.script_tree.specs.Programs.{ProgramTree}
 use Rattle.script_meaning.specs.Play.{unit, play_over}
-use Rattle.promise_spec.specs.Records.{Commit, new_silo}
+use Rattle.promise_spec.specs.Records.{Commit, States, new_silo}
 use Rattle.promise_spec.specs.Serial.{IsSerial}
 use Rattle.promise_spec.specs.Images.{AreNumbered}
 use Rattle.promise_spec.specs.Lines.{IsLineCall}
@@ -18,6 +19,11 @@ use Rattle.promise_spec.proofs.Lists.{none_at}
 pub only : {A : Type 0} (P : A → Type 0) (x y : A) → P x → Member y (x ∷ []) → P y
 only P x y holds_it (inl same) = subst P (sym same) holds_it
 only P x y holds_it (inr none) = absurd none
+
+-- either of two
+pub either_of : {A : Type 0} (P : A → Type 0) (x y z : A) → P x → P y → Member z (x ∷ y ∷ []) → P z
+either_of P x y z first second (inl same) = subst P (sym same) first
+either_of P x y z first second (inr there) = only P y z second there
 
 pub only_at : {A : Type 0} (x : A) (i : ℕ) (y : A) → slice_get (x ∷ []) i ≡ Some y → i ≡ 0
 only_at x zero y is = refl
@@ -61,4 +67,16 @@ family_of lines w asks begun unit_is reached = record {
       only (λ (x : Commit). x.logged.origin ≡ Child d.logged.unit index depth → IsAskedBefore accounts (new_silo accounts).states (first_commit ∷ []) x d index depth) first_commit c (λ is. absurd (not_child d.logged.unit index depth is)) there;
   units = λ c there. only (IsUnitOf w) first_commit c unit_is there;
   reached = λ c there. only (λ (d : Commit). IsReached accounts lines w (first_commit ∷ []) d.logged.unit) first_commit c reached there;
+}
+
+-- no records come from lines whatever they are
+pub no_family : (types : ProgramTree) (lines : List (List ℕ)) (w : World) (opening : States) (order : List Commit) → IsFamily types lines w opening order []
+no_family types lines w opening order = record {
+  line = λ c n none is. absurd none;
+  one_each = λ c d n none other is also. absurd none;
+  answers = λ c none. absurd none;
+  younger = λ c parent index depth none is. absurd none;
+  asked = λ c d index depth none other is. absurd none;
+  units = λ c none. absurd none;
+  reached = λ c none. absurd none;
 }

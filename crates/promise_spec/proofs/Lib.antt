@@ -11,3 +11,6 @@ pub mod FirstFamily
 pub mod DoubtRun
 pub mod PlainNames
 pub mod Emitting
+pub mod VoteRun
+pub mod Transfer
+pub mod Load

@@ -162,7 +162,7 @@ module _ (p : Program) (r : Observed) (c : Course) where
   pub early_reply : (m : Moment) (image : Image) (more : List ℕ) → Keeps p r c → Member m (moments r c) → IsImage m.disk image → IsLog (shape_in p) image c.opening → m.output ≡ r.old.output ++ more → Member 10 more
       → ((e : Entry) → Member e c.entries → (l : Commit) × Member l c.added × Acknowledges e l × (Member l c.opening → ⊥)) → ⊥
   early_reply m image more keeps there left is grew feed backed =
-      let h = keeps.crashes.holds m image there left in
+      let h = keeps.holds m image there left in
       let same : more ≡ reply_lines (shape_in p) h.written ++ h.rest = append_cancel_left r.old.output more (reply_lines (shape_in p) h.written ++ h.rest) (sym grew ∙ h.output.output) in
       let w = written_some (shape_in p) h.written c.entries h.rest more same h.output.unended feed h.front in
       let b = backed w.0 w.2 in
@@ -170,16 +170,16 @@ module _ (p : Program) (r : Observed) (c : Course) where
       b.3 (subst (λ (l : List Commit). Member b.0 l) (one_log (shape_in p) image h.log c.opening h.is is) has)
 
   pub untold : Keeps p r c → length c.entries < (core_end p c).manager.emitted → ⊥
-  untold keeps more = let told : (core_end p c).manager.emitted ≤ length c.entries = keeps.explained.told in omega arith
+  untold keeps more = let told : (core_end p c).manager.emitted ≤ length c.entries = keeps.settled.told in omega arith
 
   pub taken_unwritten : (at : ℕ) → Keeps p r c → r.threaded ≡ false → AppliesAt (core_run p c) at event.Take → length c.entries < length (state_before (core_run p c) at).manager.settled → ⊥
   taken_unwritten at keeps single takes more =
-      let told : (core_end p c).manager.emitted ≤ length c.entries = keeps.explained.told in
+      let told : (core_end p c).manager.emitted ≤ length c.entries = keeps.settled.told in
       let before : (state_before (core_run p c) at).manager.emitted ≤ (core_end p c).manager.emitted = emitted_before (core_run p c) at in
       nothing_unwritten p.types (length (lines r)) r.width r.picks (core_run p c) at (keeps.explained.turns single) takes (omega arith)
 
   pub cut_elsewhere : Keeps p r c → c.rest ≢ [] → ((e : Entry) → Member e (core_end p c).manager.settled → IsPrefix c.rest (reply_line (shape_in p) e) → ⊥) → ⊥
-  cut_elsewhere keeps some none = elim keeps.explained.cut [
+  cut_elsewhere keeps some none = elim keeps.settled.cut [
     | inl empty ↦ some empty
     | inr next ↦ none next.0 (member_at (length c.entries) next.0 (core_end p c).manager.settled next.1) next.2
   ]
@@ -254,7 +254,7 @@ module _ (p : Program) (r : Observed) (c : Course) where
       ]
 
   in_settled : (e : Entry) → Keeps p r c → Member e c.entries → Member e (core_end p c).manager.settled
-  in_settled e keeps there = subst (λ (x : List Entry). Member e x) (sym keeps.explained.entries.1) (in_append e c.entries keeps.explained.entries.0 (inl there))
+  in_settled e keeps there = subst (λ (x : List Entry). Member e x) (sym keeps.settled.entries.1) (in_append e c.entries keeps.settled.entries.0 (inl there))
 
   settled_too : (e : Entry) → Keeps p r c → Member e c.entries → IsCaused (core_run p c) e
   settled_too e keeps there =

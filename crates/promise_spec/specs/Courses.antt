@@ -6,19 +6,20 @@ use Rattle.host_trait.specs.World.{World, Moment, Image}
 use Rattle.core_model.specs.World as core
 use Rattle.core_model.specs.declared.events.CoreEvent.{CoreEvent}
 use Rattle.core_model.specs.Legal as legal
-use Rattle.request_wire.specs.Lines.{lines_of}
 use Rattle.promise_spec.specs.Records.{Commit, Standing, standing_of}
 use Rattle.promise_spec.specs.Programs.{Program}
 use Rattle.promise_spec.specs.Moments.{counted}
 use Rattle.promise_spec.specs.Cores.{core_from}
 use Rattle.promise_spec.specs.Endings.{Ending}
 
--- What a run shows: the words' choices, the host's contents and counts before and after, and how it ended.
+-- What a run shows: the words' choices, the lines that it is asked, the host's contents and counts before and after,
+-- and how it ended.
 pub record Observed : Type 0 where
   pub understood : Bool  -- the words are those of the command
   pub threaded : Bool  -- with workers
   pub width : ℕ  -- how many lines may be in flight, on one thread
   pub picks : List ℕ
+  pub asked : List (List ℕ)  -- of `run` the input's lines, of `load` those that it generates
   pub old : World
   pub new : World
   pub faults_before : Channel → ℕ
@@ -49,9 +50,9 @@ moments r c = counted r.old c.early c.late r.new
 abbrev pub seen_at_entry : Observed → Image
 seen_at_entry r file = (r.old.disk file).seen
 
--- the lines of the input
+-- the lines that are asked
 abbrev pub lines : Observed → List (List ℕ)
-lines r = lines_of r.old.input
+lines r = r.asked
 
 -- what the opening log stands for
 abbrev pub opening_standing : Program → Course → Standing

@@ -66,8 +66,7 @@ pub record LeavesAlone (r : Observed) (m : Moment) : Type 0 where
 
 -- The moments of the run are the early ones and the late ones. At the early ones nothing is written and each image is
 -- one of those at entry. From the opening's last sync on, inside a call too, the images are a chain, each that is a
--- silo is sound, each has a log that begins with the opening log, and each holds what the output by then
--- acknowledges; other files and the header stay as they were.
+-- silo is sound, and each has a log that begins with the opening log; other files and the header stay as they were.
 pub record SurvivesCrashes (p : Program) (r : Observed) (c : Course) : Type 0 where
   pub past : r.new.past ≡ r.old.past ++ (c.early ++ c.late)
   pub quiet : (m : Moment) → Member m c.early → m.output ≡ r.old.output
@@ -75,5 +74,8 @@ pub record SurvivesCrashes (p : Program) (r : Observed) (c : Course) : Type 0 wh
   pub chain : (one other : Image) → IsImageOf (moments r c) one → IsImageOf (moments r c) other → AreChained p one other
   pub sound : (image : Image) → IsImageOf (moments r c) image → IsSoundIfSilo p image
   pub keeps : (image : Image) → IsImageOf (moments r c) image → KeepsOpening p c image
-  pub holds : (m : Moment) (image : Image) → Member m (moments r c) → IsImage m.disk image → Holds p r c m image
   pub alone : (m : Moment) → Member m (moments r c) → LeavesAlone r m
+
+-- and each image of each moment holds what the output by then acknowledges
+abbrev pub HoldsReplies : Program → Observed → Course → Type 0
+HoldsReplies p r c = (m : Moment) (image : Image) → Member m (moments r c) → IsImage m.disk image → Holds p r c m image

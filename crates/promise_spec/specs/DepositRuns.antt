@@ -3,6 +3,7 @@ use Rattle.std.specs.Prelude.{◌≡◌, ◌≤◌, ◌⊎◌, false, [], ◌∷
 use Rattle.host_trait.specs.declared.channels.Channel.{Channel}
 use Rattle.host_trait.specs.World.{Moment, Image, IsImage, moment_of}
 use Rattle.silo_spec.specs.Silos.{program_file, HasProgram}
+use Rattle.request_wire.specs.Lines.{lines_of}
 use Rattle.promise_spec.specs.Programs.{shape_in}
 use Rattle.promise_spec.specs.Logs.{IsLog}
 use Rattle.promise_spec.specs.Outputs.{reply_lines}
@@ -29,6 +30,7 @@ pub record IsDepositRun (r : Observed) (opened sealing : Moment) : Type 0 where
   pub single : (r.threaded ≡ false) × (r.width ≡ 1) × (r.picks ≡ [])
   pub small : length r.old.input ≤ input_limit
   pub one : length (lines r) ≡ 1
+  pub given : lines r ≡ lines_of r.old.input
   pub asks : IsLineCall accounts (lines r) 1 deposit_call
   pub left : r.new.input ≡ []
   pub read : IsLog (shape_in account_program) (seen_at_entry r) []

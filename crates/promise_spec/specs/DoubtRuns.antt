@@ -5,6 +5,7 @@ use Rattle.host_trait.specs.declared.channels.Channel.TheVariants.{File}
 use Rattle.host_trait.specs.World.{Moment, Image, IsImage, moment_of}
 use Rattle.gate_block.specs.Log.{HasBlocks}
 use Rattle.silo_spec.specs.Silos.{manager}
+use Rattle.request_wire.specs.Lines.{lines_of}
 use Rattle.promise_spec.specs.Programs.{shape_in}
 use Rattle.promise_spec.specs.Logs.{IsLog}
 use Rattle.promise_spec.specs.Outputs.{reply_lines}
@@ -24,6 +25,7 @@ pub record IsDoubtRun (r : Observed) (opened told doubting : Moment) : Type 0 wh
   pub pair : (r.threaded ≡ false) × (r.width ≡ 2) × (r.picks ≡ 0 ∷ 1 ∷ 1 ∷ [])
   pub small : length r.old.input ≤ input_limit
   pub two : length (lines r) ≡ 2
+  pub given : lines r ≡ lines_of r.old.input
   pub asks : AskDeposits (lines r)
   pub left : r.new.input ≡ []
   pub read : IsLog (shape_in account_program) (seen_at_entry r) []

@@ -2,13 +2,14 @@
 use Rattle.std.specs.Prelude.{◌≡◌, List, [], ◌∷◌, ◌++◌, true}
 use Rattle.host_trait.specs.declared.channels.Channel.{Channel}
 use Rattle.host_trait.specs.World.{Image, IsImage, moment_of}
+use Rattle.request_wire.specs.Lines.{lines_of}
 use Rattle.promise_spec.specs.Programs.{Program, shape_in}
 use Rattle.promise_spec.specs.Records.{Commit}
 use Rattle.promise_spec.specs.Logs.{IsLog}
 use Rattle.promise_spec.specs.Images.{IsSoundIfSilo}
 use Rattle.promise_spec.specs.Endings.{Done}
 use Rattle.promise_spec.specs.Crashes.{LeavesAlone}
-use Rattle.promise_spec.specs.Courses.{Observed, Course, seen_at_entry}
+use Rattle.promise_spec.specs.Courses.{Observed, Course, seen_at_entry, lines}
 
 -- The files read as this log at entry. The run synced it, read that the input is empty, and ended. Each image is one of
 -- those at entry, has this log and is sound; there is one. No count of faults changed,
@@ -17,6 +18,7 @@ pub record IsEmptyRun (p : Program) (r : Observed) (opening : List Commit) : Typ
   pub understood : r.understood ≡ true
   pub ending : r.ending ≡ Done
   pub input : r.old.input ≡ []
+  pub given : lines r ≡ lines_of r.old.input
   pub left : r.new.input ≡ []
   pub output : r.new.output ≡ r.old.output
   pub read : IsLog (shape_in p) (seen_at_entry r) opening

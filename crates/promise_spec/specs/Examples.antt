@@ -214,11 +214,15 @@ vote_events =
     ∷ event.Take ∷ event.Vote 1 account_1 false ∷ event.Decide 1 ∷ event.Learn (unit_no 1) account_1 ∷ event.Emitted
     ∷ event.Emitted ∷ []
 
--- what these lines are told
+-- what these lines are told: the first that its file wasn't written, and the second what it depends on
+abbrev pub voted_entry : Entry
+voted_entry = record { line = 1; unit = unit_no 1; what = VotedDown account_1 }
+
+abbrev pub dependent_entry : Entry
+dependent_entry = record { line = 2; unit = unit_no 2; what = Dependency (unit_no 1) }
+
 abbrev pub vote_entries : List Entry
-vote_entries =
-    record { line = 1; unit = unit_no 1; what = VotedDown account_1 }
-    ∷ record { line = 2; unit = unit_no 2; what = Dependency (unit_no 1) } ∷ []
+vote_entries = voted_entry ∷ dependent_entry ∷ []
 
 -- line 1 asks for the deposit, and line 2 for the read
 pub record AskBoth (lines : List (List ℕ)) : Type 0 where

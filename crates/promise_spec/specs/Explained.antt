@@ -37,15 +37,17 @@ IsCutShort shape settled c =
     (c.rest ≡ []) ⊎ ((e : Entry) × (slice_get settled (length c.entries) ≡ Some e) × IsPrefix c.rest (reply_line shape e))
 
 -- The entries are a first part of those that the core settles, all of them where the run ended so, and no fewer than
--- the core was told to be written; a line that was cut short is the next one's. The records are those of the core's
--- committed units. The events keep the unit rule, and on one thread the turn rule. Each abort has its cause, and no
--- more faults than were counted. Of files the manager file alone may end a run, and only with a batch in doubt; and a
--- doubt ends the run.
-pub record IsExplained (p : Program) (r : Observed) (c : Course) : Type 0 where
+-- the core was told to be written; a line that was cut short is the next one's.
+pub record AreSettled (p : Program) (r : Observed) (c : Course) : Type 0 where
   pub entries : IsPrefix c.entries (core_end p c).manager.settled
   pub all : EndsWritten p r c → c.entries ≡ (core_end p c).manager.settled
   pub told : (core_end p c).manager.emitted ≤ length c.entries
   pub cut : IsCutShort (shape_in p) (core_end p c).manager.settled c
+
+-- The records are those of the core's committed units. The events keep the unit rule, and on one thread the turn rule.
+-- Each abort has its cause, and no more faults than were counted. Of files the manager file alone may end a run, and
+-- only with a batch in doubt; and a doubt ends the run.
+pub record IsExplained (p : Program) (r : Observed) (c : Course) : Type 0 where
   pub records : AreAdded (core_end p c) c.added
   pub units : KeepsUnitRule p.types (lines r) (core_run p c)
   pub turns : r.threaded ≡ false → KeepsTurnRule p.types (length (lines r)) r.width r.picks (core_run p c)

@@ -23,7 +23,10 @@ pub mod Promise
 pub mod Journals
 pub mod Reports
 pub mod Commands
+pub mod Loads
 pub mod Examples
+pub mod Transfers
 pub mod EmptyRuns
 pub mod DepositRuns
 pub mod DoubtRuns
+pub mod VoteRuns

@@ -12,6 +12,7 @@ use Rattle.host_trait.specs.Faults.{NoneFailed}
 use Rattle.host_trait.specs.World.{World, Image, IsImage}
 use Rattle.silo_spec.specs.Silos.{manager, IsSilo}
 use Rattle.silo_spec.specs.Moments.{IsUntouched}
+use Rattle.request_wire.specs.Lines.{lines_of}
 use Rattle.promise_spec.specs.Logs.{magic}
 use Rattle.promise_spec.specs.Programs.{Program, IsChecked}
 use Rattle.promise_spec.specs.Images.{IsSound, AreChained, IsSoundIfSilo}
@@ -21,16 +22,20 @@ use Rattle.promise_spec.specs.Endings.{Done, BadUse, NotASilo, Damaged, HasRisen
 use Rattle.promise_spec.specs.Courses.{Observed, Course, seen_at_entry, lines, core_run}
 use Rattle.promise_spec.specs.Orders.{IsOrdered}
 use Rattle.promise_spec.specs.Replies.{AreReplies}
-use Rattle.promise_spec.specs.Crashes.{SurvivesCrashes}
+use Rattle.promise_spec.specs.Crashes.{SurvivesCrashes, HoldsReplies}
 use Rattle.promise_spec.specs.Exits.{IsLeft}
-use Rattle.promise_spec.specs.Explained.{IsExplained}
+use Rattle.promise_spec.specs.Explained.{AreSettled, IsExplained}
 
 -- ---- statuses
+
+-- each line has its entry
+abbrev pub IsAnswered : Observed → Course → Type 0
+IsAnswered r c = (n : ℕ) → 1 ≤ n → n ≤ length (lines r) → (e : Entry) × Member e c.entries × (e.line ≡ n)
 
 -- the input was read to its end, and each line has its entry
 pub record IsDone (r : Observed) (c : Course) : Type 0 where
   pub input : r.new.input ≡ []
-  pub answered : (n : ℕ) → 1 ≤ n → n ≤ length (lines r) → (e : Entry) × Member e c.entries × (e.line ≡ n)
+  pub answered : IsAnswered r c
 
 -- no fault of a file has a part in it
 abbrev pub IsUndisturbed : Settled → Type 0
@@ -64,12 +69,13 @@ pub record HasReadAll (r : Observed) : Type 0 where
   pub input : r.new.input ≡ []
   pub short : length r.old.input ≤ input_limit
 
--- How a run that opened the folder ends: its words were a run's; a fault is shown by its count, and an input that is
+-- How a run that opened the folder ends: its words were a run's, and its lines are the input's; a fault is shown by its count, and an input that is
 -- too long by its length; nothing begins before the input is read whole and found within the limit; all is done only
 -- where each line has its entry; and where no count rises, and none stands at its last value, it goes through, at
 -- width 1 without nested units with no abort.
 pub record HasEnded (p : Program) (r : Observed) (c : Course) : Type 0 where
   pub understood : r.understood ≡ true
+  pub given : lines r ≡ lines_of r.old.input
   pub risen : HasRisen r.ending r.faults_before r.faults_after
   pub carried : IsCarried r.ending
   pub long : HasLength r.ending (length r.old.input)
@@ -85,7 +91,9 @@ pub record Keeps (p : Program) (r : Observed) (c : Course) : Type 0 where
   pub ordered : IsOrdered p r c
   pub replies : AreReplies p r c
   pub crashes : SurvivesCrashes p r c
+  pub holds : HoldsReplies p r c
   pub exit : IsLeft p r c
+  pub settled : AreSettled p r c
   pub explained : IsExplained p r c
   pub ended : HasEnded p r c
 

@@ -1,4 +1,4 @@
-ghost use Rattle.std.specs.Prelude.{◌≡◌, ℕ, List, [], ◌∷◌, codes, length, None, pos, take};
+ghost use Rattle.std.specs.Prelude.{◌≡◌, ℕ, List, [], ◌∷◌, codes, length, None, pos, take, slice_get, Some};
 ghost use Rattle.base_types.specs.declared.calls.Value.{Value};
 ghost use Rattle.base_types.specs.declared.calls.Value.TheVariants.{Int};
 ghost use Rattle.field_codec.specs.Spelling.{spelling_of_version};
@@ -8,10 +8,14 @@ ghost use Rattle.promise_spec.specs.Programs.{Program, shape_in};
 ghost use Rattle.promise_spec.specs.Records.{Commit, new_silo, standing_of};
 ghost use Rattle.promise_spec.specs.Serial.{IsSerial};
 ghost use Rattle.promise_spec.specs.Logs.{IsLog, IsKept, body_of};
-ghost use Rattle.promise_spec.specs.Courses.{Observed};
+ghost use Rattle.promise_spec.specs.Courses.{Observed, lines};
 ghost use Rattle.promise_spec.specs.Promise.{Keeps};
 ghost use Rattle.promise_spec.specs.EmptyRuns.{IsEmptyRun, empty_course};
 ghost use Rattle.promise_spec.specs.DoubtRuns.{IsDoubtRun, doubt_course};
+ghost use Rattle.script_meaning.specs.Worked.{bank, at, int, call};
+ghost use Rattle.promise_spec.specs.Transfers.{bank_program, paid_in, moved, balance, version_of_source, version_of_target, transfer_body, bank_folder};
+ghost use Rattle.promise_spec.specs.Loads.{load_calls, transfers_after, summary_text};
+ghost use Rattle.promise_spec.specs.VoteRuns.{IsVoteRun, vote_course};
 ghost use Rattle.promise_spec.specs.DepositRuns.{IsDepositRun, deposit_course};
 ghost use Rattle.host_trait.specs.World.{Moment};
 ghost use Rattle.promise_spec.specs.Reports.{show_text, history_text, audit_text};
@@ -52,6 +56,21 @@ pub fn deposits_are_serial()
     ensures unseen { IsSerial accounts (new_silo accounts).states (first_commit ∷ next_commit 4 4 ∷ []) → ⊥ }
 {}
 
+/// A transfer of 30 between two accounts, of which the first had 100: its record is spelled so, and its two versions. The
+/// folder's log is the deposit's record and that, each version stands at its place, and the log stands for 70 and 30. The
+/// two are serial, and not where the second account is left with 31, or where the transfer stands first.
+pub fn transfers_read()
+    ensures source { spelling_of_version (balance 2 70) ≡ version_of_source }
+    ensures target { spelling_of_version (balance 2 30) ≡ version_of_target }
+    ensures body { body_of (moved 70 30 ∷ []) ≡ transfer_body }
+    ensures log { IsLog (shape_in bank_program) bank_folder (paid_in ∷ moved 70 30 ∷ []) }
+    ensures one { (standing_of bank (paid_in ∷ moved 70 30 ∷ [])).states (at 0 1) ≡ int 70 ∷ [] }
+    ensures other { (standing_of bank (paid_in ∷ moved 70 30 ∷ [])).states (at 0 2) ≡ int 30 ∷ [] }
+    ensures serial { IsSerial bank (new_silo bank).states (paid_in ∷ moved 70 30 ∷ []) }
+    ensures unseen { IsSerial bank (new_silo bank).states (paid_in ∷ moved 70 31 ∷ []) → ⊥ }
+    ensures early { IsSerial bank (new_silo bank).states (moved 70 30 ∷ paid_in ∷ []) → ⊥ }
+{}
+
 /// The promise can be kept: a run that reads no line keeps all six clauses, over any log.
 pub fn empty_runs_keep()
     ensures { (p : Program) (r : Observed) (opening : List Commit) → IsEmptyRun p r opening → Keeps p r (empty_course r opening) }
@@ -85,4 +104,17 @@ pub fn votes_keep_the_rules()
     ensures unit { (lines : List (List ℕ)) → AskBoth lines → KeepsUnitRule accounts lines (account_run vote_events) }
     ensures turn { KeepsTurnRule accounts 2 2 [] (account_run vote_events) }
     ensures settled { (ends (account_run vote_events)).manager.settled ≡ vote_entries }
+{}
+
+/// And it keeps all six clauses, where its lines are told so and no image ever has a record of them.
+pub fn vote_runs_keep()
+    ensures { (r : Observed) (opened told : Moment) → IsVoteRun r opened told → Keeps account_program r (vote_course opened told r) }
+{}
+
+/// What a load draws from the seed 7, after its 64 deposits, and what it would print of the run of one deposit.
+pub fn loads_draw_and_sum()
+    ensures drawn { transfers_after 7 2 ≡ call (at 1 0) 0 (int 30 ∷ int 63 ∷ int 54 ∷ []) ∷ call (at 1 0) 0 (int 17 ∷ int 41 ∷ int 20 ∷ []) ∷ [] }
+    ensures many { length (load_calls 2 7) ≡ 66 }
+    ensures last { slice_get (load_calls 2 7) 63 ≡ Some (call (at 0 63) 0 (int 1000 ∷ [])) }
+    ensures summed { (r : Observed) (opened sealing : Moment) → length (lines r) ≡ 1 → summary_text account_program r (deposit_course opened sealing r) ≡ codes "{\"aborted\":0,\"committed\":1,\"faulted\":0,\"requests\":1,\"total\":5}\n" }
 {}

@@ -39,6 +39,7 @@ ghost use Rattle.promise_spec.specs.Crashes.{Acknowledges, IsAside};
 ghost use Rattle.promise_spec.specs.Exits.{HasBlock};
 ghost use Rattle.promise_spec.specs.Promise.{Keeps, IsUnopened};
 ghost use Rattle.promise_spec.specs.Commands.{MakesSilo, IsReported};
+ghost use Rattle.promise_spec.specs.Loads.{KeepsLoad, summary_text};
 
 /// The opening log is the disk's: no run can take another for it, as one that answers from an old log again would, or one
 /// that opens or closes a gate of a batch left in doubt before the log is synced.
@@ -179,6 +180,17 @@ pub fn reports_tell_the_folder()
         → IsImage r.new.disk image → (IsImage r.old.disk image → ⊥) → ⊥ }
     ensures program { (r : Observed) (image : Image) → MakesSilo r → r.ending ≡ ending.Done → IsImage r.new.disk image
         → (HasProgram r.old.input (image program_file) → ⊥) → ⊥ }
+{}
+
+/// No load keeps what is promised of it that is done and prints anything but its summary, that prints where memory was
+/// wanting, or that is done after a doubt.
+pub fn loads_tell_their_summary()
+    ensures text { (p : Program) (n seed : ℕ) (r : Observed) (c : Course) → KeepsLoad p n seed r c → r.ending ≡ ending.Done
+        → r.new.output ≢ r.old.output ++ summary_text p r c → ⊥ }
+    ensures early { (p : Program) (n seed : ℕ) (r : Observed) (c : Course) → KeepsLoad p n seed r c → r.ending ≡ ending.Memory
+        → r.new.output ≢ r.old.output → ⊥ }
+    ensures doubt { (p : Program) (n seed : ℕ) (r : Observed) (c : Course) → KeepsLoad p n seed r c → HasDoubt (core_run p c)
+        → r.ending ≡ ending.Done → ⊥ }
 {}
 
 /// A manager file with a block of 65 records has no log.
