@@ -12,7 +12,7 @@ use Rattle.host_trait.proofs.Moments.{one, both, weaker, in_turn, later, all_lat
 use Rattle.host_trait.proofs.Runs.{asked_keeps, image_from, settled_image, run_one_write}
 use Rattle.silo_spec.specs.Silos.{manager, IsSilo}
 use Rattle.silo_spec.specs.Moments.{IsUntouched}
-use Rattle.opening.specs.Making.{IsEntryButGate, IsEarly, IsUnsynced, FromFirstSync}
+use Rattle.silo_spec.specs.Making.{IsEntryButGate, IsEarly, IsUnsynced, FromFirstSync}
 use Rattle.opening.specs.Steps.{IsNamedOtherwise, SyncsOnce, ClosesBy, MayClose, HasNoSilo}
 
 settled_state : (file : FileState) → file.base ≡ file.seen → file.ranges ≡ [] → file.longest ≡ length file.seen → file ≡ settled file.seen

@@ -10,7 +10,7 @@ use Rattle.host_trait.proofs.Runs.{settled_image, run_one_write, run_wrote, run_
 use Rattle.gate_block.specs.Log.{LogsUpTo, first_gate}
 use Rattle.gate_block.proofs.Logs.{no_blocks, logged}
 use Rattle.silo_spec.specs.Silos.{manager, program_file, counter_magic, IsSilo, HasProgram, IsNewSilo}
-use Rattle.opening.specs.Making.{IsNewAt, IsMade, new_header}
+use Rattle.silo_spec.specs.Making.{IsNewAt, IsMade, new_header}
 use Rattle.opening.specs.Steps.{IsShut}
 
 log_apart : manager ≢ program_file

@@ -12,7 +12,7 @@ use Rattle.silo_spec.specs.Silos.{manager, program_file}
 use Rattle.silo_spec.specs.Moments.{IsAsAtEntry, IsUntouched}
 use Rattle.opening.specs.declared.creation.Front.{Front}
 use Rattle.opening.specs.declared.creation.Front.TheVariants.{Empty, Silo, Open, Closed}
-use Rattle.opening.specs.Making.{IsBeside, StaysBeside}
+use Rattle.silo_spec.specs.Making.{IsBeside, StaysBeside}
 use Rattle.opening.specs.Steps.{IsLookedAt, IsLooking, Looks, SyncsOnce, SyncsFor}
 
 -- what a read gives is among what a crash may leave, of each file

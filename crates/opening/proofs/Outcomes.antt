@@ -6,7 +6,7 @@ use Rattle.gate_block.specs.Log.{first_gate}
 use Rattle.silo_spec.specs.Silos.{manager, program_file, counter_magic, IsSilo, HasProgram, IsNewSilo}
 use Rattle.silo_spec.specs.Moments.{IsUntouched}
 use Rattle.silo_spec.specs.Logs.{IsLog}
-use Rattle.opening.specs.Making.{IsMade, IsNewAt, IsUnsynced, FromFirstSync, Makes, new_header}
+use Rattle.silo_spec.specs.Making.{IsMade, IsNewAt, IsUnsynced, FromFirstSync, Makes, new_header}
 use Rattle.opening.specs.Steps.{HasNoSilo}
 use Rattle.opening.proofs.Closing.{first_then, first_weaker}
 use Rattle.opening.proofs.Filling.{new_log, new_silo}

@@ -1,4 +1,3 @@
-pub mod Making
 pub mod Steps
 pub mod Reading
 pub mod Counts

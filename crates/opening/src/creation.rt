@@ -12,7 +12,7 @@ ghost use Rattle.silo_spec.specs.Moments.{IsUntouched};
 ghost use Rattle.opening.specs.declared.faults.CreateFault.{CreateFault};
 ghost use Rattle.opening.specs.declared.creation.Front.{Front};
 ghost use Rattle.opening.specs.Counts.{CreateFaulted};
-ghost use Rattle.opening.specs.Making.{IsMade, StaysBeside, IsUnsynced, FromFirstSync, IsNewAt, Makes, new_header};
+ghost use Rattle.silo_spec.specs.Making.{IsMade, StaysBeside, IsUnsynced, FromFirstSync, IsNewAt, Makes, new_header};
 ghost use Rattle.opening.specs.Steps.{Shows, Looks, SyncsFor, ClosesBy, MayClose, HasNoSilo, IsShut};
 
 use crate::faults::CreateFault;

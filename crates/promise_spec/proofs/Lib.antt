@@ -1,16 +1,5 @@
 pub mod Lists
 pub mod OneLog
 pub mod Journaled
-pub mod FirstDeposit
-pub mod EmptyRun
-pub mod WrongRuns
 pub mod EntryLines
-pub mod DepositRules
-pub mod DepositRun
-pub mod FirstFamily
-pub mod DoubtRun
 pub mod PlainNames
-pub mod Emitting
-pub mod VoteRun
-pub mod Transfer
-pub mod Load

@@ -1,28 +1,69 @@
--- What the other commands promise.
-use Rattle.std.specs.Prelude.{◌≡◌, ◌⊎◌, ℕ, List, [], ◌∷◌, ◌++◌, Option, Some, None, ⊤}
+-- What the commands promise that carry no lines.
+use Rattle.std.specs.Prelude.{◌≡◌, ◌⊎◌, ℕ, ◌<◌, ◌≤◌, List, [], ◌∷◌, ◌++◌, length, Option, Some, None, Ok, Err, ⊤}
 use Rattle.host_trait.specs.declared.channels.FileId.{FileId}
 use Rattle.host_trait.specs.World.{World, Moment, Image, IsImage, Passes, moment_of}
-use Rattle.silo_spec.specs.Silos.{program_file, HasProgram, IsNewSilo}
-use Rattle.promise_spec.specs.Programs.{Program, IsChecked, shape_in}
+use Rattle.silo_spec.specs.Silos.{manager, IsSilo, IsNewSilo}
+use Rattle.silo_spec.specs.Moments.{IsUntouched}
+use Rattle.silo_spec.specs.Making.{Makes, IsBeside}
+use Rattle.script_tree.specs.Programs.{ProgramTree}
+use Rattle.promise_spec.specs.Programs.{Program, ProgramFault, text_limit, program_in}
 use Rattle.promise_spec.specs.Records.{Commit, new_silo}
 use Rattle.promise_spec.specs.Serial.{IsSerial, Replays}
-use Rattle.promise_spec.specs.Logs.{magic, IsLog, IsPrefix}
-use Rattle.promise_spec.specs.Endings.{Ending, Done, Memory, WriteFault, DiskFault, HasRisen}
+use Rattle.promise_spec.specs.Logs.{magic, IsPrefix}
+use Rattle.promise_spec.specs.Openings.{Reads, opened_as}
+use Rattle.promise_spec.specs.Endings.{Ending, Done, BadUse, Memory, ReadFault, WriteFault, DiskFault, NotASilo, AlreadyASilo, Damaged, BadProgram, InputTooLong, HasRisen}
 use Rattle.promise_spec.specs.Family.{states_after}
 use Rattle.promise_spec.specs.Courses.{Observed, seen_at_entry}
-use Rattle.promise_spec.specs.Promise.{IsUnopened, IsSoundFolder}
+use Rattle.promise_spec.specs.Refusals.{IsHead, IsUnopened}
 use Rattle.promise_spec.specs.Reports.{audit_text}
 
--- the input is the text of this program, which is checked, and each image at the exit is a silo of it with an empty log
-pub record IsMadeOf (p : Program) (r : Observed) : Type 0 where
-  pub checked : IsChecked p
-  pub given : p.text ≡ r.old.input
-  pub new : (image : Image) → IsImage r.new.disk image → IsNewSilo magic p.text image
+-- ---- init
 
--- `init` emits nothing, and where it is done it has made a silo of the program that is its input
+-- the input was read to its end, and is the text of a program
+pub record IsProgramText (r : Observed) : Type 0 where
+  pub input : r.new.input ≡ []
+  pub small : length r.old.input ≤ text_limit
+  pub types : ProgramTree
+  pub reads : program_in r.old.input ≡ Ok types
+
+-- the folder reads as a silo at entry
+abbrev pub WasSilo : Observed → Type 0
+WasSilo r = IsSilo magic (seen_at_entry r manager)
+
+-- where it did, the manager file alone may be at fault, and all stays as it was
+abbrev pub StaysSilo : Observed → FileId → Type 0
+StaysSilo r file = WasSilo r → (file ≡ manager) × IsUntouched r.old r.new
+
+-- the input was read whole, is short enough, and has this fault
+abbrev pub HasFault : Observed → ProgramFault → Type 0
+HasFault r fault = (r.new.input ≡ []) × (length r.old.input ≤ text_limit) × (program_in r.old.input ≡ Err fault)
+
+-- How `init` ends. The input comes before the program in it, and that before the folder; want of memory is free, and
+-- comes before the folder.
+abbrev pub MakesAs : Ending → Observed → Type 0
+MakesAs Done r = IsProgramText r × (WasSilo r → ⊥) × ((image : Image) → IsImage r.new.disk image → IsNewSilo magic r.old.input image)
+MakesAs BadUse r = ⊥
+MakesAs Memory r = IsUntouched r.old r.new
+MakesAs ReadFault r = IsUntouched r.old r.new
+MakesAs WriteFault r = ⊥
+MakesAs (DiskFault file) r = IsProgramText r × IsHead file × StaysSilo r file
+MakesAs NotASilo r = ⊥
+MakesAs AlreadyASilo r = IsProgramText r × WasSilo r × IsUntouched r.old r.new
+MakesAs (Damaged file place) r = ⊥
+MakesAs (BadProgram fault) r = HasFault r fault × IsUntouched r.old r.new
+MakesAs (InputTooLong line) r = (line ≡ 0) × (text_limit < length r.old.input) × IsUntouched r.old r.new
+
+-- What `init` promises. It emits nothing, and no file but the program's and the manager file changes. Either nothing was
+-- written; or no sync of the manager file has succeeded yet, and each image is one of those at entry but for the header
+-- gate; or one has, and from then on each image is no silo, or one of the program that is the input, with an empty log.
 pub record MakesSilo (r : Observed) : Type 0 where
-  pub output : r.new.output ≡ r.old.output
-  pub made : r.ending ≡ Done → (p : Program) × IsMadeOf p r
+  pub beside : Passes (IsBeside r.old) r.old.past r.new.past
+  pub beside_now : IsBeside r.old (moment_of r.new)
+  pub makes : Makes magic r.old.input r.old r.new
+  pub ended : MakesAs r.ending r
+  pub risen : HasRisen r.ending r.faults_before r.faults_after
+
+-- ---- reports
 
 -- a command that prints may end so with a part of its text
 abbrev pub MayCut : Ending → Type 0
@@ -40,6 +81,30 @@ pub record Prints (text : List ℕ) (r : Observed) : Type 0 where
   pub whole : r.ending ≡ Done → added ≡ text
   pub none : (added ≡ []) ⊎ ((r.ending ≡ Done) ⊎ MayCut r.ending)
 
+-- each outcome of a crash at this moment is one of those at entry
+abbrev pub LeavesAsBefore : World → Moment → Type 0
+LeavesAsBefore old m = (image : Image) → IsImage m.disk image → IsImage old.disk image
+
+-- A report of the folder: it prints the text of the log as the folder reads at entry, and nothing of the folder
+-- changes, nor is any input read. It is done, or there was no memory, or the output or a file failed, which the count
+-- shows.
+pub record IsReported (text : Program → List Commit → List ℕ) (r : Observed) : Type 0 where
+  pub program : Program
+  pub log : List Commit
+  pub reads : opened_as (seen_at_entry r) ≡ Reads program log
+  pub prints : Prints (text program log) r
+  pub unread : r.new.input ≡ r.old.input
+  pub moments : Passes (LeavesAsBefore r.old) r.old.past r.new.past
+  pub now : LeavesAsBefore r.old (moment_of r.new)
+  pub seen : (file : FileId) → (r.new.disk file).seen ≡ (r.old.disk file).seen
+  pub ending : (r.ending ≡ Done) ⊎ MayCut r.ending
+  pub risen : HasRisen r.ending r.faults_before r.faults_after
+
+-- What `show` and `history` promise of any folder, each of its text: they don't open it and leave all as it was, or they
+-- report its log.
+abbrev pub Reports : (Program → List Commit → List ℕ) → Observed → Type 0
+Reports text r = IsUnopened r ⊎ IsReported text r
+
 -- the first record that doesn't replay is this unit's; there is none exactly where the log is serial
 abbrev pub IsFirstBad : Program → List Commit → Option ℕ → Type 0
 IsFirstBad p log None = IsSerial p.types (new_silo p.types).states log
@@ -47,35 +112,12 @@ IsFirstBad p log (Some unit) =
     (front : List Commit) × (bad : Commit) × (back : List Commit) × (log ≡ (front ++ (bad ∷ back))) × (bad.logged.unit.0 ≡ unit)
     × IsSerial p.types (new_silo p.types).states front × (Replays p.types (states_after (new_silo p.types).states front) bad → ⊥)
 
--- each outcome of a crash at this moment is one of those at entry
-abbrev pub LeavesAsBefore : World → Moment → Type 0
-LeavesAsBefore old m = (image : Image) → IsImage m.disk image → IsImage old.disk image
-
--- A report of the folder: it prints the text of the log as the folder reads at entry, and nothing of the folder
--- changes. It is done, or there was no memory, or the output or a file failed, which the count shows.
-pub record IsReported (p : Program) (text : List Commit → List ℕ) (r : Observed) : Type 0 where
-  pub log : List Commit
-  pub is : IsLog (shape_in p) (seen_at_entry r) log
-  pub prints : Prints (text log) r
-  pub moments : Passes (LeavesAsBefore r.old) r.old.past r.new.past
-  pub now : LeavesAsBefore r.old (moment_of r.new)
-  pub seen : (file : FileId) → (r.new.disk file).seen ≡ (r.old.disk file).seen
-  pub ending : (r.ending ≡ Done) ⊎ MayCut r.ending
-  pub risen : HasRisen r.ending r.faults_before r.faults_after
-
--- What `show` and `history` promise, each of its text: over a sound folder they don't open it and leave all as it was,
--- or they report its log.
-abbrev pub Reports : (Program → List Commit → List ℕ) → Observed → Type 0
-Reports text r =
-    (p : Program) → IsChecked p → IsSoundFolder p r.old → IsUnopened p r ⊎ IsReported p (text p) r
-
 -- an audit of the folder: it names the first unit of the log whose record doesn't replay
-pub record IsAudited (p : Program) (r : Observed) : Type 0 where
+pub record IsAudited (r : Observed) : Type 0 where
   pub first_bad : Option ℕ
-  pub report : IsReported p (λ log. audit_text log first_bad) r
-  pub first : IsFirstBad p report.log first_bad
+  pub report : IsReported (λ p log. audit_text log first_bad) r
+  pub first : IsFirstBad report.program report.log first_bad
 
--- What `audit` promises of any folder that has a program, sound or not: it doesn't open it, or audits its log.
+-- What `audit` promises of any folder, sound or not: it doesn't open it and leaves all as it was, or audits its log.
 abbrev pub Audits : Observed → Type 0
-Audits r =
-    (p : Program) → IsChecked p → HasProgram p.text (seen_at_entry r program_file) → IsUnopened p r ⊎ IsAudited p r
+Audits r = IsUnopened r ⊎ IsAudited r

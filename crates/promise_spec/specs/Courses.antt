@@ -1,5 +1,5 @@
 -- What a run was given, saw and did, and the course that it took.
-use Rattle.std.specs.Prelude.{ℕ, Bool, List, ◌++◌}
+use Rattle.std.specs.Prelude.{ℕ, List, ◌++◌}
 use Rattle.base_types.specs.declared.entries.Entry.{Entry}
 use Rattle.host_trait.specs.declared.channels.Channel.{Channel}
 use Rattle.host_trait.specs.World.{World, Moment, Image}
@@ -11,14 +11,12 @@ use Rattle.promise_spec.specs.Programs.{Program}
 use Rattle.promise_spec.specs.Moments.{counted}
 use Rattle.promise_spec.specs.Cores.{core_from}
 use Rattle.promise_spec.specs.Endings.{Ending}
+use Rattle.promise_spec.specs.Words.{Manner}
 
--- What a run shows: the words' choices, the lines that it is asked, the host's contents and counts before and after,
--- and how it ended.
+-- What a call shows: the manner that its words chose, the lines that it is asked, the host's contents and counts before
+-- and after, and how it ended.
 pub record Observed : Type 0 where
-  pub understood : Bool  -- the words are those of the command
-  pub threaded : Bool  -- with workers
-  pub width : ℕ  -- how many lines may be in flight, on one thread
-  pub picks : List ℕ
+  pub manner : Manner
   pub asked : List (List ℕ)  -- of `run` the input's lines, of `load` those that it generates
   pub old : World
   pub new : World

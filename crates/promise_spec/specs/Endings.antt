@@ -4,9 +4,10 @@ use Rattle.host_trait.specs.declared.channels.Channel.{Channel}
 use Rattle.host_trait.specs.declared.channels.Channel.TheVariants.{Input, Output, File}
 use Rattle.host_trait.specs.declared.channels.FileId.{FileId}
 use Rattle.host_trait.specs.Faults.{Rose}
+use Rattle.promise_spec.specs.Programs.{ProgramFault}
 
 -- All is done; the words aren't a command; there was no memory; the input, the output or a file failed; the folder is
--- no silo, or is damaged in a file at a place; the input is too long at a line.
+-- no silo, or is one already, or is damaged in a file at a place; the input is no program, or is too long at a line.
 pub data Ending : Type 0 where
   Done : Ending
   BadUse : Ending
@@ -15,7 +16,9 @@ pub data Ending : Type 0 where
   WriteFault : Ending
   DiskFault : FileId → Ending
   NotASilo : Ending
+  AlreadyASilo : Ending
   Damaged : FileId → ℕ → Ending
+  BadProgram : ProgramFault → Ending
   InputTooLong : ℕ → Ending
 
 -- where a run ends so, this count of faults rose
@@ -27,20 +30,10 @@ HasRisen ReadFault old new = Rose (old Input) (new Input)
 HasRisen WriteFault old new = Rose (old Output) (new Output)
 HasRisen (DiskFault file) old new = Rose (old (File file)) (new (File file))
 HasRisen NotASilo old new = ⊤
+HasRisen AlreadyASilo old new = ⊤
 HasRisen (Damaged file place) old new = ⊤
+HasRisen (BadProgram fault) old new = ⊤
 HasRisen (InputTooLong line) old new = ⊤
-
--- a run may end so without having opened the folder
-abbrev pub IsRefusal : Ending → Type 0
-IsRefusal Done = ⊥
-IsRefusal BadUse = ⊤
-IsRefusal Memory = ⊤
-IsRefusal ReadFault = ⊥
-IsRefusal WriteFault = ⊥
-IsRefusal (DiskFault file) = ⊤
-IsRefusal NotASilo = ⊤
-IsRefusal (Damaged file place) = ⊤
-IsRefusal (InputTooLong line) = ⊥
 
 -- a run may end so after it has opened the folder
 abbrev pub IsCarried : Ending → Type 0
@@ -51,7 +44,9 @@ IsCarried ReadFault = ⊤
 IsCarried WriteFault = ⊤
 IsCarried (DiskFault file) = ⊤
 IsCarried NotASilo = ⊥
+IsCarried AlreadyASilo = ⊥
 IsCarried (Damaged file place) = ⊥
+IsCarried (BadProgram fault) = ⊥
 IsCarried (InputTooLong line) = ⊤
 
 -- a run may end so after its first line has begun
@@ -63,7 +58,9 @@ IsBegun ReadFault = ⊥
 IsBegun WriteFault = ⊤
 IsBegun (DiskFault file) = ⊤
 IsBegun NotASilo = ⊥
+IsBegun AlreadyASilo = ⊥
 IsBegun (Damaged file place) = ⊥
+IsBegun (BadProgram fault) = ⊥
 IsBegun (InputTooLong line) = ⊥
 
 -- all that is settled has been written
@@ -75,7 +72,9 @@ IsAllWritten ReadFault = ⊤
 IsAllWritten WriteFault = ⊥
 IsAllWritten (DiskFault file) = ⊥
 IsAllWritten NotASilo = ⊥
+IsAllWritten AlreadyASilo = ⊥
 IsAllWritten (Damaged file place) = ⊥
+IsAllWritten (BadProgram fault) = ⊥
 IsAllWritten (InputTooLong line) = ⊤
 
 -- a file failed
@@ -92,7 +91,9 @@ MayDoubt ReadFault = ⊥
 MayDoubt WriteFault = ⊤
 MayDoubt (DiskFault file) = ⊤
 MayDoubt NotASilo = ⊥
+MayDoubt AlreadyASilo = ⊥
 MayDoubt (Damaged file place) = ⊥
+MayDoubt (BadProgram fault) = ⊥
 MayDoubt (InputTooLong line) = ⊥
 
 -- the most bytes that the input of a run may have
@@ -108,7 +109,9 @@ HasLength ReadFault size = ⊤
 HasLength WriteFault size = size ≤ input_limit
 HasLength (DiskFault file) size = size ≤ input_limit
 HasLength NotASilo size = ⊤
+HasLength AlreadyASilo size = ⊤
 HasLength (Damaged file place) size = ⊤
+HasLength (BadProgram fault) size = ⊤
 HasLength (InputTooLong line) size = (line ≡ 0) × (input_limit < size)
 
 -- a run ends so where no count of faults rises
@@ -120,5 +123,7 @@ IsCalm ReadFault = ⊥
 IsCalm WriteFault = ⊥
 IsCalm (DiskFault file) = ⊥
 IsCalm NotASilo = ⊥
+IsCalm AlreadyASilo = ⊥
 IsCalm (Damaged file place) = ⊥
+IsCalm (BadProgram fault) = ⊥
 IsCalm (InputTooLong line) = ⊤

@@ -50,7 +50,7 @@ pub record AreSettled (p : Program) (r : Observed) (c : Course) : Type 0 where
 pub record IsExplained (p : Program) (r : Observed) (c : Course) : Type 0 where
   pub records : AreAdded (core_end p c) c.added
   pub units : KeepsUnitRule p.types (lines r) (core_run p c)
-  pub turns : r.threaded ≡ false → KeepsTurnRule p.types (length (lines r)) r.width r.picks (core_run p c)
+  pub turns : r.manner.threaded ≡ false → KeepsTurnRule p.types (length (lines r)) r.manner.width r.manner.picks (core_run p c)
   pub caused : AreCaused (core_run p c)
   pub faults : AreFaults (core_run p c) r.faults_before r.faults_after
   pub doubted : (file : FileId) → r.ending ≡ DiskFault file → (file ≡ manager) × HasDoubt (core_run p c)

@@ -12,8 +12,11 @@ pub mod UnitRule
 pub mod TurnRule
 pub mod Causes
 pub mod Family
+pub mod Openings
+pub mod Words
 pub mod Endings
 pub mod Courses
+pub mod Refusals
 pub mod Orders
 pub mod Replies
 pub mod Crashes
@@ -24,9 +27,4 @@ pub mod Journals
 pub mod Reports
 pub mod Commands
 pub mod Loads
-pub mod Examples
-pub mod Transfers
-pub mod EmptyRuns
-pub mod DepositRuns
-pub mod DoubtRuns
-pub mod VoteRuns
+pub mod Calls

@@ -1,5 +1,5 @@
--- What `load` promises, from where its silo is made.
-use Rattle.std.specs.Prelude.{◌≡◌, ◌≢◌, ℕ, zero, suc, ◌+◌, ◌*◌, ◌/◌, ◌%◌, ◌^◌, Bool, true, false, List, [], ◌∷◌, ◌++◌, length, slice_get, count_by, codes, ℤ, pos, ◌+ℤ◌, Some}
+-- What `load` promises: to make a silo of the bank program, and to carry generated lines in it.
+use Rattle.std.specs.Prelude.{◌≡◌, ◌≢◌, ℕ, zero, suc, ◌+◌, ◌*◌, ◌/◌, ◌%◌, ◌^◌, Bool, true, false, List, [], ◌∷◌, ◌++◌, length, map, slice_get, count_by, codes, ℤ, pos, ◌+ℤ◌, Some, ◌⊎◌}
 use Rattle.base_types.specs.declared.calls.Call.{Call}
 use Rattle.base_types.specs.declared.calls.Outcome.TheVariants as outcome
 use Rattle.base_types.specs.declared.calls.Value.{Value}
@@ -8,10 +8,12 @@ use Rattle.base_types.specs.declared.entries.Entry.{Entry}
 use Rattle.base_types.specs.declared.entries.Settled.{Settled}
 use Rattle.base_types.specs.declared.entries.Settled.TheVariants.{Done, Lock, Vote, Dependency, Disk}
 use Rattle.core_model.specs.World.{Member}
-use Rattle.host_trait.specs.World.{Image, IsImage}
+use Rattle.host_trait.specs.World.{World, Moment, Image, IsImage}
 use Rattle.request_wire.specs.Reply.{value_data, counted}
 use Rattle.serde_json.specs.Data.{object, member, no_members}
 use Rattle.silo_spec.specs.Silos.{IsNewSilo}
+use Rattle.silo_spec.specs.Moments.{IsUntouched}
+use Rattle.silo_spec.specs.Making.{StaysBeside, IsNewAt, FromFirstSync, Makes}
 use Rattle.script_tree.specs.Programs.{ProgramTree}
 use Rattle.script_meaning.specs.Worked.{at, int, call}
 use Rattle.promise_spec.specs.Programs.{Program, IsChecked}
@@ -27,7 +29,9 @@ use Rattle.promise_spec.specs.Exits.{IsLeft}
 use Rattle.promise_spec.specs.Explained.{IsExplained}
 use Rattle.promise_spec.specs.Promise.{IsAnswered, GoesThrough, HasNoChild, IsNoLock}
 use Rattle.promise_spec.specs.Reports.{line_of}
-use Rattle.promise_spec.specs.Commands.{Prints}
+use Rattle.promise_spec.specs.Words.{Manner}
+use Rattle.promise_spec.specs.Refusals.{IsHead}
+use Rattle.promise_spec.specs.Commands.{Prints, WasSilo, StaysSilo}
 
 -- ---- what is asked
 
@@ -121,7 +125,7 @@ pub record HasLoaded (p : Program) (r : Observed) (c : Course) : Type 0 where
   pub risen : ending.HasRisen r.ending r.faults_before r.faults_after
   pub done : r.ending ≡ ending.Done → IsAnswered r c
   pub complete : NoneRose r.faults_before r.faults_after → GoesThrough r c
-  pub alone : r.threaded ≡ false → r.width ≡ 1 → HasNoChild p c → (e : Entry) → Member e c.entries → IsNoLock e.what
+  pub alone : r.manner.threaded ≡ false → r.manner.width ≡ 1 → HasNoChild p c → (e : Entry) → Member e c.entries → IsNoLock e.what
 
 -- A load keeps the clauses of a run but those that speak of written replies: it asks for its calls, its entries are
 -- those that the core settles, and it prints the summary alone: nothing unless it is done or the output failed.
@@ -136,9 +140,71 @@ pub record KeepsLoad (p : Program) (n seed : ℕ) (r : Observed) (c : Course) : 
   pub silent : r.ending ≢ ending.Done → r.ending ≢ ending.WriteFault → r.new.output ≡ r.old.output
   pub ended : HasLoaded p r c
 
--- What `load` promises of what it does from the return of its `create` on: over a new silo it takes a course that
--- keeps all this.
-abbrev pub Loads : ℕ → ℕ → Observed → Type 0
-Loads n seed r =
-    (p : Program) → IsChecked p → ((image : Image) → IsImage r.old.disk image → IsNewSilo magic p.text image) →
-    (c : Course) × KeepsLoad p n seed r c
+-- ---- the silo that it makes
+
+-- the text of the bank program
+abbrev pub bank_text : List ℕ
+bank_text = codes "type account {\n  field balance = 0;\n  method deposit(n) createorjoin update { set balance = balance + n; return balance; }\n  method withdraw(n) createorjoin update {\n    if balance < n { fail \"funds\"; }\n    set balance = balance - n;\n    return balance;\n  }\n  method read() createorjoin read { return balance; }\n}\ntype atm {\n  method transfer(a, b, n) create plain {\n    call account/a.withdraw(n);\n    call account/b.deposit(n);\n    return n;\n  }\n}\ntype probe {\n  field total = 0;\n  method spin(n) create plain { let i = 0; while i < n { i = i + 1; } return i; }\n  method needs() join plain { return 1; }\n  method lone() notallowed plain { return 1; }\n  method calls_lone() create plain { let x = call probe/0.lone(); return x; }\n  method inner() create update { set total = total + 100; return total; }\n  method outer() create update {\n    set total = total + 1;\n    attempt r = call probe/key.inner() { return r; } else { set total = total + 10; }\n    return total;\n  }\n  method aside(a, n) suppress plain { call account/a.deposit(n); return 0; }\n  method split(a, n) create plain { call probe/0.aside(a, n); fail \"after\"; }\n}\n"
+
+-- A load may end so without having made a silo: where there was no memory or the folder is a silo, which is then
+-- untouched; or where a call on one of the two files failed.
+abbrev pub IsUnmadeBy : ending.Ending → Observed → Type 0
+IsUnmadeBy ending.Done r = ⊥
+IsUnmadeBy ending.BadUse r = ⊥
+IsUnmadeBy ending.Memory r = IsUntouched r.old r.new
+IsUnmadeBy ending.ReadFault r = ⊥
+IsUnmadeBy ending.WriteFault r = ⊥
+IsUnmadeBy (ending.DiskFault file) r = IsHead file × StaysSilo r file
+IsUnmadeBy ending.NotASilo r = ⊥
+IsUnmadeBy ending.AlreadyASilo r = WasSilo r × IsUntouched r.old r.new
+IsUnmadeBy (ending.Damaged file place) r = ⊥
+IsUnmadeBy (ending.BadProgram fault) r = ⊥
+IsUnmadeBy (ending.InputTooLong line) r = ⊥
+
+-- The load made no silo: it read no input and emitted nothing, and how far it came is said as of `init`.
+pub record IsUnmade (r : Observed) : Type 0 where
+  pub beside : StaysBeside r.old r.new
+  pub makes : Makes magic bank_text r.old r.new
+  pub ended : IsUnmadeBy r.ending r
+  pub risen : ending.HasRisen r.ending r.faults_before r.faults_after
+
+-- The load made a silo of the bank program with an empty log, where there was none: the host was then so.
+pub record HasMade (r : Observed) (made : World) : Type 0 where
+  pub absent : WasSilo r → ⊥
+  pub beside : StaysBeside r.old made
+  pub makes : FromFirstSync (IsNewAt magic bank_text) r.old made
+  pub new : (image : Image) → IsImage made.disk image → IsNewSilo magic bank_text image
+
+-- What `load` promises: it makes no silo, or makes one and, from then on, takes a course that keeps all this.
+pub record LoadsFrom (n seed : ℕ) (r : Observed) : Type 0 where
+  pub made : World
+  pub has : HasMade r made
+  pub carried : (p : Program) → IsChecked p → p.text ≡ bank_text → (c : Course) × KeepsLoad p n seed (record r { old = made }) c
+
+pub record Loads (n seed : ℕ) (m : Manner) (r : Observed) : Type 0 where
+  pub manner : r.manner ≡ m
+  pub answers : IsUnmade r ⊎ LoadsFrom n seed r
+
+-- ---- a load that does what a run does
+
+-- a moment at which nothing more than this was written
+abbrev pub quieted : List ℕ → Moment → Moment
+quieted output m = record m { output = output }
+
+-- the course of a run that writes no replies
+abbrev pub quiet_course : Observed → Course → Course
+quiet_course r c = record c { late = map (quieted r.old.output) c.late }
+
+-- A load that shows what this run shows, but that it reads no input, and writes this text at its end in place of replies.
+pub record IsQuietRun (r : Observed) (c : Course) (text : List ℕ) (s : Observed) : Type 0 where
+  pub manner : s.manner ≡ r.manner
+  pub asked : lines s ≡ lines r
+  pub disk_before : s.old.disk ≡ r.old.disk
+  pub output_before : s.old.output ≡ r.old.output
+  pub disk_after : s.new.disk ≡ r.new.disk
+  pub output : s.new.output ≡ s.old.output ++ text
+  pub unread : s.new.input ≡ s.old.input
+  pub past : s.new.past ≡ s.old.past ++ (c.early ++ map (quieted r.old.output) c.late)
+  pub faults_before : s.faults_before ≡ r.faults_before
+  pub faults_after : s.faults_after ≡ r.faults_after
+  pub ending : s.ending ≡ r.ending

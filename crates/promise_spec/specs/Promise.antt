@@ -1,5 +1,5 @@
 -- The whole promise of a run.
-use Rattle.std.specs.Prelude.{◌≡◌, ◌⊎◌, ℕ, ◌≤◌, false, [], length, ⊤, ◌≢◌, true}
+use Rattle.std.specs.Prelude.{◌≡◌, ◌⊎◌, ℕ, ◌≤◌, false, [], length, ⊤}
 use Rattle.base_types.specs.declared.calls.Call.{Call}
 use Rattle.base_types.specs.declared.calls.Origin.TheVariants.{Child}
 use Rattle.base_types.specs.declared.entries.Entry.{Entry}
@@ -7,19 +7,16 @@ use Rattle.base_types.specs.declared.entries.Settled.{Settled}
 use Rattle.base_types.specs.declared.entries.Settled.TheVariants as settled
 use Rattle.core_model.specs.World.{UnitNo, Member}
 use Rattle.core_model.specs.declared.events.CoreEvent.TheVariants.{Begin}
-use Rattle.host_trait.specs.declared.channels.FileId.{FileId}
-use Rattle.host_trait.specs.Faults.{NoneFailed}
 use Rattle.host_trait.specs.World.{World, Image, IsImage}
-use Rattle.silo_spec.specs.Silos.{manager, IsSilo}
-use Rattle.silo_spec.specs.Moments.{IsUntouched}
 use Rattle.request_wire.specs.Lines.{lines_of}
-use Rattle.promise_spec.specs.Logs.{magic}
 use Rattle.promise_spec.specs.Programs.{Program, IsChecked}
-use Rattle.promise_spec.specs.Images.{IsSound, AreChained, IsSoundIfSilo}
+use Rattle.promise_spec.specs.Images.{AreChained, IsSoundIfSilo}
 use Rattle.promise_spec.specs.Cores.{AppliesAt}
 use Rattle.promise_spec.specs.Causes.{NoneRose}
-use Rattle.promise_spec.specs.Endings.{Done, BadUse, NotASilo, Damaged, HasRisen, IsRefusal, IsCarried, IsBegun, IsCalm, HasLength, input_limit}
-use Rattle.promise_spec.specs.Courses.{Observed, Course, seen_at_entry, lines, core_run}
+use Rattle.promise_spec.specs.Endings.{Done, HasRisen, IsCarried, IsBegun, IsCalm, HasLength, input_limit}
+use Rattle.promise_spec.specs.Words.{Manner}
+use Rattle.promise_spec.specs.Courses.{Observed, Course, lines, core_run}
+use Rattle.promise_spec.specs.Refusals.{IsUnopened, HasOpened}
 use Rattle.promise_spec.specs.Orders.{IsOrdered}
 use Rattle.promise_spec.specs.Replies.{AreReplies}
 use Rattle.promise_spec.specs.Crashes.{SurvivesCrashes, HoldsReplies}
@@ -69,12 +66,11 @@ pub record HasReadAll (r : Observed) : Type 0 where
   pub input : r.new.input ≡ []
   pub short : length r.old.input ≤ input_limit
 
--- How a run that opened the folder ends: its words were a run's, and its lines are the input's; a fault is shown by its count, and an input that is
+-- How a run that opened the folder ends: its lines are the input's; a fault is shown by its count, and an input that is
 -- too long by its length; nothing begins before the input is read whole and found within the limit; all is done only
 -- where each line has its entry; and where no count rises, and none stands at its last value, it goes through, at
 -- width 1 without nested units with no abort.
 pub record HasEnded (p : Program) (r : Observed) (c : Course) : Type 0 where
-  pub understood : r.understood ≡ true
   pub given : lines r ≡ lines_of r.old.input
   pub risen : HasRisen r.ending r.faults_before r.faults_after
   pub carried : IsCarried r.ending
@@ -82,7 +78,7 @@ pub record HasEnded (p : Program) (r : Observed) (c : Course) : Type 0 where
   pub begun : (c.events ≡ []) ⊎ HasReadAll r
   pub done : r.ending ≡ Done → IsDone r c
   pub complete : NoneRose r.faults_before r.faults_after → GoesThrough r c
-  pub alone : r.threaded ≡ false → r.width ≡ 1 → HasNoChild p c → (e : Entry) → Member e c.entries → IsNoLock e.what
+  pub alone : r.manner.threaded ≡ false → r.manner.width ≡ 1 → HasNoChild p c → (e : Entry) → Member e c.entries → IsNoLock e.what
 
 -- ---- the promise
 
@@ -97,26 +93,14 @@ pub record Keeps (p : Program) (r : Observed) (c : Course) : Type 0 where
   pub explained : IsExplained p r c
   pub ended : HasEnded p r c
 
--- The folder wasn't opened: nothing was written, no input was read, and at each moment each image is one of those at
--- entry. The ending is a refusal, a fault is shown by its count, a folder that is called no silo reads as none, and one
--- that is called damaged reads as a silo, and not as a sound one.
-pub record IsUnopened (p : Program) (r : Observed) : Type 0 where
-  pub untouched : IsUntouched r.old r.new
-  pub unread : r.new.input ≡ r.old.input
-  pub refused : IsRefusal r.ending
-  pub risen : HasRisen r.ending r.faults_before r.faults_after
-  pub unused : r.ending ≡ BadUse → (r.understood ≡ false) × (r.new ≡ r.old) × NoneFailed r.faults_before r.faults_after
-  pub used : r.ending ≢ BadUse → r.understood ≡ true
-  pub no_silo : r.ending ≡ NotASilo → IsSilo magic (seen_at_entry r manager) → ⊥
-  pub damaged : (file : FileId) (place : ℕ) → r.ending ≡ Damaged file place →
-      IsSilo magic (seen_at_entry r manager) × (IsSound p (seen_at_entry r) → ⊥)
-
 -- the images at entry are a chain, and each that is a silo is sound
 pub record IsSoundFolder (p : Program) (w : World) : Type 0 where
   pub chain : (one other : Image) → IsImage w.disk one → IsImage w.disk other → AreChained p one other
   pub sound : (image : Image) → IsImage w.disk image → IsSoundIfSilo p image
 
--- What `run` promises: over a sound folder it doesn't open it and leaves all as it was, or it takes a course that
--- keeps all six clauses.
-abbrev pub Promises : Observed → Type 0
-Promises r = (p : Program) → IsChecked p → IsSoundFolder p r.old → IsUnopened p r ⊎ ((c : Course) × Keeps p r c)
+-- What `run` promises, carried in the manner of its words. Over any folder it doesn't open it and leaves all as it was,
+-- or it opens it. Over a sound folder it doesn't open it, or takes a course that keeps all six clauses.
+pub record Promises (m : Manner) (r : Observed) : Type 0 where
+  pub manner : r.manner ≡ m
+  pub answers : IsUnopened r ⊎ HasOpened r
+  pub over_sound : (p : Program) → IsChecked p → IsSoundFolder p r.old → IsUnopened r ⊎ ((c : Course) × Keeps p r c)

@@ -3,6 +3,7 @@ use Rattle.std.specs.Prelude.{◌≡◌, ℕ, ◌+◌, max, if◌then◌else◌,
 use Rattle.base_types.specs.declared.calls.GrainId.{GrainId}
 use Rattle.base_types.specs.declared.calls.Value.{Value}
 use Rattle.core_model.specs.declared.effects.Effect.{Effect}
+use Rattle.core_model.specs.Tests.{is_before}
 use Rattle.commit_log.specs.declared.records.CommitRecord.{CommitRecord}
 use Rattle.script_holding.specs.Holding.{same_grain}
 use Rattle.script_tree.specs.Programs.{ProgramTree}
@@ -28,6 +29,16 @@ put_state states new grain = if same_grain new.0 grain then new.1 else states gr
 -- the states after a unit's writes
 abbrev pub after_writes : States → Commit → States
 after_writes states c = fold put_state states (written c)
+
+-- one more grain in an ascending list, each once
+abbrev pub with_grain : GrainId → List GrainId → List GrainId
+with_grain g [] = g ∷ []
+with_grain g (h ∷ hs) = if same_grain g h then h ∷ hs else (if is_before g h then g ∷ h ∷ hs else h ∷ with_grain g hs)
+
+-- these grains in ascending order, each once
+abbrev pub ascending : List GrainId → List GrainId
+ascending [] = []
+ascending (g ∷ gs) = with_grain g (ascending gs)
 
 -- What a log stands for: how many records it has, the number of the next unit, and the state of each grain.
 pub record Standing : Type 0 where

@@ -1,5 +1,5 @@
 -- What the commands print that only read.
-use Rattle.std.specs.Prelude.{ℕ, if◌then◌else◌, List, [], ◌∷◌, ◌++◌, codes, length, map, option_map, unwrap_or, slice_get, Option, Some, None}
+use Rattle.std.specs.Prelude.{ℕ, List, [], ◌∷◌, ◌++◌, codes, length, map, option_map, unwrap_or, slice_get, Option, Some, None}
 use Rattle.std.specs.List.{flat_map}
 use Rattle.base_types.specs.declared.calls.Call.{Call}
 use Rattle.base_types.specs.declared.calls.GrainId.{GrainId}
@@ -8,15 +8,13 @@ use Rattle.base_types.specs.declared.calls.Origin.TheVariants.{Line, Child}
 use Rattle.base_types.specs.declared.calls.Outcome.{Outcome}
 use Rattle.base_types.specs.declared.calls.Outcome.TheVariants as outcome
 use Rattle.base_types.specs.declared.calls.Value.{Value}
-use Rattle.core_model.specs.Tests.{is_before}
-use Rattle.cell_model.specs.Units.{same_grain}
 use Rattle.request_wire.specs.Reply.{grain_text, value_data, counted}
 use Rattle.script_tree.specs.declared.programs.FieldDecl.{FieldDecl}
 use Rattle.script_meaning.specs.Calls.{Target, numbered}
 use Rattle.serde_json.specs.Data.{Data, null, number, unsigned, string, array, object, Items, no_items, item, Members, no_members, member, put}
 use Rattle.serde_json.specs.Written.{compact_text}
 use Rattle.promise_spec.specs.Programs.{Program, shape_in}
-use Rattle.promise_spec.specs.Records.{Commit, standing_of}
+use Rattle.promise_spec.specs.Records.{Commit, ascending, standing_of}
 
 -- compact JSON, and a line feed
 abbrev pub line_of : Data → List ℕ
@@ -24,18 +22,9 @@ line_of data_of_line = compact_text data_of_line ++ 10 ∷ []
 
 -- ---- show
 
--- one more grain in an ascending list, each once
-abbrev pub with_grain : GrainId → List GrainId → List GrainId
-with_grain g [] = g ∷ []
-with_grain g (h ∷ hs) = if same_grain g h then h ∷ hs else (if is_before g h then g ∷ h ∷ hs else h ∷ with_grain g hs)
-
 -- the grains with a logged write, ascending
 abbrev pub grains_in : List Commit → List GrainId
-grains_in [] = []
-grains_in (c ∷ log) = with_all (map (λ w. w.grain) c.logged.writes) (grains_in log) where
-  with_all : List GrainId → List GrainId → List GrainId
-  with_all [] found = found
-  with_all (g ∷ gs) found = with_grain g (with_all gs found)
+grains_in log = ascending (flat_map (λ c. map (λ w. w.grain) c.logged.writes) log)
 
 -- the fields by name, in byte order of their names
 abbrev pub fields_data : List FieldDecl → List Value → Members

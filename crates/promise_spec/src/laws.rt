@@ -1,18 +1,26 @@
-ghost use Rattle.std.specs.Prelude.{◌≡◌, ◌⊎◌, ◌++◌, ℕ, List};
+ghost use Rattle.std.specs.Prelude.{◌≡◌, ◌⊎◌, ◌↔◌, ◌++◌, ◌≤◌, ℕ, Bool, List, length, Ok};
 ghost use Rattle.base_types.specs.declared.shapes.Shape.{Shape};
 ghost use Rattle.base_types.specs.declared.entries.Entry.{Entry};
 ghost use Rattle.core_model.specs.World.{Member};
 ghost use Rattle.host_trait.specs.World.{Image, IsImage, Moment};
-ghost use Rattle.silo_spec.specs.Silos.{program_file, HasProgram};
-ghost use Rattle.promise_spec.specs.Programs.{Program, IsChecked, shape_in};
+ghost use Rattle.host_trait.specs.declared.channels.FileId.{FileId};
+ghost use Rattle.field_codec.specs.Reading.{AreBytes};
+ghost use Rattle.script_tree.specs.Programs.{ProgramTree};
+ghost use Rattle.silo_spec.specs.Silos.{manager, program_file, IsSilo, HasProgram};
+ghost use Rattle.promise_spec.specs.Programs.{Program, IsChecked, text_limit, shape_in, program_in};
 ghost use Rattle.promise_spec.specs.Records.{Commit, new_silo};
 ghost use Rattle.promise_spec.specs.Serial.{IsSerial};
-ghost use Rattle.promise_spec.specs.Logs.{IsLog, IsPrefix};
-ghost use Rattle.promise_spec.specs.Images.{AreChained, AreNumbered, IsSoundIfSilo};
+ghost use Rattle.promise_spec.specs.Logs.{magic, IsLog, IsPrefix};
+ghost use Rattle.promise_spec.specs.Images.{AreChained, AreNumbered, IsSound, IsSoundIfSilo};
+ghost use Rattle.promise_spec.specs.Openings.{NoSilo, Reads, opened_as};
+ghost use Rattle.promise_spec.specs.Words.{Given, Command, Say};
 ghost use Rattle.promise_spec.specs.Moments.{IsImageOf, IsLongest};
 ghost use Rattle.request_wire.specs.Reply.{reply_line};
 ghost use Rattle.promise_spec.specs.Outputs.{HavePlainNames, IsProper, Grew};
-ghost use Rattle.promise_spec.specs.Courses.{Observed, Course};
+ghost use Rattle.promise_spec.specs.Endings.{Done};
+ghost use Rattle.promise_spec.specs.Courses.{Observed, Course, lines};
+ghost use Rattle.promise_spec.specs.Promise.{Keeps};
+ghost use Rattle.promise_spec.specs.Loads.{load_calls, AskFor, summary_text, KeepsLoad, quiet_course, IsQuietRun};
 ghost use Rattle.promise_spec.specs.Crashes.{Holds};
 ghost use Rattle.promise_spec.specs.Journals.{Settlement, KeepsJournal, AllKeep, Backs, commits_of, entries_of};
 
@@ -59,4 +67,36 @@ pub fn journals_survive()
         → IsSerial p.types (new_silo p.types).states (opening ++ commits_of journal) → AreNumbered 1 (opening ++ commits_of journal) → IsSoundIfSilo p image }
     ensures holds { (p : Program) (r : Observed) (c : Course) (journal : List Settlement) (m : Moment) (image : Image) → Backs journal c.added
         → (k : KeepsJournal p c.opening r.old.output journal m image) → IsPrefix (entries_of k.said) c.entries → Holds p r c m image }
+{}
+
+/// A text is read as types exactly where it is a checked program with these types.
+pub fn programs_are_read()
+    ensures read { (p : Program) → IsChecked p → program_in p.text ≡ Ok p.types }
+    ensures checked { (text : List ℕ) (types : ProgramTree) → length text ≤ text_limit → program_in text ≡ Ok types
+        → IsChecked (record { text = text; types = types }) }
+{}
+
+/// A folder reads as a silo with a program and a log exactly where its program file has that program and it has that log; it
+/// reads as no silo exactly where it is none. So one that is sound for a checked program is opened with its log, and
+/// is neither called damaged nor no silo. A file is damaged at a place within it, or at its end.
+pub fn folders_are_read()
+    ensures reads { (image : Image) (p : Program) (log : List Commit) → ((file : FileId) → AreBytes (image file)) → opened_as image ≡ Reads p log
+        → IsChecked p × HasProgram p.text (image program_file) × IsLog (shape_in p) image log }
+    ensures read { (image : Image) (p : Program) (log : List Commit) → IsChecked p → HasProgram p.text (image program_file)
+        → IsLog (shape_in p) image log → opened_as image ≡ Reads p log }
+    ensures no_silo { (image : Image) → (opened_as image ≡ NoSilo) ↔ (IsSilo magic (image manager) → ⊥) }
+    ensures sound { (p : Program) (image : Image) → IsChecked p → (s : IsSound p image) → opened_as image ≡ Reads p s.log }
+{}
+
+/// The words of a command say one thing: one manner of a run, and one number of transfers, seed and manner of a load; and no
+/// words say two commands.
+pub fn words_say_one_command()
+    ensures { (takes : Given → Bool) (words : List (List ℕ)) (c d : Command) → Say takes words c → Say takes words d → c ≡ d }
+{}
+
+/// A load can be kept wherever a run can: one that carries its lines as a run that is done, and writes the summary in place of
+/// the replies, keeps what is promised of a load.
+pub fn loads_follow_runs()
+    ensures { (p : Program) (n seed : ℕ) (r s : Observed) (c : Course) → Keeps p r c → r.ending ≡ Done → AskFor p.types (lines r) (load_calls n seed)
+        → IsQuietRun r c (summary_text p r c) s → KeepsLoad p n seed s (quiet_course r c) }
 {}

@@ -7,3 +7,4 @@ pub mod Journals
 pub mod Moments
 pub mod Settling
 pub mod Ends
+pub mod Making

@@ -5,7 +5,7 @@
 //! `Units` (units as the log has them), `Logs` (the log of an image; prefixes, chains, sound images), `Damage`
 //! (what opening refuses, and where), `Journals` (what a run settles, line by line), `Moments` (what each image of
 //! each moment keeps), `Settling` (what stands while one line is settled, and between two), `Ends` (what stands when a
-//! run has ended).
+//! run has ended), `Making` (what making a silo leaves, at each moment and at its end).
 #![tactic(auto)]
 
 mod laws;

@@ -13,7 +13,7 @@ use Rattle.silo_spec.specs.Moments.{AllKeep, IsUntouched, KeepsOthers, OnlyLogCh
 use Rattle.silo_spec.specs.Settling.{Stands}
 use Rattle.opening.specs.declared.faults.CreateFault.{CreateFault}
 use Rattle.opening.specs.declared.faults.CreateFault.TheVariants as faults
-use Rattle.opening.specs.Making.{Makes, IsMade, StaysBeside}
+use Rattle.silo_spec.specs.Making.{Makes, IsMade, StaysBeside}
 use Rattle.silo_top.specs.declared.status.Status.{Status}
 use Rattle.silo_top.specs.declared.status.Status.TheVariants.{Done, BadUse, Memory, ReadFault, WriteFault, DiskFault, NotASilo, AlreadyASilo, Damaged, InputTooLong}
 use Rattle.silo_top.specs.Runs.{counter_program, input_limit, IsMaking, EndsAs, IsServed, IsCarried}

@@ -13,7 +13,7 @@ use Rattle.silo_spec.specs.Damage.{IsDamagedAt}
 use Rattle.silo_spec.specs.Journals.{journal_of}
 use Rattle.silo_spec.specs.Moments.{AllKeep, IsAsAtEntry, IsUntouched, KeepsOthers, HasHeader}
 use Rattle.silo_spec.specs.Ends.{IsUnbegun, IsDone, IsStopped, IsCut, IsInDoubt}
-use Rattle.opening.specs.Making.{Makes, IsMade, StaysBeside}
+use Rattle.silo_spec.specs.Making.{Makes, IsMade, StaysBeside}
 use Rattle.silo_top.specs.declared.status.Status.{Status}
 use Rattle.silo_top.specs.declared.status.Status.TheVariants.{Done, BadUse, Memory, ReadFault, WriteFault, DiskFault, NotASilo, AlreadyASilo, Damaged, InputTooLong}
 

@@ -3,7 +3,7 @@ use Rattle.host_trait.specs.Disk.{Tears}
 use Rattle.host_trait.specs.Runs.{ChangesFile}
 use Rattle.host_trait.proofs.Moments.{both, weaker}
 use Rattle.silo_spec.specs.Silos.{manager, program_file, counter_magic}
-use Rattle.opening.specs.Making.{IsNewAt}
+use Rattle.silo_spec.specs.Making.{IsNewAt}
 use Rattle.opening.proofs.Closing.{on_ok}
 use Rattle.opening.proofs.Looking.{log_run_beside, program_run_beside, beside_then}
 use Rattle.opening.proofs.Filling.{while_program, while_header, while_opened, filled}

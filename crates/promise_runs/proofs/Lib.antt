@@ -1,0 +1,11 @@
+pub mod FirstDeposit
+pub mod FirstFamily
+pub mod DepositRules
+pub mod EmptyRun
+pub mod DepositRun
+pub mod DoubtRun
+pub mod VoteRun
+pub mod Transfer
+pub mod Load
+pub mod Emitting
+pub mod WrongRuns

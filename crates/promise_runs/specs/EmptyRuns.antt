@@ -1,0 +1,36 @@
+-- A run that reads no line.
+use Rattle.std.specs.Prelude.{◌≡◌, List, [], ◌∷◌, ◌++◌, true}
+use Rattle.host_trait.specs.declared.channels.Channel.{Channel}
+use Rattle.host_trait.specs.World.{Image, IsImage, moment_of}
+use Rattle.request_wire.specs.Lines.{lines_of}
+use Rattle.promise_spec.specs.Programs.{Program, shape_in}
+use Rattle.promise_spec.specs.Records.{Commit}
+use Rattle.promise_spec.specs.Logs.{IsLog}
+use Rattle.promise_spec.specs.Images.{IsSoundIfSilo}
+use Rattle.promise_spec.specs.Endings.{Done}
+use Rattle.promise_spec.specs.Crashes.{LeavesAlone}
+use Rattle.promise_spec.specs.Courses.{Observed, Course, seen_at_entry, lines}
+
+-- The files read as this log at entry. The run synced it, read that the input is empty, and ended. Each image is one of
+-- those at entry, has this log and is sound; there is one. No count of faults changed,
+-- nor did another file or the header.
+pub record IsEmptyRun (p : Program) (r : Observed) (opening : List Commit) : Type 0 where
+  pub ending : r.ending ≡ Done
+  pub input : r.old.input ≡ []
+  pub given : lines r ≡ lines_of r.old.input
+  pub left : r.new.input ≡ []
+  pub output : r.new.output ≡ r.old.output
+  pub read : IsLog (shape_in p) (seen_at_entry r) opening
+  pub synced : r.new.past ≡ r.old.past ++ moment_of r.new ∷ []
+  pub entry : (image : Image) → IsImage r.new.disk image → IsImage r.old.disk image
+  pub logs : (image : Image) → IsImage r.new.disk image → IsLog (shape_in p) image opening
+  pub sound : (image : Image) → IsImage r.new.disk image → IsSoundIfSilo p image
+  pub alone : LeavesAlone r (moment_of r.new)
+  pub some : Image
+  pub possible : IsImage r.new.disk some
+  pub faults : (channel : Channel) → r.faults_after channel ≡ r.faults_before channel
+
+-- the course of such a run: nothing was added, and no event came
+abbrev pub empty_course : Observed → List Commit → Course
+empty_course r opening =
+    record { opening = opening; added = []; early = moment_of r.new ∷ []; late = []; events = []; entries = []; rest = [] }

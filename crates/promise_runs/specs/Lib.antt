@@ -1,0 +1,6 @@
+pub mod Examples
+pub mod Transfers
+pub mod EmptyRuns
+pub mod DepositRuns
+pub mod DoubtRuns
+pub mod VoteRuns

@@ -1,0 +1,120 @@
+ghost use Rattle.std.specs.Prelude.{◌≡◌, ℕ, List, [], ◌∷◌, codes, length, None, pos, take, slice_get, Some};
+ghost use Rattle.base_types.specs.declared.calls.Value.{Value};
+ghost use Rattle.base_types.specs.declared.calls.Value.TheVariants.{Int};
+ghost use Rattle.field_codec.specs.Spelling.{spelling_of_version};
+ghost use Rattle.gate_block.specs.Blocks.{block_of};
+ghost use Rattle.request_wire.specs.Reply.{reply_line};
+ghost use Rattle.promise_spec.specs.Programs.{Program, shape_in};
+ghost use Rattle.promise_spec.specs.Records.{Commit, new_silo, standing_of};
+ghost use Rattle.promise_spec.specs.Serial.{IsSerial};
+ghost use Rattle.promise_spec.specs.Logs.{IsLog, IsKept, body_of};
+ghost use Rattle.promise_spec.specs.Courses.{Observed, lines};
+ghost use Rattle.promise_spec.specs.Promise.{Keeps};
+ghost use Rattle.promise_runs.specs.EmptyRuns.{IsEmptyRun, empty_course};
+ghost use Rattle.promise_runs.specs.DoubtRuns.{IsDoubtRun, doubt_course};
+ghost use Rattle.script_meaning.specs.Worked.{bank, at, int, call};
+ghost use Rattle.promise_runs.specs.Transfers.{bank_program, paid_in, moved, balance, version_of_source, version_of_target, transfer_body, bank_folder};
+ghost use Rattle.promise_spec.specs.Loads.{load_calls, transfers_after, summary_text};
+ghost use Rattle.promise_runs.specs.VoteRuns.{IsVoteRun, vote_course};
+ghost use Rattle.promise_runs.specs.DepositRuns.{IsDepositRun, deposit_course};
+ghost use Rattle.host_trait.specs.World.{Moment};
+ghost use Rattle.promise_spec.specs.Reports.{show_text, history_text, audit_text};
+ghost use Rattle.promise_runs.specs.Examples.{accounts, account_program, account_1, deposit_call, first_commit, next_commit, first_version, grain_bytes, block_bytes, manager_bytes, folder, torn_folder, deposit, first_entry, deposit_events, conflict_events, conflict_entries, account_run, AskDeposits, vote_events, vote_entries, AskBoth};
+ghost use Rattle.core_model.specs.Legal.{ends};
+ghost use Rattle.promise_spec.specs.Lines.{IsLineCall};
+ghost use Rattle.promise_spec.specs.UnitRule.{KeepsUnitRule};
+ghost use Rattle.promise_spec.specs.TurnRule.{KeepsTurnRule};
+
+/// The first deposit in its bytes: 19 of the version and 89 of the manager file spell its record. The folder's log is
+/// that record, which stands for 5 in `account/1`; with the block's gate closed the log is empty. The reply is a line.
+pub fn first_deposit_reads()
+    ensures version { spelling_of_version first_version ≡ grain_bytes }
+    ensures block { block_of (body_of (first_commit ∷ [])) ≡ block_bytes }
+    ensures size { length (manager_bytes 1) ≡ 89 }
+    ensures log { IsLog (shape_in account_program) (folder 1 grain_bytes) (first_commit ∷ []) }
+    ensures closed { IsLog (shape_in account_program) (folder 0 grain_bytes) [] }
+    ensures stands { (standing_of accounts (first_commit ∷ [])).states account_1 ≡ Int (pos 5) ∷ [] }
+    ensures reply { reply_line (shape_in account_program) first_entry ≡ codes "{\"n\":1,\"reply\":5,\"unit\":1}\n" }
+{}
+
+/// What the reports print of the first deposit.
+pub fn reports_tell_the_first_deposit()
+    ensures show { show_text account_program (first_commit ∷ []) ≡ codes "{\"fields\":{\"balance\":5},\"grain\":\"account/1\"}\n{\"count\":1}\n" }
+    ensures history { history_text account_program (first_commit ∷ []) ≡ codes "{\"args\":[5],\"call\":\"account/1.deposit\",\"n\":1,\"reply\":5,\"unit\":1}\n" }
+    ensures audit { audit_text (first_commit ∷ []) None ≡ codes "{\"count\":1,\"first_bad\":null}\n" }
+{}
+
+/// A folder whose open block is cut has no log, and one whose grain file is cut within a version doesn't keep the record.
+pub fn torn_folders_have_no_log()
+    ensures block { (log : List Commit) → IsLog (shape_in account_program) (torn_folder 80) log → ⊥ }
+    ensures version { (states : List (List Value)) → IsKept (shape_in account_program) (folder 1 (take 10 grain_bytes)) (record { logged = deposit; states = states }) → ⊥ }
+{}
+
+/// A deposit of 5 and one of 4 that leaves 9 are serial, and not where the second leaves 4.
+pub fn deposits_are_serial()
+    ensures serial { IsSerial accounts (new_silo accounts).states (first_commit ∷ next_commit 4 9 ∷ []) }
+    ensures unseen { IsSerial accounts (new_silo accounts).states (first_commit ∷ next_commit 4 4 ∷ []) → ⊥ }
+{}
+
+/// A transfer of 30 between two accounts, of which the first had 100: its record is spelled so, and its two versions. The
+/// folder's log is the deposit's record and that, each version stands at its place, and the log stands for 70 and 30. The
+/// two are serial, and not where the second account is left with 31, or where the transfer stands first.
+pub fn transfers_read()
+    ensures source { spelling_of_version (balance 2 70) ≡ version_of_source }
+    ensures target { spelling_of_version (balance 2 30) ≡ version_of_target }
+    ensures body { body_of (moved 70 30 ∷ []) ≡ transfer_body }
+    ensures log { IsLog (shape_in bank_program) bank_folder (paid_in ∷ moved 70 30 ∷ []) }
+    ensures one { (standing_of bank (paid_in ∷ moved 70 30 ∷ [])).states (at 0 1) ≡ int 70 ∷ [] }
+    ensures other { (standing_of bank (paid_in ∷ moved 70 30 ∷ [])).states (at 0 2) ≡ int 30 ∷ [] }
+    ensures serial { IsSerial bank (new_silo bank).states (paid_in ∷ moved 70 30 ∷ []) }
+    ensures unseen { IsSerial bank (new_silo bank).states (paid_in ∷ moved 70 31 ∷ []) → ⊥ }
+    ensures early { IsSerial bank (new_silo bank).states (moved 70 30 ∷ paid_in ∷ []) → ⊥ }
+{}
+
+/// The promise can be kept: a run that reads no line keeps all six clauses, over any log.
+pub fn empty_runs_keep()
+    ensures { (p : Program) (r : Observed) (opening : List Commit) → IsEmptyRun p r opening → Keeps p r (empty_course r opening) }
+{}
+
+/// Two runs of the core keep both rules: one deposit at width 1, and two at width 2, of which the second meets the first
+/// one's lock and dies, and the first is left in doubt. With other picks, or at width 1, the second list keeps no turns.
+pub fn deposits_keep_the_rules()
+    ensures one_unit { (lines : List (List ℕ)) → IsLineCall accounts lines 1 deposit_call → KeepsUnitRule accounts lines (account_run deposit_events) }
+    ensures one_turn { KeepsTurnRule accounts 1 1 [] (account_run deposit_events) }
+    ensures two_unit { (lines : List (List ℕ)) → AskDeposits lines → KeepsUnitRule accounts lines (account_run conflict_events) }
+    ensures two_turn { KeepsTurnRule accounts 2 2 (0 ∷ 1 ∷ 1 ∷ []) (account_run conflict_events) }
+    ensures settled { (ends (account_run conflict_events)).manager.settled ≡ conflict_entries }
+    ensures picks { KeepsTurnRule accounts 2 2 [] (account_run conflict_events) → ⊥ }
+    ensures width { KeepsTurnRule accounts 2 1 (0 ∷ 1 ∷ 1 ∷ []) (account_run conflict_events) → ⊥ }
+{}
+
+/// A run of one deposit keeps all six clauses: it opens an empty log, seals the deposit's record and replies.
+pub fn deposit_runs_keep()
+    ensures { (r : Observed) (opened sealing : Moment) → IsDepositRun r opened sealing → Keeps account_program r (deposit_course opened sealing r) }
+{}
+
+/// And so does a run of two lines of which the second meets the first one's lock, and the first is left in doubt.
+pub fn doubt_runs_keep()
+    ensures { (r : Observed) (opened told doubting : Moment) → IsDoubtRun r opened told doubting → Keeps account_program r (doubt_course opened told doubting r) }
+{}
+
+/// A third run keeps both rules: a deposit, and a read of what it left before it is logged. The deposit's file can't be
+/// written, so the deposit is aborted for its vote and the read for what it depends on.
+pub fn votes_keep_the_rules()
+    ensures unit { (lines : List (List ℕ)) → AskBoth lines → KeepsUnitRule accounts lines (account_run vote_events) }
+    ensures turn { KeepsTurnRule accounts 2 2 [] (account_run vote_events) }
+    ensures settled { (ends (account_run vote_events)).manager.settled ≡ vote_entries }
+{}
+
+/// And it keeps all six clauses, where its lines are told so and no image ever has a record of them.
+pub fn vote_runs_keep()
+    ensures { (r : Observed) (opened told : Moment) → IsVoteRun r opened told → Keeps account_program r (vote_course opened told r) }
+{}
+
+/// What a load draws from the seed 7, after its 64 deposits, and what it would print of the run of one deposit.
+pub fn loads_draw_and_sum()
+    ensures drawn { transfers_after 7 2 ≡ call (at 1 0) 0 (int 30 ∷ int 63 ∷ int 54 ∷ []) ∷ call (at 1 0) 0 (int 17 ∷ int 41 ∷ int 20 ∷ []) ∷ [] }
+    ensures many { length (load_calls 2 7) ≡ 66 }
+    ensures last { slice_get (load_calls 2 7) 63 ≡ Some (call (at 0 63) 0 (int 1000 ∷ [])) }
+    ensures summed { (r : Observed) (opened sealing : Moment) → length (lines r) ≡ 1 → summary_text account_program r (deposit_course opened sealing r) ≡ codes "{\"aborted\":0,\"committed\":1,\"faulted\":0,\"requests\":1,\"total\":5}\n" }
+{}

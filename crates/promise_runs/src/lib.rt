@@ -1,0 +1,23 @@
+//! Runs that keep the promise of `promise_spec`, and runs that don't. There is no code but public functions with
+//! empty bodies, whose contracts are what is shown.
+//!
+//! `Examples` has a silo of accounts and lists of core events, `Transfers` a silo of a bank; `EmptyRuns`, `DepositRuns`,
+//! `DoubtRuns` and `VoteRuns` say what a run of each kind shows, and which course it took.
+#![tactic(auto)]
+
+mod examples;
+mod wrong_runs;
+
+pub use examples::{
+    deposit_runs_keep, deposits_are_serial, deposits_keep_the_rules, doubt_runs_keep,
+    empty_runs_keep, first_deposit_reads, loads_draw_and_sum, reports_tell_the_first_deposit,
+    torn_folders_have_no_log, transfers_read, vote_runs_keep, votes_keep_the_rules,
+};
+pub use wrong_runs::{
+    aborted_units_have_no_record, aborts_have_causes, batches_are_small, cut_lines_are_replies,
+    endings_are_true, inits_make_their_input, lines_are_answered_once, lines_begin_after_the_input,
+    loads_tell_their_summary, logs_are_not_lost, other_files_stay, records_come_from_lines,
+    refusals_are_true, replies_are_serial, replies_come_after_records, reports_tell_the_folder,
+    the_block_in_doubt_is_the_batchs, the_opening_log_is_the_disks, told_replies_are_written,
+    words_are_answered,
+};

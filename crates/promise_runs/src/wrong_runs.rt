@@ -1,0 +1,244 @@
+ghost use Rattle.std.specs.Prelude.{◌≡◌, ◌≢◌, ◌<◌, ◌++◌, ◌∷◌, [], ℕ, Bool, false, List, length, Err, map, take};
+ghost use Rattle.base_types.specs.declared.calls.Call.{Call};
+ghost use Rattle.base_types.specs.declared.calls.GrainId.{GrainId};
+ghost use Rattle.base_types.specs.declared.calls.Origin.TheVariants.{Line, Child};
+ghost use Rattle.base_types.specs.declared.calls.Outcome.{Outcome};
+ghost use Rattle.base_types.specs.declared.calls.UnitNo.{UnitNo};
+ghost use Rattle.base_types.specs.declared.entries.Entry.{Entry};
+ghost use Rattle.base_types.specs.declared.entries.Settled.TheVariants as settled;
+ghost use Rattle.base_types.specs.declared.shapes.Shape.{Shape};
+ghost use Rattle.commit_log.specs.declared.records.CommitRecord.{CommitRecord};
+ghost use Rattle.commit_log.specs.Spelling.{spelling_of_body};
+ghost use Rattle.core_model.specs.declared.effects.Effect.{Effect};
+ghost use Rattle.core_model.specs.declared.events.CoreEvent.{CoreEvent};
+ghost use Rattle.core_model.specs.declared.events.CoreEvent.TheVariants as event;
+ghost use Rattle.core_model.specs.Events.{run};
+ghost use Rattle.core_model.specs.Legal.{begins};
+ghost use Rattle.core_model.specs.Serial.{committed, chosen};
+ghost use Rattle.core_model.specs.World.{Member, Mode};
+ghost use Rattle.gate_block.specs.Log.{HasBlocks, LogsUpTo};
+ghost use Rattle.host_trait.specs.declared.channels.FileId.{FileId};
+ghost use Rattle.host_trait.specs.declared.channels.FileId.TheVariants as file;
+ghost use Rattle.host_trait.specs.World.{Image, IsImage, Moment, moment_of};
+ghost use Rattle.request_wire.specs.Reply.{reply_line};
+ghost use Rattle.script_meaning.specs.Play.{IsTransaction};
+ghost use Rattle.silo_spec.specs.Silos.{manager, program_file, IsSilo, HasProgram};
+ghost use Rattle.promise_spec.specs.Programs.{Program, ProgramFault, IsChecked, shape_in, program_in};
+ghost use Rattle.promise_spec.specs.Images.{IsSound};
+ghost use Rattle.promise_spec.specs.Openings.{DamagedAt, opened_as};
+ghost use Rattle.promise_spec.specs.Words.{Given, Command, Manner};
+ghost use Rattle.promise_spec.specs.Refusals.{IsUnopened};
+ghost use Rattle.promise_spec.specs.Records.{Commit, States, AreRecordsOf};
+ghost use Rattle.promise_spec.specs.Serial.{played};
+ghost use Rattle.promise_spec.specs.Logs.{magic, IsLog, IsPrefix, body_of};
+ghost use Rattle.promise_spec.specs.Moments.{IsImageOf, last_of};
+ghost use Rattle.promise_spec.specs.Lines.{IsLineCall};
+ghost use Rattle.promise_spec.specs.Cores.{AppliesAt, state_before};
+ghost use Rattle.promise_spec.specs.Causes.{HasDoubt, IsAlive};
+ghost use Rattle.promise_spec.specs.Family.{states_after};
+ghost use Rattle.promise_spec.specs.Endings as ending;
+ghost use Rattle.promise_spec.specs.Courses.{Observed, Course, moments, seen_at_entry, lines, opening_standing, core_run, core_end};
+ghost use Rattle.promise_spec.specs.Replies.{IsEntryOf};
+ghost use Rattle.promise_spec.specs.Crashes.{Acknowledges, IsAside};
+ghost use Rattle.promise_spec.specs.Exits.{HasBlock};
+ghost use Rattle.promise_spec.specs.Promise.{Keeps, Promises};
+ghost use Rattle.promise_spec.specs.Commands.{MakesSilo, Reports};
+ghost use Rattle.promise_spec.specs.Calls.{Understands, Serves};
+ghost use Rattle.promise_spec.specs.Loads.{KeepsLoad, summary_text};
+
+/// The opening log is the disk's: no run can take another for it, as one that answers from an old log again would, or one
+/// that opens or closes a gate of a batch left in doubt before the log is synced.
+pub fn the_opening_log_is_the_disks()
+    ensures entry { (p : Program) (r : Observed) (c : Course) (log : List Commit) → Keeps p r c
+        → IsLog (shape_in p) (seen_at_entry r) log → c.opening ≡ log }
+    ensures synced { (p : Program) (r : Observed) (c : Course) (image : Image) (log : List Commit) → Keeps p r c
+        → IsImage (last_of (moment_of r.old) c.early).disk image → IsLog (shape_in p) image log → c.opening ≡ log }
+{}
+
+/// No run keeps the promise that at some moment may leave a log without all that it opened with, as where an earlier gate is
+/// closed for a moment, or that leaves a folder that is no silo.
+pub fn logs_are_not_lost()
+    ensures shorter { (p : Program) (r : Observed) (c : Course) (image : Image) (log : List Commit) → Keeps p r c
+        → IsImageOf (moments r c) image → IsLog (shape_in p) image log → (IsPrefix c.opening log → ⊥) → ⊥ }
+    ensures closed { (p : Program) (r : Observed) (c : Course) (image : Image) → Keeps p r c
+        → IsImage r.new.disk image → (IsSilo magic (image manager) → ⊥) → ⊥ }
+{}
+
+/// No run keeps the promise that changes the program file or a file that isn't of the first slot, or that may leave another
+/// header before the first gate.
+pub fn other_files_stay()
+    ensures aside { (p : Program) (r : Observed) (c : Course) (m : Moment) (f : FileId) → Keeps p r c → Member m (moments r c)
+        → IsAside f → m.disk f ≢ r.old.disk f → ⊥ }
+    ensures header { (p : Program) (r : Observed) (c : Course) (m : Moment) (image : Image) → Keeps p r c → Member m (moments r c)
+        → IsImage m.disk image → take 15 (image manager) ≢ take 15 (seen_at_entry r manager) → ⊥ }
+{}
+
+/// No run keeps the promise that writes a reply before its record is in every image.
+pub fn replies_come_after_records()
+    ensures { (p : Program) (r : Observed) (c : Course) (m : Moment) (image : Image) (more : List ℕ) → Keeps p r c
+        → Member m (moments r c) → IsImage m.disk image → IsLog (shape_in p) image c.opening
+        → m.output ≡ r.old.output ++ more → Member 10 more
+        → ((e : Entry) → Member e c.entries → (l : Commit) × Member l c.added × Acknowledges e l × (Member l c.opening → ⊥)) → ⊥ }
+{}
+
+/// No run keeps the promise that tells the core of more replies than it wrote; so none, on one thread, that takes a batch
+/// while an entry is settled that it never writes.
+pub fn told_replies_are_written()
+    ensures told { (p : Program) (r : Observed) (c : Course) → Keeps p r c → length c.entries < (core_end p c).manager.emitted → ⊥ }
+    ensures taken { (p : Program) (r : Observed) (c : Course) (at : ℕ) → Keeps p r c → r.manner.threaded ≡ false → AppliesAt (core_run p c) at event.Take
+        → length c.entries < length (state_before (core_run p c) at).manager.settled → ⊥ }
+{}
+
+/// No run keeps the promise whose output ends within a line that is no settled entry's.
+pub fn cut_lines_are_replies()
+    ensures { (p : Program) (r : Observed) (c : Course) → Keeps p r c → c.rest ≢ []
+        → ((e : Entry) → Member e (core_end p c).manager.settled → IsPrefix c.rest (reply_line (shape_in p) e) → ⊥) → ⊥ }
+{}
+
+/// No run keeps the promise that answers a line twice.
+pub fn lines_are_answered_once()
+    ensures { (p : Program) (r : Observed) (c : Course) (front between back : List Entry) (d e : Entry) → Keeps p r c
+        → c.entries ≡ front ++ (d ∷ (between ++ (e ∷ back))) → d.line ≡ e.line → ⊥ }
+{}
+
+/// No run keeps the promise that names a unit aborted whose record it added, or refused where some image has its record.
+pub fn aborted_units_have_no_record()
+    ensures lock { (p : Program) (r : Observed) (c : Course) (e : Entry) (l : Commit) (by : UnitNo) (grain : GrainId) → Keeps p r c
+        → Member e c.entries → e.what ≡ settled.Lock by grain → Member l c.added → l.logged.unit ≡ e.unit → ⊥ }
+    ensures doubt { (p : Program) (r : Observed) (c : Course) (e : Entry) (l : Commit) (image : Image) (log : List Commit) → Keeps p r c
+        → Member e c.entries → e.what ≡ settled.Disk → IsImage r.new.disk image → IsLog (shape_in p) image log → Member l log
+        → (Member l c.opening → ⊥) → l.logged.unit ≡ e.unit → ⊥ }
+{}
+
+/// No run keeps the promise that is left with a batch in doubt, and has no block of the records of its units behind the blocks
+/// of the log, as where other records stand there, or the block stands elsewhere.
+pub fn the_block_in_doubt_is_the_batchs()
+    ensures { (p : Program) (r : Observed) (c : Course) (image : Image) → Keeps p r c → HasDoubt (core_run p c) → IsImage r.new.disk image
+        → ((gate : ℕ) (batch : List Commit) (batches : List (List Commit)) → AreRecordsOf (chosen (core_end p c)) batch
+        → HasBlocks (map body_of batches) gate (image manager) → HasBlock gate batch image → ⊥) → ⊥ }
+{}
+
+/// No run keeps the promise that adds a record of a line that isn't there, or of a child for which its parent's play doesn't
+/// ask, or that begins a line with another call than it asks for.
+pub fn records_come_from_lines()
+    ensures line { (p : Program) (r : Observed) (c : Course) (l : Commit) (n : ℕ) → Keeps p r c
+        → Member l c.added → l.logged.origin ≡ Line n → length (lines r) < n → ⊥ }
+    ensures child { (p : Program) (r : Observed) (c : Course) (l parent : Commit) (index depth : ℕ) → Keeps p r c
+        → Member l c.added → Member parent c.added → l.logged.origin ≡ Child parent.logged.unit index depth
+        → ((states : States) → (played p.types states parent.logged).asked ≡ []) → ⊥ }
+    ensures call { (p : Program) (r : Observed) (c : Course) (at n : ℕ) (call other : Call) (plain : Bool) → Keeps p r c
+        → AppliesAt (core_run p c) at (event.Begin (Line n) call plain) → IsLineCall p.types (lines r) n other → call ≢ other → ⊥ }
+{}
+
+/// No run keeps the promise that replies with another outcome than the one-thread store gives at the record's place, or whose
+/// records stand in another order than the core's units finished.
+pub fn replies_are_serial()
+    ensures total { (p : Program) (r : Observed) (c : Course) (e : Entry) (l : Commit) (front back : List Commit) (outcome : Outcome) → Keeps p r c
+        → Member e c.entries → e.what ≡ settled.Done outcome → c.added ≡ front ++ (l ∷ back) → IsEntryOf e l → IsTransaction p.types l.logged.call
+        → (played p.types (states_after (opening_standing p c).states front) l.logged).result ≢ outcome → ⊥ }
+    ensures order { (p : Program) (r : Observed) (c : Course) (first : Effect) (later : List Effect) (l : Commit) (more : List Commit) → Keeps p r c
+        → committed (core_end p c) ≡ first ∷ later → c.added ≡ l ∷ more → l.logged.unit ≢ first.unit → ⊥ }
+{}
+
+/// No run keeps the promise that names a lock as the cause of an abort where the core refused the unit no lock, or blames a
+/// unit that isn't dead at any event, as one that died only afterwards.
+pub fn aborts_have_causes()
+    ensures lock { (p : Program) (r : Observed) (c : Course) (e : Entry) (by : UnitNo) (grain : GrainId) → Keeps p r c
+        → Member e c.entries → e.what ≡ settled.Lock by grain
+        → ((at : ℕ) (mode : Mode) → AppliesAt (core_run p c) at (event.Refuse e.unit grain mode) → ⊥) → ⊥ }
+    ensures dead { (p : Program) (r : Observed) (c : Course) (e : Entry) (on : UnitNo) → Keeps p r c
+        → Member e c.entries → e.what ≡ settled.Dependency on
+        → ((before later : List CoreEvent) (event : CoreEvent) → c.events ≡ before ++ (event ∷ later) → IsAlive (run (begins (core_run p c)) before) event on) → ⊥ }
+{}
+
+/// No run keeps the promise that ends with a fault of a grain's file, or as done after a doubt, or as done without having
+/// opened the folder; and none that read its input to the end may say that it hasn't opened the folder, as one that calls a
+/// grain file's fault a refusal would.
+pub fn endings_are_true()
+    ensures grain { (p : Program) (r : Observed) (c : Course) (slot : ℕ) (grain : GrainId) → Keeps p r c → r.ending ≡ ending.DiskFault (file.Grain slot grain) → ⊥ }
+    ensures doubt { (p : Program) (r : Observed) (c : Course) → Keeps p r c → HasDoubt (core_run p c) → r.ending ≡ ending.Done → ⊥ }
+    ensures unopened { (r : Observed) → IsUnopened r → r.ending ≡ ending.Done → ⊥ }
+    ensures read { (r : Observed) → IsUnopened r → r.old.input ≢ [] → r.new.input ≡ [] → ⊥ }
+{}
+
+/// Over any folder, sound or not: no run keeps the promise that calls a folder damaged at another place than the first one, or
+/// one that isn't damaged, or no silo what reads as one; that opens one that is damaged or no silo, that calls its words bad use,
+/// or that blames a grain's file for not seeing that the folder is no silo.
+pub fn refusals_are_true()
+    ensures place { (m : Manner) (r : Observed) (f : FileId) (place : ℕ) → Promises m r → r.ending ≡ ending.Damaged f place
+        → opened_as (seen_at_entry r) ≢ DamagedAt f place → ⊥ }
+    ensures sound { (m : Manner) (r : Observed) (p : Program) (f : FileId) (place : ℕ) → Promises m r → IsChecked p → IsSound p (seen_at_entry r)
+        → r.ending ≡ ending.Damaged f place → ⊥ }
+    ensures silo { (m : Manner) (r : Observed) → Promises m r → IsSilo magic (seen_at_entry r manager) → r.ending ≡ ending.NotASilo → ⊥ }
+    ensures opened { (m : Manner) (r : Observed) → Promises m r → (IsSilo magic (seen_at_entry r manager) → ⊥) → r.ending ≡ ending.Done → ⊥ }
+    ensures carried { (m : Manner) (r : Observed) (f : FileId) (place : ℕ) → Promises m r → opened_as (seen_at_entry r) ≡ DamagedAt f place
+        → r.new.input ≢ r.old.input → ⊥ }
+    ensures bad_use { (m : Manner) (r : Observed) → Promises m r → r.ending ≡ ending.BadUse → ⊥ }
+    ensures blamed { (m : Manner) (r : Observed) (slot : ℕ) (grain : GrainId) → Promises m r → (IsSilo magic (seen_at_entry r manager) → ⊥)
+        → r.ending ≡ ending.DiskFault (file.Grain slot grain) → ⊥ }
+{}
+
+/// No call keeps what the program promises that answers words that say nothing otherwise than as bad use, or that changes
+/// the host then; or that answers bad use to words that say a command.
+pub fn words_are_answered()
+    ensures other { (built : Command → Bool) (takes : Given → Bool) (words : List (List ℕ)) (r : Observed) → Serves built takes words r
+        → ((c : Command) → Understands built takes words c → ⊥) → r.ending ≢ ending.BadUse → ⊥ }
+    ensures changed { (built : Command → Bool) (takes : Given → Bool) (words : List (List ℕ)) (r : Observed) → Serves built takes words r
+        → ((c : Command) → Understands built takes words c → ⊥) → r.new ≢ r.old → ⊥ }
+    ensures said { (built : Command → Bool) (takes : Given → Bool) (words : List (List ℕ)) (r : Observed) (c : Command) → Serves built takes words r
+        → Understands built takes words c → r.ending ≡ ending.BadUse → ⊥ }
+{}
+
+/// No run keeps the promise in which anything begins before the input is read whole, or where it is too long, or couldn't be
+/// read; or that has an entry or a record where it couldn't be read or is too long.
+pub fn lines_begin_after_the_input()
+    ensures unread { (p : Program) (r : Observed) (c : Course) (at : ℕ) (e : CoreEvent) → Keeps p r c
+        → AppliesAt (core_run p c) at e → r.new.input ≢ [] → ⊥ }
+    ensures long { (p : Program) (r : Observed) (c : Course) (at : ℕ) (e : CoreEvent) → Keeps p r c
+        → AppliesAt (core_run p c) at e → ending.input_limit < length r.old.input → ⊥ }
+    ensures fault { (p : Program) (r : Observed) (c : Course) (at : ℕ) (e : CoreEvent) → Keeps p r c
+        → AppliesAt (core_run p c) at e → r.ending ≡ ending.ReadFault → ⊥ }
+    ensures entry { (p : Program) (r : Observed) (c : Course) (e : Entry) → Keeps p r c → (ending.IsBegun r.ending → ⊥) → Member e c.entries → ⊥ }
+    ensures record { (p : Program) (r : Observed) (c : Course) (l : Commit) → Keeps p r c → (ending.IsBegun r.ending → ⊥) → Member l c.added → ⊥ }
+{}
+
+/// No report of a folder prints the text of another log than the one that it reads as, or may leave what couldn't stand there
+/// before.
+pub fn reports_tell_the_folder()
+    ensures text { (text : Program → List Commit → List ℕ) (r : Observed) (p : Program) (log : List Commit) → Reports text r → r.ending ≡ ending.Done
+        → IsChecked p → HasProgram p.text (seen_at_entry r program_file) → IsLog (shape_in p) (seen_at_entry r) log
+        → r.new.output ≢ r.old.output ++ text p log → ⊥ }
+    ensures changed { (text : Program → List Commit → List ℕ) (r : Observed) (image : Image) → Reports text r
+        → IsImage r.new.disk image → (IsImage r.old.disk image → ⊥) → ⊥ }
+{}
+
+/// No `init` makes a silo of another program than its input, or of a text that is no program, or in place of a silo; refuses a
+/// checked program, or names another fault than the first; or may leave a silo of another program at a moment after its first sync.
+pub fn inits_make_their_input()
+    ensures program { (r : Observed) (image : Image) → MakesSilo r → r.ending ≡ ending.Done → IsImage r.new.disk image
+        → (HasProgram r.old.input (image program_file) → ⊥) → ⊥ }
+    ensures text { (r : Observed) (fault : ProgramFault) → MakesSilo r → r.ending ≡ ending.Done → program_in r.old.input ≡ Err fault → ⊥ }
+    ensures again { (r : Observed) → MakesSilo r → r.ending ≡ ending.Done → IsSilo magic (seen_at_entry r manager) → ⊥ }
+    ensures refused { (r : Observed) (p : Program) (fault : ProgramFault) → MakesSilo r → IsChecked p → r.old.input ≡ p.text
+        → r.ending ≡ ending.BadProgram fault → ⊥ }
+    ensures fault { (r : Observed) (fault other : ProgramFault) → MakesSilo r → program_in r.old.input ≡ Err fault
+        → r.ending ≡ ending.BadProgram other → fault ≢ other → ⊥ }
+    ensures empty { (r : Observed) → MakesSilo r → r.ending ≡ ending.AlreadyASilo → (IsSilo magic (seen_at_entry r manager) → ⊥) → ⊥ }
+{}
+
+/// No load keeps what is promised of it that is done and prints anything but its summary, that prints where memory was
+/// wanting, or that is done after a doubt.
+pub fn loads_tell_their_summary()
+    ensures text { (p : Program) (n seed : ℕ) (r : Observed) (c : Course) → KeepsLoad p n seed r c → r.ending ≡ ending.Done
+        → r.new.output ≢ r.old.output ++ summary_text p r c → ⊥ }
+    ensures early { (p : Program) (n seed : ℕ) (r : Observed) (c : Course) → KeepsLoad p n seed r c → r.ending ≡ ending.Memory
+        → r.new.output ≢ r.old.output → ⊥ }
+    ensures doubt { (p : Program) (n seed : ℕ) (r : Observed) (c : Course) → KeepsLoad p n seed r c → HasDoubt (core_run p c)
+        → r.ending ≡ ending.Done → ⊥ }
+{}
+
+/// A manager file with a block of 65 records has no log.
+pub fn batches_are_small()
+    ensures { (shape : Shape) (image : Image) (records : List CommitRecord) (gate : ℕ) (log : List Commit) → length records ≡ 65
+        → LogsUpTo (spelling_of_body records ∷ []) gate (image manager) → IsLog shape image log → ⊥ }
+{}

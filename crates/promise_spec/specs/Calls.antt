@@ -1,0 +1,35 @@
+-- What a call of the whole program promises, by its words.
+use Rattle.std.specs.Prelude.{◌≡◌, ℕ, Bool, true, List}
+use Rattle.host_trait.specs.Faults.{NoneFailed}
+use Rattle.promise_spec.specs.Words.{Given, Command, Init, Run, Show, History, Audit, Load, Say}
+use Rattle.promise_spec.specs.Endings.{BadUse}
+use Rattle.promise_spec.specs.Courses.{Observed}
+use Rattle.promise_spec.specs.Promise.{Promises}
+use Rattle.promise_spec.specs.Reports.{show_text, history_text}
+use Rattle.promise_spec.specs.Commands.{MakesSilo, Reports, Audits}
+use Rattle.promise_spec.specs.Loads.{Loads}
+
+-- what each command promises
+abbrev pub Obeys : Command → Observed → Type 0
+Obeys Init r = MakesSilo r
+Obeys (Run m) r = Promises m r
+Obeys Show r = Reports show_text r
+Obeys History r = Reports history_text r
+Obeys Audit r = Audits r
+Obeys (Load n seed m) r = Loads n seed m r
+
+-- nothing was done: the host is as it was
+pub record IsBadUse (r : Observed) : Type 0 where
+  pub ending : r.ending ≡ BadUse
+  pub unused : r.new ≡ r.old
+  pub calm : NoneFailed r.faults_before r.faults_after
+
+-- the words say a command that is built, with options that are built
+abbrev pub Understands : (Command → Bool) → (Given → Bool) → List (List ℕ) → Command → Type 0
+Understands built takes words c = Say takes words c × (built c ≡ true)
+
+-- What the program promises, of which these commands and options are built: words that say one of them are obeyed, and all
+-- others are bad use.
+pub record Serves (built : Command → Bool) (takes : Given → Bool) (words : List (List ℕ)) (r : Observed) : Type 0 where
+  pub obeys : (c : Command) → Understands built takes words c → Obeys c r
+  pub refuses : ((c : Command) → Understands built takes words c → ⊥) → IsBadUse r

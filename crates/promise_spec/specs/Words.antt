@@ -1,0 +1,143 @@
+-- The words of a command, after the folder.
+use Rattle.std.specs.Prelude.{◌≡◌, ◌≢◌, ℕ, ◌<◌, ◌≤◌, ◌^◌, Bool, true, false, ◌||◌, List, [], ◌∷◌, ◌++◌, length, codes, ⊤}
+use Rattle.std.specs.List.{flat_map, list_any, list_all, AllByRecursion}
+use Rattle.std.specs.Fmt.{decimal}
+
+-- ---- options
+
+-- An option with its value: how many lines may be in flight, whose turn it is in turn, or how many workers there are.
+pub data Choice : Type 0 where
+  Width : ℕ → Choice
+  Turns : List ℕ → Choice
+  Workers : ℕ → Choice
+
+-- whether an option and its value are two words, or one with an equals sign between them
+pub data Form : Type 0 where
+  Apart : Form
+  Joined : Form
+
+-- an option as it is given
+pub record Given : Type 0 where
+  pub what : Choice
+  pub form : Form
+
+-- an option's name
+abbrev pub name_of : Choice → List ℕ
+name_of (Width n) = codes "--width"
+name_of (Turns picks) = codes "--turns"
+name_of (Workers n) = codes "--workers"
+
+-- numbers with a comma between them
+abbrev pub list_text : List ℕ → List ℕ
+list_text [] = []
+list_text (n ∷ []) = decimal n
+list_text (n ∷ m ∷ more) = decimal n ++ (44 ∷ list_text (m ∷ more))
+
+-- a value as text: a number is `0`, or its digits without a leading zero
+abbrev pub value_text : Choice → List ℕ
+value_text (Width n) = decimal n
+value_text (Turns picks) = list_text picks
+value_text (Workers n) = decimal n
+
+-- the words of an option
+abbrev pub words_in : Form → List ℕ → List ℕ → List (List ℕ)
+words_in Apart name value = name ∷ value ∷ []
+words_in Joined name value = (name ++ (61 ∷ value)) ∷ []
+
+abbrev pub words_of : Given → List (List ℕ)
+words_of g = words_in g.form (name_of g.what) (value_text g.what)
+
+-- the words of options one after another
+abbrev pub words_of_all : List Given → List (List ℕ)
+words_of_all options = flat_map words_of options
+
+-- what values an option takes: a width from 1 to 64, from 1 to 4,096 picks below 2 to the 32, and from 1 to 16 workers
+abbrev pub IsWithin : Choice → Type 0
+IsWithin (Width n) = (1 ≤ n) × (n ≤ 64)
+IsWithin (Turns picks) = (1 ≤ length picks) × (length picks ≤ 4096) × AllByRecursion (λ n. n < 2 ^ 32) picks
+IsWithin (Workers n) = (1 ≤ n) × (n ≤ 16)
+
+-- each option at most once
+abbrev pub DifferInName : List Given → Type 0
+DifferInName [] = ⊤
+DifferInName (g ∷ options) = AllByRecursion (λ h. name_of h.what ≢ name_of g.what) options × DifferInName options
+
+-- ---- what they choose
+
+-- how a run is to be carried: with workers or on one thread, how many lines may be in flight there, and the picks
+pub record Manner : Type 0 where
+  pub threaded : Bool
+  pub width : ℕ
+  pub picks : List ℕ
+
+-- the manner with an option more; without options it is one thread, width 1 and no picks
+abbrev pub plain_manner : Manner
+plain_manner = record { threaded = false; width = 1; picks = [] }
+
+abbrev pub with_choice : Choice → Manner → Manner
+with_choice (Width n) m = record m { width = n }
+with_choice (Turns picks) m = record m { picks = picks }
+with_choice (Workers n) m = record m { threaded = true }
+
+abbrev pub manner_of : List Given → Manner
+manner_of [] = plain_manner
+manner_of (g ∷ options) = with_choice g.what (manner_of options)
+
+abbrev pub is_workers : Choice → Bool
+is_workers (Width n) = false
+is_workers (Turns picks) = false
+is_workers (Workers n) = true
+
+-- Options that may stand together: each is one that is taken, with a value that it takes, at most once, and workers
+-- stand beside no other.
+pub record AreOptions (takes : Given → Bool) (options : List Given) : Type 0 where
+  pub taken : list_all takes options ≡ true
+  pub within : AllByRecursion (λ g. IsWithin g.what) options
+  pub once : DifferInName options
+  pub alone : list_any (λ g. is_workers g.what) options ≡ true → length options ≡ 1
+
+-- ---- commands
+
+-- the words are those of `run`, carried in this manner
+pub record SpellsRun (takes : Given → Bool) (words : List (List ℕ)) (m : Manner) : Type 0 where
+  pub options : List Given
+  pub are : AreOptions takes options
+  pub words_are : words ≡ codes "run" ∷ words_of_all options
+  pub manner : m ≡ manner_of options
+
+-- no picks are given
+abbrev pub IsNoTurns : Choice → Type 0
+IsNoTurns (Width n) = ⊤
+IsNoTurns (Turns picks) = ⊥
+IsNoTurns (Workers n) = ⊤
+
+-- the words are those of `load` for so many transfers drawn from this seed; its options may stand before, between and
+-- behind the two numbers
+pub record SpellsLoad (takes : Given → Bool) (words : List (List ℕ)) (n seed : ℕ) (m : Manner) : Type 0 where
+  pub before : List Given
+  pub between : List Given
+  pub behind : List Given
+  pub are : AreOptions takes (before ++ (between ++ behind))
+  pub no_turns : AllByRecursion (λ g. IsNoTurns g.what) (before ++ (between ++ behind))
+  pub many : (1 ≤ n) × (n ≤ 100000)
+  pub small : seed < 2 ^ 64
+  pub words_are : words ≡ codes "load" ∷ (words_of_all before ++ (decimal n ∷ (words_of_all between ++ (decimal seed ∷ words_of_all behind))))
+  pub manner : m ≡ manner_of (before ++ (between ++ behind))
+
+-- what a silo is asked to do
+pub data Command : Type 0 where
+  Init : Command
+  Run : Manner → Command
+  Show : Command
+  History : Command
+  Audit : Command
+  Load : ℕ → ℕ → Manner → Command
+
+-- The words say this command. Those that only read, and `init`, are one word.
+abbrev pub Say : (Given → Bool) → List (List ℕ) → Command → Type 0
+Say takes words Init = words ≡ codes "init" ∷ []
+Say takes words (Run m) = SpellsRun takes words m
+Say takes words Show = words ≡ codes "show" ∷ []
+Say takes words History = words ≡ codes "history" ∷ []
+Say takes words Audit = words ≡ codes "audit" ∷ []
+Say takes words (Load n seed m) = SpellsLoad takes words n seed m
