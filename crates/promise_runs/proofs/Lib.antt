@@ -9,3 +9,4 @@ pub mod Transfer
 pub mod Load
 pub mod Emitting
 pub mod WrongRuns
+pub mod WrongAnswers

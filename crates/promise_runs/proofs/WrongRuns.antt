@@ -38,7 +38,7 @@ use Rattle.request_wire.specs.Request.{call_of}
 use Rattle.request_wire.specs.Reply.{reply_line}
 use Rattle.script_tree.specs.Programs.{ProgramTree}
 use Rattle.script_meaning.specs.Play.{IsTransaction}
-use Rattle.silo_spec.specs.Silos.{manager, program_file, IsSilo, HasProgram}
+use Rattle.silo_spec.specs.Silos.{manager, IsSilo}
 use Rattle.promise_spec.specs.Programs.{Program, shape_in}
 use Rattle.promise_spec.specs.Records.{Commit, Standing, States, after_writes, AreRecordsOf}
 use Rattle.promise_spec.specs.Serial.{IsSerial, played}
@@ -55,8 +55,7 @@ use Rattle.promise_spec.specs.Replies.{IsEntryOf, IsTrueOf, HasNoRecord}
 use Rattle.promise_spec.specs.Crashes.{Acknowledges, IsAside}
 use Rattle.promise_spec.specs.Explained.{AreAdded}
 use Rattle.promise_spec.specs.Exits.{HasBlock}
-use Rattle.promise_spec.specs.Promise.{Keeps, IsUnopened, HasReadAll}
-use Rattle.promise_spec.specs.Commands.{MakesSilo, IsReported}
+use Rattle.promise_spec.specs.Promise.{Keeps, HasReadAll}
 use Rattle.promise_spec.proofs.Lists.{head_of, none_is, none_at, some_is, each_of, in_append, either_in, get_seam, member_at}
 use Rattle.promise_runs.proofs.Emitting.{emitted_before, nothing_unwritten}
 use Rattle.promise_spec.proofs.OneLog.{one_log}
@@ -109,28 +108,6 @@ many (batch ∷ batches) records sizes long same =
 pub too_many : (shape : Shape) (image : Image) (records : List CommitRecord) (gate : ℕ) (log : List Commit) → length records ≡ 65 → LogsUpTo (spelling_of_body records ∷ []) gate (image manager) → IsLog shape image log → ⊥
 too_many shape image records gate log long blocks_are is =
     many is.batches records is.sizes long (blocks.one_log (map body_of is.batches) (spelling_of_body records ∷ []) is.gate gate (image manager) is.blocks blocks_are).0
-
-pub not_opened : (p : Program) (r : Observed) → IsUnopened p r → r.ending ≡ ending.Done → ⊥
-not_opened p r unopened is = subst ending.IsRefusal is unopened.refused
-
-pub read_unopened : (p : Program) (r : Observed) → IsUnopened p r → r.old.input ≢ [] → r.new.input ≡ [] → ⊥
-read_unopened p r unopened some all = some (sym unopened.unread ∙ all)
-
-pub damaged_no_silo : (p : Program) (r : Observed) (f : FileId) (place : ℕ) → IsUnopened p r → r.ending ≡ ending.Damaged f place → (IsSilo magic (seen_at_entry r manager) → ⊥) → ⊥
-damaged_no_silo p r f place unopened is none = none (unopened.damaged f place is).0
-
-pub another_text : (p : Program) (text : List Commit → List ℕ) (r : Observed) (log : List Commit) → IsReported p text r → r.ending ≡ ending.Done → IsLog (shape_in p) (seen_at_entry r) log → r.new.output ≢ r.old.output ++ text log → ⊥
-another_text p text r log reported done is differ =
-    let same : reported.log ≡ log = one_log (shape_in p) (seen_at_entry r) reported.log log reported.is is in
-    differ (reported.prints.output ∙ ap (λ (l : List ℕ). r.old.output ++ l) (reported.prints.whole done ∙ ap text same))
-
-pub changed_by_report : (p : Program) (text : List Commit → List ℕ) (r : Observed) (image : Image) → IsReported p text r → IsImage r.new.disk image → (IsImage r.old.disk image → ⊥) → ⊥
-changed_by_report p text r image reported left new = new (reported.now image left)
-
-pub another_program : (r : Observed) (image : Image) → MakesSilo r → r.ending ≡ ending.Done → IsImage r.new.disk image → (HasProgram r.old.input (image program_file) → ⊥) → ⊥
-another_program r image makes done left other =
-    let made = makes.made done in
-    other (subst (λ (text : List ℕ). HasProgram text (image program_file)) made.1.given (made.1.new image left).program)
 
 -- without events no record is added
 nothing_added : (types : ProgramTree) (standing : Standing) (added : List Commit) → AreAdded (ends (core_from types standing [])) added → (l : Commit) → Member l added → ⊥

@@ -175,12 +175,17 @@ pub record HasMade (r : Observed) (made : World) : Type 0 where
   pub makes : FromFirstSync (IsNewAt magic bank_text) r.old made
   pub new : (image : Image) → IsImage made.disk image → IsNewSilo magic bank_text image
 
--- What `load` promises: it makes no silo, or makes one and, from then on, takes a course that keeps all this.
+-- It made one and, from then on, took a course that keeps all this of the bank program.
 pub record LoadsFrom (n seed : ℕ) (r : Observed) : Type 0 where
   pub made : World
   pub has : HasMade r made
-  pub carried : (p : Program) → IsChecked p → p.text ≡ bank_text → (c : Course) × KeepsLoad p n seed (record r { old = made }) c
+  pub program : Program
+  pub checked : IsChecked program
+  pub text : program.text ≡ bank_text
+  pub course : Course
+  pub keeps : KeepsLoad program n seed (record r { old = made }) course
 
+-- What `load` promises, carried in the manner of its words: it makes no silo, or makes one and carries its lines in it.
 pub record Loads (n seed : ℕ) (m : Manner) (r : Observed) : Type 0 where
   pub manner : r.manner ≡ m
   pub answers : IsUnmade r ⊎ LoadsFrom n seed r

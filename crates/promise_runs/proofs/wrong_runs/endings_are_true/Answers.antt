@@ -1,4 +1,5 @@
-use Rattle.promise_runs.proofs.WrongRuns.{grain_fault, done_in_doubt, not_opened, read_unopened, damaged_no_silo}
+use Rattle.promise_runs.proofs.WrongRuns.{grain_fault, done_in_doubt}
+use Rattle.promise_runs.proofs.WrongAnswers.{not_opened, read_unopened}
 use Rattle.promise_runs.proofs.wrong_runs.endings_are_true.Goals as goal
 
 pub returns-clause-grain : goal.returns-clause-grain
@@ -12,6 +13,3 @@ returns-clause-unopened c = not_opened
 
 pub returns-clause-read : goal.returns-clause-read
 returns-clause-read c = read_unopened
-
-pub returns-clause-damaged : goal.returns-clause-damaged
-returns-clause-damaged c = damaged_no_silo

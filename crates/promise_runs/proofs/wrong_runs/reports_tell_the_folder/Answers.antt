@@ -1,4 +1,4 @@
-use Rattle.promise_runs.proofs.WrongRuns.{another_text, changed_by_report, another_program}
+use Rattle.promise_runs.proofs.WrongAnswers.{another_text, changed_by_report}
 use Rattle.promise_runs.proofs.wrong_runs.reports_tell_the_folder.Goals as goal
 
 pub returns-clause-text : goal.returns-clause-text
@@ -6,6 +6,3 @@ returns-clause-text c = another_text
 
 pub returns-clause-changed : goal.returns-clause-changed
 returns-clause-changed c = changed_by_report
-
-pub returns-clause-program : goal.returns-clause-program
-returns-clause-program c = another_program

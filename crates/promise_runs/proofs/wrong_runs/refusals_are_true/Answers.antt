@@ -1,0 +1,23 @@
+use Rattle.promise_runs.proofs.WrongAnswers.{another_place, sound_damaged, silo_called_none, none_opened, damaged_carried, no_bad_use, grain_blamed}
+use Rattle.promise_runs.proofs.wrong_runs.refusals_are_true.Goals as goal
+
+pub returns-clause-place : goal.returns-clause-place
+returns-clause-place c = another_place
+
+pub returns-clause-sound : goal.returns-clause-sound
+returns-clause-sound c = sound_damaged
+
+pub returns-clause-silo : goal.returns-clause-silo
+returns-clause-silo c = silo_called_none
+
+pub returns-clause-opened : goal.returns-clause-opened
+returns-clause-opened c = none_opened
+
+pub returns-clause-carried : goal.returns-clause-carried
+returns-clause-carried c = damaged_carried
+
+pub returns-clause-bad_use : goal.returns-clause-bad_use
+returns-clause-bad_use c = no_bad_use
+
+pub returns-clause-blamed : goal.returns-clause-blamed
+returns-clause-blamed c = grain_blamed
