@@ -18,7 +18,7 @@ use Rattle.promise_spec.specs.Refusals.{IsRefusedBy, MustBeRead, IsUnopened, Has
 use Rattle.promise_spec.specs.Reports.{show_text, history_text}
 use Rattle.promise_spec.specs.Promise.{Promises}
 use Rattle.promise_spec.specs.Commands.{MakesAs, MakesSilo, MayCut, IsReported, Reports, Audits}
-use Rattle.promise_spec.specs.Loads.{IsUnmadeBy, IsUnmade, LoadsFrom, Loads}
+use Rattle.promise_spec.specs.Loads.{IsUnmadeBy, from_there, Loads}
 use Rattle.promise_spec.specs.Calls.{Understands, Obeys, Serves}
 use Rattle.promise_spec.proofs.Openings.{log_is_read, no_silo_is_read, sound_is_read}
 
@@ -158,7 +158,10 @@ unaudited r (inr audited) is = reported_bad _ r audited.report is
 unloaded : (n seed : ℕ) (m : Manner) (r : Observed) → Loads n seed m r → r.ending ≡ ending.BadUse → ⊥
 unloaded n seed m r loads is = elim loads.answers [
   | inl unmade ↦ subst (λ (e : ending.Ending). IsUnmadeBy e r) is unmade.ended
-  | inr from ↦ subst ending.IsBegun is from.keeps.ended.carried
+  | inr from ↦ elim from.carried [
+    | inl unopened ↦ unopened_bad (from_there r from.made) unopened is
+    | inr course ↦ subst ending.IsBegun is course.1.ended.carried
+  ]
 ]
 
 -- no command that is obeyed answers bad use

@@ -30,7 +30,7 @@ use Rattle.promise_spec.specs.Explained.{IsExplained}
 use Rattle.promise_spec.specs.Promise.{IsAnswered, GoesThrough, HasNoChild, IsNoLock}
 use Rattle.promise_spec.specs.Reports.{line_of}
 use Rattle.promise_spec.specs.Words.{Manner}
-use Rattle.promise_spec.specs.Refusals.{IsHead}
+use Rattle.promise_spec.specs.Refusals.{IsHead, IsUnopened}
 use Rattle.promise_spec.specs.Commands.{Prints, WasSilo, StaysSilo}
 
 -- ---- what is asked
@@ -175,15 +175,18 @@ pub record HasMade (r : Observed) (made : World) : Type 0 where
   pub makes : FromFirstSync (IsNewAt magic bank_text) r.old made
   pub new : (image : Image) → IsImage made.disk image → IsNewSilo magic bank_text image
 
--- It made one and, from then on, took a course that keeps all this of the bank program.
+-- what is left of a load from where its silo is made
+abbrev pub from_there : Observed → World → Observed
+from_there r made = record r { old = made }
+
+-- It made one, and from then on didn't open it, or took a course that keeps all this of the bank program.
 pub record LoadsFrom (n seed : ℕ) (r : Observed) : Type 0 where
   pub made : World
   pub has : HasMade r made
   pub program : Program
   pub checked : IsChecked program
   pub text : program.text ≡ bank_text
-  pub course : Course
-  pub keeps : KeepsLoad program n seed (record r { old = made }) course
+  pub carried : IsUnopened (from_there r made) ⊎ ((c : Course) × KeepsLoad program n seed (from_there r made) c)
 
 -- What `load` promises, carried in the manner of its words: it makes no silo, or makes one and carries its lines in it.
 pub record Loads (n seed : ℕ) (m : Manner) (r : Observed) : Type 0 where
