@@ -3,3 +3,4 @@ pub mod OneLog
 pub mod Journaled
 pub mod EntryLines
 pub mod PlainNames
+pub mod ReadBlocks

@@ -1,7 +1,7 @@
 -- Members, parts and places of lists.
 use Rattle.std.proofs.Common.{◌≡◌, ◌⊎◌, inl, inr, ℕ, zero, suc, List, [], ◌∷◌, ◌++◌, length, Some, refl, sym, subst}
 use Rattle.std.specs.Prelude.{slice_get}
-use Rattle.std.specs.List.{AllByRecursion}
+use Rattle.std.specs.List.{flat_map, AllByRecursion}
 use Rattle.core_model.specs.World.{Member}
 use Rattle.promise_spec.specs.Logs.{IsPrefix}
 
@@ -64,3 +64,24 @@ pub member_at : {A : Type 0} (i : ℕ) (x : A) (xs : List A) → slice_get xs i 
 member_at i x [] there = none_at i x there
 member_at zero x (y ∷ xs) there = inl (sym (some_is y x there))
 member_at (suc i) x (y ∷ xs) there = inr (member_at i x xs there)
+
+-- what holds of all of each of two lists holds of all of both
+pub both_parts : {A : Type 0} (P : A → Type 0) (xs ys : List A) → AllByRecursion P xs → AllByRecursion P ys → AllByRecursion P (xs ++ ys)
+both_parts P [] ys first all = all
+both_parts P (x ∷ xs) ys first all = (first.0, both_parts P xs ys first.1 all)
+
+-- what holds of each member holds of all
+pub all_of : {A : Type 0} (P : A → Type 0) (xs : List A) → ((x : A) → Member x xs → P x) → AllByRecursion P xs
+all_of P [] each = tt
+all_of P (x ∷ xs) each = (each x (inl refl), all_of P xs (λ y there. each y (inr there)))
+
+-- what is in the list of one member is in that of all
+pub in_flat : {A B : Type 0} (f : A → List B) (g : A) (x : B) (gs : List A) → Member g gs → Member x (f g) → Member x (flat_map f gs)
+in_flat f g x [] none there = absurd none
+in_flat f g x (h ∷ gs) (inl same) there = in_append x (f h) (flat_map f gs) (inl (subst (λ a. Member x (f a)) same there))
+in_flat f g x (h ∷ gs) (inr later) there = in_append x (f h) (flat_map f gs) (inr (in_flat f g x gs later there))
+
+-- what holds of all in the list of each holds of all in that of all
+pub all_flat : {A B : Type 0} (P : B → Type 0) (f : A → List B) (gs : List A) → ((g : A) → AllByRecursion P (f g)) → AllByRecursion P (flat_map f gs)
+all_flat P f [] each = tt
+all_flat P f (g ∷ gs) each = both_parts P (f g) (flat_map f gs) (each g) (all_flat P f gs each)
