@@ -4,3 +4,4 @@ pub mod Journaled
 pub mod EntryLines
 pub mod PlainNames
 pub mod ReadBlocks
+pub mod ReadVersions

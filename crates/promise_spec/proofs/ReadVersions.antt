@@ -1,0 +1,229 @@
+-- The versions that the records of a log name, from what is read and back.
+use Rattle.std.proofs.Common.{◌≡◌, inl, inr, ℕ, ◌-◌, ◌^◌, ◌<◌, ◌≤◌, nat_lt, Bool, true, false, if◌then◌else◌, Option, Some, None, List, [], ◌∷◌, ◌++◌, length, map, filter, take, drop, bytes_eq, Result, Ok, Err, refl, sym, ◌∙◌, ap, subst, arith, length-append, slice_get}
+use Rattle.std.proofs.lemmas.Bool.{cond_both, ltb-false, or_parts}
+use Rattle.std.proofs.lemmas.List.{take-take, take_at}
+use Rattle.std.proofs.lemmas.Slice.Eq.{bytes_eq-Decides}
+use Rattle.std.specs.Int.{w64, to_le_bytes, from_le_bytes}
+use Rattle.std.specs.List.{flat_map, AllByRecursion}
+use Rattle.base_types.specs.declared.calls.GrainId.{GrainId}
+use Rattle.base_types.specs.declared.calls.UnitNo.{UnitNo}
+use Rattle.base_types.specs.declared.calls.Value.{Value}
+use Rattle.base_types.specs.declared.shapes.Shape.{Shape}
+use Rattle.base_types.specs.declared.stores.Place.{Place}
+use Rattle.base_types.specs.declared.stores.Version.{Version}
+use Rattle.host_trait.specs.declared.channels.FileId.{FileId}
+use Rattle.host_trait.specs.declared.channels.FileId.TheVariants.{Grain}
+use Rattle.host_trait.specs.World.{Image}
+use Rattle.field_codec.specs.Spelling.{spelling_of_values, spelling_of_version}
+use Rattle.field_codec.specs.Reading.{AreBytes}
+use Rattle.field_codec.specs.declared.units.Numbers.TheVariants.{Logged}
+use Rattle.field_codec.proofs.Counts.{wide64, AreBytes-cut}
+use Rattle.field_codec.proofs.Readers.{past}
+use Rattle.grain_log.specs.declared.faults.VersionFault.{VersionFault}
+use Rattle.grain_log.specs.declared.faults.VersionFault.TheVariants.{Damaged}
+use Rattle.grain_log.specs.Places.{IsVersionAt}
+use Rattle.grain_log.specs.Reads.{fields_of, is_beyond, text_in, version_at_place, GivesVersion}
+use Rattle.grain_log.proofs.Versions.{found_when, only_at}
+use Rattle.commit_log.specs.declared.records.CommitRecord.{CommitRecord}
+use Rattle.commit_log.specs.declared.records.Written.{Written}
+use Rattle.commit_log.specs.Bodies.{IsRecordIn}
+use Rattle.core_model.specs.World.{Member}
+use Rattle.core_model.specs.Tests.{is_before}
+use Rattle.cell_model.specs.Units as cell
+use Rattle.cell_model.proofs.Units.{same_grain-true, same_grain-is, filter-stays}
+use Rattle.script_holding.specs.Holding.{same_grain}
+use Rattle.promise_spec.specs.Records.{Commit, with_grain, ascending}
+use Rattle.promise_spec.specs.Logs.{Stands, AllStand, IsKept}
+use Rattle.promise_spec.specs.Openings.{Named, named_by, by_grain, is_owned, version_named, missing_or, first_missing, state_of, commit_of}
+use Rattle.promise_spec.proofs.Lists.{parts_of, both_parts, each_of, all_of, in_flat, all_flat}
+
+-- ---- grains in ascending order
+
+with_by : (g x : GrainId) (h : GrainId) (hs : List GrainId) (same before : Bool) → same_grain g h ≡ same → (Member x (g ∷ hs) → Member x (with_grain g hs)) → Member x (g ∷ h ∷ hs)
+    → Member x (if same then h ∷ hs else (if before then g ∷ h ∷ hs else h ∷ with_grain g hs))
+with_by g x h hs true before is on (inl here) = inl (here ∙ same_grain-true g h is)
+with_by g x h hs true before is on (inr there) = there
+with_by g x h hs false true is on there = there
+with_by g x h hs false false is on (inl here) = inr (on (inl here))
+with_by g x h hs false false is on (inr (inl here)) = inl here
+with_by g x h hs false false is on (inr (inr there)) = inr (on (inr there))
+
+-- one more grain leaves out none
+in_with : (g x : GrainId) (hs : List GrainId) → Member x (g ∷ hs) → Member x (with_grain g hs)
+in_with g x [] there = there
+in_with g x (h ∷ hs) there = with_by g x h hs (same_grain g h) (is_before g h) refl (λ m. in_with g x hs m) there
+
+in_ascending : (x : GrainId) (gs : List GrainId) → Member x gs → Member x (ascending gs)
+in_ascending x [] none = absurd none
+in_ascending x (g ∷ gs) (inl here) = in_with g x (ascending gs) (inl here)
+in_ascending x (g ∷ gs) (inr there) = in_with g x (ascending gs) (inr (in_ascending x gs there))
+
+-- ---- named versions in the order of their grains
+
+in_map : {A B : Type 0} (f : A → B) (x : A) (xs : List A) → Member x xs → Member (f x) (map f xs)
+in_map f x [] none = absurd none
+in_map f x (y ∷ xs) (inl here) = inl (ap f here)
+in_map f x (y ∷ xs) (inr there) = inr (in_map f x xs there)
+
+all_kept : {A : Type 0} (P : A → Type 0) (test : A → Bool) (xs : List A) → AllByRecursion P xs → AllByRecursion P (filter test xs)
+all_kept P test [] all = tt
+all_kept P test (x ∷ xs) all = let more = all_kept P test xs all.1 in cond_both (test x) (x ∷ filter test xs) (filter test xs) (AllByRecursion P) (λ is. (all.0, more)) (λ other. more)
+
+-- by grains there are the same versions
+in_order : (n : Named) (named : List Named) → Member n named → Member n (by_grain named)
+in_order n named there =
+    let grain : Member n.written.grain (ascending (map (λ (m : Named). m.written.grain) named)) = in_ascending n.written.grain (map (λ (m : Named). m.written.grain) named) (in_map (λ (m : Named). m.written.grain) n named there) in
+    let kept : Member n (filter (λ (m : Named). cell.same_grain m.written.grain n.written.grain) named) =
+    filter-stays (λ (m : Named). cell.same_grain m.written.grain n.written.grain) named n there (same_grain-is n.written.grain n.written.grain refl) in
+    in_flat (λ (g : GrainId). filter (λ (m : Named). cell.same_grain m.written.grain g) named) n.written.grain n (ascending (map (λ (m : Named). m.written.grain) named)) grain kept
+
+pub all_in_order : (P : Named → Type 0) (named : List Named) → AllByRecursion P named → AllByRecursion P (by_grain named)
+all_in_order P named all =
+    all_flat P (λ (g : GrainId). filter (λ (m : Named). cell.same_grain m.written.grain g) named) (ascending (map (λ (m : Named). m.written.grain) named)) (λ g. all_kept P (λ (m : Named). cell.same_grain m.written.grain g) named all)
+
+pub all_of_order : (P : Named → Type 0) (named : List Named) → AllByRecursion P (by_grain named) → AllByRecursion P named
+all_of_order P named all = all_of P named (λ n there. each_of P (by_grain named) n all (in_order n named there))
+
+-- ---- one version
+
+-- a test that passed
+passed : {A D : Type 0} (b : Bool) (d : D) (r : Result A D) (y : A) → (if b then r else Err d) ≡ Ok y → (b ≡ true) × (r ≡ Ok y)
+passed true d r y e = (refl, e)
+passed false d r y e = absurd cc
+
+-- what is found, as the answer of a call that neither failed nor ran out of memory
+as_answer : Result Version ℕ → Result Version VersionFault
+as_answer (Ok v) = Ok v
+as_answer (Err place) = Err (Damaged place)
+
+answer_gives : (r : Result Version ℕ) → GivesVersion (as_answer r) r
+unfolding as_answer
+answer_gives (Ok v) = refl
+answer_gives (Err place) = refl
+
+gives_answer : (r : Result Version ℕ) (v : Version) → GivesVersion (as_answer r) (Ok v) → r ≡ Ok v
+unfolding as_answer
+gives_answer (Ok w) v e = sym e
+gives_answer (Err place) v e = absurd cc
+
+-- the version's spelling begins with its unit's number
+first_eight : (len : ℕ) (file : List ℕ) (v : Version) → take len file ≡ spelling_of_version v → len ≡ length (spelling_of_version v) → take 8 file ≡ to_le_bytes w64 v.unit.0
+first_eight len file v here size =
+    let low : 8 ≤ len = omega (arith, size, length-append (to_le_bytes w64 v.unit.0) (spelling_of_values v.state), wide64.len v.unit.0) in
+    sym (take-take 8 len file low) ∙ ap (λ (l : List ℕ). take 8 l) here ∙ take_at (to_le_bytes w64 v.unit.0) (spelling_of_values v.state) 8 (wide64.len v.unit.0)
+
+-- two numbers of units with one spelling are one
+units_same : (m n : ℕ) → m < 2 ^ 64 → n < 2 ^ 64 → to_le_bytes w64 m ≡ to_le_bytes w64 n → m ≡ n
+units_same m n low also e = sym (wide64.again m low) ∙ ap (from_le_bytes w64) e ∙ wide64.again n also
+
+module _ (shape : Shape) (image : Image) where
+  -- the version that is named is there
+  abbrev pub IsThere : Named → Type 0
+  IsThere n = (v : Version) × (version_named shape image n ≡ Ok v)
+
+  module _ (unit : UnitNo) (w : Written) where
+    abbrev pub named_as : Named
+    named_as = record { unit = unit; written = w }
+
+    near_by : (o : Option ℕ) (v : Version) → version_at_place o w.place (image (Grain 0 w.grain)) ≡ Ok v → w.place.offset < 2 ^ 63
+    near_by None v e = absurd cc
+    near_by (Some count) v e =
+        let one = past (is_beyond w.place) w.place.offset (text_in count w.place (image (Grain 0 w.grain))) v e in
+        let low : w.place.offset ≤ 9223372036854775807 = ltb-false 9223372036854775807 w.place.offset (or_parts (nat_lt 9223372036854775807 w.place.offset) (nat_lt 4154 w.place.len) one.0).0 in
+        omega (arith, low)
+
+    -- a version that is read stands there
+    pub stands : AreBytes (image (Grain 0 w.grain)) → unit.0 < 2 ^ 64 → (v : Version) → version_named shape image named_as ≡ Ok v → Stands shape image unit w v.state
+    stands are low v e =
+        let t = passed (is_owned unit w.place (image (Grain 0 w.grain))) w.place.offset (version_at_place (fields_of (slice_get shape.types w.grain.kind)) w.place (image (Grain 0 w.grain))) v e in
+        let is = found_when (Unit {0}) (fields_of (slice_get shape.types w.grain.kind)) w.place (image (Grain 0 w.grain)) (Ok v) (λ told. t.1) (λ told. AreBytes-cut w.place.len w.place.offset (image (Grain 0 w.grain)) are) tt in
+        let own : take 8 (drop w.place.offset (image (Grain 0 w.grain))) ≡ to_le_bytes w64 unit.0 =
+        (bytes_eq-Decides (take 8 (drop w.place.offset (image (Grain 0 w.grain)))) (to_le_bytes w64 unit.0)).0 t.0 in
+        let first : take 8 (drop w.place.offset (image (Grain 0 w.grain))) ≡ to_le_bytes w64 v.unit.0 = first_eight w.place.len (drop w.place.offset (image (Grain 0 w.grain))) v is.2.here (sym is.2.version_is.len) in
+        let number : v.unit.0 ≡ unit.0 = units_same v.unit.0 unit.0 is.2.version_is.fits.unit low (sym first ∙ own) in
+        let same : v ≡ record { unit = unit; state = v.state } = (λ i. record { unit = record { 0 = number i }; state = v.state }) in
+        let count : is.0 ≡ length v.state = sym is.2.version_is.count in
+        let there : IsVersionAt (length v.state) w.place (image (Grain 0 w.grain)) v = subst (λ (n : ℕ). IsVersionAt n w.place (image (Grain 0 w.grain)) v) count is.2 in
+        record {
+          near = near_by (fields_of (slice_get shape.types w.grain.kind)) v t.1;
+          fields = is.1 ∙ ap (λ (n : ℕ). Some n) count;
+          version = subst (λ (x : Version). IsVersionAt (length v.state) w.place (image (Grain 0 w.grain)) x) same there;
+        }
+
+    -- a version that stands there is read
+    pub stood : (state : List Value) → Stands shape image unit w state → version_named shape image named_as ≡ Ok (record { unit = unit; state = state })
+    stood state s =
+        let v : Version = record { unit = unit; state = state } in
+        let o : Option ℕ = fields_of (slice_get shape.types w.grain.kind) in
+        let found : Result Version ℕ = version_at_place o w.place (image (Grain 0 w.grain)) in
+        let is : found ≡ Ok v = gives_answer found v (only_at o w.place (image (Grain 0 w.grain)) (as_answer found) (answer_gives found) (length state) v s.fields s.near s.version) in
+        let own : is_owned unit w.place (image (Grain 0 w.grain)) ≡ true =
+        (bytes_eq-Decides (take 8 (drop w.place.offset (image (Grain 0 w.grain)))) (to_le_bytes w64 unit.0)).1
+        (first_eight w.place.len (drop w.place.offset (image (Grain 0 w.grain))) v s.version.here (sym s.version.version_is.len)) in
+        ap (λ (b : Bool). if b then found else Err w.place.offset) own ∙ is
+
+  -- ---- the versions of a record
+
+  -- versions that are there stand, with the states that are read
+  all_stand : (unit : UnitNo) (ws : List Written) → ((file : FileId) → AreBytes (image file)) → unit.0 < 2 ^ 64 → AllByRecursion IsThere (map (λ w. record { unit = unit; written = w }) ws)
+      → AllStand shape image unit ws (map (λ w. state_of (version_named shape image (record { unit = unit; written = w }))) ws)
+  all_stand unit [] are low all = tt
+  all_stand unit (w ∷ ws) are low all =
+      let state : all.0.0.state ≡ state_of (version_named shape image (record { unit = unit; written = w })) = ap state_of (sym all.0.1) in
+      (subst (Stands shape image unit w) state (stands unit w (are (Grain 0 w.grain)) low all.0.0 all.0.1), all_stand unit ws are low all.1)
+
+  -- versions that stand are there
+  all_there : (unit : UnitNo) (ws : List Written) (states : List (List Value)) → AllStand shape image unit ws states → AllByRecursion IsThere (map (λ w. record { unit = unit; written = w }) ws)
+  all_there unit [] states all = tt
+  all_there unit (w ∷ ws) [] all = absurd all
+  all_there unit (w ∷ ws) (state ∷ states) all = ((record { unit = unit; state = state }, stood unit w state all.0), all_there unit ws states all.1)
+
+  -- and their states are read
+  all_states : (unit : UnitNo) (ws : List Written) (states : List (List Value)) → AllStand shape image unit ws states → map (λ w. state_of (version_named shape image (record { unit = unit; written = w }))) ws ≡ states
+  all_states unit [] [] all = refl
+  all_states unit [] (state ∷ states) all = absurd all
+  all_states unit (w ∷ ws) [] all = absurd all
+  all_states unit (w ∷ ws) (state ∷ states) all =
+      let one : state_of (version_named shape image (record { unit = unit; written = w })) ≡ state = ap state_of (stood unit w state all.0) in
+      let more = all_states unit ws states all.1 in
+      λ i. one i ∷ more i
+
+  -- ---- the versions of a log
+
+  -- records whose versions are there are kept
+  pub all_are_kept : ((file : FileId) → AreBytes (image file)) → (records : List CommitRecord) → AllByRecursion (IsRecordIn Logged shape) records → AllByRecursion IsThere (named_by records)
+      → AllByRecursion (IsKept shape image) (map (commit_of shape image) records)
+  all_are_kept are [] fit there = tt
+  all_are_kept are (r ∷ records) fit there =
+      let t = parts_of IsThere (map (λ w. record { unit = r.unit; written = w }) r.writes) (named_by records) there in
+      (record { fits = fit.0; whole = all_stand r.unit r.writes are fit.0.fits.unit t.0 }, all_are_kept are records fit.1 t.1)
+
+  -- the versions of records that are kept are there
+  pub all_are_there : (log : List Commit) → AllByRecursion (IsKept shape image) log → AllByRecursion IsThere (named_by (map (λ c. c.logged) log))
+  all_are_there [] kept = tt
+  all_are_there (c ∷ log) kept =
+      both_parts IsThere (map (λ w. record { unit = c.logged.unit; written = w }) c.logged.writes) (named_by (map (λ (d : Commit). d.logged) log)) (all_there c.logged.unit c.logged.writes c.states kept.0.whole) (all_are_there log kept.1)
+
+  -- and they are the states of these records
+  pub same_commits : (log : List Commit) → AllByRecursion (IsKept shape image) log → map (commit_of shape image) (map (λ c. c.logged) log) ≡ log
+  same_commits [] kept = refl
+  same_commits (c ∷ log) kept =
+      let states = all_states c.logged.unit c.logged.writes c.states kept.0.whole in
+      let more = same_commits log kept.1 in
+      λ i. record { logged = c.logged; states = states i } ∷ more i
+
+  -- ---- what is missing
+
+  none_by : (n : Named) (found : Result Version ℕ) (later : Option (FileId × ℕ)) → missing_or n.written.grain found later ≡ None → ((v : Version) × (found ≡ Ok v)) × (later ≡ None)
+  none_by n (Ok v) later e = ((v, refl), e)
+  none_by n (Err place) later e = absurd cc
+
+  pub none_missing : (named : List Named) → first_missing shape image named ≡ None → AllByRecursion IsThere named
+  none_missing [] e = tt
+  none_missing (n ∷ named) e =
+      let t = none_by n (version_named shape image n) (first_missing shape image named) e in
+      (t.0, none_missing named t.1)
+
+  pub missing_none : (named : List Named) → AllByRecursion IsThere named → first_missing shape image named ≡ None
+  missing_none [] all = refl
+  missing_none (n ∷ named) all = ap (λ (r : Result Version ℕ). missing_or n.written.grain r (first_missing shape image named)) all.0.1 ∙ missing_none named all.1
