@@ -5,3 +5,4 @@ pub mod EntryLines
 pub mod PlainNames
 pub mod ReadBlocks
 pub mod ReadVersions
+pub mod Openings
