@@ -28,7 +28,7 @@ use Rattle.promise_spec.specs.Programs.{Program, IsChecked, ProgramFault, text_l
 use Rattle.promise_spec.specs.Records.{Commit}
 use Rattle.promise_spec.specs.Logs.{magic, IsKept, body_of, IsLog}
 use Rattle.promise_spec.specs.Images.{IsSound}
-use Rattle.promise_spec.specs.Openings.{Reading, NoSilo, DamagedAt, Reads, is_silo, with_types, program_in_file, no_more, records_behind, records_in_file, named_by, by_grain, first_missing, commit_of, with_versions, with_log, with_program, opened_as}
+use Rattle.promise_spec.specs.Openings.{Reading, NoSilo, Reads, is_silo, with_types, program_in_file, no_more, records_behind, records_in_file, named_by, by_grain, first_missing, commit_of, with_versions, with_log, with_program, opened_as}
 use Rattle.promise_spec.proofs.ReadBlocks.{AreBatches, bodies_bytes, is_logged, no_whole, ended, batches_of, batches_read}
 use Rattle.promise_spec.proofs.ReadVersions.{IsThere, all_in_order, all_of_order, all_are_kept, all_are_there, same_commits, none_missing, missing_none}
 

@@ -1,14 +1,12 @@
 -- The blocks of a manager file and the records in them, from what is read and back.
 use Rattle.std.proofs.Common.{◌≡◌, ◌≢◌, ℕ, zero, suc, ◌+◌, ◌^◌, ◌<◌, ◌≤◌, nat_lt, Bool, true, false, if◌then◌else◌, List, [], ◌∷◌, ◌++◌, length, map, slice_index, take, drop, Result, Ok, Err, refl, sym, ◌∙◌, ap, subst, arith, append_assoc, append-nil, length-take, length-drop}
 use Rattle.std.proofs.lemmas.Bool.{eqb-true, eq-eqb, ltb-true, false≢true}
-use Rattle.std.proofs.lemmas.List.{map-append}
-use Rattle.std.specs.Int.{w32, to_le_bytes, from_le_bytes}
+use Rattle.std.specs.Int.{w32, to_le_bytes}
 use Rattle.std.specs.List.{flat_map, AllByRecursion}
 use Rattle.base_types.specs.declared.shapes.Shape.{Shape}
 use Rattle.field_codec.specs.declared.faults.CodecFault.{CodecFault}
 use Rattle.field_codec.specs.declared.units.Numbers.TheVariants.{Logged}
 use Rattle.field_codec.specs.Reading.{AreBytes}
-use Rattle.field_codec.specs.Results.{place_of}
 use Rattle.field_codec.proofs.Counts.{wide32, AreBytes-cut}
 use Rattle.field_codec.proofs.Wholes.{whole_takes, whole_again}
 use Rattle.gate_block.specs.Gates.{is_open_at}
@@ -147,14 +145,17 @@ module _ (shape : Shape) where
       let t = both_read (gate + 5) (body_in Logged shape body) (records_behind shape (gate + 5 + length body) bodies end) all e in
       let more = batches_of (gate + 5 + length body) bodies end t.1 are.1 t.3 in
       let is = whole_takes spelling_of_body (AreRecords Logged shape) (records_in Logged shape) (records_reads Logged shape 0) body are.0 t.0 t.2 in
-      let rest : List CommitRecord = flat_map (λ batch. batch) more.2.batches in
-      (more.0, more.1, record {
-        batches = t.0 ∷ more.2.batches;
-        spelled = λ i. is.1 i ∷ more.2.spelled i;
-        sizes = (is.0.0, more.2.sizes);
-        fit = both_parts (IsRecordIn Logged shape) t.0 rest is.0.1 more.2.fit;
-        all_are = sym t.4 ∙ ap (λ (l : List CommitRecord). t.0 ++ l) more.2.all_are ∙ sym (append_assoc t.0 rest more.0);
-      })
+      let rest : List CommitRecord = flat_map (λ batch. batch) more.2.batches in (
+        more.0,
+        more.1,
+        record {
+          batches = t.0 ∷ more.2.batches;
+          spelled = λ i. is.1 i ∷ more.2.spelled i;
+          sizes = (is.0.0, more.2.sizes);
+          fit = both_parts (IsRecordIn Logged shape) t.0 rest is.0.1 more.2.fit;
+          all_are = sym t.4 ∙ ap (λ (l : List CommitRecord). t.0 ++ l) more.2.all_are ∙ sym (append_assoc t.0 rest more.0);
+        },
+      )
 
   -- and what bodies spell is read of them
   pub batches_read : (gate : ℕ) (batches : List (List CommitRecord)) → AllByRecursion (λ batch. length batch ≤ 64) batches → AllByRecursion (IsRecordIn Logged shape) (flat_map (λ batch. batch) batches)
