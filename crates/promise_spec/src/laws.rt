@@ -78,7 +78,7 @@ pub fn programs_are_read()
 
 /// A folder reads as a silo with a program and a log exactly where its program file has that program and it has that log; it
 /// reads as no silo exactly where it is none. So one that is sound for a checked program is opened with its log, and
-/// is neither called damaged nor no silo. A file is damaged at a place within it, or at its end.
+/// is neither called damaged nor no silo.
 pub fn folders_are_read()
     ensures reads { (image : Image) (p : Program) (log : List Commit) → ((file : FileId) → AreBytes (image file)) → opened_as image ≡ Reads p log
         → IsChecked p × HasProgram p.text (image program_file) × IsLog (shape_in p) image log }
