@@ -6,3 +6,4 @@ pub mod PlainNames
 pub mod ReadBlocks
 pub mod ReadVersions
 pub mod Openings
+pub mod Quiet

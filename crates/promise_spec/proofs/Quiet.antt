@@ -1,0 +1,206 @@
+-- A load that follows a run keeps what is promised of a load.
+use Rattle.std.proofs.Common.{◌≡◌, inl, inr, ℕ, List, [], ◌∷◌, ◌++◌, map, refl, sym, ap, subst, ◌∙◌}
+use Rattle.std.proofs.lemmas.List.{append-nil}
+use Rattle.core_model.specs.World.{Member, World as CoreWorld}
+use Rattle.host_trait.specs.World.{Moment, Image, IsImage, moment_of}
+use Rattle.promise_spec.specs.Programs.{Program}
+use Rattle.promise_spec.specs.Moments.{IsImageOf, last_of}
+use Rattle.promise_spec.specs.Endings.{Done, IsBegun, IsAllWritten}
+use Rattle.promise_spec.specs.Courses.{Observed, Course, moments, lines, core_end}
+use Rattle.promise_spec.specs.Orders.{IsOrdered}
+use Rattle.promise_spec.specs.Crashes.{SurvivesCrashes}
+use Rattle.promise_spec.specs.Exits.{IsLeft, LacksDoubtful}
+use Rattle.promise_spec.specs.Explained.{IsExplained}
+use Rattle.promise_spec.specs.Promise.{Keeps}
+use Rattle.promise_spec.specs.Commands.{Prints}
+use Rattle.promise_spec.specs.Loads.{AskFor, HasLoaded, KeepsLoad, IsQuietRun, load_calls, quieted, quiet_course, summary_text}
+use Rattle.promise_spec.proofs.Lists.{either_in, in_append}
+
+-- ---- moments by their disks
+
+-- one of these moments has the disk of this one
+record HasDiskIn (moments : List Moment) (m : Moment) : Type 0 where
+  moment : Moment
+  member : Member moment moments
+  disk : m.disk ≡ moment.disk
+
+-- a quieted moment has the disk of one that isn't
+loud : (output : List ℕ) (late : List Moment) (m : Moment) → Member m (map (quieted output) late) → HasDiskIn late m
+loud output [] m none = absurd none
+loud output (x ∷ late) m (inl here) = record { moment = x; member = inl refl; disk = ap (λ (n : Moment). n.disk) here }
+loud output (x ∷ late) m (inr there) = let h = loud output late m there in record { moment = h.moment; member = inr h.member; disk = h.disk }
+
+-- and the other way round
+hushed : (output : List ℕ) (late : List Moment) (m : Moment) → Member m late → HasDiskIn (map (quieted output) late) m
+hushed output [] m none = absurd none
+hushed output (x ∷ late) m (inl here) = record { moment = quieted output x; member = inl refl; disk = ap (λ (n : Moment). n.disk) here }
+hushed output (x ∷ late) m (inr there) = let h = hushed output late m there in record { moment = h.moment; member = inr h.member; disk = h.disk }
+
+-- an image of moments whose disks stand among others is an image of those
+image_among : (ms ns : List Moment) (image : Image) → ((m : Moment) → Member m ms → HasDiskIn ns m) → IsImageOf ms image → IsImageOf ns image
+image_among ms ns image among is =
+    let h = among is.moment is.member in
+    record { moment = h.moment; member = h.member; left = subst (λ d. IsImage d image) h.disk is.left }
+
+-- ---- the load with what the run shows
+
+-- the load, but that what it shows like the run is the run's
+abbrev alike : Observed → Observed → Observed
+alike r s = record {
+  manner = r.manner;
+  asked = r.asked;
+  old = record s.old { disk = r.old.disk; output = r.old.output };
+  new = record s.new { disk = r.new.disk };
+  faults_before = r.faults_before;
+  faults_after = r.faults_after;
+  ending = r.ending;
+}
+
+-- it is the load
+same_load : (r : Observed) (c : Course) (text : List ℕ) (s : Observed) → IsQuietRun r c text s → s ≡ alike r s
+same_load r c text s q = λ i. record {
+  manner = q.manner i;
+  asked = q.asked i;
+  old = record s.old { disk = q.disk_before i; output = q.output_before i };
+  new = record s.new { disk = q.disk_after i };
+  faults_before = q.faults_before i;
+  faults_after = q.faults_after i;
+  ending = q.ending i;
+}
+
+module _ (p : Program) (r s : Observed) (c : Course) where
+  -- a moment that counts for the load has the disk of one that counts for the run
+  to_run : (m : Moment) → Member m (moments (alike r s) (quiet_course r c)) → HasDiskIn (moments r c) m
+  to_run m (inl here) = record { moment = last_of (moment_of r.old) c.early; member = inl refl; disk = ap (λ (n : Moment). n.disk) here }
+  to_run m (inr there) = elim (either_in m (map (quieted r.old.output) c.late) (moment_of (alike r s).new ∷ []) there) [
+    | inl x ↦
+        let h = loud r.old.output c.late m x in
+        record { moment = h.moment; member = inr (in_append h.moment c.late (moment_of r.new ∷ []) (inl h.member)); disk = h.disk }
+    | inr x ↦ record {
+        moment = moment_of r.new;
+        member = inr (in_append (moment_of r.new) c.late (moment_of r.new ∷ []) (inr (inl refl)));
+        disk = elim x [ inl here ↦ ap (λ (n : Moment). n.disk) here | inr none ↦ absurd none ];
+      }
+  ]
+
+  -- and the other way round
+  to_load : (m : Moment) → Member m (moments r c) → HasDiskIn (moments (alike r s) (quiet_course r c)) m
+  to_load m (inl here) = record { moment = last_of (moment_of r.old) c.early; member = inl refl; disk = ap (λ (n : Moment). n.disk) here }
+  to_load m (inr there) =
+      let now : Moment = moment_of (alike r s).new in
+      let late : List Moment = map (quieted r.old.output) c.late in
+      elim (either_in m c.late (moment_of r.new ∷ []) there) [
+        | inl x ↦
+            let h = hushed r.old.output c.late m x in
+            record { moment = h.moment; member = inr (in_append h.moment late (now ∷ []) (inl h.member)); disk = h.disk }
+        | inr x ↦ record {
+            moment = now;
+            member = inr (in_append now late (now ∷ []) (inr (inl refl)));
+            disk = elim x [ inl here ↦ ap (λ (n : Moment). n.disk) here | inr none ↦ absurd none ];
+          }
+      ]
+
+  -- an image that a crash of the load may leave is one that a crash of the run may
+  of_run : (image : Image) → IsImageOf (moments (alike r s) (quiet_course r c)) image → IsImageOf (moments r c) image
+  of_run image is = image_among (moments (alike r s) (quiet_course r c)) (moments r c) image to_run is
+
+  of_load : (image : Image) → IsImageOf (moments r c) image → IsImageOf (moments (alike r s) (quiet_course r c)) image
+  of_load image is = image_among (moments r c) (moments (alike r s) (quiet_course r c)) image to_load is
+
+  -- ---- the clauses
+
+  ordered : IsOrdered p r c → IsOrdered p (alike r s) (quiet_course r c)
+  ordered k = record {
+    read = k.read;
+    opened = λ image is. let o = k.opened image is in record { entry = o.entry; log = o.log };
+    longest = record {
+      image = k.longest.image;
+      left = of_load k.longest.image k.longest.left;
+      log = k.longest.log;
+      longest = λ other is. k.longest.longest other (of_run other is);
+    };
+    serial = k.serial;
+    family = k.family;
+  }
+
+  crashes : (alike r s).new.past ≡ s.old.past ++ (c.early ++ map (quieted r.old.output) c.late) → SurvivesCrashes p r c → SurvivesCrashes p (alike r s) (quiet_course r c)
+  crashes past k = record {
+    past = past;
+    quiet = k.quiet;
+    before = k.before;
+    chain = λ one other is_one is_other. k.chain one other (of_run one is_one) (of_run other is_other);
+    sound = λ image is. k.sound image (of_run image is);
+    keeps = λ image is. let o = k.keeps image (of_run image is) in record { log = o.log; is = o.is; longer = o.longer };
+    alone = λ m there.
+        let h = to_run m there in
+        let o = k.alone h.moment h.member in
+        record {
+          aside = λ file is. ap (λ d. d file) h.disk ∙ o.aside file is;
+          header = λ image is. o.header image (subst (λ d. IsImage d image) h.disk is);
+        };
+  }
+
+  lacks : (w : CoreWorld) (log : _) → LacksDoubtful c w log → LacksDoubtful (quiet_course r c) w log
+  lacks w log k = record { begins = k.begins; doubt = k.doubt; last = k.last; split = k.split; units = k.units }
+
+  exit : IsLeft p r c → IsLeft p (alike r s) (quiet_course r c)
+  exit k = record {
+    logs = λ image is.
+        let o = k.logs image is in
+        record { log = o.log; is = o.is; which = elim o.which [ inl whole ↦ inl whole | inr lack ↦ inr (lacks (core_end p c) o.log lack) ] };
+    doubt = λ one other a b is_one is_other log_one log_other differ.
+        let o = k.doubt one other a b is_one is_other log_one log_other differ in
+        record { rose = o.rose; ending = o.ending; told = o.told };
+    nowhere = k.nowhere;
+    block = λ doubted.
+        let o = k.block doubted in
+        record { gate = o.gate; batch = o.batch; batches = o.batches; records = o.records; log = o.log; front = o.front; block = o.block; differ = o.differ };
+  }
+
+  explained : IsExplained p r c → IsExplained p (alike r s) (quiet_course r c)
+  explained k = record {
+    records = k.records;
+    units = k.units;
+    turns = k.turns;
+    caused = k.caused;
+    faults = k.faults;
+    doubted = k.doubted;
+    ended = k.ended;
+  }
+
+  ended : Keeps p r c → r.ending ≡ Done → s.new.input ≡ s.old.input → HasLoaded p (alike r s) (quiet_course r c)
+  ended k done unread = record {
+    unread = unread;
+    carried = subst IsBegun (sym done) tt;
+    risen = k.ended.risen;
+    done = λ is. (k.ended.done is).answered;
+    complete = λ calm. let o = k.ended.complete calm in record { calm = o.calm; undisturbed = o.undisturbed };
+    alone = k.ended.alone;
+  }
+
+  prints : (text : List ℕ) → r.ending ≡ Done → s.new.output ≡ r.old.output ++ text → Prints text (alike r s)
+  prints text done output = record {
+    added = text;
+    output = output;
+    front = ([], sym (append-nil text));
+    whole = λ is. refl;
+    none = inr (inl done);
+  }
+
+  -- the load with what the run shows keeps what is promised of a load
+  alike_keeps : (n seed : ℕ) → Keeps p r c → r.ending ≡ Done → AskFor p.types (lines r) (load_calls n seed) → IsQuietRun r c (summary_text p r c) s → KeepsLoad p n seed (alike r s) (quiet_course r c)
+  alike_keeps n seed k done asked q = record {
+    asked = asked;
+    ordered = ordered k.ordered;
+    crashes = crashes q.past k.crashes;
+    exit = exit k.exit;
+    settled = k.settled.all (inl (subst IsAllWritten (sym done) tt));
+    explained = explained k.explained;
+    output = prints (summary_text p r c) done (q.output ∙ ap (λ (o : List ℕ). o ++ summary_text p r c) q.output_before);
+    silent = λ undone. absurd (undone done);
+    ended = ended k done q.unread;
+  }
+
+-- a load that follows a run keeps what is promised of a load
+pub follows : (p : Program) (n seed : ℕ) (r s : Observed) (c : Course) → Keeps p r c → r.ending ≡ Done → AskFor p.types (lines r) (load_calls n seed) → IsQuietRun r c (summary_text p r c) s → KeepsLoad p n seed s (quiet_course r c)
+follows p n seed r s c k done asked q = subst (λ (t : Observed). KeepsLoad p n seed t (quiet_course r c)) (sym (same_load r c (summary_text p r c) s q)) (alike_keeps p r s c n seed k done asked q)
