@@ -7,3 +7,4 @@ pub mod ReadBlocks
 pub mod ReadVersions
 pub mod Openings
 pub mod Quiet
+pub mod Words
