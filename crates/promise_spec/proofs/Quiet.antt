@@ -77,10 +77,10 @@ module _ (p : Program) (r s : Observed) (c : Course) where
         let h = loud r.old.output c.late m x in
         record { moment = h.moment; member = inr (in_append h.moment c.late (moment_of r.new ∷ []) (inl h.member)); disk = h.disk }
     | inr x ↦ record {
-        moment = moment_of r.new;
-        member = inr (in_append (moment_of r.new) c.late (moment_of r.new ∷ []) (inr (inl refl)));
-        disk = elim x [ inl here ↦ ap (λ (n : Moment). n.disk) here | inr none ↦ absurd none ];
-      }
+      moment = moment_of r.new;
+      member = inr (in_append (moment_of r.new) c.late (moment_of r.new ∷ []) (inr (inl refl)));
+      disk = elim x [ inl here ↦ ap (λ (n : Moment). n.disk) here | inr none ↦ absurd none ];
+    }
   ]
 
   -- and the other way round
@@ -94,10 +94,10 @@ module _ (p : Program) (r s : Observed) (c : Course) where
             let h = hushed r.old.output c.late m x in
             record { moment = h.moment; member = inr (in_append h.moment late (now ∷ []) (inl h.member)); disk = h.disk }
         | inr x ↦ record {
-            moment = now;
-            member = inr (in_append now late (now ∷ []) (inr (inl refl)));
-            disk = elim x [ inl here ↦ ap (λ (n : Moment). n.disk) here | inr none ↦ absurd none ];
-          }
+          moment = now;
+          member = inr (in_append now late (now ∷ []) (inr (inl refl)));
+          disk = elim x [ inl here ↦ ap (λ (n : Moment). n.disk) here | inr none ↦ absurd none ];
+        }
       ]
 
   -- an image that a crash of the load may leave is one that a crash of the run may

@@ -1,14 +1,14 @@
 -- Words say at most one command: a command is read back from its words.
-use Rattle.std.proofs.Common.{◌≡◌, ◌≢◌, ℕ, ◌<◌, ◌≤◌, ◌^◌, Bool, true, false, List, [], ◌∷◌, ◌++◌, length, map, get_or, Option, Some, None, refl, sym, ap, ◌∙◌, arith, decimal, append_assoc}
+use Rattle.std.proofs.Common.{◌≡◌, ◌≢◌, ℕ, ◌<◌, ◌≤◌, ◌^◌, Bool, true, false, List, [], ◌∷◌, ◌++◌, length, map, get_or, Option, Some, None, refl, sym, ap, subst, ◌∙◌, arith, decimal, append_assoc}
 use Rattle.std.proofs.lemmas.List.{append-nil}
-use Rattle.std.specs.Prelude.{if◌then◌else◌, ◌==◌}
+use Rattle.std.specs.Prelude.{codes, if◌then◌else◌, ◌==◌}
 use Rattle.std.specs.List.{AllByRecursion}
 use Rattle.std.specs.Str.Parse.{AllDigits, digits_value}
 use Rattle.std.proofs.lemmas.Bool.Decides.{nat_tests}
 use Rattle.std.proofs.lemmas.Fmt.{decimal_is_IsNumeral}
 use Rattle.std.proofs.lemmas.Str.Parse.{digit_from_value}
-use Rattle.promise_spec.specs.Words.{Choice, Width, Turns, Workers, Form, Apart, Joined, Given, Manner, Command, Init, Run, Show, History, Audit, Load, Say, SpellsRun, SpellsLoad, name_of, value_text, list_text, words_in, words_of_all, manner_of, IsWithin}
-use Rattle.promise_spec.proofs.Lists.{parts_of}
+use Rattle.promise_spec.specs.Words.{Choice, Width, Turns, Workers, Form, Apart, Joined, Given, Manner, Command, Init, Run, Show, History, Audit, Load, Say, SpellsRun, SpellsLoad, name_of, value_text, list_text, words_in, words_of_all, manner_of, IsWithin, IsNoTurns, AreOptions}
+use Rattle.promise_spec.proofs.Lists.{tail_of, parts_of}
 
 -- ---- what a word says
 
@@ -235,6 +235,41 @@ module _ (takes : Given → Bool) (words : List (List ℕ)) where
   command_back History k = ap command_in k
   command_back Audit k = ap command_in k
   command_back (Load n seed m) k = load_back n seed m k
+
+-- ---- words that say nothing
+
+-- the words of a run say the options that are read in them, and nothing where these may not stand, or are other words
+pub no_run : (rest : List (List ℕ)) (takes : Given → Bool) → (AreOptions takes (options_in None rest) → rest ≡ words_of_all (options_in None rest) → ⊥)
+    → (c : Command) → Say takes (codes "run" ∷ rest) c → ⊥
+no_run rest takes refused Init k = absurd (cc (command_back takes (codes "run" ∷ rest) Init k))
+no_run rest takes refused (Run m) k =
+    let words : rest ≡ words_of_all k.options = tail_of (codes "run") (codes "run") rest (words_of_all k.options) k.words_are in
+    let options : k.options ≡ options_in None rest = sym (ap (options_in None) words ∙ options_alone k.options k.are.within) in
+    refused (subst (AreOptions takes) options k.are) (words ∙ ap words_of_all options)
+no_run rest takes refused Show k = absurd (cc (command_back takes (codes "run" ∷ rest) Show k))
+no_run rest takes refused History k = absurd (cc (command_back takes (codes "run" ∷ rest) History k))
+no_run rest takes refused Audit k = absurd (cc (command_back takes (codes "run" ∷ rest) Audit k))
+no_run rest takes refused (Load n seed m) k = absurd (cc (command_back takes (codes "run" ∷ rest) (Load n seed m) k))
+
+-- the words of a load say the two numbers and the options that are read in them, and nothing where these may not stand
+pub no_load : (rest : List (List ℕ)) (takes : Given → Bool)
+    → ((n seed : ℕ) → numbers_in None rest ≡ n ∷ seed ∷ [] → (1 ≤ n) × (n ≤ 100000) → seed < 2 ^ 64
+    → AreOptions takes (options_in None rest) → AllByRecursion (λ (g : Given). IsNoTurns g.what) (options_in None rest) → ⊥)
+    → (c : Command) → Say takes (codes "load" ∷ rest) c → ⊥
+no_load rest takes refused Init k = absurd (cc (command_back takes (codes "load" ∷ rest) Init k))
+no_load rest takes refused (Run m) k = absurd (cc (command_back takes (codes "load" ∷ rest) (Run m) k))
+no_load rest takes refused Show k = absurd (cc (command_back takes (codes "load" ∷ rest) Show k))
+no_load rest takes refused History k = absurd (cc (command_back takes (codes "load" ∷ rest) History k))
+no_load rest takes refused Audit k = absurd (cc (command_back takes (codes "load" ∷ rest) Audit k))
+no_load rest takes refused (Load n seed m) k =
+    let small : n < 2 ^ 64 = omega (arith, k.many.1) in
+    let said : List (List ℕ) = load_words k.before n k.between seed k.behind in
+    let words : rest ≡ said = tail_of (codes "load") (codes "load") rest said k.words_are in
+    let numbers : numbers_in None said ≡ n ∷ seed ∷ [] = load_numbers k.before k.between k.behind n seed small k.small in
+    let options : options_in None said ≡ k.before ++ (k.between ++ k.behind) = load_options k.before k.between k.behind n seed small k.small k.are.within in
+    let read : k.before ++ (k.between ++ k.behind) ≡ options_in None rest = sym (ap (options_in None) words ∙ options) in
+    refused n seed (ap (numbers_in None) words ∙ numbers) k.many k.small
+    (subst (AreOptions takes) read k.are) (subst (λ (l : List Given). AllByRecursion (λ (g : Given). IsNoTurns g.what) l) read k.no_turns)
 
 -- words say at most one command
 pub one_command : (takes : Given → Bool) (words : List (List ℕ)) (c d : Command) → Say takes words c → Say takes words d → c ≡ d

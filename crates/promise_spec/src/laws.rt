@@ -1,4 +1,4 @@
-ghost use Rattle.std.specs.Prelude.{◌≡◌, ◌⊎◌, ◌↔◌, ◌++◌, ◌≤◌, ℕ, Bool, List, length, Ok};
+ghost use Rattle.std.specs.Prelude.{◌≡◌, ◌⊎◌, ◌↔◌, ◌++◌, ◌≤◌, ℕ, Bool, true, false, List, [], ◌∷◌, length, codes, Ok};
 ghost use Rattle.base_types.specs.declared.shapes.Shape.{Shape};
 ghost use Rattle.base_types.specs.declared.entries.Entry.{Entry};
 ghost use Rattle.core_model.specs.World.{Member};
@@ -13,7 +13,7 @@ ghost use Rattle.promise_spec.specs.Serial.{IsSerial};
 ghost use Rattle.promise_spec.specs.Logs.{magic, IsLog, IsPrefix};
 ghost use Rattle.promise_spec.specs.Images.{AreChained, AreNumbered, IsSound, IsSoundIfSilo};
 ghost use Rattle.promise_spec.specs.Openings.{NoSilo, Reads, opened_as};
-ghost use Rattle.promise_spec.specs.Words.{Given, Command, Say};
+ghost use Rattle.promise_spec.specs.Words.{Given, Manner, plain_manner, Command, Run, Load, Say};
 ghost use Rattle.promise_spec.specs.Moments.{IsImageOf, IsLongest};
 ghost use Rattle.request_wire.specs.Reply.{reply_line};
 ghost use Rattle.promise_spec.specs.Outputs.{HavePlainNames, IsProper, Grew};
@@ -92,6 +92,40 @@ pub fn folders_are_read()
 /// words say two commands.
 pub fn words_say_one_command()
     ensures { (takes : Given → Bool) (words : List (List ℕ)) (c d : Command) → Say takes words c → Say takes words d → c ≡ d }
+{}
+
+/// Words that say a command, and words that say none: an option or a number out of its bounds, without a value or with a
+/// leading zero, options that may not stand together or with the command, and a word too many or too few.
+pub fn words_are_read()
+    ensures run { Say (λ g. true) (codes "run" ∷ []) (Run plain_manner) }
+    ensures turns { Say (λ g. true) (codes "run" ∷ codes "--turns" ∷ codes "0,1" ∷ codes "--width=3" ∷ [])
+        (Run (record { threaded = false; width = 3; picks = 0 ∷ 1 ∷ [] })) }
+    ensures load { Say (λ g. true) (codes "load" ∷ codes "4" ∷ codes "7" ∷ []) (Load 4 7 plain_manner) }
+    ensures load_workers { Say (λ g. true) (codes "load" ∷ codes "--workers" ∷ codes "2" ∷ codes "4" ∷ codes "7" ∷ [])
+        (Load 4 7 (record { threaded = true; width = 1; picks = [] })) }
+    ensures load_between { Say (λ g. true) (codes "load" ∷ codes "4" ∷ codes "--width=2" ∷ codes "7" ∷ [])
+        (Load 4 7 (record { threaded = false; width = 2; picks = [] })) }
+    ensures no_width { (takes : Given → Bool) (c : Command) → Say takes (codes "run" ∷ codes "--width" ∷ codes "0" ∷ []) c → ⊥ }
+    ensures too_wide { (takes : Given → Bool) (c : Command) → Say takes (codes "run" ∷ codes "--width" ∷ codes "65" ∷ []) c → ⊥ }
+    ensures leading_zero { (takes : Given → Bool) (c : Command) → Say takes (codes "run" ∷ codes "--width" ∷ codes "02" ∷ []) c → ⊥ }
+    ensures no_value { (takes : Given → Bool) (c : Command) → Say takes (codes "run" ∷ codes "--width" ∷ []) c → ⊥ }
+    ensures no_picks { (takes : Given → Bool) (c : Command) → Say takes (codes "run" ∷ codes "--turns" ∷ [] ∷ []) c → ⊥ }
+    ensures large_pick { (takes : Given → Bool) (c : Command) → Say takes (codes "run" ∷ codes "--turns" ∷ codes "0,4294967296" ∷ []) c → ⊥ }
+    ensures not_alone { (takes : Given → Bool) (c : Command)
+        → Say takes (codes "run" ∷ codes "--workers" ∷ codes "2" ∷ codes "--width" ∷ codes "1" ∷ []) c → ⊥ }
+    ensures twice { (takes : Given → Bool) (c : Command)
+        → Say takes (codes "run" ∷ codes "--width" ∷ codes "2" ∷ codes "--width" ∷ codes "2" ∷ []) c → ⊥ }
+    ensures extra { (takes : Given → Bool) (c : Command) → Say takes (codes "run" ∷ codes "extra" ∷ []) c → ⊥ }
+    ensures not_taken { (c : Command) → Say (λ g. false) (codes "run" ∷ codes "--width" ∷ codes "2" ∷ []) c → ⊥ }
+    ensures load_of_none { (takes : Given → Bool) (c : Command) → Say takes (codes "load" ∷ codes "0" ∷ codes "7" ∷ []) c → ⊥ }
+    ensures load_of_many { (takes : Given → Bool) (c : Command) → Say takes (codes "load" ∷ codes "100001" ∷ codes "7" ∷ []) c → ⊥ }
+    ensures large_seed { (takes : Given → Bool) (c : Command)
+        → Say takes (codes "load" ∷ codes "4" ∷ codes "18446744073709551616" ∷ []) c → ⊥ }
+    ensures third_number { (takes : Given → Bool) (c : Command) → Say takes (codes "load" ∷ codes "4" ∷ codes "7" ∷ codes "9" ∷ []) c → ⊥ }
+    ensures no_seed { (takes : Given → Bool) (c : Command) → Say takes (codes "load" ∷ codes "4" ∷ []) c → ⊥ }
+    ensures load_turns { (takes : Given → Bool) (c : Command)
+        → Say takes (codes "load" ∷ codes "4" ∷ codes "7" ∷ codes "--turns" ∷ codes "0" ∷ []) c → ⊥ }
+    ensures no_words { (takes : Given → Bool) (c : Command) → Say takes [] c → ⊥ }
 {}
 
 /// A load can be kept wherever a run can: one that carries its lines as a run that is done, and writes the summary in place of

@@ -13,5 +13,6 @@ mod laws;
 
 pub use laws::{
     chains_compare, checked_programs_have_plain_names, folders_are_read, journals_survive,
-    loads_follow_runs, one_entry, one_log, one_output, programs_are_read, words_say_one_command,
+    loads_follow_runs, one_entry, one_log, one_output, programs_are_read, words_are_read,
+    words_say_one_command,
 };
