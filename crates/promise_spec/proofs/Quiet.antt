@@ -57,8 +57,8 @@ alike r s = record {
 }
 
 -- it is the load
-same_load : (r : Observed) (c : Course) (text : List ℕ) (s : Observed) → IsQuietRun r c text s → s ≡ alike r s
-same_load r c text s q = λ i. record {
+same_load : (r : Observed) (c : Course) (text : List ℕ) (told : List Moment) (s : Observed) → IsQuietRun r c text told s → s ≡ alike r s
+same_load r c text told s q = λ i. record {
   manner = q.manner i;
   asked = q.asked i;
   old = record s.old { disk = q.disk_before i; output = q.output_before i };
@@ -68,23 +68,26 @@ same_load r c text s q = λ i. record {
   ending = q.ending i;
 }
 
-module _ (p : Program) (r s : Observed) (c : Course) where
+module _ (p : Program) (r s : Observed) (c : Course) (told : List Moment) (told_disk : (m : Moment) → Member m told → m.disk ≡ r.new.disk) where
   -- a moment that counts for the load has the disk of one that counts for the run
-  to_run : (m : Moment) → Member m (moments (alike r s) (quiet_course r c)) → HasDiskIn (moments r c) m
+  to_run : (m : Moment) → Member m (moments (alike r s) (quiet_course r c told)) → HasDiskIn (moments r c) m
   to_run m (inl here) = record { moment = last_of (moment_of r.old) c.early; member = inl refl; disk = ap (λ (n : Moment). n.disk) here }
-  to_run m (inr there) = elim (either_in m (map (quieted r.old.output) c.late) (moment_of (alike r s).new ∷ []) there) [
-    | inl x ↦
-        let h = loud r.old.output c.late m x in
-        record { moment = h.moment; member = inr (in_append h.moment c.late (moment_of r.new ∷ []) (inl h.member)); disk = h.disk }
-    | inr x ↦ record {
-      moment = moment_of r.new;
-      member = inr (in_append (moment_of r.new) c.late (moment_of r.new ∷ []) (inr (inl refl)));
-      disk = elim x [ inl here ↦ ap (λ (n : Moment). n.disk) here | inr none ↦ absurd none ];
-    }
-  ]
+  to_run m (inr there) =
+      let late : List Moment = map (quieted r.old.output) c.late in
+      let left : m.disk ≡ r.new.disk → HasDiskIn (moments r c) m =
+      λ same. record { moment = moment_of r.new; member = inr (in_append (moment_of r.new) c.late (moment_of r.new ∷ []) (inr (inl refl))); disk = same } in
+      elim (either_in m (late ++ told) (moment_of (alike r s).new ∷ []) there) [
+        | inl x ↦ elim (either_in m late told x) [
+          | inl y ↦
+              let h = loud r.old.output c.late m y in
+              record { moment = h.moment; member = inr (in_append h.moment c.late (moment_of r.new ∷ []) (inl h.member)); disk = h.disk }
+          | inr y ↦ left (told_disk m y)
+        ]
+        | inr x ↦ left (elim x [ inl here ↦ ap (λ (n : Moment). n.disk) here | inr none ↦ absurd none ])
+      ]
 
   -- and the other way round
-  to_load : (m : Moment) → Member m (moments r c) → HasDiskIn (moments (alike r s) (quiet_course r c)) m
+  to_load : (m : Moment) → Member m (moments r c) → HasDiskIn (moments (alike r s) (quiet_course r c told)) m
   to_load m (inl here) = record { moment = last_of (moment_of r.old) c.early; member = inl refl; disk = ap (λ (n : Moment). n.disk) here }
   to_load m (inr there) =
       let now : Moment = moment_of (alike r s).new in
@@ -92,24 +95,24 @@ module _ (p : Program) (r s : Observed) (c : Course) where
       elim (either_in m c.late (moment_of r.new ∷ []) there) [
         | inl x ↦
             let h = hushed r.old.output c.late m x in
-            record { moment = h.moment; member = inr (in_append h.moment late (now ∷ []) (inl h.member)); disk = h.disk }
+            record { moment = h.moment; member = inr (in_append h.moment (late ++ told) (now ∷ []) (inl (in_append h.moment late told (inl h.member)))); disk = h.disk }
         | inr x ↦ record {
           moment = now;
-          member = inr (in_append now late (now ∷ []) (inr (inl refl)));
+          member = inr (in_append now (late ++ told) (now ∷ []) (inr (inl refl)));
           disk = elim x [ inl here ↦ ap (λ (n : Moment). n.disk) here | inr none ↦ absurd none ];
         }
       ]
 
   -- an image that a crash of the load may leave is one that a crash of the run may
-  of_run : (image : Image) → IsImageOf (moments (alike r s) (quiet_course r c)) image → IsImageOf (moments r c) image
-  of_run image is = image_among (moments (alike r s) (quiet_course r c)) (moments r c) image to_run is
+  of_run : (image : Image) → IsImageOf (moments (alike r s) (quiet_course r c told)) image → IsImageOf (moments r c) image
+  of_run image is = image_among (moments (alike r s) (quiet_course r c told)) (moments r c) image to_run is
 
-  of_load : (image : Image) → IsImageOf (moments r c) image → IsImageOf (moments (alike r s) (quiet_course r c)) image
-  of_load image is = image_among (moments r c) (moments (alike r s) (quiet_course r c)) image to_load is
+  of_load : (image : Image) → IsImageOf (moments r c) image → IsImageOf (moments (alike r s) (quiet_course r c told)) image
+  of_load image is = image_among (moments r c) (moments (alike r s) (quiet_course r c told)) image to_load is
 
   -- ---- the clauses
 
-  ordered : IsOrdered p r c → IsOrdered p (alike r s) (quiet_course r c)
+  ordered : IsOrdered p r c → IsOrdered p (alike r s) (quiet_course r c told)
   ordered k = record {
     read = k.read;
     opened = λ image is. let o = k.opened image is in record { entry = o.entry; log = o.log };
@@ -123,7 +126,7 @@ module _ (p : Program) (r s : Observed) (c : Course) where
     family = k.family;
   }
 
-  crashes : (alike r s).new.past ≡ s.old.past ++ (c.early ++ map (quieted r.old.output) c.late) → SurvivesCrashes p r c → SurvivesCrashes p (alike r s) (quiet_course r c)
+  crashes : (alike r s).new.past ≡ s.old.past ++ (c.early ++ (map (quieted r.old.output) c.late ++ told)) → SurvivesCrashes p r c → SurvivesCrashes p (alike r s) (quiet_course r c told)
   crashes past k = record {
     past = past;
     quiet = k.quiet;
@@ -140,10 +143,10 @@ module _ (p : Program) (r s : Observed) (c : Course) where
         };
   }
 
-  lacks : (w : CoreWorld) (log : _) → LacksDoubtful c w log → LacksDoubtful (quiet_course r c) w log
+  lacks : (w : CoreWorld) (log : _) → LacksDoubtful c w log → LacksDoubtful (quiet_course r c told) w log
   lacks w log k = record { begins = k.begins; doubt = k.doubt; last = k.last; split = k.split; units = k.units }
 
-  exit : IsLeft p r c → IsLeft p (alike r s) (quiet_course r c)
+  exit : IsLeft p r c → IsLeft p (alike r s) (quiet_course r c told)
   exit k = record {
     logs = λ image is.
         let o = k.logs image is in
@@ -157,7 +160,7 @@ module _ (p : Program) (r s : Observed) (c : Course) where
         record { gate = o.gate; batch = o.batch; batches = o.batches; records = o.records; log = o.log; front = o.front; block = o.block; differ = o.differ };
   }
 
-  explained : IsExplained p r c → IsExplained p (alike r s) (quiet_course r c)
+  explained : IsExplained p r c → IsExplained p (alike r s) (quiet_course r c told)
   explained k = record {
     records = k.records;
     units = k.units;
@@ -168,7 +171,7 @@ module _ (p : Program) (r s : Observed) (c : Course) where
     ended = k.ended;
   }
 
-  ended : Keeps p r c → r.ending ≡ Done → s.new.input ≡ s.old.input → HasLoaded p (alike r s) (quiet_course r c)
+  ended : Keeps p r c → r.ending ≡ Done → s.new.input ≡ s.old.input → HasLoaded p (alike r s) (quiet_course r c told)
   ended k done unread = record {
     unread = unread;
     carried = subst IsBegun (sym done) tt;
@@ -188,7 +191,7 @@ module _ (p : Program) (r s : Observed) (c : Course) where
   }
 
   -- the load with what the run shows keeps what is promised of a load
-  alike_keeps : (n seed : ℕ) → Keeps p r c → r.ending ≡ Done → AskFor p.types (lines r) (load_calls n seed) → IsQuietRun r c (summary_text p r c) s → KeepsLoad p n seed (alike r s) (quiet_course r c)
+  alike_keeps : (n seed : ℕ) → Keeps p r c → r.ending ≡ Done → AskFor p.types (lines r) (load_calls n seed) → IsQuietRun r c (summary_text p r c) told s → KeepsLoad p n seed (alike r s) (quiet_course r c told)
   alike_keeps n seed k done asked q = record {
     asked = asked;
     ordered = ordered k.ordered;
@@ -202,5 +205,5 @@ module _ (p : Program) (r s : Observed) (c : Course) where
   }
 
 -- a load that follows a run keeps what is promised of a load
-pub follows : (p : Program) (n seed : ℕ) (r s : Observed) (c : Course) → Keeps p r c → r.ending ≡ Done → AskFor p.types (lines r) (load_calls n seed) → IsQuietRun r c (summary_text p r c) s → KeepsLoad p n seed s (quiet_course r c)
-follows p n seed r s c k done asked q = subst (λ (t : Observed). KeepsLoad p n seed t (quiet_course r c)) (sym (same_load r c (summary_text p r c) s q)) (alike_keeps p r s c n seed k done asked q)
+pub follows : (p : Program) (n seed : ℕ) (r s : Observed) (c : Course) (told : List Moment) → Keeps p r c → r.ending ≡ Done → AskFor p.types (lines r) (load_calls n seed) → IsQuietRun r c (summary_text p r c) told s → KeepsLoad p n seed s (quiet_course r c told)
+follows p n seed r s c told k done asked q = subst (λ (t : Observed). KeepsLoad p n seed t (quiet_course r c told)) (sym (same_load r c (summary_text p r c) told s q)) (alike_keeps p r s c told q.left n seed k done asked q)

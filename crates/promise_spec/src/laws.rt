@@ -131,6 +131,6 @@ pub fn words_are_read()
 /// A load can be kept wherever a run can: one that carries its lines as a run that is done, and writes the summary in place of
 /// the replies, keeps what is promised of a load.
 pub fn loads_follow_runs()
-    ensures { (p : Program) (n seed : ℕ) (r s : Observed) (c : Course) → Keeps p r c → r.ending ≡ Done → AskFor p.types (lines r) (load_calls n seed)
-        → IsQuietRun r c (summary_text p r c) s → KeepsLoad p n seed s (quiet_course r c) }
+    ensures { (p : Program) (n seed : ℕ) (r s : Observed) (c : Course) (told : List Moment) → Keeps p r c → r.ending ≡ Done
+        → AskFor p.types (lines r) (load_calls n seed) → IsQuietRun r c (summary_text p r c) told s → KeepsLoad p n seed s (quiet_course r c told) }
 {}
