@@ -1,5 +1,5 @@
 -- What a command answers that doesn't open the folder, and when it may open it.
-use Rattle.std.specs.Prelude.{◌≡◌, ◌⊎◌, ℕ, List, length, ⊤}
+use Rattle.std.specs.Prelude.{◌≡◌, ◌⊎◌, List, length, ⊤}
 use Rattle.base_types.specs.declared.calls.GrainId.{GrainId}
 use Rattle.host_trait.specs.declared.channels.FileId.{FileId}
 use Rattle.host_trait.specs.declared.channels.FileId.TheVariants.{Program as ProgramFile, Manager, Grain}
