@@ -1,4 +1,5 @@
 pub mod FirstDeposit
+pub mod AccountText
 pub mod FirstFamily
 pub mod DepositRules
 pub mod EmptyRun

@@ -31,43 +31,52 @@ use Rattle.promise_spec.specs.Logs.{magic}
 use Rattle.promise_spec.specs.Lines.{IsLineCall}
 use Rattle.promise_spec.specs.Cores.{core_from}
 
--- a name, wherever it stands
-abbrev pub name : List ℕ → Name
-name text = record { text = text; at = 0 }
+-- the text of a program
+abbrev pub account_text : List ℕ
+account_text = codes "type account {\n  field balance = 0;\n  method deposit(n) createorjoin update { set balance = balance + n; return balance; }\n  method read() createorjoin read { return balance; }\n}\n"
+
+-- a name, and where it stands in that text
+abbrev pub name : ℕ → List ℕ → Name
+name at text = record { text = text; at = at }
 
 -- `method deposit(n) createorjoin update { set balance = balance + n; return balance; }`
 abbrev pub deposit_method : MethodTree
 deposit_method = record {
-  name = name (codes "deposit");
-  params = name (codes "n") ∷ [];
+  name = name 45 (codes "deposit");
+  params = name 53 (codes "n") ∷ [];
   option = CreateOrJoin;
-  option_at = 0;
+  option_at = 56;
   kind = kinds.Update;
-  body = Then (SetField (name (codes "balance")) (Joined Add (Variable (name (codes "balance"))) (Variable (name (codes "n")))))
-      (Then (Give (Variable (name (codes "balance")))) NoMore);
+  body = Then (SetField (name 82 (codes "balance")) (Joined Add (Variable (name 92 (codes "balance"))) (Variable (name 102 (codes "n")))))
+      (Then (Give (Variable (name 112 (codes "balance")))) NoMore);
 }
 
 -- `method read() createorjoin read { return balance; }`
 abbrev pub read_method : MethodTree
 read_method = record {
-  name = name (codes "read");
+  name = name 132 (codes "read");
   params = [];
   option = CreateOrJoin;
-  option_at = 0;
+  option_at = 139;
   kind = kinds.Read;
-  body = Then (Give (Variable (name (codes "balance")))) NoMore;
+  body = Then (Give (Variable (name 166 (codes "balance")))) NoMore;
 }
 
--- a program with one type, `account`, which has a field `balance` and these methods
+-- one type, `account`, which has a field `balance` and these methods
 abbrev pub accounts : ProgramTree
 accounts = record {
-  name = name (codes "account");
-  fields = record { name = name (codes "balance"); initial = literal.Int (pos 0) } ∷ [];
+  name = name 5 (codes "account");
+  fields = record { name = name 23 (codes "balance"); initial = literal.Int (pos 0) } ∷ [];
   methods = deposit_method ∷ read_method ∷ [];
 } ∷ []
 
+-- the program
 abbrev pub account_program : Program
-account_program = record { text = []; types = accounts }
+account_program = record { text = account_text; types = accounts }
+
+-- the bytes of its file: the text's length, and the text
+abbrev pub program_bytes : List ℕ
+program_bytes = 179 ∷ 0 ∷ 0 ∷ 0 ∷ account_text
 
 -- `account/1`
 abbrev pub account_1 : GrainId
@@ -128,13 +137,13 @@ manager_bytes gate = 1 ∷ (magic ++ 0 ∷ 0 ∷ 0 ∷ 0 ∷ 0 ∷ 0 ∷ gate �
 
 -- the folder: every grain's file is that one
 abbrev pub folder : ℕ → List ℕ → Image
-folder gate grain_file (ProgramFile slot) = []
+folder gate grain_file (ProgramFile slot) = program_bytes
 folder gate grain_file (Manager slot) = manager_bytes gate
 folder gate grain_file (Grain slot grain) = grain_file
 
 -- the same, where the manager file has only its first bytes
 abbrev pub torn_folder : ℕ → Image
-torn_folder size (ProgramFile slot) = []
+torn_folder size (ProgramFile slot) = program_bytes
 torn_folder size (Manager slot) = take size (manager_bytes 1)
 torn_folder size (Grain slot grain) = grain_bytes
 

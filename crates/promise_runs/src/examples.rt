@@ -4,7 +4,7 @@ ghost use Rattle.base_types.specs.declared.calls.Value.TheVariants.{Int};
 ghost use Rattle.field_codec.specs.Spelling.{spelling_of_version};
 ghost use Rattle.gate_block.specs.Blocks.{block_of};
 ghost use Rattle.request_wire.specs.Reply.{reply_line};
-ghost use Rattle.promise_spec.specs.Programs.{Program, shape_in};
+ghost use Rattle.promise_spec.specs.Programs.{Program, IsChecked, shape_in};
 ghost use Rattle.promise_spec.specs.Records.{Commit, new_silo, standing_of};
 ghost use Rattle.promise_spec.specs.Serial.{IsSerial};
 ghost use Rattle.promise_spec.specs.Logs.{IsLog, IsKept, body_of};
@@ -117,4 +117,9 @@ pub fn loads_draw_and_sum()
     ensures many { length (load_calls 2 7) ≡ 66 }
     ensures last { slice_get (load_calls 2 7) 63 ≡ Some (call (at 0 63) 0 (int 1000 ∷ [])) }
     ensures summed { (r : Observed) (opened sealing : Moment) → length (lines r) ≡ 1 → summary_text account_program r (deposit_course opened sealing r) ≡ codes "{\"aborted\":0,\"committed\":1,\"faulted\":0,\"requests\":1,\"total\":5}\n" }
+{}
+
+/// A run of one deposit is written out whole: the program is a checked one.
+pub fn a_run_is_written_out()
+    ensures checked { IsChecked account_program }
 {}
