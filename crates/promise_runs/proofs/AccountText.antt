@@ -1,10 +1,9 @@
 -- The program of the accounts is a checked one: its text read as tokens, the tokens as types, and the types checked.
-use Rattle.std.proofs.Common.{◌≡◌, ℕ, List, [], ◌∷◌, length, take, Ok, None, pos, refl, sym, ◌∙◌, ap, subst, arith, lit<}
+use Rattle.std.proofs.Common.{◌≡◌, ℕ, List, [], ◌∷◌, take, Ok, None, pos, refl, ◌∙◌, ap, lit<}
 use Rattle.std.specs.Prelude.{codes}
 use Rattle.std.specs.Str.Lossy.{utf8_valid_len}
 use Rattle.std.proofs.lemmas.Str.{utf8_valid_len-IsUtf8}
 use Rattle.json.proofs.Printed.Utf8.{IsUtf8-are_ascii}
-use Rattle.script_lexer.specs.declared.faults.ParseFault.{ParseFault}
 use Rattle.script_lexer.specs.declared.faults.ParseFault.TheVariants.{Unexpected}
 use Rattle.script_lexer.specs.declared.tokens.Spanned.{Spanned}
 use Rattle.script_lexer.specs.declared.tokens.Token.{Token}
@@ -19,7 +18,7 @@ use Rattle.script_expressions.specs.Expressions.{operator_at, chain, tiers, expr
 use Rattle.script_parser.specs.Statements.{set_at, return_at, statement_over, statements, block}
 use Rattle.script_parser.specs.Methods.{option_at, kind_at, params_at, method_at}
 use Rattle.script_parser.specs.Types.{repeated, initial_at, field_at, type_at}
-use Rattle.script_parser.specs.Programs.{program_over, program_of}
+use Rattle.script_parser.specs.Programs.{program_over}
 use Rattle.script_scopes.specs.Expressions.{expression_fault}
 use Rattle.script_scopes.specs.Statements.{statement_fault, block_fault}
 use Rattle.script_check.specs.Programs.{each_fault, program_fault}

@@ -4,6 +4,7 @@ pub mod FirstFamily
 pub mod DepositRules
 pub mod EmptyRun
 pub mod DepositRun
+pub mod WrittenRun
 pub mod DoubtRun
 pub mod VoteRun
 pub mod Transfer

@@ -2,5 +2,6 @@ pub mod Examples
 pub mod Transfers
 pub mod EmptyRuns
 pub mod DepositRuns
+pub mod WrittenRun
 pub mod DoubtRuns
 pub mod VoteRuns

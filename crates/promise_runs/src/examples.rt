@@ -9,7 +9,9 @@ ghost use Rattle.promise_spec.specs.Records.{Commit, new_silo, standing_of};
 ghost use Rattle.promise_spec.specs.Serial.{IsSerial};
 ghost use Rattle.promise_spec.specs.Logs.{IsLog, IsKept, body_of};
 ghost use Rattle.promise_spec.specs.Courses.{Observed, lines};
-ghost use Rattle.promise_spec.specs.Promise.{Keeps};
+ghost use Rattle.promise_spec.specs.Promise.{Keeps, IsSoundFolder, Promises};
+ghost use Rattle.promise_spec.specs.Words.{plain_manner};
+ghost use Rattle.promise_runs.specs.WrittenRun.{opened, sealing, written};
 ghost use Rattle.promise_runs.specs.EmptyRuns.{IsEmptyRun, empty_course};
 ghost use Rattle.promise_runs.specs.DoubtRuns.{IsDoubtRun, doubt_course};
 ghost use Rattle.script_meaning.specs.Worked.{bank, at, int, call};
@@ -119,7 +121,11 @@ pub fn loads_draw_and_sum()
     ensures summed { (r : Observed) (opened sealing : Moment) → length (lines r) ≡ 1 → summary_text account_program r (deposit_course opened sealing r) ≡ codes "{\"aborted\":0,\"committed\":1,\"faulted\":0,\"requests\":1,\"total\":5}\n" }
 {}
 
-/// A run of one deposit is written out whole: the program is a checked one.
+/// A run of one deposit is written out whole: the program is a checked one, the folder is a new silo's and sound, and what the
+/// run shows keeps the promise.
 pub fn a_run_is_written_out()
     ensures checked { IsChecked account_program }
+    ensures sound { IsSoundFolder account_program written.old }
+    ensures kept { Keeps account_program written (deposit_course opened sealing written) }
+    ensures promised { Promises plain_manner written }
 {}

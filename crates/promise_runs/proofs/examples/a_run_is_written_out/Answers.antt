@@ -1,5 +1,15 @@
 use Rattle.promise_runs.proofs.AccountText.{account_is_checked}
+use Rattle.promise_runs.proofs.WrittenRun.{sound_at_entry, written_keeps, written_promises}
 use Rattle.promise_runs.proofs.examples.a_run_is_written_out.Goals as goal
 
-pub returns : goal.returns
-returns c = record { checked = account_is_checked }
+pub returns-clause-checked : goal.returns-clause-checked
+returns-clause-checked c = account_is_checked
+
+pub returns-clause-sound : goal.returns-clause-sound
+returns-clause-sound c = sound_at_entry
+
+pub returns-clause-kept : goal.returns-clause-kept
+returns-clause-kept c = written_keeps
+
+pub returns-clause-promised : goal.returns-clause-promised
+returns-clause-promised c = written_promises
