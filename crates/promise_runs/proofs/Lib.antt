@@ -4,8 +4,10 @@ pub mod FirstFamily
 pub mod DepositRules
 pub mod EmptyRun
 pub mod DepositRun
+pub mod NewSilo
 pub mod WrittenRun
 pub mod DoubtRun
+pub mod WrittenDoubt
 pub mod VoteRun
 pub mod Transfer
 pub mod Load

@@ -82,9 +82,12 @@ program_bytes = 179 ∷ 0 ∷ 0 ∷ 0 ∷ account_text
 abbrev pub account_1 : GrainId
 account_1 = record { kind = 0; key = 1 }
 
--- the call `account/1.deposit` with 5
+-- the call `account/1.deposit` with a number, and with 5
+abbrev pub deposit_of : ℕ → Call
+deposit_of n = record { grain = account_1; method = 0; args = Int (pos n) ∷ [] }
+
 abbrev pub deposit_call : Call
-deposit_call = record { grain = account_1; method = 0; args = Int (pos 5) ∷ [] }
+deposit_call = deposit_of 5
 
 -- the record of that call on line 1. It found 0 there
 abbrev pub deposit : CommitRecord

@@ -4,4 +4,5 @@ pub mod EmptyRuns
 pub mod DepositRuns
 pub mod WrittenRun
 pub mod DoubtRuns
+pub mod WrittenDoubt
 pub mod VoteRuns

@@ -12,6 +12,7 @@ ghost use Rattle.promise_spec.specs.Courses.{Observed, lines};
 ghost use Rattle.promise_spec.specs.Promise.{Keeps, IsSoundFolder, Promises};
 ghost use Rattle.promise_spec.specs.Words.{plain_manner};
 ghost use Rattle.promise_runs.specs.WrittenRun.{opened, sealing, written};
+ghost use Rattle.promise_runs.specs.WrittenDoubt.{pair_manner, told, doubting, doubted};
 ghost use Rattle.promise_runs.specs.EmptyRuns.{IsEmptyRun, empty_course};
 ghost use Rattle.promise_runs.specs.DoubtRuns.{IsDoubtRun, doubt_course};
 ghost use Rattle.script_meaning.specs.Worked.{bank, at, int, call};
@@ -126,6 +127,15 @@ pub fn loads_draw_and_sum()
 pub fn a_run_is_written_out()
     ensures checked { IsChecked account_program }
     ensures sound { IsSoundFolder account_program written.old }
+    ensures run { IsDepositRun written opened sealing }
     ensures kept { Keeps account_program written (deposit_course opened sealing written) }
     ensures promised { Promises plain_manner written }
+{}
+
+/// And so is a run of two deposits at once, of which the second meets the first one's lock, and the first is left in doubt.
+pub fn a_doubt_is_written_out()
+    ensures sound { IsSoundFolder account_program doubted.old }
+    ensures run { IsDoubtRun doubted opened told doubting }
+    ensures kept { Keeps account_program doubted (doubt_course opened told doubting doubted) }
+    ensures promised { Promises pair_manner doubted }
 {}

@@ -1,5 +1,5 @@
 use Rattle.promise_runs.proofs.AccountText.{account_is_checked}
-use Rattle.promise_runs.proofs.WrittenRun.{sound_at_entry, written_keeps, written_promises}
+use Rattle.promise_runs.proofs.WrittenRun.{sound_at_entry, is_deposit_run, written_keeps, written_promises}
 use Rattle.promise_runs.proofs.examples.a_run_is_written_out.Goals as goal
 
 pub returns-clause-checked : goal.returns-clause-checked
@@ -7,6 +7,9 @@ returns-clause-checked c = account_is_checked
 
 pub returns-clause-sound : goal.returns-clause-sound
 returns-clause-sound c = sound_at_entry
+
+pub returns-clause-run : goal.returns-clause-run
+returns-clause-run c = is_deposit_run
 
 pub returns-clause-kept : goal.returns-clause-kept
 returns-clause-kept c = written_keeps

@@ -1,0 +1,262 @@
+-- The disks of a new silo of the accounts, and of one whose first deposit is sealed or being sealed: what their images have.
+use Rattle.std.proofs.Common.{◌≡◌, ◌≢◌, ◌⊎◌, inl, inr, ℕ, zero, suc, ◌+◌, ◌^◌, ◌<◌, ◌≤◌, Bool, true, false, if◌then◌else◌, List, [], ◌∷◌, ◌++◌, length, map, take, drop, slice_index, Option, Some, Result, Ok, refl, sym, ◌∙◌, ap, subst, arith}
+use Rattle.std.specs.Prelude.{codes, nat_lt}
+use Rattle.std.specs.Option.{ok_or}
+use Rattle.std.proofs.lemmas.Bool.{cases_eq, cases_lt}
+use Rattle.std.proofs.lemmas.List.{ext_get_or, take_at, drop_at, take-take}
+use Rattle.std.proofs.lemmas.Nat.{from_le_bytes-to_le_bytes_4}
+use Rattle.std.specs.Int.{w32, to_le_bytes, from_le_bytes}
+use Rattle.json.proofs.Printed.Utf8.{are_ascii, IsUtf8-are_ascii}
+use Rattle.serde_json.specs.Data.{Data, unsigned, number, string, array, object, no_items, item, no_members, member}
+use Rattle.serde_json.specs.Read.{read}
+use Rattle.serde_json.proofs.OnLiterals.{serde_json_on_literals}
+use Rattle.base_types.specs.declared.calls.Call.{Call}
+use Rattle.base_types.specs.declared.entries.BadRequest.{BadRequest}
+use Rattle.base_types.specs.declared.entries.BadRequest.TheVariants.{Json, Shape, Grain as BadGrain, Method, Args}
+use Rattle.script_tree.specs.Programs.{ProgramTree}
+use Rattle.script_parser.specs.Programs.{program_of}
+use Rattle.host_trait.specs.declared.channels.FileId.{FileId}
+use Rattle.host_trait.specs.declared.channels.FileId.TheVariants.{Manager, Program as ProgramFile, Grain}
+use Rattle.host_trait.specs.Disk.{FileState, Untouched, MayLeave, settled}
+use Rattle.host_trait.specs.World.{Image, IsImage, World}
+use Rattle.host_trait.proofs.Crashes.{settled_only}
+use Rattle.gate_block.specs.Log.{LogsUpTo}
+use Rattle.grain_log.specs.Places.{IsVersionAt}
+use Rattle.cell_model.specs.Units.{same_grain}
+use Rattle.silo_spec.specs.Silos.{manager, program_file, IsSilo, HasProgram}
+use Rattle.request_wire.specs.Names.{TypeNames, names_in}
+use Rattle.request_wire.specs.Request.{shape_of, grain_of, method_of, args_of, passed, call_of}
+use Rattle.request_wire.proofs.Arguments.{json_of-read}
+use Rattle.promise_spec.specs.Programs.{Program, ProgramFault, IsChecked, text_limit, program_in}
+use Rattle.promise_spec.specs.Openings.{Reads, opened_as, with_types, program_in_file, with_program}
+use Rattle.promise_spec.specs.Logs.{magic, body_of}
+use Rattle.promise_spec.specs.Crashes.{IsAside}
+use Rattle.promise_spec.specs.Images.{IsSoundIfSilo}
+use Rattle.promise_spec.specs.Promise.{IsSoundFolder}
+use Rattle.promise_runs.specs.Examples.{account_text, accounts, account_program, program_bytes, account_1, deposit_of, first_version, grain_bytes, block_bytes, manager_bytes}
+use Rattle.promise_runs.specs.DepositRuns.{HasNone, HasDeposit}
+use Rattle.promise_runs.specs.WrittenRun.{new_manager, disk_of, new_disk, gate_pending, sealing_disk, sealed_disk}
+use Rattle.promise_runs.proofs.FirstDeposit.{logged}
+use Rattle.promise_runs.proofs.AccountText.{account_is_checked}
+
+-- ---- what images have
+
+program_spelled : HasProgram account_text program_bytes
+program_spelled = refl
+
+module _ (image : Image) (program_is : image program_file ≡ program_bytes) where
+  has_program : HasProgram account_program.text (image program_file)
+  has_program = subst (λ (file : List ℕ). HasProgram account_text file) (sym program_is) program_spelled
+
+  -- a manager file whose first gate is closed
+  has_none : (file : List ℕ) → IsSilo magic file → LogsUpTo [] 15 file → image manager ≡ file → HasNone image
+  has_none file silo blocks is = (
+    record {
+      silo = subst (λ (f : List ℕ). IsSilo magic f) (sym is) silo;
+      batches = [];
+      gate = 15;
+      blocks = subst (λ (f : List ℕ). LogsUpTo [] 15 f) (sym is) blocks;
+      sizes = tt;
+      commits = refl;
+      kept = tt;
+    },
+    has_program,
+  )
+
+  -- the first deposit's files
+  pub has_deposit : image manager ≡ manager_bytes 1 → image (Grain 0 account_1) ≡ grain_bytes → HasDeposit image
+  has_deposit is grain_is =
+      let stands = logged.kept.0.whole.0 in (
+        record {
+          silo = subst (λ (f : List ℕ). IsSilo magic f) (sym is) logged.silo;
+          batches = logged.batches;
+          gate = logged.gate;
+          blocks = subst (λ (f : List ℕ). LogsUpTo (map body_of logged.batches) logged.gate f) (sym is) logged.blocks;
+          sizes = logged.sizes;
+          commits = logged.commits;
+          kept = (
+            record {
+              fits = logged.kept.0.fits;
+              whole = (
+                record {
+                  near = stands.near;
+                  fields = stands.fields;
+                  version = subst (λ (f : List ℕ). IsVersionAt 1 (record { offset = 0; len = 19 }) f first_version) (sym grain_is) stands.version;
+                },
+                tt,
+              );
+            },
+            tt,
+          );
+        },
+        has_program,
+      )
+
+new_is_silo : IsSilo magic new_manager
+new_is_silo = record { long = omega arith; gate = refl; named = refl }
+
+new_has_none : LogsUpTo [] 15 new_manager
+new_has_none = record { blocks = record { small = tt; at = refl; within = omega arith; blocks = refl }; closed = λ e. cc e }
+
+gate_is_silo : (g : ℕ) → IsSilo magic (manager_bytes g)
+gate_is_silo g = record { long = omega arith; gate = refl; named = refl }
+
+shut_has_none : (g : ℕ) → g ≢ 1 → LogsUpTo [] 15 (manager_bytes g)
+shut_has_none g shut = record { blocks = record { small = tt; at = refl; within = omega arith; blocks = refl }; closed = shut }
+
+-- ---- what a crash leaves of the pending gate
+
+-- lists that differ in one item are alike elsewhere
+other_items : (front back : List ℕ) (g h i : ℕ) → i ≢ length front → slice_index (front ++ (g ∷ back)) i ≡ slice_index (front ++ (h ∷ back)) i
+other_items [] back g h zero other = absurd (other refl)
+other_items [] back g h (suc i) other = refl
+other_items (x ∷ front) back g h zero other = refl
+other_items (x ∷ front) back g h (suc i) other = other_items front back g h i (λ same. other (ap suc same))
+
+header : List ℕ
+header = 1 ∷ (magic ++ 0 ∷ 0 ∷ 0 ∷ 0 ∷ 0 ∷ 0 ∷ [])
+
+pub other_bytes : (g h i : ℕ) → i ≢ 15 → slice_index (manager_bytes g) i ≡ slice_index (manager_bytes h) i
+unfolding header
+other_bytes g h i other = other_items header block_bytes g h i other
+
+-- all but the gate's byte is the base's
+pub gate_only : (c : List ℕ) → MayLeave gate_pending c → c ≡ manager_bytes (slice_index c 15)
+gate_only c left = ext_get_or 0 c (manager_bytes (slice_index c 15)) size byte where
+  size : length c ≡ 89
+  size =
+      let low : 89 ≤ length c = left.no_shorter in
+      let high : length c ≤ 89 = left.no_longer in
+      omega arith
+
+  outside : (i : ℕ) → i ≢ 15 → Untouched ((15, 1) ∷ []) i
+  outside i other = elim (cases_lt i 15) [
+    | inl before ↦ (inl before, tt)
+    | inr behind ↦ (inr (omega (arith, other)), tt)
+  ]
+
+  byte : (i : ℕ) → i < length c → slice_index c i ≡ slice_index (manager_bytes (slice_index c 15)) i
+  byte i low = elim (cases_eq i 15) [
+    | inl is ↦ subst (λ (k : ℕ). slice_index c k ≡ slice_index (manager_bytes (slice_index c 15)) k) (sym is) refl
+    | inr other ↦
+        (let within : i < 89 = omega arith in left.same i within (outside i other)) ∙ other_bytes 0 (slice_index c 15) i other
+  ]
+
+-- ---- the disks' images
+
+module _ (image : Image) where
+  pub new_images : IsImage new_disk image → HasNone image
+  new_images left = has_none image (settled_only program_bytes (image program_file) (left program_file)) new_manager new_is_silo new_has_none (settled_only new_manager (image manager) (left manager))
+
+  pub sealing_images : IsImage sealing_disk image → HasNone image ⊎ HasDeposit image
+  sealing_images left =
+      let program_is : image program_file ≡ program_bytes = settled_only program_bytes (image program_file) (left program_file) in
+      let grain_is : image (Grain 0 account_1) ≡ grain_bytes = settled_only grain_bytes (image (Grain 0 account_1)) (left (Grain 0 account_1)) in
+      let gate = slice_index (image manager) 15 in
+      let is : image manager ≡ manager_bytes gate = gate_only (image manager) (left manager) in
+      elim (cases_eq gate 1) [
+        | inl open_gate ↦ inr (has_deposit image program_is (is ∙ ap manager_bytes open_gate) grain_is)
+        | inr shut ↦ inl (has_none image program_is (manager_bytes gate) (gate_is_silo gate) (shut_has_none gate shut) is)
+      ]
+
+  pub sealed_images : IsImage sealed_disk image → HasDeposit image
+  sealed_images left =
+      has_deposit image (settled_only program_bytes (image program_file) (left program_file)) (settled_only (manager_bytes 1) (image manager) (left manager))
+      (settled_only grain_bytes (image (Grain 0 account_1)) (left (Grain 0 account_1)))
+
+-- files of other slots, and the program's, are the same on both disks
+pub same_aside : (log grain later_log later_grain : FileState) (file : FileId) → IsAside file → disk_of later_log later_grain file ≡ disk_of log grain file
+same_aside log grain later_log later_grain (ProgramFile zero) is = refl
+same_aside log grain later_log later_grain (ProgramFile (suc slot)) is = refl
+same_aside log grain later_log later_grain (Manager zero) is = absurd (is refl)
+same_aside log grain later_log later_grain (Manager (suc slot)) is = refl
+same_aside log grain later_log later_grain (Grain zero g) is = absurd (is refl)
+same_aside log grain later_log later_grain (Grain (suc slot) g) is = refl
+
+pub settled_stays : (bytes : List ℕ) → MayLeave (settled bytes) bytes
+settled_stays bytes = record { no_shorter = omega arith; no_longer = omega arith; same = λ i low untouched. refl }
+
+pub grain_stays : (bytes : List ℕ) (b : Bool) → MayLeave (if b then settled bytes else settled []) (if b then settled bytes else settled []).seen
+grain_stays bytes true = settled_stays bytes
+grain_stays bytes false = settled_stays []
+
+-- where nothing is pending a crash may leave what a read gives
+pub seen_possible : (log grain : List ℕ) (file : FileId) → MayLeave (disk_of (settled log) (settled grain) file) (disk_of (settled log) (settled grain) file).seen
+seen_possible log grain (ProgramFile zero) = settled_stays program_bytes
+seen_possible log grain (ProgramFile (suc slot)) = settled_stays []
+seen_possible log grain (Manager zero) = settled_stays log
+seen_possible log grain (Manager (suc slot)) = settled_stays []
+seen_possible log grain (Grain zero g) = grain_stays grain (same_grain g account_1)
+seen_possible log grain (Grain (suc slot) g) = settled_stays []
+
+-- what a read gives in a new silo
+abbrev pub new_folder : Image
+new_folder file = (new_disk file).seen
+
+-- each image has the empty log
+pub sound_world : (w : World) → ((image : Image) → IsImage w.disk image → IsImage new_disk image) → IsSoundFolder account_program w
+sound_world w same = record {
+  chain = λ one other is_one is_other silo. ([], (new_images one (same one is_one)).0, λ other_silo. ([], (new_images other (same other is_other)).0, inl ([], refl)));
+  sound = λ image left silo. let has = new_images image (same image left) in record { log = []; is = has.0; program = has.1; serial = tt; numbered = tt };
+}
+
+-- ---- a new silo's folder, as any program's
+
+-- the text is read as its types
+text_is_read : program_in account_text ≡ Ok accounts
+text_is_read = rw (account_is_checked.parsed, account_is_checked.checked) refl
+
+-- the program file is read as the program
+file_is_read : program_in_file program_bytes ≡ Ok account_program
+file_is_read = ap (λ (r : Result ProgramTree ProgramFault). with_types account_text r) text_is_read
+
+-- the folder reads as a new silo of it
+pub new_reads : opened_as new_folder ≡ Reads account_program []
+new_reads = ap (λ (r : Result Program ℕ). with_program new_folder r) file_is_read
+
+-- a text of at most 262,144 bytes that the program file has is that of the accounts
+text_same : (text : List ℕ) → length text ≤ text_limit → HasProgram text program_bytes → text ≡ account_text
+text_same text small has =
+    let n = length text in
+    let fits : n < 2 ^ 32 = omega arith in
+    let four : length (to_le_bytes w32 n) ≡ 4 = refl in
+    let front : take 4 (take (4 + n) program_bytes) ≡ take 4 program_bytes = take-take 4 (4 + n) program_bytes (omega arith) in
+    let field : take 4 program_bytes ≡ to_le_bytes w32 n = sym front ∙ ap (λ (l : List ℕ). take 4 l) has ∙ take_at (to_le_bytes w32 n) text 4 four in
+    let size : n ≡ 179 = sym (from_le_bytes-to_le_bytes_4 n fits) ∙ ap (λ (l : List ℕ). from_le_bytes w32 l) (sym field) in
+    sym (drop_at (to_le_bytes w32 n) text 4 four) ∙ ap (λ (l : List ℕ). drop 4 l) (sym has) ∙ ap (λ (k : ℕ). drop 4 (take (4 + k) program_bytes)) size
+
+-- and a checked program with that text is the program of the accounts
+program_same : (p : Program) → IsChecked p → p.text ≡ account_text → p ≡ account_program
+program_same p checked same =
+    let types : Ok p.types ≡ Ok accounts = sym checked.parsed ∙ ap program_of same ∙ account_is_checked.parsed in
+    let is : p.types ≡ accounts = cc types in
+    λ i. record { text = same i; types = is i }
+
+-- the folder is a sound one of no other program
+pub only_program : (p : Program) → IsChecked p → ((image : Image) → IsImage new_disk image → IsSoundIfSilo p image) → account_program ≡ p
+only_program p checked sound = sym (program_same p checked (text_same p.text checked.small (sound new_folder (seen_possible new_manager []) new_is_silo).program))
+
+-- ---- lines of requests
+
+-- the call that a JSON value asks
+abbrev call_from : List TypeNames → Option Data → Result Call BadRequest
+call_from types read_as = passed (ok_or read_as Json)
+    (λ d. passed (ok_or (shape_of d) Shape)
+    (λ shape. passed (ok_or (grain_of types shape.1) BadGrain)
+    (λ grain. passed (ok_or (method_of types grain.0.kind grain.1) Method)
+    (λ method. passed (ok_or (args_of method.1 shape.0) Args)
+    (λ args. Ok (record { grain = grain.0; method = method.0; args = args }))))))
+
+-- what a deposit's line is as JSON
+abbrev pub deposit_data : ℕ → Data
+deposit_data n =
+    object (member (codes "args") (array (item (number (unsigned n)) no_items)) (member (codes "call") (string (codes "account/1.deposit")) no_members))
+
+data_asks : (n : ℕ) → nat_lt n (2 ^ 63) ≡ true → call_from (names_in accounts) (Some (deposit_data n)) ≡ Ok (deposit_of n)
+unfolding serde_json_on_literals
+data_asks n fits = rw fits refl
+
+-- a line of ASCII that is this as JSON asks for the deposit
+pub line_asks : (line : List ℕ) (n : ℕ) → are_ascii line ≡ true → read line ≡ Some (deposit_data n) → nat_lt n (2 ^ 63) ≡ true → call_of (names_in accounts) line ≡ Ok (deposit_of n)
+line_asks line n ascii is fits =
+    ap (λ (d : Option Data). call_from (names_in accounts) d) (sym (json_of-read line (deposit_data n) (IsUtf8-are_ascii line ascii) is)) ∙ data_asks n fits
