@@ -33,7 +33,12 @@ use Rattle.promise_spec.specs.Cores.{core_from}
 
 -- the text of a program
 abbrev pub account_text : List ℕ
-account_text = codes "type account {\n  field balance = 0;\n  method deposit(n) createorjoin update { set balance = balance + n; return balance; }\n  method read() createorjoin read { return balance; }\n}\n"
+account_text =
+    codes "type account {\n"
+    ++ codes "  field balance = 0;\n"
+    ++ codes "  method deposit(n) createorjoin update { set balance = balance + n; return balance; }\n"
+    ++ codes "  method read() createorjoin read { return balance; }\n"
+    ++ codes "}\n"
 
 -- a name, and where it stands in that text
 abbrev pub name : ℕ → List ℕ → Name
@@ -70,7 +75,7 @@ accounts = record {
   methods = deposit_method ∷ read_method ∷ [];
 } ∷ []
 
--- the program
+-- the program: the text and its types
 abbrev pub account_program : Program
 account_program = record { text = account_text; types = accounts }
 
@@ -82,10 +87,11 @@ program_bytes = 179 ∷ 0 ∷ 0 ∷ 0 ∷ account_text
 abbrev pub account_1 : GrainId
 account_1 = record { kind = 0; key = 1 }
 
--- the call `account/1.deposit` with a number, and with 5
+-- the call `account/1.deposit` with a number
 abbrev pub deposit_of : ℕ → Call
 deposit_of n = record { grain = account_1; method = 0; args = Int (pos n) ∷ [] }
 
+-- the same with 5
 abbrev pub deposit_call : Call
 deposit_call = deposit_of 5
 

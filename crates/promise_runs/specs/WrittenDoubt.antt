@@ -1,5 +1,5 @@
 -- The run of two deposits at once in a new silo, written out: the second meets the first one's lock, and the first is
--- left in doubt.
+-- left in doubt. Of its moments it has four; a host has one for each call.
 use Rattle.std.specs.Prelude.{ℕ, zero, suc, false, List, [], ◌∷◌, ◌++◌, codes}
 use Rattle.host_trait.specs.declared.channels.Channel.{Channel}
 use Rattle.host_trait.specs.declared.channels.Channel.TheVariants.{Input, Output, File}
@@ -19,28 +19,31 @@ pair_manner = record { threaded = false; width = 2; picks = 0 ∷ 1 ∷ 1 ∷ []
 abbrev pub second_line : List ℕ
 second_line = codes "{\"args\":[4],\"call\":\"account/1.deposit\"}"
 
--- what the second line is told, and then the first
+-- what the second line is told
 abbrev pub locked_text : List ℕ
 locked_text = codes "{\"aborted\":\"lock\",\"by\":1,\"grain\":\"account/1\",\"n\":2,\"unit\":2}\n"
 
+-- and then the first
 abbrev pub doubt_text : List ℕ
 doubt_text = codes "{\"in_doubt\":true,\"n\":1,\"unit\":1}\n"
 
--- The moment at which the second line is told, that at which the gate is written, whose sync then fails, and that at
--- which the first line is told.
+-- the moment at which the second line is told
 abbrev pub told : Moment
 told = record { output = locked_text; disk = new_disk }
 
+-- the moment at which the gate is written; its sync fails then
 abbrev pub doubting : Moment
 doubting = record { output = locked_text; disk = sealing_disk }
 
+-- the moment at which the first line is told, and the exit
 abbrev pub doubt_told : Moment
 doubt_told = record { output = locked_text ++ doubt_text; disk = sealing_disk }
 
--- what the host holds before and after: the gate stays pending
+-- what the host holds before
 abbrev pub pair_before : World
 pair_before = record { input = request_line ++ (10 ∷ (second_line ++ 10 ∷ [])); output = []; disk = new_disk; syncs = 0; past = [] }
 
+-- and after: the gate stays pending
 abbrev pub pair_after : World
 pair_after = record {
   input = [];

@@ -1,4 +1,4 @@
--- The run of one deposit in a new silo, written out.
+-- The run of one deposit in a new silo, written out. Of its moments it has three; a host has one for each call.
 use Rattle.std.specs.Prelude.{ℕ, zero, suc, List, [], ◌∷◌, ◌++◌, if◌then◌else◌, codes}
 use Rattle.host_trait.specs.declared.channels.FileId.TheVariants.{Manager, Program as ProgramFile, Grain}
 use Rattle.host_trait.specs.Disk.{FileState, settled}
@@ -40,27 +40,31 @@ sealing_disk = disk_of gate_pending (settled grain_bytes)
 abbrev pub sealed_disk : Disk
 sealed_disk = disk_of (settled (manager_bytes 1)) (settled grain_bytes)
 
--- the line, and its reply
+-- the line
 abbrev pub request_line : List ℕ
 request_line = codes "{\"args\":[5],\"call\":\"account/1.deposit\"}"
 
+-- its reply
 abbrev pub reply_text : List ℕ
 reply_text = codes "{\"n\":1,\"reply\":5,\"unit\":1}\n"
 
--- the moment at which the folder was opened, that at which the gate is written, and that of the reply
+-- the moment at which the opening's sync returned
 abbrev pub opened : Moment
 opened = record { output = []; disk = new_disk }
 
+-- the moment at which the gate is written
 abbrev pub sealing : Moment
 sealing = record { output = []; disk = sealing_disk }
 
+-- the moment at which the reply is written, and the exit
 abbrev pub replied : Moment
 replied = record { output = reply_text; disk = sealed_disk }
 
--- what the host holds before and after
+-- what the host holds before
 abbrev pub world_before : World
 world_before = record { input = request_line ++ 10 ∷ []; output = []; disk = new_disk; syncs = 0; past = [] }
 
+-- and after: four syncs, of the opening, the version, the block and its gate
 abbrev pub world_after : World
 world_after = record { input = []; output = reply_text; disk = sealed_disk; syncs = 4; past = opened ∷ sealing ∷ replied ∷ [] }
 

@@ -2,7 +2,8 @@
 //! empty bodies, whose contracts are what is shown.
 //!
 //! `Examples` has a silo of accounts and lists of core events, `Transfers` a silo of a bank; `EmptyRuns`, `DepositRuns`,
-//! `DoubtRuns` and `VoteRuns` say what a run of each kind shows, and which course it took.
+//! `DoubtRuns` and `VoteRuns` say what a run of each kind shows, and which course it took. `WrittenRun` and
+//! `WrittenDoubt` have two such runs, written out.
 #![tactic(auto)]
 
 mod examples;
