@@ -39,7 +39,6 @@ use Rattle.promise_spec.specs.Explained.{AreSettled, IsExplained}
 use Rattle.promise_spec.specs.Journals.{Settlement, KeepsJournal, Backs, commits_of, entries_of}
 use Rattle.promise_spec.specs.Promise.{HasEnded, Keeps}
 use Rattle.promise_runs.specs.Examples.{accounts, account_program, account_1, unit_no, voted_entry, dependent_entry, vote_entries, vote_events, account_run}
-use Rattle.promise_runs.specs.DepositRuns.{HasNone}
 use Rattle.promise_runs.specs.VoteRuns.{IsVoteRun, vote_course}
 use Rattle.promise_spec.proofs.Lists.{none_at}
 use Rattle.promise_spec.proofs.OneLog.{one_log}

@@ -1,5 +1,5 @@
 -- Answers that don't keep the promise, over any folder and to any words.
-use Rattle.std.proofs.Common.{◌≡◌, ◌≢◌, ◌⊎◌, inl, inr, ℕ, Bool, List, [], ◌++◌, Ok, Err, refl, sym, ap, subst, ◌∙◌}
+use Rattle.std.proofs.Common.{◌≡◌, ◌≢◌, inl, inr, ℕ, Bool, List, [], ◌++◌, Ok, Err, sym, ap, subst, ◌∙◌}
 use Rattle.base_types.specs.declared.calls.GrainId.{GrainId}
 use Rattle.host_trait.specs.declared.channels.FileId.{FileId}
 use Rattle.host_trait.specs.declared.channels.FileId.TheVariants as file
@@ -14,7 +14,7 @@ use Rattle.promise_spec.specs.Openings.{Reading, NoSilo, DamagedAt, Reads, opene
 use Rattle.promise_spec.specs.Words.{Given, Command, Init, Run, Show, History, Audit, Load, Manner}
 use Rattle.promise_spec.specs.Endings as ending
 use Rattle.promise_spec.specs.Courses.{Observed, seen_at_entry}
-use Rattle.promise_spec.specs.Refusals.{IsRefusedBy, MustBeRead, IsUnopened, HasOpened}
+use Rattle.promise_spec.specs.Refusals.{IsRefusedBy, MustBeRead, IsUnopened}
 use Rattle.promise_spec.specs.Reports.{show_text, history_text}
 use Rattle.promise_spec.specs.Promise.{Promises}
 use Rattle.promise_spec.specs.Commands.{MakesAs, MakesSilo, MayCut, IsReported, Reports, Audits}

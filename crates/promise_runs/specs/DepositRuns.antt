@@ -1,5 +1,5 @@
 -- A run whose one line deposits 5.
-use Rattle.std.specs.Prelude.{◌≡◌, ◌≤◌, ◌⊎◌, false, [], ◌∷◌, ◌++◌, length, true}
+use Rattle.std.specs.Prelude.{◌≡◌, ◌≤◌, ◌⊎◌, false, [], ◌∷◌, ◌++◌, length}
 use Rattle.host_trait.specs.declared.channels.Channel.{Channel}
 use Rattle.host_trait.specs.World.{Moment, Image, IsImage, moment_of}
 use Rattle.silo_spec.specs.Silos.{program_file, HasProgram}

@@ -1,5 +1,5 @@
 -- A run that reads no line.
-use Rattle.std.specs.Prelude.{◌≡◌, List, [], ◌∷◌, ◌++◌, true}
+use Rattle.std.specs.Prelude.{◌≡◌, List, [], ◌∷◌, ◌++◌}
 use Rattle.host_trait.specs.declared.channels.Channel.{Channel}
 use Rattle.host_trait.specs.World.{Image, IsImage, moment_of}
 use Rattle.request_wire.specs.Lines.{lines_of}

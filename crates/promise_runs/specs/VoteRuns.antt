@@ -1,5 +1,5 @@
 -- A run of two lines, of which the first one's file can't be written, and the second read what the first left.
-use Rattle.std.specs.Prelude.{◌≡◌, ◌≤◌, ◌≢◌, ◌+◌, false, [], ◌∷◌, ◌++◌, length, true}
+use Rattle.std.specs.Prelude.{◌≡◌, ◌≤◌, ◌≢◌, ◌+◌, false, [], ◌∷◌, ◌++◌, length}
 use Rattle.host_trait.specs.declared.channels.Channel.{Channel}
 use Rattle.host_trait.specs.declared.channels.Channel.TheVariants.{File}
 use Rattle.host_trait.specs.declared.channels.FileId.TheVariants.{Grain}
