@@ -1,0 +1,102 @@
+-- What each settled entry comes from, in a history.
+use Rattle.std.specs.Prelude.{◌≡◌, ◌⊎◌, ◌≤◌, ◌<◌, ℕ, List, [], ◌∷◌, ◌++◌, true, false, ◌||◌, Some}
+use Rattle.base_types.specs.declared.entries.Settled.TheVariants as settled
+use Rattle.cell_model.specs.Locks.{is_update}
+use Rattle.core_model.specs.declared.effects.Read.{Read}
+use Rattle.core_model.specs.declared.effects.Effect.{Effect}
+use Rattle.core_model.specs.World.{UnitNo, GrainId, Mode, Outcome, Entry, Settled, Member}
+use Rattle.core_model.specs.Tests.{is_before}
+use Rattle.core_model.specs.declared.events.CoreEvent.{CoreEvent}
+use Rattle.core_model.specs.declared.events.CoreEvent.TheVariants.{Bad, Refuse, EndPlain, EndSnapshot, Vote, Decide, Sealed, NotSealed, Doubt}
+use Rattle.core_history.specs.Histories.{Applied, Happened}
+use Rattle.core_history.specs.Units.{held, reads_in, result_in, WroteIn}
+use Rattle.core_history.specs.Batches.{InBatch}
+use Rattle.core_history.specs.Fates.{IsDeadIn}
+use Rattle.core_history.specs.Dependencies.{IsDependency}
+
+-- another unit holds the grain, and one of the two modes is for one unit alone
+pub record IsRival (h : List Applied) (u : UnitNo) (g : GrainId) (mode : Mode) (v : UnitNo) : Type 0 where
+  pub other : v ≡ u → ⊥
+  pub its : Mode
+  pub holds : held v g h ≡ Some its
+  pub conflict : (is_update mode || is_update its) ≡ true
+
+-- The unit is refused the grain, and the other is the oldest rival there, and older than the unit.
+pub record IsLockedOut (front : List Applied) (e : CoreEvent) (u by : UnitNo) (g : GrainId) : Type 0 where
+  pub mode : Mode
+  pub refused : e ≡ Refuse u g mode
+  pub rival : IsRival front u g mode by
+  pub oldest : (v : UnitNo) → IsRival front u g mode v → by.0 ≤ v.0
+  pub older : by.0 < u.0
+
+-- The unit is refused, and read from the other, who is dead. Which of several such sources is named is the oldest whose
+-- version is gone, and which versions are gone the core's stacks tell, not the history.
+pub record IsDoomed (front : List Applied) (e : CoreEvent) (u on : UnitNo) : Type 0 where
+  pub refused : (g : GrainId) × ((mode : Mode) × (e ≡ Refuse u g mode))
+  pub source : (r : Read) × Member r (reads_in u front) × (r.source ≡ on)
+  pub dead : IsDeadIn front on
+
+-- the event decides or ends the batch of that number
+abbrev pub Settles : CoreEvent → ℕ → Type 0
+Settles (Decide m) n = m ≡ n
+Settles (Sealed m) n = m ≡ n
+Settles (NotSealed m) n = m ≡ n
+Settles (Doubt m) n = m ≡ n
+Settles _ n = ⊥
+
+-- the unit's batch is decided or ended
+abbrev pub IsSettledBy : List Applied → CoreEvent → ℕ → UnitNo → Type 0
+IsSettledBy front e n u = Settles e n × InBatch front n u
+
+-- The unit's batch is settled; it wrote the grain, whose file failed, and the grain is the first such.
+pub record IsVotedDown (front : List Applied) (e : CoreEvent) (u : UnitNo) (g : GrainId) : Type 0 where
+  pub batch : ℕ
+  pub settled : IsSettledBy front e batch u
+  pub wrote : WroteIn front u g
+  pub failed : Happened front (Vote batch g false)
+  pub first : (k : GrainId) → WroteIn front u k → Happened front (Vote batch k false) → is_before k g ≡ false
+
+-- What had happened once the batch was decided. The event that decides it counts, and one that ends it later doesn't:
+-- where a batch isn't on disk, all its units are dead from then on.
+abbrev pub once_decided : List Applied → Applied → CoreEvent → List Applied
+once_decided front at (Decide n) = front ++ at ∷ []
+once_decided front at _ = front
+
+-- The unit's batch is settled; no file that the unit wrote failed, and the other is the oldest of its dependencies that were
+-- dead once the batch was decided.
+pub record DependsOnDead (front : List Applied) (at : Applied) (u on : UnitNo) : Type 0 where
+  pub batch : ℕ
+  pub settled : IsSettledBy front at.event batch u
+  pub written : (g : GrainId) → WroteIn front u g → Happened front (Vote batch g false) → ⊥
+  pub source : IsDependency front u on
+  pub dead : IsDeadIn (once_decided front at at.event) on
+  pub oldest : (d : UnitNo) → IsDependency front u d → IsDeadIn (once_decided front at at.event) d → on.0 ≤ d.0
+
+-- the unit's batch is of that number, and the unit isn't dead
+abbrev pub CouldCommit : List Applied → ℕ → UnitNo → Type 0
+CouldCommit front n u = InBatch front n u × (IsDeadIn front u → ⊥)
+
+-- the unit ends as a plain run with that result, or its batch comes to disk, it isn't dead and finished with that result
+abbrev pub EndsWith : List Applied → CoreEvent → UnitNo → Outcome → Type 0
+EndsWith front (EndPlain v effect) u result = (v ≡ u) × (effect.result ≡ result)
+EndsWith front (EndSnapshot v at outcome) u result = (v ≡ u) × (outcome ≡ result)
+EndsWith front (Sealed n) u result = CouldCommit front n u × (result_in u front ≡ Some result)
+EndsWith front _ u result = ⊥
+
+-- why an event, after what had happened in front of it, settles a unit so
+abbrev pub CauseIn : List Applied → Applied → UnitNo → Settled → Type 0
+CauseIn front at u (settled.Done result) = EndsWith front at.event u result
+CauseIn front at u (settled.Lock by g) = IsLockedOut front at.event u by g
+CauseIn front at u (settled.Vote g) = IsVotedDown front at.event u g
+CauseIn front at u (settled.Dependency on) = IsDoomed front at.event u on ⊎ DependsOnDead front at u on
+CauseIn front at u settled.Disk = (n : ℕ) × (at.event ≡ NotSealed n) × CouldCommit front n u
+CauseIn front at u settled.InDoubt = (n : ℕ) × (at.event ≡ Doubt n) × CouldCommit front n u
+CauseIn front at u (settled.Bad why) = (line : ℕ) × (at.event ≡ Bad line why)
+
+-- an event of the history settled the entry, with its cause
+pub record IsCausedIn (h : List Applied) (x : Entry) : Type 0 where
+  pub front : List Applied
+  pub at : Applied
+  pub back : List Applied
+  pub split : h ≡ front ++ (at ∷ back)
+  pub cause : CauseIn front at x.unit x.what

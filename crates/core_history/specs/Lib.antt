@@ -1,0 +1,7 @@
+pub mod Histories
+pub mod Units
+pub mod Batches
+pub mod Fates
+pub mod Dependencies
+pub mod Causes
+pub mod States

@@ -1,0 +1,22 @@
+-- What a state tells, in the form in which a history tells it.
+use Rattle.std.specs.Prelude.{ℕ, List, [], ◌∷◌, ◌++◌, Option, Some, None, if◌then◌else◌, take, drop, map}
+use Rattle.core_model.specs.World.{UnitNo, Mode, Hold, Batch, World, same_unit}
+
+-- the mode of the unit's first lock of these, none where it has none
+abbrev pub mode_of : UnitNo → List Hold → Option Mode
+mode_of u [] = None
+mode_of u (h ∷ hs) = if same_unit h.unit u then Some h.mode else mode_of u hs
+
+-- a list's first parts, of these sizes
+abbrev pub parts : List ℕ → List UnitNo → List (List UnitNo)
+parts [] us = []
+parts (n ∷ ns) us = take n us ∷ parts ns (drop n us)
+
+-- the open batch, where there is one
+abbrev pub if_open : Option Batch → List Batch
+if_open None = []
+if_open (Some b) = b ∷ []
+
+-- the batches that were taken, each as its units
+abbrev pub batches_of : World → List (List UnitNo)
+batches_of w = parts (map (λ (b : Batch). b.size) (w.manager.past ++ if_open w.manager.batch)) w.manager.order

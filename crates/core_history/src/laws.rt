@@ -1,0 +1,48 @@
+ghost use Rattle.std.specs.Prelude.{◌≡◌, ◌↔◌, Bool, Some};
+ghost use Rattle.core_model.specs.declared.effects.Effect.{Effect};
+ghost use Rattle.core_model.specs.declared.phases.Phase.TheVariants.{Finished};
+ghost use Rattle.core_model.specs.declared.phases.Verdict.TheVariants.{Committed};
+ghost use Rattle.core_model.specs.World.{UnitNo, GrainId, Entry, Member};
+ghost use Rattle.core_model.specs.Tests.{is_running};
+ghost use Rattle.core_model.specs.Dead.{IsDead};
+ghost use Rattle.core_model.specs.Legal.{Run, IsLegal, ends};
+ghost use Rattle.core_history.specs.Histories.{history_of};
+ghost use Rattle.core_history.specs.Units.{finish_order, runs, held, reads_in, writes_in, result_in};
+ghost use Rattle.core_history.specs.Batches.{batches_in};
+ghost use Rattle.core_history.specs.Fates.{IsDeadIn, IsCommittedIn};
+ghost use Rattle.core_history.specs.Dependencies.{IsDependency};
+ghost use Rattle.core_history.specs.Causes.{IsCausedIn};
+ghost use Rattle.core_history.specs.States.{mode_of, batches_of};
+
+/// A unit holds what it was granted last and hasn't released. The finish order is that of the finishes, and a unit
+/// runs exactly where it has begun and hasn't ended.
+pub fn holders_are_granted()
+    ensures holders { (r : Run) (u : UnitNo) (g : GrainId) → mode_of u ((ends r).cells.holds g) ≡ held u g (history_of r) }
+    ensures order { (r : Run) → (ends r).manager.order ≡ finish_order (history_of r) }
+    ensures running { (r : Run) (u : UnitNo) → is_running ((ends r).units.phase u) ≡ runs u (history_of r) }
+{}
+
+/// A unit's reads are what its first grants showed, its writes and its result what it finished with, and its
+/// dependencies the sources that weren't committed at those grants.
+pub fn reads_are_granted()
+    ensures reads { (r : Run) (u : UnitNo) → (ends r).units.reads u ≡ reads_in u (history_of r) }
+    ensures writes { (r : Run) (u : UnitNo) → (ends r).manager.writes u ≡ writes_in u (history_of r) }
+    ensures result { (r : Run) (u : UnitNo) → (ends r).units.phase u ≡ Finished → result_in u (history_of r) ≡ Some ((ends r).manager.result u) }
+    ensures dependencies { (plays : Effect → Bool) (r : Run) → IsLegal plays r → (u d : UnitNo) → Member d ((ends r).units.deps u) ↔ IsDependency (history_of r) u d }
+{}
+
+/// The batches of the history are those of the state: the closed ones, then the open one.
+pub fn batches_are_taken()
+    ensures { (r : Run) → batches_of (ends r) ≡ batches_in (history_of r) }
+{}
+
+/// Who is dead is dead by the history, and who is committed committed by it.
+pub fn the_dead_are_dead()
+    ensures dead { (plays : Effect → Bool) (r : Run) → IsLegal plays r → (u : UnitNo) → IsDead (ends r) u ↔ IsDeadIn (history_of r) u }
+    ensures committed { (plays : Effect → Bool) (r : Run) → IsLegal plays r → (u : UnitNo) → ((ends r).manager.verdict u ≡ Committed) ↔ IsCommittedIn (history_of r) u }
+{}
+
+/// Each settled entry was settled by an event of the history, with the cause that it names.
+pub fn causes_are_in_the_history()
+    ensures { (plays : Effect → Bool) (r : Run) → IsLegal plays r → (x : Entry) → Member x (ends r).manager.settled → IsCausedIn (history_of r) x }
+{}
