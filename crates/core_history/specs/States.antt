@@ -12,11 +12,15 @@ abbrev pub parts : List ℕ → List UnitNo → List (List UnitNo)
 parts [] us = []
 parts (n ∷ ns) us = take n us ∷ parts ns (drop n us)
 
--- the open batch, where there is one
-abbrev pub if_open : Option Batch → List Batch
-if_open None = []
-if_open (Some b) = b ∷ []
+-- the size of the open batch, where there is one
+abbrev pub open_sizes : Option Batch → List ℕ
+open_sizes None = []
+open_sizes (Some b) = b.size ∷ []
+
+-- the sizes of the closed batches, then of the open one
+abbrev pub sizes_of : List Batch → Option Batch → List ℕ
+sizes_of past batch = map (λ (b : Batch). b.size) past ++ open_sizes batch
 
 -- the batches that were taken, each as its units
 abbrev pub batches_of : World → List (List UnitNo)
-batches_of w = parts (map (λ (b : Batch). b.size) (w.manager.past ++ if_open w.manager.batch)) w.manager.order
+batches_of w = parts (sizes_of w.manager.past w.manager.batch) w.manager.order

@@ -8,5 +8,6 @@
 mod laws;
 
 pub use laws::{
-    batches_are_taken, causes_are_in_the_history, holders_are_granted, reads_are_granted, the_dead_are_dead,
+    batches_are_taken, causes_are_in_the_history, holders_are_granted, reads_are_granted,
+    the_dead_are_dead,
 };

@@ -1,0 +1,9 @@
+use Rattle.core_history.proofs.Tells.{tells-ends, runs-ends}
+use Rattle.core_history.proofs.laws.holders_are_granted.Goals as goal
+
+pub returns : goal.returns
+returns c = record {
+  holders = λ r u g. (tells-ends r).4 u g;
+  order = λ r. (tells-ends r).0;
+  running = λ r u. runs-ends r u;
+}
