@@ -4,3 +4,6 @@ pub mod Granted
 pub mod Shown
 pub mod Taken
 pub mod Tells
+pub mod Placed
+pub mod Cores
+pub mod Fated

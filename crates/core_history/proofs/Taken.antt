@@ -30,7 +30,7 @@ total-more [] n = omega arith
 total-more (m ∷ ns) n = (let t = total-more ns n in omega (arith, t))
 
 -- one more part
-parts-more : (ns : List ℕ) (n : ℕ) (us : List UnitNo) → parts (ns ++ n ∷ []) us ≡ parts ns us ++ take n (drop (total ns) us) ∷ []
+pub parts-more : (ns : List ℕ) (n : ℕ) (us : List UnitNo) → parts (ns ++ n ∷ []) us ≡ parts ns us ++ take n (drop (total ns) us) ∷ []
 parts-more [] n us = refl
 parts-more (m ∷ ns) n us = ap (λ t. take m us ∷ t) (parts-more ns n (drop m us) ∙ ap (λ t. parts ns (drop m us) ++ take n t ∷ []) (drop-sum m (total ns) us))
   where

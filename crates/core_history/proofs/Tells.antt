@@ -36,7 +36,7 @@ Tells h w =
     × (batches_of w ≡ batches_in h)
     × Parted w
 
-tells-after : (h : List Applied) (w : World) (e : CoreEvent) (w' : World) → Change w e w' → Tells h w → Tells (more h (answered w e)) w'
+pub tells-after : (h : List Applied) (w : World) (e : CoreEvent) (w' : World) → Change w e w' → Tells h w → Tells (more h (answered w e)) w'
 tells-after h w e w' c t = (
   order-after w e w' c ∙ ap (λ z. z ++ finisher e) t.0 ∙ sym (order-more h (answered w e)),
   (λ u. begun-after w e w' c u ∙ ap (λ z. z || is_begin_of u (reply_with w e)) (t.1 u) ∙ sym (begun-more u h (answered w e))),
