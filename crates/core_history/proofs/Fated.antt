@@ -365,7 +365,7 @@ decided-dies opening h w m w' c s b q number d reads (suc k) x lt f bd = elim (m
         let t = s.core.1.1 x on r.1 in
         by_source t.0 (subst (Member t.0) (reads x) t.1) (subst (IsDeadIn h') (sym t.2) (ih on a.0 a.1 r.2))
 
-decided-dead : (opening : GrainId → List Value) (h : List Applied) (w : World) (m : ℕ) (w' : World) → Change w (Decide m) w' → Step opening h w (Decide m) w' → (b : Batch) → w.manager.batch ≡ Some b → b.number ≡ m → b.decisions ≡ None →
+pub decided-dead : (opening : GrainId → List Value) (h : List Applied) (w : World) (m : ℕ) (w' : World) → Change w (Decide m) w' → Step opening h w (Decide m) w' → (b : Batch) → w.manager.batch ≡ Some b → b.number ≡ m → b.decisions ≡ None →
     ((u : UnitNo) → w.units.reads u ≡ reads_in u (more h (answered w (Decide m)))) → (x : UnitNo) → is_bad (judged (members w b) (decisions_of w b) w.manager.verdict x) ≡ true → IsDeadIn (more h (answered w (Decide m))) x
 decided-dead opening h w m w' c s b q number d reads x bd = elim (member-or-not x (members w b)) [
   | inr n ↦ dead-more opening h w (Decide m) w' c s x (s.fates.dies x (ap is_bad (sym (judged-other (members w b) (decisions_of w b) w.manager.verdict x n)) ∙ bd))
@@ -406,7 +406,7 @@ judged-committed opening h w e w' s b q d x j = elim (member-or-not x (members w
     go (decision.Vote g) e = cc
     go (decision.Dependency on) e = cc
 
-judged-chosen : (opening : GrainId → List Value) (h : List Applied) (w : World) (e : CoreEvent) (w' : World) → Step opening h w e w' → (b : Batch) → w.manager.batch ≡ Some b → b.decisions ≡ None → w.manager.doubt ≡ None → any is_commit (decisions_of w b) ≡ false → (x : UnitNo) →
+pub judged-chosen : (opening : GrainId → List Value) (h : List Applied) (w : World) (e : CoreEvent) (w' : World) → Step opening h w e w' → (b : Batch) → w.manager.batch ≡ Some b → b.decisions ≡ None → w.manager.doubt ≡ None → any is_commit (decisions_of w b) ≡ false → (x : UnitNo) →
     judged (members w b) (decisions_of w b) w.manager.verdict x ≡ Chosen → ⊥
 judged-chosen opening h w e w' s b q d none nobodys x j = elim (member-or-not x (members w b)) [
   | inr n ↦ chosen-undecided opening w b s.core none q d x (sym (judged-other (members w b) (decisions_of w b) w.manager.verdict x n) ∙ j)

@@ -7,3 +7,5 @@ pub mod Tells
 pub mod Placed
 pub mod Cores
 pub mod Fated
+pub mod Depending
+pub mod Knows

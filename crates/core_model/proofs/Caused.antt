@@ -57,7 +57,7 @@ entry-parts w u what x = go (w.units.origin u) refl
     go (Child p i d) q m = absurd m
 
 -- the entries of a batch
-entries-parts : (w : World) (answer : UnitNo → Settled) (votes : List (GrainId × Bool)) (verdict : UnitNo → Verdict) (us : List UnitNo) (ds : List Decision) (x : Entry) →
+pub entries-parts : (w : World) (answer : UnitNo → Settled) (votes : List (GrainId × Bool)) (verdict : UnitNo → Verdict) (us : List UnitNo) (ds : List Decision) (x : Entry) →
     Reasons votes w.manager.writes w.units.deps verdict us ds → Member x (entries_in w answer us ds) →
     (u : UnitNo) × ((d : Decision) × Member u us × (verdict u ≡ verdict_of d) × Reason votes (w.manager.writes u) (w.units.deps u) verdict d × (x.unit ≡ u) × (x.what ≡ told (answer u) d) × (w.units.origin u ≡ Line x.line))
 entries-parts w answer votes verdict [] [] x r m = absurd m
@@ -78,7 +78,7 @@ member-place opening n w b i u m =
     (subst (λ z. w.units.phase z ≡ Finished) e l.0, subst (λ z. w.manager.place z ≤ w.manager.closed + b.size) e (omega (arith, l.1, t.1, len)))
 
 -- in a decided batch a dependency that is dead is aborted, or to abort
-dead-bad : (opening : GrainId → List Value) (v : World) (b : Batch) → Inv opening (v.manager.closed + b.size) v → Depends v → (u : UnitNo) → Member u (members v b) → (d : UnitNo) → Member d (v.units.deps u) →
+pub dead-bad : (opening : GrainId → List Value) (v : World) (b : Batch) → Inv opening (v.manager.closed + b.size) v → Depends v → (u : UnitNo) → Member u (members v b) → (d : UnitNo) → Member d (v.units.deps u) →
     Dead v.manager.verdict v.units.reads d → is_bad (v.manager.verdict d) ≡ true
 dead-bad opening v b i s u m d n dead =
     let p = member-place opening _ v b i u m in
@@ -142,7 +142,7 @@ sealed-outcome : (v : World) (u : UnitNo) → v.units.phase u ≡ Finished → v
 sealed-outcome v u p q = λ i. outcome_in (p i) (seal (q i)) (v.manager.result u)
 
 -- a refusal's cause
-refused-cause : (opening : GrainId → List Value) (w : World) (u : UnitNo) (g : GrainId) (mode : Mode) (why : Settled) (next : World) → Kept opening w → w.units.phase u ≡ Running → refusal g (ask w u g mode) ≡ Some why →
+pub refused-cause : (opening : GrainId → List Value) (w : World) (u : UnitNo) (g : GrainId) (mode : Mode) (why : Settled) (next : World) → Kept opening w → w.units.phase u ≡ Running → refusal g (ask w u g mode) ≡ Some why →
     HasCause w (Refuse u g mode) next u why × ((x : Entry) → w.units.origin x.unit ≡ Line x.line → HasLine w x why)
 refused-cause opening w u g mode why next k running q = elim (ask-refused w u g mode why q).1 [
   | inl d ↦ (

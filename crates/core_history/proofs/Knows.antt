@@ -1,0 +1,69 @@
+-- All that a history tells of a legal run.
+use Rattle.std.proofs.Common.{◌≡◌, List, [], ◌∷◌, ◌++◌, Bool, true, refl}
+use Rattle.std.specs.Prelude.{◌↔◌}
+use Rattle.core_model.specs.declared.events.CoreEvent.{CoreEvent}
+use Rattle.core_model.specs.declared.effects.Effect.{Effect}
+use Rattle.core_model.specs.declared.phases.Verdict.TheVariants.{Committed}
+use Rattle.core_model.specs.World.{UnitNo, GrainId, Value, World, Member}
+use Rattle.core_model.specs.Dead.{IsDead}
+use Rattle.core_model.specs.Serial.{AllLoadsTrue}
+use Rattle.core_model.specs.Events.{applies, step}
+use Rattle.core_model.specs.Legal.{Run, IsLegal, begins, ends}
+use Rattle.core_model.proofs.Decoded.{Change}
+use Rattle.core_model.proofs.Growth.{grows-change}
+use Rattle.core_history.specs.Histories.{Applied, history_of}
+use Rattle.core_history.specs.Fates.{IsDeadIn, IsCommittedIn}
+use Rattle.core_history.specs.Dependencies.{IsDependency}
+use Rattle.core_history.proofs.Words.{more}
+use Rattle.core_history.proofs.Along.{answered, after-step, along}
+use Rattle.core_history.proofs.Tells.{Tells, tells-after, tells-step, tells-begins}
+use Rattle.core_history.proofs.Cores.{Core, core-step, core-begins}
+use Rattle.core_history.proofs.Fated.{Step, FatesOf, fates-after, dead-in, dead-by, committed-in, committed-by}
+use Rattle.core_history.proofs.Depending.{DependsOf, depends-after}
+
+abbrev pub Knows : (GrainId → List Value) → List Applied → World → Type 0
+Knows opening h w = Core opening w × Tells h w × FatesOf h w × DependsOf h w
+
+-- what is known at an event
+pub at-event : (opening : GrainId → List Value) (h : List Applied) (w : World) (e : CoreEvent) (w' : World) → applies w e ≡ true → Knows opening h w → Change w e w' → Step opening h w e w'
+at-event opening h w e w' a k c = record { core = k.0; told = k.1; next = tells-after h w e w' c k.1; fates = k.2; applied = a; grows = grows-change opening w e w' c a k.0.0 }
+
+knows-step : (opening : GrainId → List Value) (h : List Applied) (w : World) (e : CoreEvent) (es : List CoreEvent) → AllLoadsTrue opening w (e ∷ es) → applies w e ≡ true → Knows opening h w → Knows opening (more h (answered w e)) (step w e)
+knows-step opening h w e es l a k = (
+  core-step opening w e l.0 k.0,
+  tells-step h w e a k.1,
+  after-step (FatesOf (more h (answered w e))) w e a (λ c. fates-after opening h w e _ c (at-event opening h w e _ a k c)) (λ v here f. f),
+  after-step (DependsOf (more h (answered w e))) w e a (λ c. depends-after opening h w e _ c k.0 k.1 k.2 k.3) (λ v here f. f),
+)
+
+knows-begins : (plays : Effect → Bool) (r : Run) → IsLegal plays r → Knows r.opening [] (begins r)
+knows-begins plays r l = (
+  core-begins plays r l,
+  tells-begins r,
+  record {
+    numbers = λ e m. absurd m;
+    undecided = λ b q n m. m;
+    failed = λ b g q. cc;
+    voted = λ b g q m. absurd m;
+    refusals = λ u g mode m. absurd m;
+    down = λ n u g b m. absurd m;
+    ends = λ n u b m. absurd m;
+    spoils = λ n u b m. absurd m;
+    dies = λ u e. cc;
+    commits = λ u e. cc;
+  },
+  (λ u d. ((λ m. absurd m), (λ x. absurd (never x.at x.back x.front x.split)))),
+)
+  where
+    never : (x : Applied) (back : List Applied) (front : List Applied) → [] ≡ front ++ (x ∷ back) → ⊥
+    never x back [] q = cc
+    never x back (y ∷ f) q = cc
+
+pub knows-ends : (plays : Effect → Bool) (r : Run) → IsLegal plays r → Knows r.opening (history_of r) (ends r)
+knows-ends plays r l = along (AllLoadsTrue r.opening) (λ w e es s. s.1) (Knows r.opening) (knows-step r.opening) [] (begins r) r.events l.loads (knows-begins plays r l)
+
+pub dead-ends : (plays : Effect → Bool) (r : Run) → IsLegal plays r → (u : UnitNo) → IsDead (ends r) u ↔ IsDeadIn (history_of r) u
+dead-ends plays r l u = (let k = knows-ends plays r l in (dead-in (history_of r) (ends r) k.1 k.2 u, dead-by (history_of r) (ends r) k.1 k.2 u))
+
+pub committed-ends : (plays : Effect → Bool) (r : Run) → IsLegal plays r → (u : UnitNo) → ((ends r).manager.verdict u ≡ Committed) ↔ IsCommittedIn (history_of r) u
+committed-ends plays r l u = (let k = knows-ends plays r l in (committed-in r.opening (history_of r) (ends r) k.0 k.1 k.2 u, committed-by (history_of r) (ends r) k.1 k.2 u))
