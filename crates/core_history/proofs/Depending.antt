@@ -1,6 +1,6 @@
 -- Dependencies, read off a history.
-use Rattle.std.proofs.Common.{◌≡◌, ℕ, List, [], ◌∷◌, ◌++◌, Bool, true, false, ◌||◌, ◌⊎◌, inl, inr, refl, sym, ap, ◌∙◌, subst, Option, Some, None, is_some, append_assoc}
-use Rattle.std.specs.Prelude.{◌↔◌, if◌then◌else◌}
+use Rattle.std.proofs.Common.{◌≡◌, List, [], ◌∷◌, ◌++◌, true, false, ◌⊎◌, inl, inr, refl, sym, ap, ◌∙◌, subst, Some, None, append_assoc}
+use Rattle.std.specs.Prelude.{◌↔◌}
 use Rattle.std.proofs.lemmas.Bool.{cases_Bool, cond_both, cond-true, cond-false, or_from, or_parts}
 use Rattle.cell_model.specs.Locks.{holds_lock}
 use Rattle.cell_model.specs.Sources.{with_source}
@@ -10,11 +10,10 @@ use Rattle.core_model.specs.declared.events.CoreEvent.{CoreEvent}
 use Rattle.core_model.specs.declared.events.CoreEvent.TheVariants.{Grant}
 use Rattle.core_model.specs.declared.effects.Read.{Read}
 use Rattle.core_model.specs.declared.phases.Phase.TheVariants.{Running}
-use Rattle.core_model.specs.declared.phases.Verdict.TheVariants.{Committed}
 use Rattle.core_model.specs.World.{UnitNo, GrainId, Mode, Value, World, Member, nobody, same_unit, top, put, put_grain}
 use Rattle.core_model.specs.Tests.{is_over, is_committed}
 use Rattle.core_model.specs.Changes.{cleaned, restacked, deps_with, is_sure, read_of}
-use Rattle.core_model.proofs.Decoded.{Change, bad, begin, lock, raise, refuse, finish, end_plain, end_snapshot, release, take_batch, vote, decide_some, decide_none, seal_batch, spoil_batch, doubt_batch, learn, emit, halt_run, want, load}
+use Rattle.core_model.proofs.Decoded.{Change, lock, raise}
 use Rattle.core_model.proofs.Basics.{is_committed-true}
 use Rattle.core_model.proofs.Puts.{put-at, put-from, grain-same}
 use Rattle.core_history.specs.Histories.{Applied}
@@ -26,7 +25,7 @@ use Rattle.core_history.proofs.Along.{answered}
 use Rattle.core_history.proofs.Granted.{lock-mode}
 use Rattle.core_history.proofs.Tells.{Tells}
 use Rattle.core_history.proofs.Cores.{Core}
-use Rattle.core_history.proofs.Fated.{Step, FatesOf, committed-in, committed-by}
+use Rattle.core_history.proofs.Fated.{FatesOf, committed-in, committed-by}
 
 -- the last event of a list stands at its end, or in what comes before
 pub split-last : (front back h : List Applied) (x a : Applied) → front ++ (x ∷ back) ≡ more h a → ((front ≡ h) × (x ≡ a)) ⊎ ((b : List Applied) × (h ≡ front ++ (x ∷ b)))

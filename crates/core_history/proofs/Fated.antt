@@ -1,39 +1,37 @@
 -- The dead and the committed, read off a history.
-use Rattle.std.proofs.Common.{◌≡◌, ℕ, zero, suc, ◌+◌, ◌<◌, ◌≤◌, List, [], ◌∷◌, ◌++◌, length, Bool, true, false, ◌&&◌, ◌||◌, not, ◌⊎◌, inl, inr, refl, sym, ap, ◌∙◌, subst, arith, Option, Some, None, le_refl}
-use Rattle.std.specs.Prelude.{◌↔◌}
+use Rattle.std.proofs.Common.{◌≡◌, ℕ, zero, suc, ◌+◌, ◌<◌, ◌≤◌, List, [], ◌∷◌, ◌++◌, length, Bool, true, false, ◌&&◌, not, ◌⊎◌, inl, inr, refl, sym, ap, ◌∙◌, subst, arith, Option, Some, None, le_refl}
 use Rattle.std.specs.List.{list_any as any}
-use Rattle.std.proofs.lemmas.Bool.{cases_Bool, or_cases, or_left, or_right, and_parts, and_from, not-true, cond_both}
+use Rattle.std.proofs.lemmas.Bool.{or_cases, or_left, or_right, and_parts, and_from, not-true, cond_both}
 use Rattle.std.proofs.lemmas.List.Folds.{list_any-append}
 use Rattle.cell_model.specs.declared.outcomes.Decision.{Decision}
 use Rattle.cell_model.specs.declared.outcomes.Decision.TheVariants as decision
 use Rattle.cell_model.specs.Decisions.{is_commit}
 use Rattle.cell_model.proofs.Units.{cases_unit, any-false, same_grain-true, same_grain-is, Member-left}
 use Rattle.core_model.specs.declared.events.CoreEvent.{CoreEvent}
-use Rattle.core_model.specs.declared.events.CoreEvent.TheVariants.{Grant, Refuse, Finish, Take, Vote, Decide, Sealed, NotSealed, Doubt}
+use Rattle.core_model.specs.declared.events.CoreEvent.TheVariants.{Refuse, Take, Vote, Decide, Sealed, NotSealed, Doubt}
 use Rattle.core_model.specs.declared.effects.Read.{Read}
-use Rattle.core_model.specs.declared.phases.Phase.TheVariants.{Running, Finished, Refused}
+use Rattle.core_model.specs.declared.phases.Phase.TheVariants.{Running, Finished}
 use Rattle.core_model.specs.declared.phases.Verdict.{Verdict}
 use Rattle.core_model.specs.declared.phases.Verdict.TheVariants.{Open, Chosen, Condemned, Committed, Aborted}
-use Rattle.core_model.specs.World.{UnitNo, GrainId, Mode, Value, Batch, World, Member, put}
+use Rattle.core_model.specs.World.{UnitNo, GrainId, Mode, Value, Batch, World, Member}
 use Rattle.core_model.specs.Tests.{is_bad, is_good, is_final, written, members, has_failed, is_vote_on}
 use Rattle.core_model.specs.Chains.{Wrote}
-use Rattle.core_model.specs.Dead.{Dead, IsDead, itself, by_source as dead_source}
-use Rattle.core_model.specs.Changes.{decisions_of, with_decisions, judged, verdict_of, seal, spoil, leave}
+use Rattle.core_model.specs.Dead.{IsDead, itself, by_source as dead_source}
+use Rattle.core_model.specs.Changes.{decisions_of, judged, verdict_of, seal}
 use Rattle.core_model.specs.Events.{applies, reply_with}
-use Rattle.core_model.proofs.Decoded.{Change, bad, begin, lock, raise, refuse, finish, end_plain, end_snapshot, release, take_batch, vote, decide_some, decide_none, seal_batch, spoil_batch, doubt_batch, learn, emit, halt_run, want, load}
+use Rattle.core_model.proofs.Decoded.{Change, refuse, finish, take_batch, vote, decide_some, decide_none, seal_batch, spoil_batch, doubt_batch}
 use Rattle.core_model.proofs.Puts.{put-from, put-is, put-other}
 use Rattle.core_model.proofs.Basics.{is_final-cases}
 use Rattle.core_model.proofs.Growth.{Grows}
 use Rattle.core_model.proofs.Alive.{good-alive}
 use Rattle.core_model.proofs.Failures.{failed-some, failed-none}
 use Rattle.core_model.proofs.Consistency.{depends-earlier}
-use Rattle.core_model.proofs.Reasons.{Reason, Reasons, argued-decided, member-finished}
+use Rattle.core_model.proofs.Reasons.{Reason, argued-decided, member-finished}
 use Rattle.core_model.proofs.Orders.{judged-other}
 use Rattle.core_model.proofs.Split.{no_doubt}
-use Rattle.core_model.proofs.Kept.{inv-open, members-open}
 use Rattle.core_history.specs.Histories.{Applied, Happened}
-use Rattle.core_history.specs.Units.{with_read, has_read, shown, reads_in, writes_in, WroteIn}
-use Rattle.core_history.specs.Batches.{InBatch, batches_in}
+use Rattle.core_history.specs.Units.{with_read, has_read, shown, reads_in, WroteIn}
+use Rattle.core_history.specs.Batches.{InBatch}
 use Rattle.core_history.specs.Fates.{IsDeadIn, IsCommittedIn, refused, voted_down, not_sealed, by_source}
 use Rattle.core_history.proofs.Words.{more, reads-more, happened-before, happened-now, happened-cases}
 use Rattle.core_history.proofs.Along.{answered}

@@ -1,19 +1,18 @@
 -- Phases, holders and the finish order, read off a history.
-use Rattle.std.proofs.Common.{◌≡◌, ℕ, ◌+◌, ◌<◌, ◌≤◌, List, [], ◌∷◌, ◌++◌, length, Bool, true, false, ◌&&◌, ◌||◌, not, ◌⊎◌, inl, inr, refl, sym, ap, ◌∙◌, subst, arith, Option, Some, None, is_some, is_none, append-nil}
+use Rattle.std.proofs.Common.{◌≡◌, ℕ, ◌≤◌, List, [], ◌∷◌, ◌++◌, Bool, true, false, ◌&&◌, ◌||◌, not, inl, inr, refl, sym, ap, ◌∙◌, arith, Option, Some, None, is_some, append-nil}
 use Rattle.std.specs.Prelude.{if◌then◌else◌}
-use Rattle.std.proofs.lemmas.Bool.{cases_Bool, cond_both, cond-true, cond-false, and_parts, and_from, and_left, and_right, or_left, or_right, not-true, not-false}
+use Rattle.std.proofs.lemmas.Bool.{cases_Bool, cond_both, cond-true, cond-false, and_from, and_left, and_right, or_left, or_right, not-true, not-false}
 use Rattle.cell_model.specs.Locks.{is_hold_of, holds_lock, dropped, granted}
-use Rattle.cell_model.proofs.Units.{same_unit-true, same_unit-false, same_unit-is, same_unit-not, same_grain-true, same_grain-is, same_grain-false, cases_unit, cases_grain}
+use Rattle.cell_model.proofs.Units.{same_unit-true, same_unit-false, same_unit-is, same_unit-not, same_grain-true, same_grain-is}
 use Rattle.core_model.specs.declared.events.CoreEvent.{CoreEvent}
 use Rattle.core_model.specs.declared.phases.Phase.{Phase}
 use Rattle.core_model.specs.declared.phases.Phase.TheVariants.{Unborn, Running, Finished, Refused, Ended}
 use Rattle.core_model.specs.World.{UnitNo, GrainId, Mode, Hold, Batch, World, same_unit, same_grain, put, put_grain}
 use Rattle.core_model.specs.Tests.{is_over, is_running}
-use Rattle.core_model.specs.Changes.{new_unit, decisions_of}
+use Rattle.core_model.specs.Changes.{new_unit}
 use Rattle.core_model.specs.Events.{reply_with, decided_reply}
-use Rattle.core_model.proofs.Decoded.{Change, bad, begin, lock, raise, refuse, finish, end_plain, end_snapshot, release, take_batch, vote, decide_some, decide_none, seal_batch, spoil_batch, doubt_batch, learn, emit, halt_run, want, load}
-use Rattle.core_model.proofs.Basics.{is_over-not}
-use Rattle.core_model.proofs.Puts.{put-at, put-from, put-is, put-other, grain-at}
+use Rattle.core_model.proofs.Decoded.{Change, begin, lock, raise, refuse, finish, end_plain, end_snapshot, release, decide_some, decide_none}
+use Rattle.core_model.proofs.Puts.{put-at, grain-at}
 use Rattle.core_history.specs.Units.{finisher, is_begin_of, is_end_of, mode_after}
 use Rattle.core_history.specs.States.{mode_of}
 

@@ -1,10 +1,10 @@
 -- All that a history tells of a legal run.
-use Rattle.std.proofs.Common.{◌≡◌, List, [], ◌∷◌, ◌++◌, Bool, true, refl}
+use Rattle.std.proofs.Common.{◌≡◌, List, [], ◌∷◌, ◌++◌, Bool, true}
 use Rattle.std.specs.Prelude.{◌↔◌}
 use Rattle.core_model.specs.declared.events.CoreEvent.{CoreEvent}
 use Rattle.core_model.specs.declared.effects.Effect.{Effect}
 use Rattle.core_model.specs.declared.phases.Verdict.TheVariants.{Committed}
-use Rattle.core_model.specs.World.{UnitNo, GrainId, Value, World, Member}
+use Rattle.core_model.specs.World.{UnitNo, GrainId, Value, World}
 use Rattle.core_model.specs.Dead.{IsDead}
 use Rattle.core_model.specs.Serial.{AllLoadsTrue}
 use Rattle.core_model.specs.Events.{applies, step}
@@ -13,16 +13,16 @@ use Rattle.core_model.proofs.Decoded.{Change}
 use Rattle.core_model.proofs.Growth.{grows-change}
 use Rattle.core_history.specs.Histories.{Applied, history_of}
 use Rattle.core_history.specs.Fates.{IsDeadIn, IsCommittedIn}
-use Rattle.core_history.specs.Dependencies.{IsDependency}
 use Rattle.core_history.proofs.Words.{more}
 use Rattle.core_history.proofs.Along.{answered, after-step, along}
 use Rattle.core_history.proofs.Tells.{Tells, tells-after, tells-step, tells-begins}
 use Rattle.core_history.proofs.Cores.{Core, core-step, core-begins}
 use Rattle.core_history.proofs.Fated.{Step, FatesOf, fates-after, dead-in, dead-by, committed-in, committed-by}
 use Rattle.core_history.proofs.Depending.{DependsOf, depends-after}
+use Rattle.core_history.proofs.Causing.{CausesOf, causes-after}
 
 abbrev pub Knows : (GrainId → List Value) → List Applied → World → Type 0
-Knows opening h w = Core opening w × Tells h w × FatesOf h w × DependsOf h w
+Knows opening h w = Core opening w × Tells h w × FatesOf h w × DependsOf h w × CausesOf h w
 
 -- what is known at an event
 pub at-event : (opening : GrainId → List Value) (h : List Applied) (w : World) (e : CoreEvent) (w' : World) → applies w e ≡ true → Knows opening h w → Change w e w' → Step opening h w e w'
@@ -34,6 +34,7 @@ knows-step opening h w e es l a k = (
   tells-step h w e a k.1,
   after-step (FatesOf (more h (answered w e))) w e a (λ c. fates-after opening h w e _ c (at-event opening h w e _ a k c)) (λ v here f. f),
   after-step (DependsOf (more h (answered w e))) w e a (λ c. depends-after opening h w e _ c k.0 k.1 k.2 k.3) (λ v here f. f),
+  after-step (CausesOf (more h (answered w e))) w e a (λ c. causes-after opening h w e _ c (at-event opening h w e _ a k c) k.3 k.4) (λ v here f. f),
 )
 
 knows-begins : (plays : Effect → Bool) (r : Run) → IsLegal plays r → Knows r.opening [] (begins r)
@@ -53,6 +54,7 @@ knows-begins plays r l = (
     commits = λ u e. cc;
   },
   (λ u d. ((λ m. absurd m), (λ x. absurd (never x.at x.back x.front x.split)))),
+  (λ x m. absurd m),
 )
   where
     never : (x : Applied) (back : List Applied) (front : List Applied) → [] ≡ front ++ (x ∷ back) → ⊥

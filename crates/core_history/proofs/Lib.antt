@@ -8,4 +8,5 @@ pub mod Placed
 pub mod Cores
 pub mod Fated
 pub mod Depending
+pub mod Causing
 pub mod Knows

@@ -1,6 +1,6 @@
 -- Who is in which batch.
-use Rattle.std.proofs.Common.{◌≡◌, ℕ, zero, suc, ◌+◌, ◌-◌, ◌<◌, ◌≤◌, List, [], ◌∷◌, ◌++◌, length, get_or, take, drop, map, true, false, ◌⊎◌, inl, inr, refl, sym, ap, ◌∙◌, subst, arith, Option, Some, None, length-drop, length-append}
-use Rattle.std.proofs.lemmas.Bool.{cases_lt, cases_order}
+use Rattle.std.proofs.Common.{◌≡◌, ℕ, zero, suc, ◌+◌, ◌-◌, ◌<◌, ◌≤◌, List, [], ◌∷◌, ◌++◌, length, get_or, take, drop, map, ◌⊎◌, inl, inr, refl, sym, ap, ◌∙◌, subst, arith, Some, length-drop, length-append}
+use Rattle.std.proofs.lemmas.Bool.{cases_lt}
 use Rattle.std.proofs.lemmas.List.{length-map, get_or_append_left, get_or_at, get_or_past, length_push}
 use Rattle.core_model.specs.declared.events.CoreEvent.{CoreEvent}
 use Rattle.core_model.specs.declared.events.CoreEvent.TheVariants.{Take}
@@ -9,10 +9,10 @@ use Rattle.core_model.specs.World.{UnitNo, GrainId, nobody, Value, Batch, World,
 use Rattle.core_model.specs.Tests.{members, waiting}
 use Rattle.core_model.proofs.Invariant.{Inv}
 use Rattle.core_model.proofs.Orders.{in_drop, take_length, at_part, Member-take, Member-get}
-use Rattle.core_model.proofs.Kept.{Kept, size-open}
+use Rattle.core_model.proofs.Kept.{Kept}
 use Rattle.core_history.specs.Histories.{Applied}
 use Rattle.core_history.specs.Batches.{InBatch, with_taken, batches_in, next_batch}
-use Rattle.core_history.specs.States.{parts, open_sizes, sizes_of, batches_of}
+use Rattle.core_history.specs.States.{parts, open_sizes, sizes_of}
 use Rattle.core_history.proofs.Words.{more, batches-more}
 use Rattle.core_history.proofs.Tells.{Tells}
 use Rattle.core_history.proofs.Taken.{parts-more, sizes-open}
@@ -58,8 +58,12 @@ is-take e = inr (λ h bs. refl)
 
 pub batch-before : (h : List Applied) (a : Applied) (n : ℕ) (u : UnitNo) → InBatch h n u → InBatch (more h a) n u
 batch-before h a n u b = elim (is-take a.event) [
-  | inl q ↦ (b.0, b.1, subst (λ (bs : List (List UnitNo)). Member u (get_or bs b.0 [])) (sym (batches-more h a ∙ ap (with_taken h (batches_in h)) q))
-      (subst (Member u) (sym (get_or_append_left (batches_in h) (next_batch h (batches_in h) ∷ []) [] b.0 (within (batches_in h) b.0 u b.2))) b.2))
+  | inl q ↦ (
+    b.0,
+    b.1,
+    subst (λ (bs : List (List UnitNo)). Member u (get_or bs b.0 [])) (sym (batches-more h a ∙ ap (with_taken h (batches_in h)) q))
+        (subst (Member u) (sym (get_or_append_left (batches_in h) (next_batch h (batches_in h) ∷ []) [] b.0 (within (batches_in h) b.0 u b.2))) b.2),
+  )
   | inr q ↦ (b.0, b.1, subst (λ (bs : List (List UnitNo)). Member u (get_or bs b.0 [])) (sym (batches-more h a ∙ q h (batches_in h))) b.2)
 ]
 
@@ -79,8 +83,8 @@ open-last : (h : List Applied) (w : World) (b : Batch) → Tells h w → w.manag
 open-last h w b t q =
     let ns : List ℕ = map (λ (b : Batch). b.size) w.manager.past in
     let is : batches_in h ≡ parts ns w.manager.order ++ members w b ∷ [] =
-        sym t.9 ∙ ap (λ z. parts z w.manager.order) (sizes-open w.manager.past w.manager.batch b q) ∙ parts-more ns b.size w.manager.order
-        ∙ ap (λ z. parts ns w.manager.order ++ take b.size (drop z w.manager.order) ∷ []) t.10.0 in
+    sym t.9 ∙ ap (λ z. parts z w.manager.order) (sizes-open w.manager.past w.manager.batch b q) ∙ parts-more ns b.size w.manager.order
+    ∙ ap (λ z. parts ns w.manager.order ++ take b.size (drop z w.manager.order) ∷ []) t.10.0 in
     ap (λ (bs : List (List UnitNo)). get_or bs (length w.manager.past) []) is
     ∙ get_or_at (parts ns w.manager.order) (members w b) [] [] (length w.manager.past) (parts-length ns w.manager.order ∙ length-map w.manager.past (λ (b : Batch). b.size))
 

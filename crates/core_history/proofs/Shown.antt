@@ -1,23 +1,22 @@
 -- Reads, writes and results, read off a history.
-use Rattle.std.proofs.Common.{◌≡◌, ℕ, List, [], ◌∷◌, ◌++◌, Bool, true, false, ◌&&◌, ◌||◌, not, inl, inr, refl, sym, ap, ◌∙◌, subst, Option, Some, None, is_some, le_refl}
+use Rattle.std.proofs.Common.{◌≡◌, List, [], ◌∷◌, ◌++◌, Bool, true, false, ◌&&◌, ◌||◌, inl, inr, refl, sym, ap, ◌∙◌, Option, Some, None, is_some, le_refl}
 use Rattle.std.specs.Prelude.{if◌then◌else◌, option_map}
-use Rattle.std.proofs.lemmas.Bool.{cases_Bool, cond-true, cond-false, and_from, and_left, and_right, or_left, or_right, or_from}
+use Rattle.std.proofs.lemmas.Bool.{cases_Bool, cond-true, cond-false, and_from, and_left, and_right, or_right}
 use Rattle.std.proofs.lemmas.List.Folds.{list_any-append}
 use Rattle.cell_model.specs.Locks.{holds_lock}
-use Rattle.cell_model.proofs.Units.{same_unit-is, same_unit-not, same_grain-true, same_grain-is, cases_unit, cases_grain}
+use Rattle.cell_model.proofs.Units.{same_unit-is, same_unit-not, same_grain-true, cases_unit, cases_grain}
 use Rattle.core_model.specs.declared.events.CoreEvent.{CoreEvent}
 use Rattle.core_model.specs.declared.effects.Read.{Read}
 use Rattle.core_model.specs.declared.effects.Effect.{Effect}
 use Rattle.core_model.specs.declared.phases.Phase.{Phase}
-use Rattle.core_model.specs.declared.phases.Phase.TheVariants.{Unborn, Running, Finished, Refused, Ended}
-use Rattle.core_model.specs.World.{UnitNo, GrainId, Mode, Value, Outcome, Write, Batch, World, top, same_unit, same_grain, put, put_grain}
+use Rattle.core_model.specs.declared.phases.Phase.TheVariants.{Running, Finished, Refused, Ended}
+use Rattle.core_model.specs.World.{UnitNo, GrainId, Mode, Outcome, World, top, same_unit, same_grain, put, put_grain}
 use Rattle.core_model.specs.Tests.{is_over}
 use Rattle.core_model.specs.Changes.{new_unit, cleaned, read_of}
-use Rattle.core_model.specs.Events.{reply_with, decided_reply}
-use Rattle.core_model.proofs.Decoded.{Change, bad, begin, lock, raise, refuse, finish, end_plain, end_snapshot, release, take_batch, vote, decide_some, decide_none, seal_batch, spoil_batch, doubt_batch, learn, emit, halt_run, want, load}
-use Rattle.core_model.proofs.Basics.{is_over-not}
+use Rattle.core_model.specs.Events.{reply_with}
+use Rattle.core_model.proofs.Decoded.{Change, begin, lock, raise, refuse, finish, end_plain, end_snapshot, release}
 use Rattle.core_model.proofs.Puts.{put-at, put-from, put-is, put-other, grain-same}
-use Rattle.core_history.specs.Units.{mode_after, shown, has_read, with_read, effect_after, writes_of}
+use Rattle.core_history.specs.Units.{shown, has_read, with_read, effect_after, writes_of}
 use Rattle.core_history.specs.States.{mode_of}
 use Rattle.core_history.proofs.Granted.{Fresh, lock-mode, mode-after}
 

@@ -1,8 +1,7 @@
 -- Batches, read off a history.
-use Rattle.std.proofs.Common.{◌≡◌, ℕ, zero, suc, ◌+◌, ◌<◌, ◌≤◌, List, [], ◌∷◌, ◌++◌, length, take, drop, map, Bool, true, false, ◌&&◌, not, inl, inr, refl, sym, ap, ◌∙◌, subst, arith, Option, Some, None, is_some, is_none, append-nil, length-take, length-drop, length-append}
+use Rattle.std.proofs.Common.{◌≡◌, ℕ, zero, suc, ◌+◌, ◌≤◌, List, [], ◌∷◌, ◌++◌, length, take, drop, map, ◌&&◌, not, refl, sym, ap, ◌∙◌, arith, Option, Some, None, is_some, is_none, append-nil, length-take, length-drop, length-append}
 use Rattle.std.specs.Prelude.{if◌then◌else◌}
 use Rattle.std.specs.List.{list_all as all, prefix_len}
-use Rattle.std.proofs.lemmas.Bool.{cases_Bool, cond-true, cond-false}
 use Rattle.std.proofs.lemmas.List.{take-take, map_push, take-append-le, drop-append-le, length_push}
 use Rattle.cell_model.specs.Locks.{holds_lock}
 use Rattle.core_model.specs.declared.events.CoreEvent.{CoreEvent}
@@ -13,7 +12,7 @@ use Rattle.core_model.specs.Changes.{decisions_of}
 use Rattle.core_model.specs.Events.{batch_size}
 use Rattle.core_model.specs.Consistent.{size_of}
 use Rattle.core_model.proofs.Orders.{free_prefix-length}
-use Rattle.core_model.proofs.Decoded.{Change, bad, begin, lock, raise, refuse, finish, end_plain, end_snapshot, release, take_batch, vote, decide_some, decide_none, seal_batch, spoil_batch, doubt_batch, learn, emit, halt_run, want, load}
+use Rattle.core_model.proofs.Decoded.{Change, finish, take_batch, vote, decide_some, decide_none, seal_batch, spoil_batch, doubt_batch}
 use Rattle.core_history.specs.Histories.{Applied}
 use Rattle.core_history.specs.Units.{finish_order, held, reads_in}
 use Rattle.core_history.specs.Batches.{holds_nothing, joined, waiting_in, next_batch, with_taken}

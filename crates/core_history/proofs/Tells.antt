@@ -1,16 +1,15 @@
 -- What a history tells of a state, after any events.
-use Rattle.std.proofs.Common.{◌≡◌, ℕ, List, [], ◌∷◌, ◌++◌, Bool, true, false, arith, ◌&&◌, ◌||◌, not, refl, sym, ap, ◌∙◌, subst, Option, Some, None, le_refl}
+use Rattle.std.proofs.Common.{◌≡◌, List, [], ◌++◌, true, arith, ◌&&◌, ◌||◌, not, refl, sym, ap, ◌∙◌, subst, le_refl}
 use Rattle.std.specs.Prelude.{⊤}
 use Rattle.core_model.specs.declared.events.CoreEvent.{CoreEvent}
-use Rattle.core_model.specs.declared.phases.Phase.TheVariants.{Finished}
-use Rattle.core_model.specs.World.{UnitNo, GrainId, Value, World, same_unit}
+use Rattle.core_model.specs.World.{UnitNo, GrainId, World}
 use Rattle.core_model.specs.Tests.{is_over, is_running}
 use Rattle.core_model.specs.Changes.{new_unit}
 use Rattle.core_model.specs.Events.{applies, step, reply_with}
 use Rattle.core_model.specs.Legal.{Run, begins, ends}
 use Rattle.core_model.proofs.Decoded.{Change}
 use Rattle.core_history.specs.Histories.{Applied, history_of}
-use Rattle.core_history.specs.Units.{finish_order, has_begun, has_ended, runs, is_begin_of, is_end_of, mode_after, held, shown, with_read, reads_in, effect_after, effect_in, writes_in, writes_of, result_in}
+use Rattle.core_history.specs.Units.{finish_order, has_begun, has_ended, runs, is_begin_of, is_end_of, mode_after, held, shown, with_read, reads_in, effect_in, writes_in, writes_of}
 use Rattle.core_history.specs.Batches.{batches_in, with_taken}
 use Rattle.core_history.specs.States.{mode_of, batches_of}
 use Rattle.core_history.proofs.Words.{more, order-more, begun-more, ended-more, held-more, reads-more, effect-more, batches-more}

@@ -1,5 +1,5 @@
 -- What a history tells of a unit: whether it runs, what it holds, reads and writes.
-use Rattle.std.specs.Prelude.{◌≡◌, List, [], ◌∷◌, ◌++◌, Bool, true, false, ◌&&◌, not, Option, Some, None, if◌then◌else◌, option_map}
+use Rattle.std.specs.Prelude.{◌≡◌, List, [], ◌∷◌, ◌++◌, Bool, false, ◌&&◌, not, Option, Some, None, if◌then◌else◌, option_map}
 use Rattle.std.specs.List.{list_any as any, flat_map, fold}
 use Rattle.core_model.specs.declared.events.CoreReply.{CoreReply}
 use Rattle.core_model.specs.declared.events.CoreReply.TheVariants as reply
