@@ -2,6 +2,7 @@
 use Rattle.std.proofs.Common.{◌≡◌, ℕ, List, [], ◌∷◌, ◌++◌, Bool, true, false, ◌||◌, not, inl, inr, refl, sym, ap, ◌∙◌, subst, Some, None, append_assoc}
 use Rattle.std.specs.List.{list_any as any}
 use Rattle.std.proofs.lemmas.Bool.{cases_Bool, and_parts, and_from, not-true, not_from_false, cond-true, cond-false}
+use Rattle.base_types.specs.declared.calls.Origin.TheVariants.{Line}
 use Rattle.base_types.specs.declared.entries.Settled.TheVariants as settled
 use Rattle.cell_model.specs.declared.outcomes.Decision.{Decision}
 use Rattle.cell_model.specs.declared.outcomes.Decision.TheVariants as decision
@@ -10,7 +11,7 @@ use Rattle.cell_model.specs.Locks.{is_update, is_hold_of}
 use Rattle.cell_model.proofs.Units.{same_unit-true, same_unit-false, same_unit-is, same_unit-not, Member-append}
 use Rattle.core_model.specs.declared.events.CoreEvent.{CoreEvent}
 use Rattle.core_model.specs.declared.events.CoreEvent.TheVariants.{Bad, Refuse, EndPlain, EndSnapshot, Decide, Sealed, NotSealed, Doubt}
-use Rattle.core_model.specs.declared.phases.Phase.TheVariants.{Running, Finished}
+use Rattle.core_model.specs.declared.phases.Phase.TheVariants.{Unborn, Running, Finished}
 use Rattle.core_model.specs.declared.phases.Verdict.{Verdict}
 use Rattle.core_model.specs.declared.phases.Verdict.TheVariants.{Chosen}
 use Rattle.core_model.specs.World.{UnitNo, GrainId, Mode, Value, Entry, Settled, Hold, Batch, World, Member, nobody, same_unit}
@@ -28,9 +29,9 @@ use Rattle.core_model.proofs.Split.{no_doubt}
 use Rattle.core_model.proofs.Kept.{inv-judged, inv-decided}
 use Rattle.core_model.proofs.Caused.{entry-parts, entries-parts, dead-bad, refused-cause}
 use Rattle.core_history.specs.Histories.{Applied}
-use Rattle.core_history.specs.Units.{reads_in}
+use Rattle.core_history.specs.Units.{BeganFor, reads_in}
 use Rattle.core_history.specs.Fates.{IsDeadIn}
-use Rattle.core_history.specs.Causes.{IsLockedOut, Settles, IsVotedDown, once_decided, DependsOnDead, CouldCommit, CauseIn, IsCausedIn}
+use Rattle.core_history.specs.Causes.{IsLockedOut, Settles, IsVotedDown, once_decided, DependsOnDead, CouldCommit, CauseIn, HasLineIn, IsCausedIn}
 use Rattle.core_history.specs.States.{mode_of}
 use Rattle.core_history.proofs.Words.{more}
 use Rattle.core_history.proofs.Along.{answered}
@@ -45,10 +46,10 @@ abbrev pub CausesOf : List Applied → World → Type 0
 CausesOf h w = (x : Entry) → Member x w.manager.settled → IsCausedIn h x
 
 caused-before : (h : List Applied) (a : Applied) (x : Entry) → IsCausedIn h x → IsCausedIn (more h a) x
-caused-before h a x c = record { front = c.front; at = c.at; back = c.back ++ a ∷ []; split = ap (λ t. t ++ a ∷ []) c.split ∙ append_assoc c.front (c.at ∷ c.back) (a ∷ []); cause = c.cause }
+caused-before h a x c = record { front = c.front; at = c.at; back = c.back ++ a ∷ []; split = ap (λ t. t ++ a ∷ []) c.split ∙ append_assoc c.front (c.at ∷ c.back) (a ∷ []); cause = c.cause; line = c.line }
 
-caused-now : (h : List Applied) (a : Applied) (x : Entry) (u : UnitNo) (what : Settled) → x.unit ≡ u → x.what ≡ what → CauseIn h a u what → IsCausedIn (more h a) x
-caused-now h a x u what p q c = record { front = h; at = a; back = []; split = refl; cause = subst (λ z. CauseIn h a z x.what) (sym p) (subst (CauseIn h a u) (sym q) c) }
+caused-now : (h : List Applied) (a : Applied) (x : Entry) (u : UnitNo) (what : Settled) → x.unit ≡ u → x.what ≡ what → CauseIn h a u what → HasLineIn h a.event x what → IsCausedIn (more h a) x
+caused-now h a x u what p q c l = record { front = h; at = a; back = []; split = refl; cause = subst (λ z. CauseIn h a z x.what) (sym p) (subst (CauseIn h a u) (sym q) c); line = subst (HasLineIn h a.event x) (sym q) l }
 
 -- the mode of a lock, where each unit has one at most
 mode-has : (hs : List Hold) (k : Hold) → DifferInUnit (λ (h : Hold). h.unit) hs → Member k hs → mode_of k.unit hs ≡ Some k.mode
@@ -104,6 +105,23 @@ refused-in opening h w u g mode why c t f running q = elim (ask-refused w u g mo
     cause : HasCause w (Refuse u g mode) w u why
     cause = (refused-cause opening w u g mode why w c.0 running q).0
 
+-- who is refused for a cause has its line
+refused-line : (h : List Applied) (w : World) (u : UnitNo) (g : GrainId) (mode : Mode) (why : Settled) (x : Entry) → refusal g (ask w u g mode) ≡ Some why → BeganFor h x.unit x.line → HasLineIn h (Refuse u g mode) x why
+refused-line h w u g mode why x q l = elim (ask-refused w u g mode why q).1 [
+  | inl d ↦ subst (HasLineIn h (Refuse u g mode) x) (sym d.2) l
+  | inr d ↦ subst (HasLineIn h (Refuse u g mode) x) (sym d.3) l
+]
+
+-- the line of a unit that has begun
+line-of : (h : List Applied) (w : World) → Tells h w → (u : UnitNo) (x : Entry) → (w.units.phase u ≡ Unborn → ⊥) → x.unit ≡ u → w.units.origin u ≡ Line x.line → BeganFor h x.unit x.line
+line-of h w t u x born p o = subst (λ z. BeganFor h z x.line) (sym p) ((t.11 u x.line).0 (born, o))
+
+-- what a unit of a batch is told has its line
+told-line : (h : List Applied) (e : CoreEvent) (x : Entry) (answer : Settled) (d : Decision) → BeganFor h x.unit x.line → HasLineIn h e x answer → HasLineIn h e x (told answer d)
+told-line h e x answer decision.Commit l a = a
+told-line h e x answer (decision.Vote g) l a = l
+told-line h e x answer (decision.Dependency on) l a = l
+
 -- a failed vote
 voted-in : (h : List Applied) (w : World) (e : CoreEvent) (b : Batch) (u : UnitNo) (g : GrainId) (verdict : UnitNo → Verdict) → Tells h w → FatesOf h w → w.manager.batch ≡ Some b → Settles e b.number → Member u (members w b) →
     Reason b.votes (w.manager.writes u) (w.units.deps u) verdict (decision.Vote g) → IsVotedDown h e u g
@@ -133,10 +151,12 @@ depends-in h w a b u on verdict t f dep q s m r dead bads = record {
 -- each entry of a batch has its cause where each decision has
 entries-in : (h : List Applied) (w v : World) (a : Applied) (answer : UnitNo → Settled) (votes : List (GrainId × Bool)) (us : List UnitNo) (ds : List Decision) → Reasons votes v.manager.writes v.units.deps v.manager.verdict us ds →
     ((u : UnitNo) (d : Decision) → Member u us → v.manager.verdict u ≡ verdict_of d → Reason votes (v.manager.writes u) (v.units.deps u) v.manager.verdict d → CauseIn h a u (told (answer u) d)) →
-    (x : Entry) → Member x (entries_in v answer us ds) → IsCausedIn (more h a) x
-entries-in h w v a answer votes us ds reasons cause x m =
+    Tells h w → v.units.origin ≡ w.units.origin → ((u : UnitNo) → Member u us → w.units.phase u ≡ Finished) → (x : Entry) → (BeganFor h x.unit x.line → (u : UnitNo) → HasLineIn h a.event x (answer u)) →
+    Member x (entries_in v answer us ds) → IsCausedIn (more h a) x
+entries-in h w v a answer votes us ds reasons cause tells origin finished x own m =
     let t = entries-parts v answer votes v.manager.verdict us ds x reasons m in
     caused-now h a x t.0 (told (answer t.0) t.1.0) t.1.4 t.1.5 (cause t.0 t.1.0 t.1.1 t.1.2 t.1.3)
+    (let l = line-of h w tells t.0 x (λ q. (let z : Unborn ≡ Finished = sym q ∙ finished t.0 t.1.1 in cc)) t.1.4 (ap (λ f. f t.0) (sym origin) ∙ t.1.6) in told-line h a.event x (answer t.0) t.1.0 l (own l t.0))
 
 -- what an event that ends a batch tells its units, but for those that could commit
 ended-in : (opening : GrainId → List Value) (h : List Applied) (w : World) (a : Applied) (b : Batch) (ds : List Decision) → Core opening w → Tells h w → FatesOf h w → DependsOf h w → w.manager.batch ≡ Some b → b.decisions ≡ Some ds → Settles a.event b.number →
@@ -170,21 +190,22 @@ pub causes-after : (opening : GrainId → List Value) (h : List Applied) (w : Wo
 causes-after opening h w e w' (bad line why q) s dep k = λ x m. elim (Member-append x w.manager.settled (record { line = line; unit = nobody; what = settled.Bad why } ∷ []) m) [
   | inl o ↦ caused-before h (answered w (Bad line why)) x (k x o)
   | inr o ↦ elim o [
-    | inl z ↦ caused-now h (answered w (Bad line why)) x nobody (settled.Bad why) (ap (λ (y : Entry). y.unit) z) (ap (λ (y : Entry). y.what) z) (line, refl)
+    | inl z ↦ caused-now h (answered w (Bad line why)) x nobody (settled.Bad why) (ap (λ (y : Entry). y.unit) z) (ap (λ (y : Entry). y.what) z) (line, refl) (ap (λ (y : Entry). y.unit) z, ap (λ k. Bad k why) (sym (ap (λ (y : Entry). y.line) z)))
     | inr z ↦ absurd z
   ]
 ]
 causes-after opening h w e w' (refuse u g mode why running q) s dep k = λ x m. elim (Member-append x w.manager.settled (entry_for (w.units.origin u) u why) m) [
   | inl o ↦ caused-before h (answered w (Refuse u g mode)) x (k x o)
-  | inr o ↦ (let t = entry-parts w u why x o in caused-now h (answered w (Refuse u g mode)) x u why t.0 t.1 (refused-in opening h w u g mode why s.core s.told s.fates running q))
+  | inr o ↦ (let t = entry-parts w u why x o in caused-now h (answered w (Refuse u g mode)) x u why t.0 t.1 (refused-in opening h w u g mode why s.core s.told s.fates running q)
+      (refused-line h w u g mode why x q (line-of h w s.told u x (λ z. (let y : Unborn ≡ Running = sym z ∙ running in cc)) t.0 t.2)))
 ]
 causes-after opening h w e w' (end_plain u effect running plain of_call bare) s dep k = λ x m. elim (Member-append x w.manager.settled (entry_for (w.units.origin u) u (settled.Done effect.result)) m) [
   | inl o ↦ caused-before h (answered w (EndPlain u effect)) x (k x o)
-  | inr o ↦ (let t = entry-parts w u (settled.Done effect.result) x o in caused-now h (answered w (EndPlain u effect)) x u (settled.Done effect.result) t.0 t.1 (refl, refl))
+  | inr o ↦ (let t = entry-parts w u (settled.Done effect.result) x o in caused-now h (answered w (EndPlain u effect)) x u (settled.Done effect.result) t.0 t.1 (refl, refl) (line-of h w s.told u x (λ z. (let y : Unborn ≡ Running = sym z ∙ running in cc)) t.0 t.2))
 ]
 causes-after opening h w e w' (end_snapshot u at outcome running plain kids answer) s dep k = λ x m. elim (Member-append x w.manager.settled (entry_for (w.units.origin u) u (settled.Done outcome)) m) [
   | inl o ↦ caused-before h (answered w (EndSnapshot u at outcome)) x (k x o)
-  | inr o ↦ (let t = entry-parts w u (settled.Done outcome) x o in caused-now h (answered w (EndSnapshot u at outcome)) x u (settled.Done outcome) t.0 t.1 (refl, refl))
+  | inr o ↦ (let t = entry-parts w u (settled.Done outcome) x o in caused-now h (answered w (EndSnapshot u at outcome)) x u (settled.Done outcome) t.0 t.1 (refl, refl) (line-of h w s.told u x (λ z. (let y : Unborn ≡ Running = sym z ∙ running in cc)) t.0 t.2))
 ]
 causes-after opening h w e w' (decide_none n b q number d voted none) s dep k = λ x m.
     (let v : World = with_decisions w b (decisions_of w b) in
@@ -196,27 +217,27 @@ causes-after opening h w e w' (decide_none n b q number d voted none) s dep k = 
           (λ y' z'. Dead-more _ (judged (members w b) (decisions_of w b) w.manager.verdict) w.units.reads w.units.reads (λ u' t'. seal-bad (judged (members w b) (decisions_of w b) w.manager.verdict u') t') (λ u' r' m'. m') y'
           (dead-by (more h (answered w (Decide n))) w' s.next fates y' z'))
           (result_told v u) u y c z r)
-          x o
+          s.told refl (member-finished opening w b s.core.0) x (λ l u. l) o
     ])
 causes-after opening h w e w' (seal_batch n b ds q number d) s dep k = λ x m. elim (Member-append x w.manager.settled (entries_in w (result_told w) (members w b) ds) m) [
   | inl o ↦ caused-before h (answered w (Sealed n)) x (k x o)
   | inr o ↦ entries-in h w w (answered w (Sealed n)) (result_told w) b.votes (members w b) ds (s.core.3 b ds q d)
       (λ u c y z r. ended-in opening h w (answered w (Sealed n)) b ds s.core s.told s.fates dep q d (sym number) refl (result_told w u) u y
       (λ v can. (subst (λ i. CouldCommit h i u) number can, s.told.8 u (member-finished opening w b s.core.0 u y))) c z r)
-      x o
+      s.told refl (member-finished opening w b s.core.0) x (λ l u. l) o
 ]
 causes-after opening h w e w' (spoil_batch n b ds q number d) s dep k = λ x m. elim (Member-append x w.manager.settled (entries_in w (λ u. settled.Disk) (members w b) ds) m) [
   | inl o ↦ caused-before h (answered w (NotSealed n)) x (k x o)
   | inr o ↦ entries-in h w w (answered w (NotSealed n)) (λ u. settled.Disk) b.votes (members w b) ds (s.core.3 b ds q d)
       (λ u c y z r. ended-in opening h w (answered w (NotSealed n)) b ds s.core s.told s.fates dep q d (sym number) refl settled.Disk u y
       (λ v can. (n, refl, subst (λ i. CouldCommit h i u) number can)) c z r)
-      x o
+      s.told refl (member-finished opening w b s.core.0) x (λ l u. l) o
 ]
 causes-after opening h w e w' (doubt_batch n b ds q number d) s dep k = λ x m. elim (Member-append x w.manager.settled (entries_in w (λ u. settled.InDoubt) (members w b) ds) m) [
   | inl o ↦ caused-before h (answered w (Doubt n)) x (k x o)
   | inr o ↦ entries-in h w w (answered w (Doubt n)) (λ u. settled.InDoubt) b.votes (members w b) ds (s.core.3 b ds q d)
       (λ u c y z r. ended-in opening h w (answered w (Doubt n)) b ds s.core s.told s.fates dep q d (sym number) refl settled.InDoubt u y
       (λ v can. (n, refl, subst (λ i. CouldCommit h i u) number can)) c z r)
-      x o
+      s.told refl (member-finished opening w b s.core.0) x (λ l u. l) o
 ]
 causes-after opening h w e w' c s dep k = λ x m. caused-before h (answered w e) x (k x m)

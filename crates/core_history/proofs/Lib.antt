@@ -3,6 +3,7 @@ pub mod Along
 pub mod Granted
 pub mod Shown
 pub mod Taken
+pub mod Begun
 pub mod Tells
 pub mod Placed
 pub mod Cores
@@ -10,3 +11,4 @@ pub mod Fated
 pub mod Depending
 pub mod Causing
 pub mod Knows
+pub mod Examples

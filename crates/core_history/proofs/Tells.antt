@@ -16,11 +16,13 @@ use Rattle.core_history.proofs.Words.{more, order-more, begun-more, ended-more, 
 use Rattle.core_history.proofs.Along.{answered, after-step, along}
 use Rattle.core_history.proofs.Granted.{is_born, Fresh, order-after, begun-after, ended-after, fresh-after, mode-after, runs-is}
 use Rattle.core_history.proofs.Shown.{ReadsHeld, ResultIs, reads-after, held-after, writes-after, result-after}
+use Rattle.core_history.proofs.Begun.{LinesOf, lines-after}
 use Rattle.core_history.proofs.Taken.{Parted, parted-after, batches-after}
 use Rattle.core_history.specs.Units.{finisher}
 
 -- The finish order; who has begun; who has ended; that later numbers are free; modes; reads; that who isn't over has read
--- what it holds; writes; results; the batches, and that they follow one another.
+-- what it holds; writes; results; the batches, and that they follow
+-- one another; and which unit began for which line.
 abbrev pub Tells : List Applied → World → Type 0
 Tells h w =
     (w.manager.order ≡ finish_order h)
@@ -34,6 +36,7 @@ Tells h w =
     × ((u : UnitNo) → ResultIs w u (effect_in u h))
     × (batches_of w ≡ batches_in h)
     × Parted w
+    × LinesOf h w
 
 pub tells-after : (h : List Applied) (w : World) (e : CoreEvent) (w' : World) → Change w e w' → Tells h w → Tells (more h (answered w e)) w'
 tells-after h w e w' c t = (
@@ -48,6 +51,7 @@ tells-after h w e w' c t = (
   (λ u. subst (ResultIs w' u) (sym (effect-more u h (answered w e))) (result-after w e w' c u (effect_in u h) (t.8 u))),
   batches-after h w e w' c t.0 t.4 t.5 t.10 ∙ ap (λ z. with_taken h z e) t.9 ∙ sym (batches-more h (answered w e)),
   parted-after w e w' c t.10,
+  lines-after h w e w' c (t.3 (new_unit w) (le_refl w.units.next)) t.11,
 )
 
 pub tells-step : (h : List Applied) (w : World) (e : CoreEvent) → applies w e ≡ true → Tells h w → Tells (more h (answered w e)) (step w e)
@@ -66,6 +70,7 @@ tells-begins r = (
   (λ u f. cc),
   refl,
   (refl, omega arith, refl, (λ b q. cc)),
+  (λ u n. ((λ b. absurd (b.0 refl)), (λ b. absurd b.1.1))),
 )
 
 pub tells-ends : (r : Run) → Tells (history_of r) (ends r)

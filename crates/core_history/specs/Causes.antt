@@ -3,12 +3,12 @@ use Rattle.std.specs.Prelude.{◌≡◌, ◌⊎◌, ◌≤◌, ◌<◌, ℕ, Lis
 use Rattle.base_types.specs.declared.entries.Settled.TheVariants as settled
 use Rattle.cell_model.specs.Locks.{is_update}
 use Rattle.core_model.specs.declared.effects.Read.{Read}
-use Rattle.core_model.specs.World.{UnitNo, GrainId, Mode, Outcome, Entry, Settled, Member}
+use Rattle.core_model.specs.World.{UnitNo, GrainId, Mode, Outcome, Entry, Settled, Member, nobody}
 use Rattle.core_model.specs.Tests.{is_before}
 use Rattle.core_model.specs.declared.events.CoreEvent.{CoreEvent}
 use Rattle.core_model.specs.declared.events.CoreEvent.TheVariants.{Bad, Refuse, EndPlain, EndSnapshot, Vote, Decide, Sealed, NotSealed, Doubt}
 use Rattle.core_history.specs.Histories.{Applied, Happened}
-use Rattle.core_history.specs.Units.{held, reads_in, result_in, WroteIn}
+use Rattle.core_history.specs.Units.{BeganFor, held, reads_in, result_in, WroteIn}
 use Rattle.core_history.specs.Batches.{InBatch}
 use Rattle.core_history.specs.Fates.{IsDeadIn}
 use Rattle.core_history.specs.Dependencies.{IsDependency}
@@ -92,6 +92,11 @@ CauseIn front at u settled.Disk = (n : ℕ) × (at.event ≡ NotSealed n) × Cou
 CauseIn front at u settled.InDoubt = (n : ℕ) × (at.event ≡ Doubt n) × CouldCommit front n u
 CauseIn front at u (settled.Bad why) = (line : ℕ) × (at.event ≡ Bad line why)
 
+-- a bad line has nobody's unit and its own number; every other entry has the line that its unit began for
+abbrev pub HasLineIn : List Applied → CoreEvent → Entry → Settled → Type 0
+HasLineIn front e x (settled.Bad why) = (x.unit ≡ nobody) × (e ≡ Bad x.line why)
+HasLineIn front e x _ = BeganFor front x.unit x.line
+
 -- an event of the history settled the entry, with its cause
 pub record IsCausedIn (h : List Applied) (x : Entry) : Type 0 where
   pub front : List Applied
@@ -99,3 +104,4 @@ pub record IsCausedIn (h : List Applied) (x : Entry) : Type 0 where
   pub back : List Applied
   pub split : h ≡ front ++ (at ∷ back)
   pub cause : CauseIn front at x.unit x.what
+  pub line : HasLineIn front at.event x x.what

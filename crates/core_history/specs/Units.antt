@@ -1,14 +1,15 @@
 -- What a history tells of a unit: whether it runs, what it holds, reads and writes.
-use Rattle.std.specs.Prelude.{◌≡◌, List, [], ◌∷◌, ◌++◌, Bool, false, ◌&&◌, not, Option, Some, None, if◌then◌else◌, option_map}
+use Rattle.std.specs.Prelude.{◌≡◌, ℕ, List, [], ◌∷◌, ◌++◌, Bool, false, ◌&&◌, not, Option, Some, None, if◌then◌else◌, option_map}
 use Rattle.std.specs.List.{list_any as any, flat_map, fold}
+use Rattle.base_types.specs.declared.calls.Origin.TheVariants.{Line}
 use Rattle.core_model.specs.declared.events.CoreReply.{CoreReply}
 use Rattle.core_model.specs.declared.events.CoreReply.TheVariants as reply
 use Rattle.core_model.specs.declared.effects.Read.{Read}
 use Rattle.core_model.specs.declared.effects.Effect.{Effect}
-use Rattle.core_model.specs.World.{UnitNo, GrainId, Mode, Value, Outcome, Write, same_unit, same_grain}
+use Rattle.core_model.specs.World.{UnitNo, GrainId, Mode, Value, Call, Outcome, Write, Member, same_unit, same_grain}
 use Rattle.core_model.specs.Tests.{written}
 use Rattle.core_model.specs.declared.events.CoreEvent.{CoreEvent}
-use Rattle.core_model.specs.declared.events.CoreEvent.TheVariants.{Grant, Refuse, Finish, EndPlain, EndSnapshot, Release}
+use Rattle.core_model.specs.declared.events.CoreEvent.TheVariants.{Begin, Grant, Refuse, Finish, EndPlain, EndSnapshot, Release}
 use Rattle.core_history.specs.Histories.{Applied}
 
 -- the unit that finishes, where one does
@@ -24,6 +25,10 @@ finish_order h = flat_map (λ a. finisher a.event) h
 abbrev pub is_begin_of : UnitNo → CoreReply → Bool
 is_begin_of u (reply.Began v) = same_unit v u
 is_begin_of u _ = false
+
+-- the unit began for that line
+abbrev pub BeganFor : List Applied → UnitNo → ℕ → Type 0
+BeganFor h u n = (call : Call) × ((plain : Bool) × Member (record { event = Begin (Line n) call plain; reply = reply.Began u }) h)
 
 -- the unit finishes, ends as a plain run, or is refused
 abbrev pub is_end_of : UnitNo → CoreEvent → Bool

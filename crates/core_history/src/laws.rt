@@ -1,25 +1,27 @@
-ghost use Rattle.std.specs.Prelude.{◌≡◌, ◌↔◌, Bool, Some};
+ghost use Rattle.std.specs.Prelude.{◌≡◌, ◌↔◌, ℕ, Bool, Some};
 ghost use Rattle.core_model.specs.declared.effects.Effect.{Effect};
 ghost use Rattle.core_model.specs.declared.phases.Phase.TheVariants.{Finished};
 ghost use Rattle.core_model.specs.declared.phases.Verdict.TheVariants.{Committed};
-ghost use Rattle.core_model.specs.World.{UnitNo, GrainId, Entry, Member};
-ghost use Rattle.core_model.specs.Tests.{is_running};
+ghost use Rattle.core_model.specs.World.{UnitNo, GrainId, Entry, Batch, Member};
+ghost use Rattle.core_model.specs.Tests.{is_running, members};
+ghost use Rattle.core_model.specs.Lines.{HasBegun};
 ghost use Rattle.core_model.specs.Dead.{IsDead};
 ghost use Rattle.core_model.specs.Legal.{Run, IsLegal, ends};
 ghost use Rattle.core_history.specs.Histories.{history_of};
-ghost use Rattle.core_history.specs.Units.{finish_order, runs, held, reads_in, writes_in, result_in};
-ghost use Rattle.core_history.specs.Batches.{batches_in};
+ghost use Rattle.core_history.specs.Units.{finish_order, runs, BeganFor, held, reads_in, writes_in, result_in};
+ghost use Rattle.core_history.specs.Batches.{batches_in, InBatch};
 ghost use Rattle.core_history.specs.Fates.{IsDeadIn, IsCommittedIn};
 ghost use Rattle.core_history.specs.Dependencies.{IsDependency};
 ghost use Rattle.core_history.specs.Causes.{IsCausedIn};
 ghost use Rattle.core_history.specs.States.{mode_of, batches_of};
 
-/// A unit holds what it was granted last and hasn't released. The finish order is that of the finishes, and a unit
-/// runs exactly where it has begun and hasn't ended.
+/// A unit holds what it was granted last and hasn't released. The finish order is that of the finishes, a unit runs
+/// exactly where it has begun and hasn't ended, and began for the line that its begin names.
 pub fn holders_are_granted()
     ensures holders { (r : Run) (u : UnitNo) (g : GrainId) → mode_of u ((ends r).cells.holds g) ≡ held u g (history_of r) }
     ensures order { (r : Run) → (ends r).manager.order ≡ finish_order (history_of r) }
     ensures running { (r : Run) (u : UnitNo) → is_running ((ends r).units.phase u) ≡ runs u (history_of r) }
+    ensures lines { (r : Run) (u : UnitNo) (n : ℕ) → HasBegun (ends r) u n ↔ BeganFor (history_of r) u n }
 {}
 
 /// A unit's reads are what its first grants showed, its writes and its result what it finished with, and its
@@ -31,9 +33,11 @@ pub fn reads_are_granted()
     ensures dependencies { (plays : Effect → Bool) (r : Run) → IsLegal plays r → (u d : UnitNo) → Member d ((ends r).units.deps u) ↔ IsDependency (history_of r) u d }
 {}
 
-/// The batches of the history are those of the state: the closed ones, then the open one.
+/// The batches of the history are those of the state: the closed ones, then the open one, whose units are those of the
+/// batch of its number.
 pub fn batches_are_taken()
-    ensures { (r : Run) → batches_of (ends r) ≡ batches_in (history_of r) }
+    ensures taken { (r : Run) → batches_of (ends r) ≡ batches_in (history_of r) }
+    ensures in_open { (r : Run) (b : Batch) → (ends r).manager.batch ≡ Some b → (u : UnitNo) → Member u (members (ends r) b) ↔ InBatch (history_of r) b.number u }
 {}
 
 /// Who is dead is dead by the history, and who is committed committed by it.
@@ -42,7 +46,7 @@ pub fn the_dead_are_dead()
     ensures committed { (plays : Effect → Bool) (r : Run) → IsLegal plays r → (u : UnitNo) → ((ends r).manager.verdict u ≡ Committed) ↔ IsCommittedIn (history_of r) u }
 {}
 
-/// Each settled entry was settled by an event of the history, with the cause that it names.
+/// Each settled entry was settled by an event of the history, with the cause that it names, and has its unit's line.
 pub fn causes_are_in_the_history()
     ensures { (plays : Effect → Bool) (r : Run) → IsLegal plays r → (x : Entry) → Member x (ends r).manager.settled → IsCausedIn (history_of r) x }
 {}

@@ -12,29 +12,29 @@ use Rattle.core_model.specs.declared.events.CoreReply.TheVariants as reply
 use Rattle.core_model.specs.World.{UnitNo, GrainId, Value, Call, Entry, Settled, Read, World, nobody, put, put_grain}
 use Rattle.core_model.specs.Events.{CoreEvent, Bad, Begin, Grant, Refuse, Finish, EndPlain, Release, Take, Vote, Decide, Sealed, NotSealed, Doubt, Learn, Halt, Want, Load, step, run, start, reply_to}
 
-abbrev account : ℕ → GrainId
+abbrev pub account : ℕ → GrainId
 account k = record { kind = 0; key = k }
 
-abbrev unit : ℕ → UnitNo
+abbrev pub unit : ℕ → UnitNo
 unit n = record { 0 = n }
 
-abbrev state : ℕ → List Value
+abbrev pub state : ℕ → List Value
 state n = Int (pos n) ∷ []
 
-abbrev deposit : ℕ → ℕ → Call
+abbrev pub deposit : ℕ → ℕ → Call
 deposit k n = record { grain = account k; method = 0; args = state n }
 
-abbrev balance : ℕ → Call
+abbrev pub balance : ℕ → Call
 balance k = record { grain = account k; method = 2; args = [] }
 
-abbrev done : ℕ → Settled
+abbrev pub done : ℕ → Settled
 done n = settled.Done (outcome.Value (Int (pos n)))
 
-abbrev found : ℕ → ℕ → ℕ → Read
+abbrev pub found : ℕ → ℕ → ℕ → Read
 found k n source = record { grain = account k; state = state n; source = unit source }
 
 -- unit n, of line n, deposits and finds what a unit left before
-abbrev deposited : ℕ → ℕ → ℕ → ℕ → ℕ → CoreEvent
+abbrev pub deposited : ℕ → ℕ → ℕ → ℕ → ℕ → CoreEvent
 deposited n k amount before source = Finish (unit n) (record {
   unit = unit n;
   origin = Line n;
@@ -45,7 +45,7 @@ deposited n k amount before source = Finish (unit n) (record {
   result = outcome.Value (Int (pos (before + amount)));
 })
 
-abbrev looked : ℕ → ℕ → ℕ → ℕ → CoreEvent
+abbrev pub looked : ℕ → ℕ → ℕ → ℕ → CoreEvent
 looked n k before source = Finish (unit n) (record {
   unit = unit n;
   origin = Line n;
@@ -56,13 +56,13 @@ looked n k before source = Finish (unit n) (record {
   result = outcome.Value (Int (pos before));
 })
 
-abbrev entry : ℕ → Settled → Entry
+abbrev pub entry : ℕ → Settled → Entry
 entry n what = record { line = n; unit = unit n; what = what }
 
-abbrev bank : World
+abbrev pub bank : World
 bank = start 1 1 None (λ g. state 0)
 
-abbrev settled_in : List CoreEvent → List Entry
+abbrev pub settled_in : List CoreEvent → List Entry
 settled_in es = (run bank es).manager.settled
 
 abbrev replies : World → List CoreEvent → List CoreReply
@@ -70,7 +70,7 @@ replies w [] = []
 replies w (e ∷ es) = reply_to w e ∷ replies (step w e) es
 
 -- a deposit, and a look at the balance that reads it before it is decided
-abbrev dirty_read : List CoreEvent
+abbrev pub dirty_read : List CoreEvent
 dirty_read =
     Begin (Line 1) (deposit 1 5) false ∷ Begin (Line 2) (balance 1) false ∷
     Grant (unit 1) (account 1) Alone ∷ deposited 1 1 5 0 0 ∷ Release (unit 1) (account 1) ∷
@@ -108,7 +108,7 @@ unfolding put put_grain
 younger_dies = refl
 
 -- an older unit waits for a younger one
-abbrev wait_for_younger : List CoreEvent
+abbrev pub wait_for_younger : List CoreEvent
 wait_for_younger =
     Begin (Line 1) (deposit 1 5) false ∷ Begin (Line 2) (deposit 1 3) false ∷
     Grant (unit 2) (account 1) Alone ∷ Grant (unit 1) (account 1) Alone ∷ Refuse (unit 1) (account 1) Alone ∷

@@ -6,4 +6,5 @@ returns c = record {
   holders = λ r u g. (tells-ends r).4 u g;
   order = λ r. (tells-ends r).0;
   running = λ r u. runs-ends r u;
+  lines = λ r u n. (tells-ends r).11 u n;
 }
