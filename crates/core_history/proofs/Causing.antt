@@ -33,7 +33,7 @@ use Rattle.core_history.specs.Units.{BeganFor, reads_in}
 use Rattle.core_history.specs.Fates.{IsDeadIn}
 use Rattle.core_history.specs.Causes.{IsLockedOut, Settles, IsVotedDown, once_decided, DependsOnDead, CouldCommit, CauseIn, HasLineIn, IsCausedIn}
 use Rattle.core_history.specs.States.{mode_of}
-use Rattle.core_history.proofs.Words.{more}
+use Rattle.core_history.proofs.Words.{some-is, more}
 use Rattle.core_history.proofs.Along.{answered}
 use Rattle.core_history.proofs.Tells.{Tells}
 use Rattle.core_history.proofs.Placed.{open-batch}
@@ -57,9 +57,6 @@ mode-has [] k d m = absurd m
 mode-has (h ∷ hs) k d (inl q) = cond-true (same_unit h.unit k.unit) (Some h.mode) (mode_of k.unit hs) (same_unit-is h.unit k.unit (ap (λ (z : Hold). z.unit) (sym q))) ∙ ap (λ (z : Hold). Some z.mode) (sym q)
 mode-has (h ∷ hs) k d (inr m) = cond-false (same_unit h.unit k.unit) (Some h.mode) (mode_of k.unit hs) (same_unit-not h.unit k.unit (d.0 k m)) ∙ mode-has hs k d.1 m
 
-some-is : {A : Type 0} (x y : A) → Some x ≡ Some y → x ≡ y
-some-is x y e = cc
-
 mode-lock : (hs : List Hold) (v : UnitNo) (m : Mode) → mode_of v hs ≡ Some m → Member (record { unit = v; mode = m }) hs
 mode-lock [] v m e = cc
 mode-lock (h ∷ hs) v m e = elim (cases_Bool (same_unit h.unit v)) [
@@ -77,10 +74,10 @@ locked-out opening h w c t e u by g r = record {
   rival = record {
     other = λ q. same_unit-false k.unit u (not-true _ parts.0) (r.rival.rival.3 ∙ q);
     its = k.mode;
-    holds = sym (t.4 by g) ∙ ap (λ z. mode_of z (w.cells.holds g)) (sym r.rival.rival.3) ∙ mode-has (w.cells.holds g) k (c.4.0 g) r.rival.rival.1;
+    holds = sym (t.modes by g) ∙ ap (λ z. mode_of z (w.cells.holds g)) (sym r.rival.rival.3) ∙ mode-has (w.cells.holds g) k (c.tidy.0 g) r.rival.rival.1;
     conflict = parts.1;
   };
-  oldest = λ v s. r.rival.oldest (record { unit = v; mode = s.its }) (mode-lock (w.cells.holds g) v s.its (t.4 v g ∙ s.holds))
+  oldest = λ v s. r.rival.oldest (record { unit = v; mode = s.its }) (mode-lock (w.cells.holds g) v s.its (t.modes v g ∙ s.holds))
       (and_from (not (same_unit v u)) (is_update r.mode || is_update s.its) (not_from_false _ (same_unit-not v u s.other)) s.conflict);
   older = r.older;
 }
@@ -96,14 +93,14 @@ refused-in : (opening : GrainId → List Value) (h : List Applied) (w : World) (
     CauseIn h (answered w (Refuse u g mode)) u why
 refused-in opening h w u g mode why c t f running q = elim (ask-refused w u g mode why q).1 [
   | inl d ↦ subst (CauseIn h (answered w (Refuse u g mode)) u) (sym d.2) (elim (subst (HasCause w (Refuse u g mode) w u) d.2 cause) [
-    | inl r ↦ inl (record { refused = r.refused; source = (r.gone.0, subst (Member r.gone.0) (t.5 u) r.gone.1, r.gone.2); dead = dead-in h w t f d.0 r.dead })
-    | inr r ↦ (let z : Finished ≡ Running = sym (member-finished opening w r.0 c.0 u r.2) ∙ running in cc)
+    | inl r ↦ inl (record { refused = r.refused; source = (r.gone.0, subst (Member r.gone.0) (t.reads u) r.gone.1, r.gone.2); dead = dead-in h w t f d.0 r.dead })
+    | inr r ↦ (let z : Finished ≡ Running = sym (member-finished opening w r.0 c.kept u r.2) ∙ running in cc)
   ])
   | inr d ↦ subst (CauseIn h (answered w (Refuse u g mode)) u) (sym d.3) (locked-out opening h w c t (Refuse u g mode) u d.0 g (subst (HasCause w (Refuse u g mode) w u) d.3 cause))
 ]
   where
     cause : HasCause w (Refuse u g mode) w u why
-    cause = (refused-cause opening w u g mode why w c.0 running q).0
+    cause = (refused-cause opening w u g mode why w c.kept running q).0
 
 -- who is refused for a cause has its line
 refused-line : (h : List Applied) (w : World) (u : UnitNo) (g : GrainId) (mode : Mode) (why : Settled) (x : Entry) → refusal g (ask w u g mode) ≡ Some why → BeganFor h x.unit x.line → HasLineIn h (Refuse u g mode) x why
@@ -114,7 +111,7 @@ refused-line h w u g mode why x q l = elim (ask-refused w u g mode why q).1 [
 
 -- the line of a unit that has begun
 line-of : (h : List Applied) (w : World) → Tells h w → (u : UnitNo) (x : Entry) → (w.units.phase u ≡ Unborn → ⊥) → x.unit ≡ u → w.units.origin u ≡ Line x.line → BeganFor h x.unit x.line
-line-of h w t u x born p o = subst (λ z. BeganFor h z x.line) (sym p) ((t.11 u x.line).0 (born, o))
+line-of h w t u x born p o = subst (λ z. BeganFor h z x.line) (sym p) ((t.lines u x.line).0 (born, o))
 
 -- what a unit of a batch is told has its line
 told-line : (h : List Applied) (e : CoreEvent) (x : Entry) (answer : Settled) (d : Decision) → BeganFor h x.unit x.line → HasLineIn h e x answer → HasLineIn h e x (told answer d)
@@ -163,12 +160,12 @@ ended-in : (opening : GrainId → List Value) (h : List Applied) (w : World) (a 
     once_decided h a a.event ≡ h → (answer : Settled) (u : UnitNo) → Member u (members w b) → (w.manager.verdict u ≡ Chosen → CouldCommit h b.number u → CauseIn h a u answer) → (d : Decision) → w.manager.verdict u ≡ verdict_of d →
     Reason b.votes (w.manager.writes u) (w.units.deps u) w.manager.verdict d → CauseIn h a u (told answer d)
 ended-in opening h w a b ds c t f dep q e s before answer u m commits decision.Commit v r =
-    commits v (open-batch h w b t q u m, λ d. good-alive opening _ w c.0.0 u (ap is_good v) (dead-by h w t f u d))
+    commits v (open-batch h w b t q u m, λ d. good-alive opening _ w c.kept.0 u (ap is_good v) (dead-by h w t f u d))
 ended-in opening h w a b ds c t f dep q e s before answer u m commits (decision.Vote g) v r = voted-in h w a.event b u g w.manager.verdict t f q s m r
 ended-in opening h w a b ds c t f dep q e s before answer u m commits (decision.Dependency on) v r =
     inr (depends-in h w a b u on w.manager.verdict t f dep q s m r
     (subst (λ z. IsDeadIn z on) (sym before) (dead-in h w t f on (itself r.2)))
-    (λ d n y. dead-bad opening w b (inv-judged opening w b ds c.0 q e) c.1 u m d n (dead-by h w t f d (subst (λ z. IsDeadIn z d) before y))))
+    (λ d n y. dead-bad opening w b (inv-judged opening w b ds c.kept q e) c.depends u m d n (dead-by h w t f d (subst (λ z. IsDeadIn z d) before y))))
 
 -- the entries of a batch that is decided and closed at once
 closed-in : (opening : GrainId → List Value) (h : List Applied) (w : World) (n : ℕ) (w' : World) → Change w (Decide n) w' → Step opening h w (Decide n) w' → DependsOf h w → (b : Batch) → w.manager.batch ≡ Some b → b.number ≡ n → b.decisions ≡ None →
@@ -183,7 +180,7 @@ closed-in opening h w n w' c s dep b q number d none reads dead answer u m (deci
 closed-in opening h w n w' c s dep b q number d none reads dead answer u m (decision.Dependency on) v r =
     inr (depends-in h w (answered w (Decide n)) b u on (judged (members w b) (decisions_of w b) w.manager.verdict) s.told s.fates dep q (sym number) m r
     (decided-dead opening h w n w' c s b q number d reads on r.2)
-    (λ e k y. dead-bad opening (with_decisions w b (decisions_of w b)) b (inv-decided opening w b s.core.0 q d) s.core.1 u m e k (dead e y)))
+    (λ e k y. dead-bad opening (with_decisions w b (decisions_of w b)) b (inv-decided opening w b s.core.kept q d) s.core.depends u m e k (dead e y)))
 
 -- the causes after an event
 pub causes-after : (opening : GrainId → List Value) (h : List Applied) (w : World) (e : CoreEvent) (w' : World) → Change w e w' → Step opening h w e w' → DependsOf h w → CausesOf h w → CausesOf (more h (answered w e)) w'
@@ -212,32 +209,32 @@ causes-after opening h w e w' (decide_none n b q number d voted none) s dep k = 
     let fates = fates-after opening h w (Decide n) w' (decide_none n b q number d voted none) s in
     elim (Member-append x w.manager.settled (entries_in v (result_told v) (members w b) (decisions_of w b)) m) [
       | inl o ↦ caused-before h (answered w (Decide n)) x (k x o)
-      | inr o ↦ entries-in h w v (answered w (Decide n)) (result_told v) b.votes (members w b) (decisions_of w b) (argued-decided opening w b s.core.0 s.core.1 q d)
-          (λ u c y z r. closed-in opening h w n w' (decide_none n b q number d voted none) s dep b q number d none s.next.5
+      | inr o ↦ entries-in h w v (answered w (Decide n)) (result_told v) b.votes (members w b) (decisions_of w b) (argued-decided opening w b s.core.kept s.core.depends q d)
+          (λ u c y z r. closed-in opening h w n w' (decide_none n b q number d voted none) s dep b q number d none s.next.reads
           (λ y' z'. Dead-more _ (judged (members w b) (decisions_of w b) w.manager.verdict) w.units.reads w.units.reads (λ u' t'. seal-bad (judged (members w b) (decisions_of w b) w.manager.verdict u') t') (λ u' r' m'. m') y'
           (dead-by (more h (answered w (Decide n))) w' s.next fates y' z'))
           (result_told v u) u y c z r)
-          s.told refl (member-finished opening w b s.core.0) x (λ l u. l) o
+          s.told refl (member-finished opening w b s.core.kept) x (λ l u. l) o
     ])
 causes-after opening h w e w' (seal_batch n b ds q number d) s dep k = λ x m. elim (Member-append x w.manager.settled (entries_in w (result_told w) (members w b) ds) m) [
   | inl o ↦ caused-before h (answered w (Sealed n)) x (k x o)
-  | inr o ↦ entries-in h w w (answered w (Sealed n)) (result_told w) b.votes (members w b) ds (s.core.3 b ds q d)
+  | inr o ↦ entries-in h w w (answered w (Sealed n)) (result_told w) b.votes (members w b) ds (s.core.argued b ds q d)
       (λ u c y z r. ended-in opening h w (answered w (Sealed n)) b ds s.core s.told s.fates dep q d (sym number) refl (result_told w u) u y
-      (λ v can. (subst (λ i. CouldCommit h i u) number can, s.told.8 u (member-finished opening w b s.core.0 u y))) c z r)
-      s.told refl (member-finished opening w b s.core.0) x (λ l u. l) o
+      (λ v can. (subst (λ i. CouldCommit h i u) number can, s.told.results u (member-finished opening w b s.core.kept u y))) c z r)
+      s.told refl (member-finished opening w b s.core.kept) x (λ l u. l) o
 ]
 causes-after opening h w e w' (spoil_batch n b ds q number d) s dep k = λ x m. elim (Member-append x w.manager.settled (entries_in w (λ u. settled.Disk) (members w b) ds) m) [
   | inl o ↦ caused-before h (answered w (NotSealed n)) x (k x o)
-  | inr o ↦ entries-in h w w (answered w (NotSealed n)) (λ u. settled.Disk) b.votes (members w b) ds (s.core.3 b ds q d)
+  | inr o ↦ entries-in h w w (answered w (NotSealed n)) (λ u. settled.Disk) b.votes (members w b) ds (s.core.argued b ds q d)
       (λ u c y z r. ended-in opening h w (answered w (NotSealed n)) b ds s.core s.told s.fates dep q d (sym number) refl settled.Disk u y
       (λ v can. (n, refl, subst (λ i. CouldCommit h i u) number can)) c z r)
-      s.told refl (member-finished opening w b s.core.0) x (λ l u. l) o
+      s.told refl (member-finished opening w b s.core.kept) x (λ l u. l) o
 ]
 causes-after opening h w e w' (doubt_batch n b ds q number d) s dep k = λ x m. elim (Member-append x w.manager.settled (entries_in w (λ u. settled.InDoubt) (members w b) ds) m) [
   | inl o ↦ caused-before h (answered w (Doubt n)) x (k x o)
-  | inr o ↦ entries-in h w w (answered w (Doubt n)) (λ u. settled.InDoubt) b.votes (members w b) ds (s.core.3 b ds q d)
+  | inr o ↦ entries-in h w w (answered w (Doubt n)) (λ u. settled.InDoubt) b.votes (members w b) ds (s.core.argued b ds q d)
       (λ u c y z r. ended-in opening h w (answered w (Doubt n)) b ds s.core s.told s.fates dep q d (sym number) refl settled.InDoubt u y
       (λ v can. (n, refl, subst (λ i. CouldCommit h i u) number can)) c z r)
-      s.told refl (member-finished opening w b s.core.0) x (λ l u. l) o
+      s.told refl (member-finished opening w b s.core.kept) x (λ l u. l) o
 ]
 causes-after opening h w e w' c s dep k = λ x m. caused-before h (answered w e) x (k x m)

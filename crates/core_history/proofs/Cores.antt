@@ -25,58 +25,67 @@ use Rattle.core_model.proofs.Orders.{in_part}
 use Rattle.core_model.proofs.Caused.{member-place}
 use Rattle.core_history.proofs.Placed.{placed-member}
 
-abbrev pub Core : (GrainId → List Value) → World → Type 0
-Core opening w = Kept opening w × Depends w × Batched w × Argued w × Tidy w × Split w × Turned w
+-- what the core model keeps along a legal run
+pub record Core (opening : GrainId → List Value) (w : World) : Type 0 where
+  pub kept : Kept opening w
+  pub depends : Depends w
+  pub batched : Batched w
+  pub argued : Argued w
+  pub tidy : Tidy w
+  pub split : Split w
+  pub turned : Turned w
 
+-- an event keeps it
 pub core-step : (opening : GrainId → List Value) (w : World) (e : CoreEvent) → IsTrueLoad opening w e → Core opening w → Core opening (step w e)
-core-step opening w e l c = (
-  kept-step opening w e l c.0,
-  depends-step opening w e l c.0 c.1,
-  batched-step opening w e l c.0 c.2,
-  argued-step opening w e c.0 c.1 c.3,
-  tidy-step opening w e l c.0 c.4,
-  split-step opening w e l c.0 c.5,
-  turned-step opening w e l c.0 c.6,
-)
+core-step opening w e l c = record {
+  kept = kept-step opening w e l c.kept;
+  depends = depends-step opening w e l c.kept c.depends;
+  batched = batched-step opening w e l c.kept c.batched;
+  argued = argued-step opening w e c.kept c.depends c.argued;
+  tidy = tidy-step opening w e l c.kept c.tidy;
+  split = split-step opening w e l c.kept c.split;
+  turned = turned-step opening w e l c.kept c.turned;
+}
 
+-- it holds where a run begins
 pub core-begins : (plays : Effect → Bool) (r : Run) → IsLegal plays r → Core r.opening (begins r)
-core-begins plays r l = (
-  kept-begins plays r l,
-  ((λ u. tt), (λ u d n. absurd n)),
-  ((λ b q. cc), (λ u f. cc), (λ u f. cc)),
-  (λ b ds q. cc),
-  ((λ g. tt), (λ g. tt), (λ u r s m. absurd m), (λ u g wr. (let z = wr.1 in cc))),
-  ((λ u f. cc), (λ u f. cc), omega arith),
-  ((λ u n. absurd (n refl)), (λ u f. cc)),
-)
+core-begins plays r l = record {
+  kept = kept-begins plays r l;
+  depends = ((λ u. tt), (λ u d n. absurd n));
+  batched = ((λ b q. cc), (λ u f. cc), (λ u f. cc));
+  argued = λ b ds q. cc;
+  tidy = ((λ g. tt), (λ g. tt), (λ u r s m. absurd m), (λ u g wr. (let z = wr.1 in cc)));
+  split = ((λ u f. cc), (λ u f. cc), omega arith);
+  turned = ((λ u n. absurd (n refl)), (λ u f. cc));
+}
 
 -- who is to commit or is committed has finished
 pub chosen-finished : (opening : GrainId → List Value) (w : World) → Core opening w → (x : UnitNo) → w.manager.verdict x ≡ Chosen → w.units.phase x ≡ Finished
-chosen-finished opening w c x q = elim (c.6.0 x (λ z. (let t : Open ≡ Chosen = sym z ∙ q in cc))) [
+chosen-finished opening w c x q = elim (c.turned.0 x (λ z. (let t : Open ≡ Chosen = sym z ∙ q in cc))) [
   | inl f ↦ f
-  | inr r ↦ (let t : Aborted ≡ Chosen = sym (c.6.1 x r) ∙ q in cc)
+  | inr r ↦ (let t : Aborted ≡ Chosen = sym (c.turned.1 x r) ∙ q in cc)
 ]
 
 -- where no batch is in doubt, who is to commit stands after the closed batches
 chosen-late : (opening : GrainId → List Value) (w : World) → Core opening w → w.manager.doubt ≡ None → (x : UnitNo) → w.manager.verdict x ≡ Chosen → w.manager.closed < w.manager.place x
 chosen-late opening w c none x q = elim (cases_lt w.manager.closed (w.manager.place x)) [
   | inl lt ↦ lt
-  | inr le ↦ (let f = c.5.0 x (chosen-finished opening w c x q) (omega (arith, le, ap (λ o. batch_begin o w.manager.closed) none)) in
+  | inr le ↦ (let f = c.split.0 x (chosen-finished opening w c x q) (omega (arith, le, ap (λ o. batch_begin o w.manager.closed) none)) in
       let t : true ≡ false = sym f ∙ ap is_final q in cc)
 ]
 
 -- nobody is to commit while the open batch is undecided
 pub chosen-undecided : (opening : GrainId → List Value) (w : World) (b : Batch) → Core opening w → w.manager.doubt ≡ None → w.manager.batch ≡ Some b → b.decisions ≡ None → (x : UnitNo) → w.manager.verdict x ≡ Chosen → ⊥
 chosen-undecided opening w b c none q d x v =
-    let i = inv-open opening w b c.0 q d in
+    let i = inv-open opening w b c.kept q d in
     let t : Open ≡ Chosen = sym (i.late x (chosen-finished opening w c x v) (chosen-late opening w c none x v)) ∙ v in cc
 
 -- who is to commit stands in the open batch
 pub chosen-member : (opening : GrainId → List Value) (w : World) (b : Batch) (ds : List Decision) → Core opening w → w.manager.doubt ≡ None → w.manager.batch ≡ Some b → b.decisions ≡ Some ds → (x : UnitNo) → w.manager.verdict x ≡ Chosen → Member x (members w b)
 chosen-member opening w b ds c none q d x v =
-    let i = inv-judged opening w b ds c.0 q d in
+    let i = inv-judged opening w b ds c.kept q d in
     let f = chosen-finished opening w c x v in
-    placed-member opening (w.manager.closed + b.size) w b i (size-open opening w b c.0 q) x f (chosen-late opening w c none x v)
+    placed-member opening (w.manager.closed + b.size) w b i (size-open opening w b c.kept q) x f (chosen-late opening w c none x v)
     (elim (cases_lt (w.manager.closed + b.size) (w.manager.place x)) [
       | inl lt ↦ (let t : Open ≡ Chosen = sym (i.late x f lt) ∙ v in cc)
       | inr le ↦ le
@@ -86,10 +95,10 @@ chosen-member opening w b ds c none q d x v =
 pub member-judged : (opening : GrainId → List Value) (w : World) (b : Batch) (ds : List Decision) → Core opening w → w.manager.batch ≡ Some b → b.decisions ≡ Some ds → (x : UnitNo) → Member x (members w b) →
     (w.manager.verdict x ≡ Open → ⊥) × (is_final (w.manager.verdict x) ≡ false)
 member-judged opening w b ds c q d x m =
-    let i = inv-judged opening w b ds c.0 q d in
+    let i = inv-judged opening w b ds c.kept q d in
     let p = member-place opening (w.manager.closed + b.size) w b i x m in
     let t = in_part opening (w.manager.closed + b.size) w i w.manager.closed b.size x m in
-    (i.early x p.0 p.1, c.2.1 x p.0 t.1)
+    (i.early x p.0 p.1, c.batched.1 x p.0 t.1)
 
 -- what becomes of verdicts where a batch ends
 pub seal-final : (v : Verdict) → (v ≡ Open → ⊥) → is_final (seal v) ≡ true

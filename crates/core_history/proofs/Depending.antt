@@ -20,7 +20,7 @@ use Rattle.core_history.specs.Histories.{Applied}
 use Rattle.core_history.specs.Units.{shown, has_read, reads_in}
 use Rattle.core_history.specs.Fates.{IsCommittedIn}
 use Rattle.core_history.specs.Dependencies.{IsDependency}
-use Rattle.core_history.proofs.Words.{more}
+use Rattle.core_history.proofs.Words.{some-is, more}
 use Rattle.core_history.proofs.Along.{answered}
 use Rattle.core_history.proofs.Granted.{lock-mode}
 use Rattle.core_history.proofs.Tells.{Tells}
@@ -87,9 +87,6 @@ depends-cases h a u d x = elim (split-last x.front x.back h x.at a (sym x.split)
 abbrev pub DependsOf : List Applied → World → Type 0
 DependsOf h w = (u d : UnitNo) → Member d (w.units.deps u) ↔ IsDependency h u d
 
-some-is : {A : Type 0} (x y : A) → Some x ≡ Some y → x ≡ y
-some-is x y e = cc
-
 -- a unit's first lock of a grain
 locked-to : (opening : GrainId → List Value) (h : List Applied) (w : World) (u : UnitNo) (g : GrainId) (mode : Mode) → Core opening w → Tells h w → FatesOf h w → DependsOf h w → w.units.phase u ≡ Running → holds_lock u (w.cells.holds g) ≡ false → (x d : UnitNo) →
     Member d (put w.units.deps u (deps_with (restacked w g (cleaned w g)) (w.units.deps u) (top (put_grain w.cells.stack g (cleaned w g) g)).unit) x) → IsDependency (more h (answered w (Grant u g mode))) x d
@@ -121,7 +118,7 @@ locked-to opening h w u g mode core t f s running free x d =
         record {
           read = read_of g (top (cleaned w g));
           granted = cond-true (same_unit u x) (Some (read_of g (top (cleaned w g)))) None (same_unit-is u x (sym e));
-          first = ap (has_read g) (sym (t.5 x)) ∙ t.6 x g (ap is_over (ap w.units.phase e ∙ running)) ∙ sym (lock-mode x (w.cells.holds g)) ∙ ap (λ z. holds_lock z (w.cells.holds g)) e ∙ free;
+          first = ap (has_read g) (sym (t.reads x)) ∙ t.held_read x g (ap is_over (ap w.units.phase e ∙ running)) ∙ sym (lock-mode x (w.cells.holds g)) ∙ ap (λ z. holds_lock z (w.cells.holds g)) e ∙ free;
           source = sym same ∙ sym o;
           somebody = λ n. same_unit-false source nobody p.0 (sym o ∙ n);
           unsure = λ c. (let v = committed-by h w t f d c in let z : true ≡ false = sym (ap is_committed v) ∙ ap (λ k. is_committed (w.manager.verdict k)) o ∙ p.1 in cc);
@@ -172,7 +169,7 @@ raised-from h w u g mode t s running own x d dep = elim (depends-cases h (answer
     | inr no_unit ↦ (let z : None ≡ Some n.read = sym (cond-false (same_unit u x) (Some (read_of g (top (cleaned w g)))) None no_unit) ∙ n.granted in cc)
     | inl is_unit ↦ (let r : read_of g (top (cleaned w g)) ≡ n.read = some-is _ n.read (sym (cond-true (same_unit u x) (Some (read_of g (top (cleaned w g)))) None is_unit) ∙ n.granted) in
         let e : x ≡ u = sym (same_unit-true u x is_unit) in
-        let read : has_read g (reads_in x h) ≡ true = ap (has_read g) (sym (t.5 x)) ∙ t.6 x g (ap is_over (ap w.units.phase e ∙ running)) ∙ sym (lock-mode x (w.cells.holds g)) ∙ ap (λ z. holds_lock z (w.cells.holds g)) e ∙ own in
+        let read : has_read g (reads_in x h) ≡ true = ap (has_read g) (sym (t.reads x)) ∙ t.held_read x g (ap is_over (ap w.units.phase e ∙ running)) ∙ sym (lock-mode x (w.cells.holds g)) ∙ ap (λ z. holds_lock z (w.cells.holds g)) e ∙ own in
         let z : true ≡ false = sym read ∙ ap (λ (y : Read). has_read y.grain (reads_in x h)) r ∙ n.first in cc)
   ]
 ]

@@ -33,7 +33,7 @@ use Rattle.core_history.specs.Histories.{Applied, Happened}
 use Rattle.core_history.specs.Units.{with_read, has_read, shown, reads_in, WroteIn}
 use Rattle.core_history.specs.Batches.{InBatch}
 use Rattle.core_history.specs.Fates.{IsDeadIn, IsCommittedIn, refused, voted_down, not_sealed, by_source}
-use Rattle.core_history.proofs.Words.{more, reads-more, happened-before, happened-now, happened-cases}
+use Rattle.core_history.proofs.Words.{some-is, more, reads-more, happened-before, happened-now, happened-cases}
 use Rattle.core_history.proofs.Along.{answered}
 use Rattle.core_history.specs.States.{open_sizes}
 use Rattle.core_history.proofs.Taken.{Parted}
@@ -77,10 +77,10 @@ pub record Step (opening : GrainId → List Value) (h : List Applied) (w : World
 
 -- what a unit wrote, by the state and by the history
 pub wrote-in : (h : List Applied) (w : World) → Tells h w → (u : UnitNo) (g : GrainId) → Wrote w.manager.writes u g → WroteIn h u g
-wrote-in h w t u g wr = (wr.0, ap (written g) (sym (t.7 u)) ∙ wr.1)
+wrote-in h w t u g wr = (wr.0, ap (written g) (sym (t.writes u)) ∙ wr.1)
 
 pub wrote-by : (h : List Applied) (w : World) → Tells h w → (u : UnitNo) (g : GrainId) → WroteIn h u g → Wrote w.manager.writes u g
-wrote-by h w t u g wr = (wr.0, ap (written g) (t.7 u) ∙ wr.1)
+wrote-by h w t u g wr = (wr.0, ap (written g) (t.writes u) ∙ wr.1)
 
 -- what a finished unit wrote stays
 writes-stay : (w : World) (e : CoreEvent) (w' : World) → Change w e w' → (u : UnitNo) → w.units.phase u ≡ Finished → w'.manager.writes u ≡ w.manager.writes u
@@ -90,12 +90,12 @@ writes-stay w e w' c u f = refl
 wrote-more : (opening : GrainId → List Value) (h : List Applied) (w : World) (e : CoreEvent) (w' : World) → Change w e w' → Step opening h w e w' → (n : ℕ) (u : UnitNo) (g : GrainId) → InBatch h n u → WroteIn h u g → WroteIn (more h (answered w e)) u g
 wrote-more opening h w e w' c s n u g b wr =
     let t = wrote-by h w s.told u g wr in
-    wrote-in (more h (answered w e)) w' s.next u g (t.0, ap (written g) (writes-stay w e w' c u (batch-finished opening h w s.core.0 s.told n u b)) ∙ t.1)
+    wrote-in (more h (answered w e)) w' s.next u g (t.0, ap (written g) (writes-stay w e w' c u (batch-finished opening h w s.core.kept s.told n u b)) ∙ t.1)
 
 wrote-less : (opening : GrainId → List Value) (h : List Applied) (w : World) (e : CoreEvent) (w' : World) → Change w e w' → Step opening h w e w' → (n : ℕ) (u : UnitNo) (g : GrainId) → InBatch h n u → WroteIn (more h (answered w e)) u g → Wrote w.manager.writes u g
 wrote-less opening h w e w' c s n u g b wr =
     let t = wrote-by (more h (answered w e)) w' s.next u g wr in
-    (t.0, ap (written g) (sym (writes-stay w e w' c u (batch-finished opening h w s.core.0 s.told n u b))) ∙ t.1)
+    (t.0, ap (written g) (sym (writes-stay w e w' c u (batch-finished opening h w s.core.kept s.told n u b))) ∙ t.1)
 
 -- what was read stays read
 read-stays : (reads : List Read) (o : Option Read) (r : Read) → Member r reads → Member r (with_read reads o)
@@ -131,11 +131,8 @@ number-now w e w' c p = omega arith
 numbers-after : (opening : GrainId → List Value) (h : List Applied) (w : World) (e : CoreEvent) (w' : World) → Change w e w' → Step opening h w e w' → (x : CoreEvent) → Happened (more h (answered w e)) x → number_of x ≤ w'.manager.batches
 numbers-after opening h w e w' c s x m = elim (happened-cases h (answered w e) x m) [
   | inl old ↦ omega (arith, s.fates.numbers x old, batches-grow w e w' c)
-  | inr q ↦ subst (λ z. number_of z ≤ w'.manager.batches) (sym q) (number-now w e w' c s.told.10)
+  | inr q ↦ subst (λ z. number_of z ≤ w'.manager.batches) (sym q) (number-now w e w' c s.told.parted)
 ]
-
-some-is : {A : Type 0} (x y : A) → Some x ≡ Some y → x ≡ y
-some-is x y e = cc
 
 -- what speaks of a later batch hasn't happened
 too-late : (opening : GrainId → List Value) (h : List Applied) (w : World) (e : CoreEvent) (w' : World) → Step opening h w e w' → (x : CoreEvent) → Happened h x → w.manager.batches + 1 ≤ number_of x → ⊥
@@ -244,7 +241,7 @@ old-batch opening h w e w' s n u x is not_take b m = elim (batch-cases h (answer
 decided-reason : (opening : GrainId → List Value) (h : List Applied) (w : World) (e : CoreEvent) (w' : World) → Step opening h w e w' → (b : Batch) → w.manager.batch ≡ Some b → b.decisions ≡ None → (x : UnitNo) → Member x (members w b) →
     (d : Decision) × Member d (decisions_of w b) × (judged (members w b) (decisions_of w b) w.manager.verdict x ≡ verdict_of d) × Reason b.votes (w.manager.writes x) (w.units.deps x) (judged (members w b) (decisions_of w b) w.manager.verdict) d
 decided-reason opening h w e w' s b q d x m =
-    reasons-at b.votes w.manager.writes w.units.deps (judged (members w b) (decisions_of w b) w.manager.verdict) (members w b) (decisions_of w b) x (argued-decided opening w b s.core.0 s.core.1 q d) m
+    reasons-at b.votes w.manager.writes w.units.deps (judged (members w b) (decisions_of w b) w.manager.verdict) (members w b) (decisions_of w b) x (argued-decided opening w b s.core.kept s.core.depends q d) m
 
 -- whose file failed is to abort
 decided-down : (opening : GrainId → List Value) (h : List Applied) (w : World) (e : CoreEvent) (w' : World) → Step opening h w e w' → (b : Batch) → w.manager.batch ≡ Some b → b.decisions ≡ None → (x : UnitNo) (g : GrainId) → InBatch h b.number x → Wrote w.manager.writes x g →
@@ -359,15 +356,15 @@ decided-dies opening h w m w' c s b q number d reads (suc k) x lt f bd = elim (m
         (wrote-more opening h w (Decide m) w' c s b.number x g i (wrote-in h w s.told x g t.0))
         (happened-before h (answered w (Decide m)) (Vote b.number g false) (s.fates.failed b g q t.1))
     go y ih (decision.Dependency on) e r =
-        let a = depends-earlier opening _ w s.core.0.0 s.core.1 x on f r.1 in
-        let t = s.core.1.1 x on r.1 in
+        let a = depends-earlier opening _ w s.core.kept.0 s.core.depends x on f r.1 in
+        let t = s.core.depends.1 x on r.1 in
         by_source t.0 (subst (Member t.0) (reads x) t.1) (subst (IsDeadIn h') (sym t.2) (ih on a.0 a.1 r.2))
 
 pub decided-dead : (opening : GrainId → List Value) (h : List Applied) (w : World) (m : ℕ) (w' : World) → Change w (Decide m) w' → Step opening h w (Decide m) w' → (b : Batch) → w.manager.batch ≡ Some b → b.number ≡ m → b.decisions ≡ None →
     ((u : UnitNo) → w.units.reads u ≡ reads_in u (more h (answered w (Decide m)))) → (x : UnitNo) → is_bad (judged (members w b) (decisions_of w b) w.manager.verdict x) ≡ true → IsDeadIn (more h (answered w (Decide m))) x
 decided-dead opening h w m w' c s b q number d reads x bd = elim (member-or-not x (members w b)) [
   | inr n ↦ dead-more opening h w (Decide m) w' c s x (s.fates.dies x (ap is_bad (sym (judged-other (members w b) (decisions_of w b) w.manager.verdict x n)) ∙ bd))
-  | inl y ↦ decided-dies opening h w m w' c s b q number d reads (suc (w.manager.place x)) x (omega arith) (member-finished opening w b s.core.0 x y) bd
+  | inl y ↦ decided-dies opening h w m w' c s b q number d reads (suc (w.manager.place x)) x (omega arith) (member-finished opening w b s.core.kept x y) bd
 ]
 
 dies-after : (opening : GrainId → List Value) (h : List Applied) (w : World) (e : CoreEvent) (w' : World) → Change w e w' → Step opening h w e w' → (x : UnitNo) → is_bad (w'.manager.verdict x) ≡ true → IsDeadIn (more h (answered w e)) x
@@ -375,9 +372,9 @@ dies-after opening h w e w' (refuse u g mode why running q) s x =
     put-from w.manager.verdict u Aborted (λ v. is_bad v ≡ true) (IsDeadIn (more h (answered w (Refuse u g mode))) x) x
     (λ z bd. refused g mode (subst (λ y. Happened (more h (answered w (Refuse u g mode))) (Refuse y g mode)) (sym z) (happened-now h (answered w (Refuse u g mode)))))
     (λ z bd. dead-more opening h w (Refuse u g mode) w' (refuse u g mode why running q) s x (s.fates.dies x bd))
-dies-after opening h w e w' (decide_some m b q number d voted some) s x = λ bd. decided-dead opening h w m w' (decide_some m b q number d voted some) s b q number d s.next.5 x bd
+dies-after opening h w e w' (decide_some m b q number d voted some) s x = λ bd. decided-dead opening h w m w' (decide_some m b q number d voted some) s b q number d s.next.reads x bd
 dies-after opening h w e w' (decide_none m b q number d voted none) s x =
-    λ bd. decided-dead opening h w m w' (decide_none m b q number d voted none) s b q number d s.next.5 x (seal-bad (judged (members w b) (decisions_of w b) w.manager.verdict x) bd)
+    λ bd. decided-dead opening h w m w' (decide_none m b q number d voted none) s b q number d s.next.reads x (seal-bad (judged (members w b) (decisions_of w b) w.manager.verdict x) bd)
 dies-after opening h w e w' (seal_batch m b ds q number d) s x = λ bd. dead-more opening h w (Sealed m) w' (seal_batch m b ds q number d) s x (s.fates.dies x (seal-bad (w.manager.verdict x) bd))
 dies-after opening h w e w' (spoil_batch m b ds q number d) s x = λ bd. elim (spoil-bad (w.manager.verdict x) bd) [
   | inl z ↦ dead-more opening h w (NotSealed m) w' (spoil_batch m b ds q number d) s x (s.fates.dies x z)
@@ -453,20 +450,20 @@ fates-after opening h w e w' c s = record {
 -- who is dead by the state is dead by the history
 pub dead-in : (h : List Applied) (w : World) → Tells h w → FatesOf h w → (u : UnitNo) → IsDead w u → IsDeadIn h u
 dead-in h w t f u (itself e) = f.dies u e
-dead-in h w t f u (dead_source r m d) = by_source r (subst (Member r) (t.5 u) m) (dead-in h w t f r.source d)
+dead-in h w t f u (dead_source r m d) = by_source r (subst (Member r) (t.reads u) m) (dead-in h w t f r.source d)
 
 -- and the other way round
 pub dead-by : (h : List Applied) (w : World) → Tells h w → FatesOf h w → (u : UnitNo) → IsDeadIn h u → IsDead w u
 dead-by h w t f u (refused g mode m) = itself (ap is_bad (f.refusals u g mode m))
 dead-by h w t f u (voted_down n g b d wr v) = itself (f.down n u g b d wr v)
 dead-by h w t f u (not_sealed n b m) = itself (ap is_bad (f.spoils n u b m))
-dead-by h w t f u (by_source r m d) = dead_source r (subst (Member r) (sym (t.5 u)) m) (dead-by h w t f r.source d)
+dead-by h w t f u (by_source r m d) = dead_source r (subst (Member r) (sym (t.reads u)) m) (dead-by h w t f r.source d)
 
 -- who is committed by the state is so by the history
 pub committed-in : (opening : GrainId → List Value) (h : List Applied) (w : World) → Core opening w → Tells h w → FatesOf h w → (u : UnitNo) → w.manager.verdict u ≡ Committed → IsCommittedIn h u
 committed-in opening h w c t f u v =
     let x = f.commits u v in
-    (x.0, x.1, x.2, λ d. good-alive opening _ w c.0.0 u (ap is_good v) (dead-by h w t f u d))
+    (x.0, x.1, x.2, λ d. good-alive opening _ w c.kept.0 u (ap is_good v) (dead-by h w t f u d))
 
 pub committed-by : (h : List Applied) (w : World) → Tells h w → FatesOf h w → (u : UnitNo) → IsCommittedIn h u → w.manager.verdict u ≡ Committed
 committed-by h w t f u c = elim (is_final-cases (w.manager.verdict u) (f.ends c.0 u c.1 c.2)) [

@@ -13,6 +13,7 @@ use Rattle.core_model.specs.Changes.{new_unit}
 use Rattle.core_model.specs.Events.{reply_with, decided_reply}
 use Rattle.core_model.proofs.Decoded.{Change, begin, lock, raise, refuse, finish, end_plain, end_snapshot, release, decide_some, decide_none}
 use Rattle.core_model.proofs.Puts.{put-at, grain-at}
+use Rattle.core_history.proofs.Words.{or-false}
 use Rattle.core_history.specs.Units.{finisher, is_begin_of, is_end_of, mode_after}
 use Rattle.core_history.specs.States.{mode_of}
 
@@ -26,47 +27,43 @@ abbrev pub is_born : Phase → Bool
 is_born Unborn = false
 is_born _ = true
 
-or-false : (b : Bool) → b ≡ (b || false)
-or-false true = refl
-or-false false = refl
-
 -- a phase that one unit gets
 born-put : (phase : UnitNo → Phase) (u : UnitNo) (end : Phase) → is_born end ≡ true → is_born (phase u) ≡ true → (x : UnitNo) → is_born (put phase u end x) ≡ (is_born (phase x) || false)
-born-put phase u end e b x = put-at phase u end (λ p. is_born p ≡ (is_born (phase x) || false)) x (λ q. e ∙ sym b ∙ ap (λ z. is_born (phase z)) (sym q) ∙ or-false (is_born (phase x))) (λ q. or-false (is_born (phase x)))
+born-put phase u end e b x = put-at phase u end (λ p. is_born p ≡ (is_born (phase x) || false)) x (λ q. e ∙ sym b ∙ ap (λ z. is_born (phase z)) (sym q) ∙ sym (or-false (is_born (phase x)))) (λ q. sym (or-false (is_born (phase x))))
 
 decided-begins : (x : UnitNo) (w : World) (o : Option Batch) → is_begin_of x (decided_reply w o) ≡ false
 decided-begins x w None = refl
 decided-begins x w (Some b) = refl
 
 decided-born : (w : World) (x : UnitNo) → is_born (w.units.phase x) ≡ (is_born (w.units.phase x) || is_begin_of x (decided_reply w w.manager.batch))
-decided-born w x = or-false (is_born (w.units.phase x)) ∙ ap (λ t. is_born (w.units.phase x) || t) (sym (decided-begins x w w.manager.batch))
+decided-born w x = sym (or-false (is_born (w.units.phase x))) ∙ ap (λ t. is_born (w.units.phase x) || t) (sym (decided-begins x w w.manager.batch))
 
 pub begun-after : (w : World) (e : CoreEvent) (w' : World) → Change w e w' → (x : UnitNo) → is_born (w'.units.phase x) ≡ (is_born (w.units.phase x) || is_begin_of x (reply_with w e))
 begun-after w e w' (begin origin call plain c) x = put-at w.units.phase (new_unit w) Running (λ p. is_born p ≡ (is_born (w.units.phase x) || same_unit (new_unit w) x)) x
     (λ q. sym (or_right (is_born (w.units.phase x)) (same_unit (new_unit w) x) (same_unit-is (new_unit w) x (sym q))))
-    (λ q. or-false (is_born (w.units.phase x)) ∙ ap (λ t. is_born (w.units.phase x) || t) (sym (same_unit-not (new_unit w) x (λ z. q (sym z)))))
+    (λ q. sym (or-false (is_born (w.units.phase x))) ∙ ap (λ t. is_born (w.units.phase x) || t) (sym (same_unit-not (new_unit w) x (λ z. q (sym z)))))
 begun-after w e w' (refuse u g mode why running q) x = born-put w.units.phase u Refused refl (ap is_born running) x
 begun-after w e w' (finish u effect running plain of_call reads alone) x = born-put w.units.phase u Finished refl (ap is_born running) x
 begun-after w e w' (end_plain u effect running plain of_call bare) x = born-put w.units.phase u Ended refl (ap is_born running) x
 begun-after w e w' (end_snapshot u at outcome running plain kids answer) x = born-put w.units.phase u Ended refl (ap is_born running) x
 begun-after w e w' (decide_some n b q number d voted some) x = decided-born w x
 begun-after w e w' (decide_none n b q number d voted none) x = decided-born w x
-begun-after w e w' c x = or-false (is_born (w.units.phase x))
+begun-after w e w' c x = sym (or-false (is_born (w.units.phase x)))
 
 over-put : (phase : UnitNo → Phase) (u : UnitNo) (end : Phase) → is_over end ≡ true → (x : UnitNo) → is_over (put phase u end x) ≡ (is_over (phase x) || same_unit u x)
 over-put phase u end e x = put-at phase u end (λ p. is_over p ≡ (is_over (phase x) || same_unit u x)) x
     (λ q. e ∙ sym (or_right (is_over (phase x)) (same_unit u x) (same_unit-is u x (sym q))))
-    (λ q. or-false (is_over (phase x)) ∙ ap (λ t. is_over (phase x) || t) (sym (same_unit-not u x (λ z. q (sym z)))))
+    (λ q. sym (or-false (is_over (phase x))) ∙ ap (λ t. is_over (phase x) || t) (sym (same_unit-not u x (λ z. q (sym z)))))
 
 pub ended-after : (w : World) (e : CoreEvent) (w' : World) → Change w e w' → w.units.phase (new_unit w) ≡ Unborn → (x : UnitNo) → is_over (w'.units.phase x) ≡ (is_over (w.units.phase x) || is_end_of x e)
 ended-after w e w' (begin origin call plain c) fresh x =
     put-at w.units.phase (new_unit w) Running (λ p. is_over p ≡ is_over (w.units.phase x)) x (λ q. sym (ap (λ z. is_over (w.units.phase z)) q ∙ ap is_over fresh)) (λ q. refl)
-    ∙ or-false (is_over (w.units.phase x))
+    ∙ sym (or-false (is_over (w.units.phase x)))
 ended-after w e w' (refuse u g mode why running q) fresh x = over-put w.units.phase u Refused refl x
 ended-after w e w' (finish u effect running plain of_call reads alone) fresh x = over-put w.units.phase u Finished refl x
 ended-after w e w' (end_plain u effect running plain of_call bare) fresh x = over-put w.units.phase u Ended refl x
 ended-after w e w' (end_snapshot u at outcome running plain kids answer) fresh x = over-put w.units.phase u Ended refl x
-ended-after w e w' c fresh x = or-false (is_over (w.units.phase x))
+ended-after w e w' c fresh x = sym (or-false (is_over (w.units.phase x)))
 
 -- units of later numbers haven't begun
 abbrev pub Fresh : ℕ → (UnitNo → Phase) → Type 0

@@ -21,27 +21,34 @@ use Rattle.core_history.proofs.Fated.{Step, FatesOf, fates-after, dead-in, dead-
 use Rattle.core_history.proofs.Depending.{DependsOf, depends-after}
 use Rattle.core_history.proofs.Causing.{CausesOf, causes-after}
 
-abbrev pub Knows : (GrainId → List Value) → List Applied → World → Type 0
-Knows opening h w = Core opening w × Tells h w × FatesOf h w × DependsOf h w × CausesOf h w
+-- the state is a core's, and the history tells it
+pub record Knows (opening : GrainId → List Value) (h : List Applied) (w : World) : Type 0 where
+  pub core : Core opening w
+  pub tells : Tells h w
+  pub fates : FatesOf h w
+  pub depends : DependsOf h w
+  pub causes : CausesOf h w
 
 -- what is known at an event
 pub at-event : (opening : GrainId → List Value) (h : List Applied) (w : World) (e : CoreEvent) (w' : World) → applies w e ≡ true → Knows opening h w → Change w e w' → Step opening h w e w'
-at-event opening h w e w' a k c = record { core = k.0; told = k.1; next = tells-after h w e w' c k.1; fates = k.2; applied = a; grows = grows-change opening w e w' c a k.0.0 }
+at-event opening h w e w' a k c = record { core = k.core; told = k.tells; next = tells-after h w e w' c k.tells; fates = k.fates; applied = a; grows = grows-change opening w e w' c a k.core.kept }
 
+-- each step keeps it
 knows-step : (opening : GrainId → List Value) (h : List Applied) (w : World) (e : CoreEvent) (es : List CoreEvent) → AllLoadsTrue opening w (e ∷ es) → applies w e ≡ true → Knows opening h w → Knows opening (more h (answered w e)) (step w e)
-knows-step opening h w e es l a k = (
-  core-step opening w e l.0 k.0,
-  tells-step h w e a k.1,
-  after-step (FatesOf (more h (answered w e))) w e a (λ c. fates-after opening h w e _ c (at-event opening h w e _ a k c)) (λ v here f. f),
-  after-step (DependsOf (more h (answered w e))) w e a (λ c. depends-after opening h w e _ c k.0 k.1 k.2 k.3) (λ v here f. f),
-  after-step (CausesOf (more h (answered w e))) w e a (λ c. causes-after opening h w e _ c (at-event opening h w e _ a k c) k.3 k.4) (λ v here f. f),
-)
+knows-step opening h w e es l a k = record {
+  core = core-step opening w e l.0 k.core;
+  tells = tells-step h w e a k.tells;
+  fates = after-step (FatesOf (more h (answered w e))) w e a (λ c. fates-after opening h w e _ c (at-event opening h w e _ a k c)) (λ v here f. f);
+  depends = after-step (DependsOf (more h (answered w e))) w e a (λ c. depends-after opening h w e _ c k.core k.tells k.fates k.depends) (λ v here f. f);
+  causes = after-step (CausesOf (more h (answered w e))) w e a (λ c. causes-after opening h w e _ c (at-event opening h w e _ a k c) k.depends k.causes) (λ v here f. f);
+}
 
+-- it holds where a run begins
 knows-begins : (plays : Effect → Bool) (r : Run) → IsLegal plays r → Knows r.opening [] (begins r)
-knows-begins plays r l = (
-  core-begins plays r l,
-  tells-begins r,
-  record {
+knows-begins plays r l = record {
+  core = core-begins plays r l;
+  tells = tells-begins r;
+  fates = record {
     numbers = λ e m. absurd m;
     undecided = λ b q n m. m;
     failed = λ b g q. cc;
@@ -52,20 +59,23 @@ knows-begins plays r l = (
     spoils = λ n u b m. absurd m;
     dies = λ u e. cc;
     commits = λ u e. cc;
-  },
-  (λ u d. ((λ m. absurd m), (λ x. absurd (never x.at x.back x.front x.split)))),
-  (λ x m. absurd m),
-)
+  };
+  depends = λ u d. ((λ m. absurd m), (λ x. absurd (never x.at x.back x.front x.split)));
+  causes = λ x m. absurd m;
+}
   where
     never : (x : Applied) (back : List Applied) (front : List Applied) → [] ≡ front ++ (x ∷ back) → ⊥
     never x back [] q = cc
     never x back (y ∷ f) q = cc
 
+-- and where it ends
 pub knows-ends : (plays : Effect → Bool) (r : Run) → IsLegal plays r → Knows r.opening (history_of r) (ends r)
 knows-ends plays r l = along (AllLoadsTrue r.opening) (λ w e es s. s.1) (Knows r.opening) (knows-step r.opening) [] (begins r) r.events l.loads (knows-begins plays r l)
 
+-- the dead after a legal run
 pub dead-ends : (plays : Effect → Bool) (r : Run) → IsLegal plays r → (u : UnitNo) → IsDead (ends r) u ↔ IsDeadIn (history_of r) u
-dead-ends plays r l u = (let k = knows-ends plays r l in (dead-in (history_of r) (ends r) k.1 k.2 u, dead-by (history_of r) (ends r) k.1 k.2 u))
+dead-ends plays r l u = (let k = knows-ends plays r l in (dead-in (history_of r) (ends r) k.tells k.fates u, dead-by (history_of r) (ends r) k.tells k.fates u))
 
+-- the committed after a legal run
 pub committed-ends : (plays : Effect → Bool) (r : Run) → IsLegal plays r → (u : UnitNo) → ((ends r).manager.verdict u ≡ Committed) ↔ IsCommittedIn (history_of r) u
-committed-ends plays r l u = (let k = knows-ends plays r l in (committed-in r.opening (history_of r) (ends r) k.0 k.1 k.2 u, committed-by (history_of r) (ends r) k.1 k.2 u))
+committed-ends plays r l u = (let k = knows-ends plays r l in (committed-in r.opening (history_of r) (ends r) k.core k.tells k.fates u, committed-by (history_of r) (ends r) k.tells k.fates u))

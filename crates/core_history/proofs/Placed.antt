@@ -41,15 +41,15 @@ within bs i u m = elim (cases_lt i (length bs)) [
 -- who stands in a batch has finished
 pub batch-finished : (opening : GrainId → List Value) (h : List Applied) (w : World) → Kept opening w → Tells h w → (n : ℕ) (u : UnitNo) → InBatch h n u → w.units.phase u ≡ Finished
 batch-finished opening h w k t n u b =
-    let m : Member u w.manager.order = parts-member (sizes_of w.manager.past w.manager.batch) w.manager.order b.0 u (subst (λ (bs : List (List UnitNo)). Member u (get_or bs b.0 [])) (sym t.9) b.2) in
+    let m : Member u w.manager.order = parts-member (sizes_of w.manager.past w.manager.batch) w.manager.order b.0 u (subst (λ (bs : List (List UnitNo)). Member u (get_or bs b.0 [])) (sym t.batches) b.2) in
     (in_drop opening _ w k.0 0 u m).0
 
 -- how many batches there are
 pub batch-count : (h : List Applied) (w : World) → Tells h w → length (batches_in h) ≡ w.manager.batches
 batch-count h w t =
-    ap length (sym t.9) ∙ parts-length (sizes_of w.manager.past w.manager.batch) w.manager.order
+    ap length (sym t.batches) ∙ parts-length (sizes_of w.manager.past w.manager.batch) w.manager.order
     ∙ length-append (map (λ (b : Batch). b.size) w.manager.past) (open_sizes w.manager.batch)
-    ∙ ap (λ n. n + length (open_sizes w.manager.batch)) (length-map w.manager.past (λ (b : Batch). b.size)) ∙ sym t.10.2
+    ∙ ap (λ n. n + length (open_sizes w.manager.batch)) (length-map w.manager.past (λ (b : Batch). b.size)) ∙ sym t.parted.2
 
 -- only a take adds a batch
 is-take : (e : CoreEvent) → (e ≡ Take) ⊎ ((h : List Applied) (bs : List (List UnitNo)) → with_taken h bs e ≡ bs)
@@ -83,17 +83,17 @@ open-last : (h : List Applied) (w : World) (b : Batch) → Tells h w → w.manag
 open-last h w b t q =
     let ns : List ℕ = map (λ (b : Batch). b.size) w.manager.past in
     let is : batches_in h ≡ parts ns w.manager.order ++ members w b ∷ [] =
-    sym t.9 ∙ ap (λ z. parts z w.manager.order) (sizes-open w.manager.past w.manager.batch b q) ∙ parts-more ns b.size w.manager.order
-    ∙ ap (λ z. parts ns w.manager.order ++ take b.size (drop z w.manager.order) ∷ []) t.10.0 in
+    sym t.batches ∙ ap (λ z. parts z w.manager.order) (sizes-open w.manager.past w.manager.batch b q) ∙ parts-more ns b.size w.manager.order
+    ∙ ap (λ z. parts ns w.manager.order ++ take b.size (drop z w.manager.order) ∷ []) t.parted.0 in
     ap (λ (bs : List (List UnitNo)). get_or bs (length w.manager.past) []) is
     ∙ get_or_at (parts ns w.manager.order) (members w b) [] [] (length w.manager.past) (parts-length ns w.manager.order ∙ length-map w.manager.past (λ (b : Batch). b.size))
 
 pub open-batch : (h : List Applied) (w : World) (b : Batch) → Tells h w → w.manager.batch ≡ Some b → (u : UnitNo) → Member u (members w b) → InBatch h b.number u
-open-batch h w b t q u m = (length w.manager.past, t.10.3 b q, subst (Member u) (sym (open-last h w b t q)) m)
+open-batch h w b t q u m = (length w.manager.past, t.parted.3 b q, subst (Member u) (sym (open-last h w b t q)) m)
 
 pub open-member : (h : List Applied) (w : World) (b : Batch) → Tells h w → w.manager.batch ≡ Some b → (u : UnitNo) → InBatch h b.number u → Member u (members w b)
 open-member h w b t q u i =
-    let at : i.0 ≡ length w.manager.past = omega (arith, i.1, t.10.3 b q) in
+    let at : i.0 ≡ length w.manager.past = omega (arith, i.1, t.parted.3 b q) in
     subst (Member u) (open-last h w b t q) (subst (λ k. Member u (get_or (batches_in h) k [])) at i.2)
 
 -- a finished unit after the closed batches and up to the open one's end is in the open one

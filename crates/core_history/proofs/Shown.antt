@@ -1,5 +1,5 @@
 -- Reads, writes and results, read off a history.
-use Rattle.std.proofs.Common.{◌≡◌, List, [], ◌∷◌, ◌++◌, Bool, true, false, ◌&&◌, ◌||◌, inl, inr, refl, sym, ap, ◌∙◌, Option, Some, None, is_some, le_refl}
+use Rattle.std.proofs.Common.{◌≡◌, List, [], ◌∷◌, ◌++◌, true, false, ◌&&◌, ◌||◌, inl, inr, refl, sym, ap, ◌∙◌, Option, Some, None, is_some, le_refl}
 use Rattle.std.specs.Prelude.{if◌then◌else◌, option_map}
 use Rattle.std.proofs.lemmas.Bool.{cases_Bool, cond-true, cond-false, and_from, and_left, and_right, or_right}
 use Rattle.std.proofs.lemmas.List.Folds.{list_any-append}
@@ -18,6 +18,7 @@ use Rattle.core_model.proofs.Decoded.{Change, begin, lock, raise, refuse, finish
 use Rattle.core_model.proofs.Puts.{put-at, put-from, put-is, put-other, grain-same}
 use Rattle.core_history.specs.Units.{shown, has_read, with_read, effect_after, writes_of}
 use Rattle.core_history.specs.States.{mode_of}
+use Rattle.core_history.proofs.Words.{or-false}
 use Rattle.core_history.proofs.Granted.{Fresh, lock-mode, mode-after}
 
 -- who isn't over has read exactly the grains that it holds
@@ -35,11 +36,7 @@ not-both u x g k n = elim (cases_unit x u) [
 ]
 
 has-read-more : (k : GrainId) (reads : List Read) (r : Read) → has_read k (reads ++ r ∷ []) ≡ (has_read k reads || same_grain r.grain k)
-has-read-more k reads r = list_any-append (λ (x : Read). same_grain x.grain k) reads (r ∷ []) ∙ ap (λ t. has_read k reads || t) (no (same_grain r.grain k))
-  where
-    no : (b : Bool) → (b || false) ≡ b
-    no true = refl
-    no false = refl
+has-read-more k reads r = list_any-append (λ (x : Read). same_grain x.grain k) reads (r ∷ []) ∙ ap (λ t. has_read k reads || t) (or-false (same_grain r.grain k))
 
 -- what a first grant shows is one more read
 lock-shown : (w : World) (u : UnitNo) (g : GrainId) (mode : Mode) → ReadsHeld w → w.units.phase u ≡ Running → holds_lock u (w.cells.holds g) ≡ false → (x : UnitNo) →
@@ -88,15 +85,11 @@ read-held w u g mode e reads' held x k o own other = elim (cases_unit x u) [
   | inl q ↦ elim (cases_Bool (same_grain g k)) [
     | inl s ↦ own q ∙ or_right (has_read k (w.units.reads x)) (same_grain g k) s
         ∙ sym (ap is_some (cond-true (same_unit u x && same_grain g k) (Some mode) (mode_of x (w.cells.holds k)) (and_from (same_unit u x) (same_grain g k) (same_unit-is u x (sym q)) s)))
-    | inr s ↦ own q ∙ ap (λ t. has_read k (w.units.reads x) || t) s ∙ no (has_read k (w.units.reads x)) ∙ held x k o
+    | inr s ↦ own q ∙ ap (λ t. has_read k (w.units.reads x) || t) s ∙ or-false (has_read k (w.units.reads x)) ∙ held x k o
         ∙ sym (ap is_some (cond-false (same_unit u x && same_grain g k) (Some mode) (mode_of x (w.cells.holds k)) (and_right (same_unit u x) (same_grain g k) s)))
   ]
   | inr q ↦ ap (has_read k) (other q) ∙ held x k o ∙ sym (ap is_some (cond-false (same_unit u x && same_grain g k) (Some mode) (mode_of x (w.cells.holds k)) (and_left (same_unit u x) (same_grain g k) (same_unit-not u x (λ z. q (sym z))))))
 ]
-  where
-    no : (b : Bool) → (b || false) ≡ b
-    no true = refl
-    no false = refl
 
 pub held-after : (w : World) (e : CoreEvent) (w' : World) → Change w e w' → Fresh w.units.next w.units.phase → ReadsHeld w → ReadsHeld w'
 held-after w e w' (lock u g mode running free first here) fresh held = λ x k o.
@@ -110,14 +103,10 @@ held-after w e w' (raise u g mode running free own here uncovered) fresh held = 
       | inl s ↦ (let read : has_read k (w.units.reads x) ≡ true =
           held x k o ∙ sym (lock-mode x (w.cells.holds k)) ∙ (λ i. holds_lock (q i) (w.cells.holds (sym (same_grain-true g k s) i))) ∙ own in
           ap (λ t. t || same_grain g k) read ∙ sym read)
-      | inr s ↦ ap (λ t. has_read k (w.units.reads x) || t) s ∙ no (has_read k (w.units.reads x))
+      | inr s ↦ ap (λ t. has_read k (w.units.reads x) || t) s ∙ or-false (has_read k (w.units.reads x))
     ]))
     (λ q. refl)
     ∙ sym (ap is_some (mode-after w e w' (raise u g mode running free own here uncovered) x k))
-  where
-    no : (b : Bool) → (b || false) ≡ b
-    no true = refl
-    no false = refl
 held-after w e w' (release u g over own) fresh held = λ x k o.
     held x k o
     ∙ sym (ap is_some (mode-after w e w' (release u g over own) x k

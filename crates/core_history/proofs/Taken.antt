@@ -17,6 +17,7 @@ use Rattle.core_history.specs.Histories.{Applied}
 use Rattle.core_history.specs.Units.{finish_order, held, reads_in}
 use Rattle.core_history.specs.Batches.{holds_nothing, joined, waiting_in, next_batch, with_taken}
 use Rattle.core_history.specs.States.{mode_of, parts, open_sizes, sizes_of, batches_of}
+use Rattle.core_history.proofs.Words.{some-is}
 use Rattle.core_history.proofs.Granted.{lock-mode}
 
 -- how many units stand in parts of these sizes
@@ -84,9 +85,6 @@ total-sizes w p = go w.manager.batch refl
 
 pub all-in : (w : World) → Parted w → total (sizes_of w.manager.past w.manager.batch) ≤ length w.manager.order
 all-in w p = omega (arith, total-sizes w p, p.1)
-
-some-is : {A : Type 0} (x y : A) → Some x ≡ Some y → x ≡ y
-some-is x y e = cc
 
 parted-same : (w : World) (b c : Batch) → w.manager.batch ≡ Some b → c.number ≡ b.number → c.size ≡ b.size → Parted w → (
     (total (map (λ (b : Batch). b.size) w.manager.past) ≡ w.manager.closed)

@@ -1,5 +1,5 @@
 -- What one more event changes in the words of a history.
-use Rattle.std.proofs.Common.{◌≡◌, List, [], ◌∷◌, ◌++◌, Bool, true, false, ◌||◌, ◌⊎◌, inl, inr, refl, sym, ap, ◌∙◌, Option, None, append-nil, append_assoc}
+use Rattle.std.proofs.Common.{Some, ◌≡◌, List, [], ◌∷◌, ◌++◌, Bool, true, false, ◌||◌, ◌⊎◌, inl, inr, refl, sym, ap, ◌∙◌, Option, None, append-nil, append_assoc}
 use Rattle.std.specs.List.{list_any as any}
 use Rattle.std.proofs.lemmas.Grind.{flat_map-append}
 use Rattle.std.proofs.lemmas.List.Sums.{fold-append}
@@ -12,14 +12,20 @@ use Rattle.core_history.specs.Histories.{Applied, Happened}
 use Rattle.core_history.specs.Units.{finisher, finish_order, is_begin_of, is_end_of, has_begun, has_ended, mode_after, held, shown, with_read, reads_in, effect_after, effect_in}
 use Rattle.core_history.specs.Batches.{with_taken, batches_from, batches_in}
 
+-- what stands in the one stands in the other
+pub some-is : {A : Type 0} (x y : A) → Some x ≡ Some y → x ≡ y
+some-is x y e = cc
+
 -- a history with one more event
 abbrev pub more : List Applied → Applied → List Applied
 more h a = h ++ a ∷ []
 
+-- each word of a history with one more event, from the word before it
 pub order-more : (h : List Applied) (a : Applied) → finish_order (more h a) ≡ finish_order h ++ finisher a.event
 order-more h a = flat_map-append (λ (x : Applied). finisher x.event) h (a ∷ []) ∙ ap (λ t. finish_order h ++ t) (append-nil (finisher a.event))
 
-or-false : (b : Bool) → (b || false) ≡ b
+-- a test that adds nothing
+pub or-false : (b : Bool) → (b || false) ≡ b
 or-false true = refl
 or-false false = refl
 
@@ -41,6 +47,7 @@ reads-more u h a = fold-append (λ (reads : List Read) (x : Applied). with_read 
 pub effect-more : (u : UnitNo) (h : List Applied) (a : Applied) → effect_in u (more h a) ≡ effect_after u (effect_in u h) a.event
 effect-more u h a = fold-append (λ (last : Option Effect) (x : Applied). effect_after u last x.event) None h (a ∷ [])
 
+-- the same of the batches, with what stands in front
 batches-from-more : (front : List Applied) (bs : List (List UnitNo)) (h : List Applied) (a : Applied) → batches_from front bs (more h a) ≡ with_taken (front ++ h) (batches_from front bs h) a.event
 batches-from-more front bs [] a = ap (λ t. with_taken t bs a.event) (sym (append-nil front))
 batches-from-more front bs (x ∷ h) a =

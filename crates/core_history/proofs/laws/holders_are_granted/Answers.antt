@@ -3,8 +3,8 @@ use Rattle.core_history.proofs.laws.holders_are_granted.Goals as goal
 
 pub returns : goal.returns
 returns c = record {
-  holders = λ r u g. (tells-ends r).4 u g;
-  order = λ r. (tells-ends r).0;
+  holders = λ r u g. (tells-ends r).modes u g;
+  order = λ r. (tells-ends r).order;
   running = λ r u. runs-ends r u;
-  lines = λ r u n. (tells-ends r).11 u n;
+  lines = λ r u n. (tells-ends r).lines u n;
 }

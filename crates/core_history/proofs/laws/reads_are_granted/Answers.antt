@@ -4,8 +4,8 @@ use Rattle.core_history.proofs.laws.reads_are_granted.Goals as goal
 
 pub returns : goal.returns
 returns c = record {
-  reads = λ r u. (tells-ends r).5 u;
-  writes = λ r u. (tells-ends r).7 u;
-  result = λ r u f. (tells-ends r).8 u f;
-  dependencies = λ plays r l u d. (knows-ends plays r l).3 u d;
+  reads = λ r u. (tells-ends r).reads u;
+  writes = λ r u. (tells-ends r).writes u;
+  result = λ r u f. (tells-ends r).results u f;
+  dependencies = λ plays r l u d. (knows-ends plays r l).depends u d;
 }
