@@ -43,6 +43,7 @@ born-before h a w v end running s u n b =
 born-after : (w : World) (v : UnitNo) (end : Phase) → (end ≡ Unborn → ⊥) → (u : UnitNo) → (w.units.phase u ≡ Unborn → ⊥) → put w.units.phase v end u ≡ Unborn → ⊥
 born-after w v end n u b = put-at w.units.phase v end (λ p. p ≡ Unborn → ⊥) u (λ q. n) (λ q. b)
 
+-- who began for a line by the state, began for it by the history
 lines-to : (h : List Applied) (w : World) (e : CoreEvent) (w' : World) → Change w e w' → LinesOf h w → (u : UnitNo) (n : ℕ) → HasBegun w' u n → BeganFor (more h (answered w e)) u n
 lines-to h w e w' (begin origin call plain c) s u n b = elim (cases_unit u (new_unit w)) [
   | inl q ↦ (let p = sym b.1 ∙ put-is w.units.origin (new_unit w) origin u q in
@@ -56,6 +57,7 @@ lines-to h w e w' (end_plain v effect running plain of_call bare) s u n b = born
 lines-to h w e w' (end_snapshot v at outcome running plain kids answer) s u n b = born-before h (answered w e) w v Ended running s u n b
 lines-to h w e w' c s u n b = line-before h (answered w e) u n ((s u n).0 b)
 
+-- and the other way round
 lines-from : (h : List Applied) (w : World) (e : CoreEvent) (w' : World) → Change w e w' → w.units.phase (new_unit w) ≡ Unborn → LinesOf h w → (u : UnitNo) (n : ℕ) → BeganFor (more h (answered w e)) u n → HasBegun w' u n
 lines-from h w e w' (begin origin call plain c) fresh s u n b = elim (line-cases h (answered w (Begin origin call plain)) u n b) [
   | inl o ↦ (let t = (s u n).1 o in

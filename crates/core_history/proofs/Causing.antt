@@ -45,9 +45,11 @@ use Rattle.core_history.proofs.Depending.{DependsOf}
 abbrev pub CausesOf : List Applied → World → Type 0
 CausesOf h w = (x : Entry) → Member x w.manager.settled → IsCausedIn h x
 
+-- a cause stays one
 caused-before : (h : List Applied) (a : Applied) (x : Entry) → IsCausedIn h x → IsCausedIn (more h a) x
 caused-before h a x c = record { front = c.front; at = c.at; back = c.back ++ a ∷ []; split = ap (λ t. t ++ a ∷ []) c.split ∙ append_assoc c.front (c.at ∷ c.back) (a ∷ []); cause = c.cause; line = c.line }
 
+-- the cause of an entry that is new
 caused-now : (h : List Applied) (a : Applied) (x : Entry) (u : UnitNo) (what : Settled) → x.unit ≡ u → x.what ≡ what → CauseIn h a u what → HasLineIn h a.event x what → IsCausedIn (more h a) x
 caused-now h a x u what p q c l = record { front = h; at = a; back = []; split = refl; cause = subst (λ z. CauseIn h a z x.what) (sym p) (subst (CauseIn h a u) (sym q) c); line = subst (HasLineIn h a.event x) (sym q) l }
 
@@ -57,6 +59,7 @@ mode-has [] k d m = absurd m
 mode-has (h ∷ hs) k d (inl q) = cond-true (same_unit h.unit k.unit) (Some h.mode) (mode_of k.unit hs) (same_unit-is h.unit k.unit (ap (λ (z : Hold). z.unit) (sym q))) ∙ ap (λ (z : Hold). Some z.mode) (sym q)
 mode-has (h ∷ hs) k d (inr m) = cond-false (same_unit h.unit k.unit) (Some h.mode) (mode_of k.unit hs) (same_unit-not h.unit k.unit (d.0 k m)) ∙ mode-has hs k d.1 m
 
+-- a mode is that of a lock
 mode-lock : (hs : List Hold) (v : UnitNo) (m : Mode) → mode_of v hs ≡ Some m → Member (record { unit = v; mode = m }) hs
 mode-lock [] v m e = cc
 mode-lock (h ∷ hs) v m e = elim (cases_Bool (same_unit h.unit v)) [

@@ -53,6 +53,7 @@ pub record IsNew (h : List Applied) (a : Applied) (u d : UnitNo) : Type 0 where
   pub somebody : d ≡ nobody → ⊥
   pub unsure : IsCommittedIn h d → ⊥
 
+-- what is a dependency stays one
 pub depends-before : (h : List Applied) (a : Applied) (u d : UnitNo) → IsDependency h u d → IsDependency (more h a) u d
 depends-before h a u d x = record {
   front = x.front;
@@ -67,9 +68,11 @@ depends-before h a u d x = record {
   unsure = x.unsure;
 }
 
+-- and is one where an event makes it so
 depends-now : (h : List Applied) (a : Applied) (u d : UnitNo) → IsNew h a u d → IsDependency (more h a) u d
 depends-now h a u d x = record { front = h; at = a; back = []; split = refl; read = x.read; granted = x.granted; first = x.first; source = x.source; somebody = x.somebody; unsure = x.unsure }
 
+-- and only then
 depends-cases : (h : List Applied) (a : Applied) (u d : UnitNo) → IsDependency (more h a) u d → IsDependency h u d ⊎ IsNew h a u d
 depends-cases h a u d x = elim (split-last x.front x.back h x.at a (sym x.split)) [
   | inl t ↦ inr (record {
@@ -124,6 +127,7 @@ locked-to opening h w u g mode core t f s running free x d =
           unsure = λ c. (let v = committed-by h w t f d c in let z : true ≡ false = sym (ap is_committed v) ∙ ap (λ k. is_committed (w.manager.verdict k)) o ∙ p.1 in cc);
         }
 
+-- the other way round
 locked-from : (opening : GrainId → List Value) (h : List Applied) (w : World) (u : UnitNo) (g : GrainId) (mode : Mode) → Core opening w → Tells h w → FatesOf h w → DependsOf h w → (x d : UnitNo) →
     IsDependency (more h (answered w (Grant u g mode))) x d → Member d (put w.units.deps u (deps_with (restacked w g (cleaned w g)) (w.units.deps u) (top (put_grain w.cells.stack g (cleaned w g) g)).unit) x)
 locked-from opening h w u g mode core t f s x d dep = elim (depends-cases h (answered w (Grant u g mode)) x d dep) [
@@ -174,10 +178,12 @@ raised-from h w u g mode t s running own x d dep = elim (depends-cases h (answer
   ]
 ]
 
+-- each dependency after an event is one of the history
 depends-to : (opening : GrainId → List Value) (h : List Applied) (w : World) (e : CoreEvent) (w' : World) → Change w e w' → Core opening w → Tells h w → FatesOf h w → DependsOf h w → (x d : UnitNo) → Member d (w'.units.deps x) → IsDependency (more h (answered w e)) x d
 depends-to opening h w e w' (lock u g mode running free first here) core t f s x d = locked-to opening h w u g mode core t f s running first x d
 depends-to opening h w e w' c core t f s x d = λ m. depends-before h (answered w e) x d ((s x d).0 m)
 
+-- and each of the history is one
 depends-from : (opening : GrainId → List Value) (h : List Applied) (w : World) (e : CoreEvent) (w' : World) → Change w e w' → Core opening w → Tells h w → FatesOf h w → DependsOf h w → (x d : UnitNo) → IsDependency (more h (answered w e)) x d → Member d (w'.units.deps x)
 depends-from opening h w e w' (lock u g mode running free first here) core t f s x d = locked-from opening h w u g mode core t f s x d
 depends-from opening h w e w' (raise u g mode running free own here uncovered) core t f s x d = raised-from h w u g mode t s running own x d

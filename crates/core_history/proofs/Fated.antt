@@ -63,6 +63,7 @@ pub record Fates (h : List Applied) (verdict : UnitNo → Verdict) (batches : �
   pub dies : (u : UnitNo) → is_bad (verdict u) ≡ true → IsDeadIn h u
   pub commits : (u : UnitNo) → verdict u ≡ Committed → (n : ℕ) × InBatch h n u × Happened h (Sealed n)
 
+-- that of a state
 abbrev pub FatesOf : List Applied → World → Type 0
 FatesOf h w = Fates h w.manager.verdict w.manager.batches w.manager.batch
 
@@ -87,11 +88,13 @@ writes-stay : (w : World) (e : CoreEvent) (w' : World) → Change w e w' → (u 
 writes-stay w e w' (finish x effect running plain of_call reads alone) u f = put-other w.manager.writes x effect.writes u (λ q. (let t : Finished ≡ Running = sym f ∙ ap w.units.phase q ∙ running in cc))
 writes-stay w e w' c u f = refl
 
+-- what a unit of a batch wrote stays what it wrote
 wrote-more : (opening : GrainId → List Value) (h : List Applied) (w : World) (e : CoreEvent) (w' : World) → Change w e w' → Step opening h w e w' → (n : ℕ) (u : UnitNo) (g : GrainId) → InBatch h n u → WroteIn h u g → WroteIn (more h (answered w e)) u g
 wrote-more opening h w e w' c s n u g b wr =
     let t = wrote-by h w s.told u g wr in
     wrote-in (more h (answered w e)) w' s.next u g (t.0, ap (written g) (writes-stay w e w' c u (batch-finished opening h w s.core.kept s.told n u b)) ∙ t.1)
 
+-- and was so before
 wrote-less : (opening : GrainId → List Value) (h : List Applied) (w : World) (e : CoreEvent) (w' : World) → Change w e w' → Step opening h w e w' → (n : ℕ) (u : UnitNo) (g : GrainId) → InBatch h n u → WroteIn (more h (answered w e)) u g → Wrote w.manager.writes u g
 wrote-less opening h w e w' c s n u g b wr =
     let t = wrote-by (more h (answered w e)) w' s.next u g wr in
@@ -115,10 +118,12 @@ dead-more opening h w e w' c s u (by_source r m d) =
 open-number : (w : World) (b : Batch) → Parted w → w.manager.batch ≡ Some b → b.number ≡ w.manager.batches
 open-number w b p q = p.3 b q ∙ sym (p.2 ∙ ap (λ o. length w.manager.past + length (open_sizes o)) q)
 
+-- no batch goes
 batches-grow : (w : World) (e : CoreEvent) (w' : World) → Change w e w' → w.manager.batches ≤ w'.manager.batches
 batches-grow w e w' (take_batch none some) = omega arith
 batches-grow w e w' c = le_refl w.manager.batches
 
+-- an event speaks of a batch that was taken
 number-now : (w : World) (e : CoreEvent) (w' : World) → Change w e w' → Parted w → number_of e ≤ w'.manager.batches
 number-now w e w' (vote n g kept b q number d planned fresh) p = omega (arith, number, open-number w b p q)
 number-now w e w' (decide_some n b q number d voted some) p = omega (arith, number, open-number w b p q)
@@ -128,6 +133,7 @@ number-now w e w' (spoil_batch n b ds q number d) p = omega (arith, number, open
 number-now w e w' (doubt_batch n b ds q number d) p = omega (arith, number, open-number w b p q)
 number-now w e w' c p = omega arith
 
+-- events speak of batches that were taken
 numbers-after : (opening : GrainId → List Value) (h : List Applied) (w : World) (e : CoreEvent) (w' : World) → Change w e w' → Step opening h w e w' → (x : CoreEvent) → Happened (more h (answered w e)) x → number_of x ≤ w'.manager.batches
 numbers-after opening h w e w' c s x m = elim (happened-cases h (answered w e) x m) [
   | inl old ↦ omega (arith, s.fates.numbers x old, batches-grow w e w' c)
@@ -138,6 +144,7 @@ numbers-after opening h w e w' c s x m = elim (happened-cases h (answered w e) x
 too-late : (opening : GrainId → List Value) (h : List Applied) (w : World) (e : CoreEvent) (w' : World) → Step opening h w e w' → (x : CoreEvent) → Happened h x → w.manager.batches + 1 ≤ number_of x → ⊥
 too-late opening h w e w' s x m le = omega (arith, s.fates.numbers x m, le)
 
+-- an undecided batch has had no decision
 undecided-after : (opening : GrainId → List Value) (h : List Applied) (w : World) (e : CoreEvent) (w' : World) → Change w e w' → Step opening h w e w' → (c : Batch) → w'.manager.batch ≡ Some c → c.decisions ≡ None →
     Happened (more h (answered w e)) (Decide c.number) → ⊥
 undecided-after opening h w e w' (take_batch none some) s c z n = λ m.
@@ -153,6 +160,7 @@ undecided-after opening h w e w' (spoil_batch m b ds q number d) s c z n = cc
 undecided-after opening h w e w' (doubt_batch m b ds q number d) s c z n = cc
 undecided-after opening h w e w' ch s c z n = λ x. elim (happened-cases h (answered w e) (Decide c.number) x) [ inl old ↦ s.fates.undecided c z n old | inr y ↦ cc ]
 
+-- a file that failed after one more vote
 failed-more : (votes : List (GrainId × Bool)) (k : GrainId) (kept : Bool) (g : GrainId) → has_failed (votes ++ (k, kept) ∷ []) g ≡ true → (has_failed votes g ≡ true) ⊎ ((g ≡ k) × (kept ≡ false))
 failed-more votes k kept g e =
     elim (or_cases (has_failed votes g) (has_failed ((k, kept) ∷ []) g) (sym (list_any-append (λ (v : GrainId × Bool). is_vote_on g v && not v.1) votes ((k, kept) ∷ [])) ∙ e)) [
@@ -171,6 +179,7 @@ failed-now votes k g e =
 failed-before : (votes : List (GrainId × Bool)) (k : GrainId) (kept : Bool) (g : GrainId) → has_failed votes g ≡ true → has_failed (votes ++ (k, kept) ∷ []) g ≡ true
 failed-before votes k kept g e = list_any-append (λ (v : GrainId × Bool). is_vote_on g v && not v.1) votes ((k, kept) ∷ []) ∙ or_left (has_failed votes g) (has_failed ((k, kept) ∷ []) g) e
 
+-- a file that failed has its vote of no
 failed-after : (opening : GrainId → List Value) (h : List Applied) (w : World) (e : CoreEvent) (w' : World) → Change w e w' → Step opening h w e w' → (c : Batch) (k : GrainId) → w'.manager.batch ≡ Some c → has_failed c.votes k ≡ true →
     Happened (more h (answered w e)) (Vote c.number k false)
 failed-after opening h w e w' (take_batch none some) s c k z f = (let y : false ≡ true = ap (λ (t : Batch). has_failed t.votes k) (some-is (record { number = w.manager.batches + 1; size = _; votes = []; decisions = None }) c z) ∙ f in cc)
@@ -191,6 +200,7 @@ failed-after opening h w e w' (spoil_batch m b ds q number d) s c k z f = cc
 failed-after opening h w e w' (doubt_batch m b ds q number d) s c k z f = cc
 failed-after opening h w e w' ch s c k z f = happened-before h (answered w e) (Vote c.number k false) (s.fates.failed c k z f)
 
+-- and a vote of no is of a file that failed
 voted-after : (opening : GrainId → List Value) (h : List Applied) (w : World) (e : CoreEvent) (w' : World) → Change w e w' → Step opening h w e w' → (c : Batch) (k : GrainId) → w'.manager.batch ≡ Some c →
     Happened (more h (answered w e)) (Vote c.number k false) → has_failed c.votes k ≡ true
 voted-after opening h w e w' (take_batch none some) s c k z = λ m.
@@ -221,6 +231,7 @@ refused-now : (w : World) (e : CoreEvent) (w' : World) → Change w e w' → (u 
 refused-now w e w' (refuse x k m why running q) u g mode z = (let is : u ≡ x = cc in put-is w.manager.verdict x Aborted u is)
 refused-now w e w' c u g mode z = cc
 
+-- who was refused is aborted
 refusals-after : (opening : GrainId → List Value) (h : List Applied) (w : World) (e : CoreEvent) (w' : World) → Change w e w' → Step opening h w e w' → (u : UnitNo) (g : GrainId) (mode : Mode) → Happened (more h (answered w e)) (Refuse u g mode) → w'.manager.verdict u ≡ Aborted
 refusals-after opening h w e w' c s u g mode m = elim (happened-cases h (answered w e) (Refuse u g mode) m) [
   | inl old ↦ (let a = s.fates.refusals u g mode old in s.grows.1 u (ap is_final a) ∙ a)
@@ -257,6 +268,7 @@ decided-down opening h w e w' s b q d x g i wr v = (let t = decided-reason openi
     go (decision.Vote k) e r = ap is_bad e
     go (decision.Dependency on) e r = (let z : true ≡ false = sym f ∙ failed-none b.votes (w.manager.writes x) r.0 g wr in cc)
 
+-- a decision aborts whose file failed
 down-now : (opening : GrainId → List Value) (h : List Applied) (w : World) (e : CoreEvent) (w' : World) → Change w e w' → Step opening h w e w' → (n : ℕ) (u : UnitNo) (g : GrainId) → Decide n ≡ e → InBatch h n u → Wrote w.manager.writes u g → Happened h (Vote n g false) → is_bad (w'.manager.verdict u) ≡ true
 down-now opening h w e w' (decide_some m b q number d voted some) s n u g z i wr v =
     (let is : n ≡ b.number = (let y : n ≡ m = cc in y ∙ sym number) in
@@ -273,10 +285,12 @@ down-now opening h w e w' (decide_none m b q number d voted none) s n u g z i wr
     seal-bads Aborted e = refl
 down-now opening h w e w' c s n u g z i wr v = cc
 
+-- no vote comes after the decision
 vote-now : (opening : GrainId → List Value) (h : List Applied) (w : World) (e : CoreEvent) (w' : World) → Change w e w' → Step opening h w e w' → (n : ℕ) (g : GrainId) → Vote n g false ≡ e → Happened h (Decide n) → ⊥
 vote-now opening h w e w' (vote m k kept b q number d planned fresh) s n g z x = (let is : n ≡ m = cc in s.fates.undecided b q d (subst (λ y. Happened h (Decide y)) (is ∙ sym number) x))
 vote-now opening h w e w' c s n g z x = cc
 
+-- who was voted down is to abort
 down-after : (opening : GrainId → List Value) (h : List Applied) (w : World) (e : CoreEvent) (w' : World) → Change w e w' → Step opening h w e w' → (n : ℕ) (u : UnitNo) (g : GrainId) → InBatch (more h (answered w e)) n u → Happened (more h (answered w e)) (Decide n) →
     WroteIn (more h (answered w e)) u g → Happened (more h (answered w e)) (Vote n g false) → is_bad (w'.manager.verdict u) ≡ true
 down-after opening h w e w' c s n u g i d wr v =
@@ -293,12 +307,14 @@ down-after opening h w e w' c s n u g i d wr v =
       ]
     ]
 
+-- a batch that comes to disk is decided for good
 sealed-now : (opening : GrainId → List Value) (h : List Applied) (w : World) (e : CoreEvent) (w' : World) → Change w e w' → Step opening h w e w' → (n : ℕ) (u : UnitNo) → Sealed n ≡ e → InBatch h n u → is_final (w'.manager.verdict u) ≡ true
 sealed-now opening h w e w' (seal_batch m b ds q number d) s n u z i =
     (let is : n ≡ b.number = (let y : n ≡ m = cc in y ∙ sym number) in
     seal-final (w.manager.verdict u) (member-judged opening w b ds s.core q d u (open-member h w b s.told q u (subst (λ k. InBatch h k u) is i))).0)
 sealed-now opening h w e w' c s n u z i = cc
 
+-- and stays so
 ends-after : (opening : GrainId → List Value) (h : List Applied) (w : World) (e : CoreEvent) (w' : World) → Change w e w' → Step opening h w e w' → (n : ℕ) (u : UnitNo) → InBatch (more h (answered w e)) n u → Happened (more h (answered w e)) (Sealed n) → is_final (w'.manager.verdict u) ≡ true
 ends-after opening h w e w' c s n u i m =
     let b = old-batch opening h w e w' s n u (Sealed n) refl (λ q. cc) i m in
@@ -307,6 +323,7 @@ ends-after opening h w e w' c s n u i m =
       | inr q ↦ sealed-now opening h w e w' c s n u q b
     ]
 
+-- a batch that never will be on disk is aborted
 spoiled-now : (opening : GrainId → List Value) (h : List Applied) (w : World) (e : CoreEvent) (w' : World) → Change w e w' → Step opening h w e w' → (n : ℕ) (u : UnitNo) → NotSealed n ≡ e → InBatch h n u → w'.manager.verdict u ≡ Aborted
 spoiled-now opening h w e w' (spoil_batch m b ds q number d) s n u z i =
     (let is : n ≡ b.number = (let y : n ≡ m = cc in y ∙ sym number) in
@@ -314,6 +331,7 @@ spoiled-now opening h w e w' (spoil_batch m b ds q number d) s n u z i =
     spoil-aborted (w.manager.verdict u) t.0 t.1)
 spoiled-now opening h w e w' c s n u z i = cc
 
+-- and stays so
 spoils-after : (opening : GrainId → List Value) (h : List Applied) (w : World) (e : CoreEvent) (w' : World) → Change w e w' → Step opening h w e w' → (n : ℕ) (u : UnitNo) → InBatch (more h (answered w e)) n u → Happened (more h (answered w e)) (NotSealed n) → w'.manager.verdict u ≡ Aborted
 spoils-after opening h w e w' c s n u i m =
     let b = old-batch opening h w e w' s n u (NotSealed n) refl (λ q. cc) i m in
@@ -322,6 +340,7 @@ spoils-after opening h w e w' c s n u i m =
       | inr q ↦ spoiled-now opening h w e w' c s n u q b
     ]
 
+-- a unit is in a list or not
 member-or-not : (u : UnitNo) (us : List UnitNo) → Member u us ⊎ (Member u us → ⊥)
 member-or-not u [] = inr (λ m. m)
 member-or-not u (x ∷ xs) = elim (cases_unit u x) [
@@ -360,6 +379,7 @@ decided-dies opening h w m w' c s b q number d reads (suc k) x lt f bd = elim (m
         let t = s.core.depends.1 x on r.1 in
         by_source t.0 (subst (Member t.0) (reads x) t.1) (subst (IsDeadIn h') (sym t.2) (ih on a.0 a.1 r.2))
 
+-- the same of every unit
 pub decided-dead : (opening : GrainId → List Value) (h : List Applied) (w : World) (m : ℕ) (w' : World) → Change w (Decide m) w' → Step opening h w (Decide m) w' → (b : Batch) → w.manager.batch ≡ Some b → b.number ≡ m → b.decisions ≡ None →
     ((u : UnitNo) → w.units.reads u ≡ reads_in u (more h (answered w (Decide m)))) → (x : UnitNo) → is_bad (judged (members w b) (decisions_of w b) w.manager.verdict x) ≡ true → IsDeadIn (more h (answered w (Decide m))) x
 decided-dead opening h w m w' c s b q number d reads x bd = elim (member-or-not x (members w b)) [
@@ -367,6 +387,7 @@ decided-dead opening h w m w' c s b q number d reads x bd = elim (member-or-not 
   | inl y ↦ decided-dies opening h w m w' c s b q number d reads (suc (w.manager.place x)) x (omega arith) (member-finished opening w b s.core.kept x y) bd
 ]
 
+-- who is aborted, or to abort, is dead by the history
 dies-after : (opening : GrainId → List Value) (h : List Applied) (w : World) (e : CoreEvent) (w' : World) → Change w e w' → Step opening h w e w' → (x : UnitNo) → is_bad (w'.manager.verdict x) ≡ true → IsDeadIn (more h (answered w e)) x
 dies-after opening h w e w' (refuse u g mode why running q) s x =
     put-from w.manager.verdict u Aborted (λ v. is_bad v ≡ true) (IsDeadIn (more h (answered w (Refuse u g mode))) x) x
@@ -401,6 +422,7 @@ judged-committed opening h w e w' s b q d x j = elim (member-or-not x (members w
     go (decision.Vote g) e = cc
     go (decision.Dependency on) e = cc
 
+-- nobody is to commit where no decision commits
 pub judged-chosen : (opening : GrainId → List Value) (h : List Applied) (w : World) (e : CoreEvent) (w' : World) → Step opening h w e w' → (b : Batch) → w.manager.batch ≡ Some b → b.decisions ≡ None → w.manager.doubt ≡ None → any is_commit (decisions_of w b) ≡ false → (x : UnitNo) →
     judged (members w b) (decisions_of w b) w.manager.verdict x ≡ Chosen → ⊥
 judged-chosen opening h w e w' s b q d none nobodys x j = elim (member-or-not x (members w b)) [
@@ -413,6 +435,7 @@ judged-chosen opening h w e w' s b q d none nobodys x j = elim (member-or-not x 
     go (decision.Vote g) n e = cc
     go (decision.Dependency on) n e = cc
 
+-- who is committed has its batch on disk
 commits-after : (opening : GrainId → List Value) (h : List Applied) (w : World) (e : CoreEvent) (w' : World) → Change w e w' → Step opening h w e w' → (x : UnitNo) → w'.manager.verdict x ≡ Committed →
     (n : ℕ) × InBatch (more h (answered w e)) n x × Happened (more h (answered w e)) (Sealed n)
 commits-after opening h w e w' (refuse u g mode why running q) s x =

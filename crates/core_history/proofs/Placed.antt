@@ -26,6 +26,7 @@ Member-drop zero x xs h = h
 Member-drop (suc m) x [] h = h
 Member-drop (suc m) x (y ∷ xs) h = inr (Member-drop m x xs h)
 
+-- who stands in a part stands in the list
 parts-member : (ns : List ℕ) (us : List UnitNo) (i : ℕ) (u : UnitNo) → Member u (get_or (parts ns us) i []) → Member u us
 parts-member [] us i u m = absurd m
 parts-member (n ∷ ns) us zero u m = Member-take n u us m
@@ -56,6 +57,7 @@ is-take : (e : CoreEvent) → (e ≡ Take) ⊎ ((h : List Applied) (bs : List (L
 is-take Take = inl refl
 is-take e = inr (λ h bs. refl)
 
+-- who is in a batch stays in it
 pub batch-before : (h : List Applied) (a : Applied) (n : ℕ) (u : UnitNo) → InBatch h n u → InBatch (more h a) n u
 batch-before h a n u b = elim (is-take a.event) [
   | inl q ↦ (
@@ -67,6 +69,7 @@ batch-before h a n u b = elim (is-take a.event) [
   | inr q ↦ (b.0, b.1, subst (λ (bs : List (List UnitNo)). Member u (get_or bs b.0 [])) (sym (batches-more h a ∙ q h (batches_in h))) b.2)
 ]
 
+-- and came into it by the event, or before
 pub batch-cases : (h : List Applied) (a : Applied) (n : ℕ) (u : UnitNo) → InBatch (more h a) n u → InBatch h n u ⊎ ((a.event ≡ Take) × (n ≡ length (batches_in h) + 1))
 batch-cases h a n u b = elim (is-take a.event) [
   | inl q ↦ (let m : Member u (get_or (batches_in h ++ next_batch h (batches_in h) ∷ []) b.0 []) = subst (λ (bs : List (List UnitNo)). Member u (get_or bs b.0 [])) (batches-more h a ∙ ap (with_taken h (batches_in h)) q) b.2 in
@@ -88,9 +91,11 @@ open-last h w b t q =
     ap (λ (bs : List (List UnitNo)). get_or bs (length w.manager.past) []) is
     ∙ get_or_at (parts ns w.manager.order) (members w b) [] [] (length w.manager.past) (parts-length ns w.manager.order ∙ length-map w.manager.past (λ (b : Batch). b.size))
 
+-- the units of the open batch are those of its number
 pub open-batch : (h : List Applied) (w : World) (b : Batch) → Tells h w → w.manager.batch ≡ Some b → (u : UnitNo) → Member u (members w b) → InBatch h b.number u
 open-batch h w b t q u m = (length w.manager.past, t.parted.3 b q, subst (Member u) (sym (open-last h w b t q)) m)
 
+-- and the other way round
 pub open-member : (h : List Applied) (w : World) (b : Batch) → Tells h w → w.manager.batch ≡ Some b → (u : UnitNo) → InBatch h b.number u → Member u (members w b)
 open-member h w b t q u i =
     let at : i.0 ≡ length w.manager.past = omega (arith, i.1, t.parted.3 b q) in

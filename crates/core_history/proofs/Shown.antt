@@ -35,6 +35,7 @@ not-both u x g k n = elim (cases_unit x u) [
   | inr e ↦ and_left (same_unit u x) (same_grain g k) (same_unit-not u x (λ z. e (sym z)))
 ]
 
+-- what has been read after one more read
 has-read-more : (k : GrainId) (reads : List Read) (r : Read) → has_read k (reads ++ r ∷ []) ≡ (has_read k reads || same_grain r.grain k)
 has-read-more k reads r = list_any-append (λ (x : Read). same_grain x.grain k) reads (r ∷ []) ∙ ap (λ t. has_read k reads || t) (or-false (same_grain r.grain k))
 
@@ -91,6 +92,7 @@ read-held w u g mode e reads' held x k o own other = elim (cases_unit x u) [
   | inr q ↦ ap (has_read k) (other q) ∙ held x k o ∙ sym (ap is_some (cond-false (same_unit u x && same_grain g k) (Some mode) (mode_of x (w.cells.holds k)) (and_left (same_unit u x) (same_grain g k) (same_unit-not u x (λ z. q (sym z))))))
 ]
 
+-- who is not over has read exactly what it holds, after an event
 pub held-after : (w : World) (e : CoreEvent) (w' : World) → Change w e w' → Fresh w.units.next w.units.phase → ReadsHeld w → ReadsHeld w'
 held-after w e w' (lock u g mode running free first here) fresh held = λ x k o.
     read-held w u g mode e (put w.units.reads u (w.units.reads u ++ read_of g (top (put_grain w.cells.stack g (cleaned w g) g)) ∷ [])) held x k o
@@ -124,6 +126,7 @@ writes-after w e w' c x last q = q
 abbrev pub ResultIs : World → UnitNo → Option Effect → Type 0
 ResultIs w x last = w.units.phase x ≡ Finished → option_map (λ (effect : Effect). effect.result) last ≡ Some (w.manager.result x)
 
+-- the result stays where another unit gets a phase
 result-put : (w : World) (u : UnitNo) (end : Phase) (x : UnitNo) (last : Option Effect) → (end ≡ Finished → ⊥) → ResultIs w x last →
     put w.units.phase u end x ≡ Finished → option_map (λ (effect : Effect). effect.result) last ≡ Some (w.manager.result x)
 result-put w u end x last n s = put-from w.units.phase u end (λ p. p ≡ Finished) (option_map (λ (effect : Effect). effect.result) last ≡ Some (w.manager.result x)) x (λ q f. absurd (n f)) (λ q f. s f)
@@ -132,6 +135,7 @@ result-ended : (w : World) (u : UnitNo) (result : Outcome) (x : UnitNo) (last : 
     put w.units.phase u Ended x ≡ Finished → option_map (λ (effect : Effect). effect.result) last ≡ Some (put w.manager.result u result x)
 result-ended w u result x last s = put-from w.units.phase u Ended (λ p. p ≡ Finished) (option_map (λ (effect : Effect). effect.result) last ≡ Some (put w.manager.result u result x)) x (λ q f. cc) (λ q f. s f ∙ ap Some (sym (put-other w.manager.result u result x q)))
 
+-- the result after an event
 pub result-after : (w : World) (e : CoreEvent) (w' : World) → Change w e w' → (x : UnitNo) (last : Option Effect) → ResultIs w x last → ResultIs w' x (effect_after x last e)
 result-after w e w' (finish u effect running plain of_call reads alone) x last s = λ f. elim (cases_unit x u) [
   | inl z ↦ ap (option_map (λ (effect : Effect). effect.result)) (cond-true (same_unit u x) (Some effect) last (same_unit-is u x (sym z))) ∙ ap Some (sym (put-is w.manager.result u effect.result x z))

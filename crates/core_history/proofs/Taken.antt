@@ -48,6 +48,7 @@ parts-longer (n ∷ ns) us x le =
     let rest : parts ns (drop n (us ++ x ∷ [])) ≡ parts ns (drop n us) = ap (parts ns) (drop-append-le n us (x ∷ []) (omega (arith, le))) ∙ parts-longer ns (drop n us) x (omega (arith, le, length-drop n us)) in
     λ i. head i ∷ rest i
 
+-- how many units stand in the parts
 pub joined-length : (ns : List ℕ) (us : List UnitNo) → total ns ≤ length us → length (joined (parts ns us)) ≡ total ns
 joined-length [] us le = refl
 joined-length (n ∷ ns) us le =
@@ -76,6 +77,7 @@ Parted w =
     × (w.manager.batches ≡ length w.manager.past + length (open_sizes w.manager.batch))
     × ((b : Batch) → w.manager.batch ≡ Some b → b.number ≡ length w.manager.past + 1)
 
+-- how many units stand in all batches
 pub total-sizes : (w : World) → Parted w → total (sizes_of w.manager.past w.manager.batch) ≡ w.manager.closed + size_of w.manager.batch
 total-sizes w p = go w.manager.batch refl
   where
@@ -83,9 +85,11 @@ total-sizes w p = go w.manager.batch refl
     go None q = ap total (sizes-none w.manager.past w.manager.batch q) ∙ p.0 ∙ omega (arith, ap size_of q)
     go (Some b) q = ap total (sizes-open w.manager.past w.manager.batch b q) ∙ total-more (map (λ (b : Batch). b.size) w.manager.past) b.size ∙ omega (arith, p.0, ap size_of q)
 
+-- and that they are finished ones
 pub all-in : (w : World) → Parted w → total (sizes_of w.manager.past w.manager.batch) ≤ length w.manager.order
 all-in w p = omega (arith, total-sizes w p, p.1)
 
+-- where the open batch keeps its size
 parted-same : (w : World) (b c : Batch) → w.manager.batch ≡ Some b → c.number ≡ b.number → c.size ≡ b.size → Parted w → (
     (total (map (λ (b : Batch). b.size) w.manager.past) ≡ w.manager.closed)
     × (w.manager.closed + c.size ≤ length w.manager.order)
@@ -94,6 +98,7 @@ parted-same : (w : World) (b c : Batch) → w.manager.batch ≡ Some b → c.num
 parted-same w b c q n s p =
     (p.0, omega (arith, p.1, ap size_of q, s), p.2 ∙ ap (λ o. length w.manager.past + length (open_sizes o)) q, λ d e. ap (λ (t : Batch). t.number) (sym (some-is c d e)) ∙ n ∙ p.3 b q)
 
+-- where it closes
 parted-closed : (w : World) (b c : Batch) → w.manager.batch ≡ Some b → c.size ≡ b.size → Parted w → (
     (total (map (λ (b : Batch). b.size) (w.manager.past ++ c ∷ [])) ≡ w.manager.closed + b.size)
     × (w.manager.closed + b.size + 0 ≤ length w.manager.order)
@@ -106,6 +111,7 @@ parted-closed w b c q s p = (
   λ d e. cc,
 )
 
+-- the batches after an event follow one another
 pub parted-after : (w : World) (e : CoreEvent) (w' : World) → Change w e w' → Parted w → Parted w'
 parted-after w e w' (finish u effect running plain of_call reads alone) p = (p.0, omega (arith, p.1, length_push w.manager.order u), p.2, p.3)
 parted-after w e w' (take_batch none some) p = (
@@ -136,6 +142,7 @@ free-is h w modes reads u = ap (all (λ r. is_none (held u r.grain h))) (sym (re
         let head : is_none (held u r.grain h) ≡ not (holds_lock u (w.cells.holds r.grain)) = ap is_none (sym (modes u r.grain)) ∙ no (mode_of u (w.cells.holds r.grain)) ∙ ap not (sym (lock-mode u (w.cells.holds r.grain))) in
         let rest = go rs in λ i. head i && rest i
 
+-- the longest free prefix is the same
 prefix-is : (h : List Applied) (w : World) → ((u : UnitNo) → holds_nothing h u ≡ is_free w u) → (us : List UnitNo) → prefix_len (holds_nothing h) us ≡ free_prefix w us
 prefix-is h w free [] = refl
 prefix-is h w free (u ∷ us) =
