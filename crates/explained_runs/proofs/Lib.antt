@@ -1,3 +1,5 @@
 pub mod Legal
 pub mod SerialRecords
 pub mod SerialCauses
+pub mod Applied
+pub mod Undisturbed

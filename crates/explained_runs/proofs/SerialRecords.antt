@@ -112,7 +112,7 @@ serial_records types store states (e ∷ es) (l ∷ log) same serial are =
     )
 
 -- the next number is above 0
-above_records : (before : Standing) (log : List Commit) → 0 < before.next → 0 < (after_records before log).next
+pub above_records : (before : Standing) (log : List Commit) → 0 < before.next → 0 < (after_records before log).next
 above_records before [] above = above
 above_records before (l ∷ log) above = above_records (after_record before l) log (omega (arith, above))
 

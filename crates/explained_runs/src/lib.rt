@@ -5,6 +5,8 @@
 //! run's events are the core model's legal ones.
 #![tactic(auto)]
 
+mod calm;
 mod serial;
 
+pub use calm::calm_runs_are_undisturbed;
 pub use serial::{explained_entries_have_causes, explained_runs_are_serial, runs_are_legal};
