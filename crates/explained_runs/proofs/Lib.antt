@@ -3,3 +3,4 @@ pub mod SerialRecords
 pub mod SerialCauses
 pub mod Applied
 pub mod Undisturbed
+pub mod Unlocked
