@@ -89,10 +89,10 @@ dead-bad opening v b i s u m d n dead =
     ]
 
 -- what a reason says in terms of the dead
-voted-down : (v : World) (b : Batch) (u : UnitNo) (g : GrainId) → Reason b.votes (v.manager.writes u) (v.units.deps u) v.manager.verdict (decision.Vote g) → IsVotedDown v b u g
+pub voted-down : (v : World) (b : Batch) (u : UnitNo) (g : GrainId) → Reason b.votes (v.manager.writes u) (v.units.deps u) v.manager.verdict (decision.Vote g) → IsVotedDown v b u g
 voted-down v b u g r = (let t = failed-some b.votes (v.manager.writes u) g r in record { wrote = t.0; failed = t.1; first = t.2 })
 
-depends-on : (opening : GrainId → List Value) (v : World) (b : Batch) → Inv opening (v.manager.closed + b.size) v → Depends v → (u on : UnitNo) → Member u (members v b) →
+pub depends-on : (opening : GrainId → List Value) (v : World) (b : Batch) → Inv opening (v.manager.closed + b.size) v → Depends v → (u on : UnitNo) → Member u (members v b) →
     Reason b.votes (v.manager.writes u) (v.units.deps u) v.manager.verdict (decision.Dependency on) → DependsOnDead v b u on
 depends-on opening v b i s u on m r = record {
   written = failed-none b.votes (v.manager.writes u) r.0;
@@ -101,7 +101,7 @@ depends-on opening v b i s u on m r = record {
   oldest = λ d n dead. r.3 d n (dead-bad opening v b i s u m d n dead);
 }
 
-can-commit : (opening : GrainId → List Value) (v : World) (b : Batch) → Inv opening (v.manager.closed + b.size) v → Depends v → (u : UnitNo) → Member u (members v b) →
+pub can-commit : (opening : GrainId → List Value) (v : World) (b : Batch) → Inv opening (v.manager.closed + b.size) v → Depends v → (u : UnitNo) → Member u (members v b) →
     Reason b.votes (v.manager.writes u) (v.units.deps u) v.manager.verdict decision.Commit → CanCommit v b u
 can-commit opening v b i s u m r = record {
   written = failed-none b.votes (v.manager.writes u) r.0;

@@ -4,3 +4,4 @@ pub mod SerialCauses
 pub mod Applied
 pub mod Undisturbed
 pub mod Unlocked
+pub mod AbortCauses

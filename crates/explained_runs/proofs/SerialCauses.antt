@@ -18,11 +18,11 @@ use Rattle.promise_spec.proofs.Lists.{head_of, tail_of, none_is}
 use Rattle.explained_runs.proofs.Legal.{ends_alike, legal}
 
 -- where an event stands among all, with the same state before it
-record PutBack (w : World) (events before : List CoreEvent) (event : CoreEvent) : Type 0 where
-  front : List CoreEvent
-  back : List CoreEvent
-  split : events ≡ front ++ (event ∷ back)
-  same : run w front ≡ run w before
+pub record PutBack (w : World) (events before : List CoreEvent) (event : CoreEvent) : Type 0 where
+  pub front : List CoreEvent
+  pub back : List CoreEvent
+  pub split : events ≡ front ++ (event ∷ back)
+  pub same : run w front ≡ run w before
 
 one_more : (w : World) (e : CoreEvent) (events before now : List CoreEvent) (event : CoreEvent) → run (step w e) before ≡ run w now
     → PutBack (step w e) events before event → PutBack w (e ∷ events) now event
@@ -43,7 +43,7 @@ after_first w x events (b ∷ before) later event rest e =
     (rest before (tail_of x b (applied_from (step w x) events) (before ++ (event ∷ later)) e))
 
 -- each event that applied stands among all
-put_back : (w : World) (events before later : List CoreEvent) (event : CoreEvent) → applied_from w events ≡ before ++ (event ∷ later) → PutBack w events before event
+pub put_back : (w : World) (events before later : List CoreEvent) (event : CoreEvent) → applied_from w events ≡ before ++ (event ∷ later) → PutBack w events before event
 put_back w [] [] later event e = absurd (none_is event later (sym e))
 put_back w [] (b ∷ before) later event e = absurd (none_is b (before ++ (event ∷ later)) (sym e))
 put_back w (x ∷ events) before later event e =

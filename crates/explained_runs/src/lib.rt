@@ -1,13 +1,17 @@
 //! What follows from the causes clause of a run's promise: where its records are those of the core's committed units,
-//! and the core's events keep the unit rule, the other clauses that speak of no disk hold too. So where no fault is
-//! counted, nothing is aborted for one, and where one line at a time is in flight, nothing meets a lock.
+//! and the core's events keep the unit rule, the other clauses that speak of no disk hold too.
 //!
 //! There is no code but public functions with empty bodies, whose contracts are these laws. `Legality` says which of a
-//! run's events are the core model's legal ones.
+//! run's events are the core model's legal ones. `serial` speaks of the records, `causes` of the aborts, `replies` of what
+//! the entries say, and `calm` of runs in which no fault is counted, or one line at a time is in flight.
 #![tactic(auto)]
 
 mod calm;
+mod causes;
+mod replies;
 mod serial;
 
 pub use calm::{calm_runs_are_undisturbed, single_runs_meet_no_lock};
+pub use causes::explained_aborts_have_causes;
+pub use replies::explained_replies_are_true;
 pub use serial::{explained_entries_have_causes, explained_runs_are_serial, runs_are_legal};
