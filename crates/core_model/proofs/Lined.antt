@@ -233,11 +233,11 @@ entries-complete w answer votes ws deps v (x ∷ us) (d ∷ ds) r u n (inr e) q 
     skip y (z ∷ zs) m = inr (skip y zs m)
 
 -- places rise along the list
-abbrev Rises : (UnitNo → ℕ) → List UnitNo → Type 0
+abbrev pub Rises : (UnitNo → ℕ) → List UnitNo → Type 0
 Rises place [] = ⊤
 Rises place (u ∷ us) = ((x : UnitNo) → Member x us → place u < place x) × Rises place us
 
-rises-part : (opening : GrainId → List Value) (n : ℕ) (w : World) → Inv opening n w → (us : List UnitNo) (k : ℕ) →
+pub rises-part : (opening : GrainId → List Value) (n : ℕ) (w : World) → Inv opening n w → (us : List UnitNo) (k : ℕ) →
     ((j : ℕ) → j < length us → (k + j < length w.manager.order) × (get_or us j nobody ≡ get_or w.manager.order (k + j) nobody)) → Rises w.manager.place us
 rises-part opening n w i [] k at = tt
 rises-part opening n w i (u ∷ us) k at = (

@@ -7,7 +7,7 @@ use Rattle.cell_model.specs.declared.outcomes.Decision.TheVariants as decision
 use Rattle.cell_model.proofs.Units.{cases_unit}
 use Rattle.core_model.specs.World.{UnitNo, GrainId, nobody, put, Member, Value, Mode, Write, Batch, Decision, World}
 use Rattle.core_model.specs.declared.effects.Effect.{Effect}
-use Rattle.core_model.specs.declared.phases.Phase.TheVariants.{Running, Finished, Refused}
+use Rattle.core_model.specs.declared.phases.Phase.TheVariants.{Running, Finished}
 use Rattle.core_model.specs.declared.phases.Verdict.{Verdict}
 use Rattle.core_model.specs.declared.phases.Verdict.TheVariants.{Open, Chosen, Condemned, Committed, Aborted}
 use Rattle.core_model.specs.declared.events.CoreEvent.{CoreEvent}

@@ -5,3 +5,6 @@ pub mod Applied
 pub mod Undisturbed
 pub mod Unlocked
 pub mod AbortCauses
+pub mod UnitsByRule
+pub mod Tellings
+pub mod TrueReplies

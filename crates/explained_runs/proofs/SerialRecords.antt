@@ -72,7 +72,7 @@ has_reads : (states : States) (reads : List Read) → ((r : Read) → Member r r
 has_reads states [] found = All-nil (λ (r : Read). states r.grain ≡ r.state)
 has_reads states (r ∷ reads) found = All-cons (λ (r : Read). states r.grain ≡ r.state) r reads (sym (found r (inl refl))) (has_reads states reads (λ x m. found x (inr m)))
 
-plays_again : (types : ProgramTree) (states : States) (e : Effect) → IsPlayOf types e → ((r : Read) → Member r e.reads → r.state ≡ states r.grain)
+pub plays_again : (types : ProgramTree) (states : States) (e : Effect) → IsPlayOf types e → ((r : Read) → Member r e.reads → r.state ≡ states r.grain)
     → play_over types e.call (depth_of e.origin) states e.answers ≡ played_by types e
 plays_again types states e is found =
     let has : Has states (map (λ (r : Read). (r.grain, r.state)) e.reads) = All-map (λ (one : Found). states one.0 ≡ one.1) (λ (r : Read). (r.grain, r.state)) e.reads (has_reads states e.reads found) in
