@@ -8,3 +8,7 @@ pub mod AbortCauses
 pub mod UnitsByRule
 pub mod Tellings
 pub mod TrueReplies
+pub mod AskedFor
+pub mod Handed
+pub mod Told
+pub mod ToldRuns
