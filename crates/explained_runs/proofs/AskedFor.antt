@@ -8,8 +8,8 @@ use Rattle.base_types.specs.declared.calls.Outcome.{Outcome}
 use Rattle.base_types.specs.declared.calls.Value.{Value}
 use Rattle.script_tree.specs.Programs.{ProgramTree}
 use Rattle.script_meaning.specs.Requests.{Requests, End, AskLock, AskRaise, AskUnit}
-use Rattle.script_meaning.specs.Play.{Found, WantLock, WantRaise, WantUnit, Over, asks, rest_of, serve, unit, next, play_over}
-use Rattle.script_meaning.specs.Trails.{Given, GivenLock, GivenRaise, GivenOutcome, wanted, locks_of, answers_of, reads_of, Has, IsTrail}
+use Rattle.script_meaning.specs.Play.{Found, WantLock, WantUnit, asks, rest_of, serve, unit, next, play_over}
+use Rattle.script_meaning.specs.Trails.{Given, GivenLock, GivenRaise, GivenOutcome, locks_of, answers_of, reads_of, Has, IsTrail}
 use Rattle.script_meaning.proofs.Leads.{Leads, follows_leads}
 
 -- a run that asks for a unit goes on with its outcome

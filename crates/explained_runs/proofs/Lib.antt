@@ -12,3 +12,5 @@ pub mod AskedFor
 pub mod Handed
 pub mod Told
 pub mod ToldRuns
+pub mod Added
+pub mod OneFamily

@@ -97,6 +97,12 @@ writes_ascend types e is =
     subst (AllPairs IsBelow) is.writes
     (plays_are_orderly_lem types e.call (depth_of e.origin) (states_of (map (λ (r : Read). (r.grain, r.state)) e.reads)) e.answers).ascending
 
+-- after a unit's writes the core and the log have the same states
+pub next-states : (types : ProgramTree) (store states : States) (e : Effect) (l : Commit) → IsPlayOf types e → IsRecordOf e l → ((g : GrainId) → store g ≡ states g) →
+    (g : GrainId) → model.after store e.writes g ≡ after_writes states l g
+next-states types store states e l is of_unit same g =
+    same_after store states e.writes (writes_ascend types e is) same g ∙ ap (λ (ws : List Found). fold put_state states ws g) (sym of_unit.writes)
+
 -- the records of serial effects are serial
 pub serial_records : (types : ProgramTree) (store states : States) (es : List Effect) (log : List Commit) → ((g : GrainId) → store g ≡ states g)
     → model.IsSerial (is_play types) store es → AreRecordsOf es log → IsSerial types states log
@@ -104,11 +110,9 @@ serial_records types store states [] [] same serial are = tt
 serial_records types store states [] (l ∷ log) same serial are = absurd are
 serial_records types store states (e ∷ es) [] same serial are = absurd are
 serial_records types store states (e ∷ es) (l ∷ log) same serial are =
-    let is : IsPlayOf types e = is_play-true types e serial.1 in
-    let next : (g : GrainId) → model.after store e.writes g ≡ after_writes states l g = λ g.
-    same_after store states e.writes (writes_ascend types e is) same g ∙ ap (λ (ws : List Found). fold put_state states ws g) (sym are.0.writes) in (
+    let is : IsPlayOf types e = is_play-true types e serial.1 in (
       replays types states e l are.0 is (λ r m. serial.0 r m ∙ same r.grain),
-      serial_records types (model.after store e.writes) (after_writes states l) es log next serial.2 are.1,
+      serial_records types (model.after store e.writes) (after_writes states l) es log (next-states types store states e l is are.0 same) serial.2 are.1,
     )
 
 -- the next number is above 0

@@ -1,27 +1,25 @@
 -- Why each unit of a run began, and what each got: what holds of both after any events that keep the unit rule.
-use Rattle.std.proofs.Common.{◌≡◌, ℕ, ◌<◌, ◌≤◌, ◌+◌, zero, suc, List, [], ◌∷◌, ◌++◌, length, map, get_or, Bool, true, false, ◌⊎◌, inl, inr, Option, Some, None, refl, sym, ap, ◌∙◌, subst, arith, append-nil, append_assoc, le_refl, eqb-true}
+use Rattle.std.proofs.Common.{◌≡◌, ℕ, ◌<◌, ◌≤◌, zero, suc, List, [], ◌∷◌, ◌++◌, length, map, get_or, Bool, true, false, ◌⊎◌, inl, inr, Option, Some, None, refl, sym, ap, ◌∙◌, subst, arith, append-nil, le_refl, eqb-true}
 use Rattle.std.specs.Prelude.{slice_get, if◌then◌else◌, ◌==◌}
 use Rattle.std.specs.List.{Contains}
 use Rattle.std.proofs.lemmas.Bool.{and_parts, cond_both}
 use Rattle.base_types.specs.declared.calls.Mode.TheVariants.{Update}
 use Rattle.base_types.specs.declared.calls.Origin.TheVariants.{Line, Child}
 use Rattle.cell_model.specs.Locks.{is_hold_of, holds_lock}
-use Rattle.cell_model.proofs.Units.{same_unit-true, same_unit-false, same_unit-is, any-true, any-member, Member-left, cases_unit}
-use Rattle.core_model.specs.World.{UnitNo, GrainId, nobody, same_unit, put, put_grain, Member, Mode, Value, Call, Origin, Outcome, Hold, top, World}
+use Rattle.cell_model.proofs.Units.{same_unit-true, same_unit-false, same_unit-is, any-true, any-member, cases_unit}
+use Rattle.core_model.specs.World.{UnitNo, GrainId, nobody, same_unit, put, Member, Mode, Value, Call, Origin, Outcome, World}
 use Rattle.core_model.specs.declared.effects.Read.{Read}
 use Rattle.core_model.specs.declared.phases.Phase.{Phase}
-use Rattle.core_model.specs.declared.phases.Phase.TheVariants.{Unborn, Running, Finished, Refused, Ended}
-use Rattle.core_model.specs.declared.events.CoreEvent.{CoreEvent}
-use Rattle.core_model.specs.declared.events.CoreEvent.TheVariants.{Begin, Grant}
+use Rattle.core_model.specs.declared.phases.Phase.TheVariants.{Unborn, Running, Ended}
+use Rattle.core_model.specs.declared.events.CoreEvent.TheVariants.{Begin}
 use Rattle.core_model.specs.Tests.{is_running, outcome_of}
-use Rattle.core_model.specs.Changes.{cleaned, new_unit, kids_with, begun, read_of, swept, swept_by}
-use Rattle.core_model.specs.Events.{applies, can, does, step, is_allowed, can_begin}
+use Rattle.core_model.specs.Changes.{new_unit, begun}
+use Rattle.core_model.specs.Events.{can_begin}
 use Rattle.core_model.proofs.Basics.{is_running-true}
-use Rattle.core_model.proofs.Puts.{put-at, put-from, put-same, put-is, put-other, grain-same}
+use Rattle.core_model.proofs.Puts.{put-from, put-same, put-is, put-other}
 use Rattle.core_model.proofs.Kept.{Kept}
 use Rattle.core_model.proofs.Children.{Kin}
-use Rattle.core_model.proofs.Growth.{Grows, grows-same, grows-change, grows-swept, grows-outcome}
-use Rattle.core_model.proofs.Decoded.{Change, bad, begin, lock, raise, refuse, finish, end_plain, end_snapshot, release, take_batch, vote, decide_some, decide_none, seal_batch, spoil_batch, doubt_batch, learn, emit, halt_run, want, load, decode}
+use Rattle.core_model.proofs.Growth.{Grows, grows-outcome}
 use Rattle.script_tree.specs.Programs.{ProgramTree}
 use Rattle.script_meaning.specs.Play.{Found, Want, WantLock, WantRaise, WantUnit, Over, grains_of, next}
 use Rattle.script_meaning.specs.Laws.{IsMissing}
@@ -30,7 +28,7 @@ use Rattle.script_meaning.proofs.Plays.{next_is_missing_lem}
 use Rattle.promise_spec.specs.Serial.{depth_of}
 use Rattle.promise_spec.specs.Lines.{IsLineCall}
 use Rattle.promise_spec.specs.Cores.{HasBegun}
-use Rattle.promise_spec.specs.Gotten.{Got, GotLock, GotRaise, GotChild, got_lock, got_by, wanted_by, wanted_lock}
+use Rattle.promise_spec.specs.Gotten.{Got, GotChild, got_by, wanted_by, wanted_lock}
 use Rattle.promise_spec.specs.UnitRule.{IsDue}
 use Rattle.promise_spec.proofs.Lists.{some_is}
 use Rattle.explained_runs.proofs.Handed.{AreGiven, Extends, AreNamed, want_of, reads_got, kids_got, reads_got-append, kids_got-append, wants, given-reads, given-outcomes, outcome-at, as-many, named-later, named-push, named-trail}
@@ -293,12 +291,12 @@ pub first-lock : (types : ProgramTree) (opening : GrainId → List Value) (w : W
 first-lock types opening w got u g mode k t running free due = elim (lock-cases (wanted_by types w u (got u)) g mode due) [
   | inl e ↦ e
   | inr e ↦
-      let s = trailed types w got u (WantRaise g) t e in
-      let missing = subst (λ (x : Want). IsMissing types (depth_of (w.units.origin u)) s.trail x) s.named
+      let s : Trailed types w got u (WantRaise g) = trailed types w got u (WantRaise g) t e in
+      let missing : IsMissing types (depth_of (w.units.origin u)) s.trail (WantRaise g) = subst (λ (x : Want). IsMissing types (depth_of (w.units.origin u)) s.trail x) s.named
       (next_is_missing_lem types (w.units.call u) (depth_of (w.units.origin u)) s.trail s.is) in
       let there : Member g (grains_of (reads_of s.trail)) = contains-member (grains_of (reads_of s.trail)) g missing.0.0 missing.0.1 missing.0.2 in
-      let one = map-member (λ (f : Found). f.0) (reads_of s.trail) g there in
-      let read = map-member found (w.units.reads u) one.0 (subst (Member one.0) s.reads one.1) in
+      let one : (f : Found) × Member f (reads_of s.trail) × (f.0 ≡ g) = map-member (λ (f : Found). f.0) (reads_of s.trail) g there in
+      let read : (r : Read) × Member r (w.units.reads u) × (found r ≡ one.0) = map-member found (w.units.reads u) one.0 (subst (Member one.0) s.reads one.1) in
       let same : read.0.grain ≡ g = ap (λ (f : Found). f.0) read.2 ∙ one.2 in
       let held : holds_lock u (w.cells.holds g) ≡ true = subst (λ h. holds_lock u (w.cells.holds h) ≡ true) same (reader-holds opening w u read.0 k running read.1) in
       let no : true ≡ false = sym held ∙ free in
@@ -310,10 +308,10 @@ pub then-raise : (types : ProgramTree) (opening : GrainId → List Value) (w : W
     holds_lock u (w.cells.holds g) ≡ true → wanted_lock (wanted_by types w u (got u)) ≡ Some (g, mode) → wanted_by types w u (got u) ≡ Some (WantRaise g)
 then-raise types opening w got u g mode k t held due = elim (lock-cases (wanted_by types w u (got u)) g mode due) [
   | inl e ↦
-      let s = trailed types w got u (WantLock g mode) t e in
-      let missing = subst (λ (x : Want). IsMissing types (depth_of (w.units.origin u)) s.trail x) s.named
+      let s : Trailed types w got u (WantLock g mode) = trailed types w got u (WantLock g mode) t e in
+      let missing : IsMissing types (depth_of (w.units.origin u)) s.trail (WantLock g mode) = subst (λ (x : Want). IsMissing types (depth_of (w.units.origin u)) s.trail x) s.named
       (next_is_missing_lem types (w.units.call u) (depth_of (w.units.origin u)) s.trail s.is) in
-      let read = holder-read opening w u g k held in
+      let read : (r : Read) × Member r (w.units.reads u) × (r.grain ≡ g) = holder-read opening w u g k held in
       let there : Member (found read.0) (reads_of s.trail) = subst (Member (found read.0)) (sym s.reads) (member-map found (w.units.reads u) read.0 read.1) in
       let grain : Member read.0.grain (grains_of (reads_of s.trail)) = member-map (λ (f : Found). f.0) (reads_of s.trail) (found read.0) there in
       absurd (missing.0 (subst (Contains (grains_of (reads_of s.trail))) read.2 (member-contains (grains_of (reads_of s.trail)) read.0.grain grain)))
@@ -507,6 +505,6 @@ told-begun types lines base opening w got (Child q i0 d0) call plain k kin g c d
       known-begun types lines base opening w (Child q i0 d0) call plain k g
           (λ n e. absurd (cc))
           (λ p i d e. (let parent : q ≡ p = cc in let index : i0 ≡ i = cc in let depth : d0 ≡ d = cc in
-              (due.1, subst (λ (x : ℕ). Led types w call p i x) depth (subst (λ (x : ℕ). Led types w call p x d0) index (subst (λ (x : UnitNo). Led types w call x i0 d0) parent led))))) t.0,
+          (due.1, subst (λ (x : ℕ). Led types w call p i x) depth (subst (λ (x : ℕ). Led types w call p x d0) index (subst (λ (x : UnitNo). Led types w call x i0 d0) parent led))))) t.0,
       traced-child types opening w got q i0 d0 call plain k g running due.0 t.1,
     )

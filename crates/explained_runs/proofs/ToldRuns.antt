@@ -1,11 +1,11 @@
 -- Every event that is due keeps what is told of units, so it holds at the end of each run that keeps the unit rule.
-use Rattle.std.proofs.Common.{◌≡◌, ℕ, ◌<◌, ◌≤◌, zero, suc, List, [], ◌∷◌, ◌++◌, map, Bool, true, false, Option, Some, None, refl, sym, ap, ◌∙◌, subst, arith, append-nil, append_assoc, le_refl}
+use Rattle.std.proofs.Common.{◌≡◌, ℕ, ◌<◌, suc, List, [], ◌∷◌, ◌++◌, map, Bool, true, false, Option, Some, None, refl, sym, ap, ◌∙◌, subst, arith, append-nil, append_assoc, le_refl}
 use Rattle.std.specs.Prelude.{slice_get, take, if◌then◌else◌}
 use Rattle.std.proofs.lemmas.Bool.{and_parts}
 use Rattle.cell_model.specs.Locks.{holds_lock}
-use Rattle.core_model.specs.World.{UnitNo, GrainId, same_unit, put, Value, Mode, top, World}
+use Rattle.core_model.specs.World.{UnitNo, GrainId, Value, Mode, top, World}
 use Rattle.core_model.specs.declared.effects.Read.{Read}
-use Rattle.core_model.specs.declared.phases.Phase.TheVariants.{Unborn, Running, Finished, Refused, Ended}
+use Rattle.core_model.specs.declared.phases.Phase.TheVariants.{Running, Finished, Refused, Ended}
 use Rattle.core_model.specs.declared.events.CoreEvent.{CoreEvent}
 use Rattle.core_model.specs.declared.events.CoreEvent.TheVariants.{Load, Grant}
 use Rattle.core_model.specs.Changes.{cleaned, restacked, locked, raised, read_of, swept, swept_by}
@@ -18,12 +18,10 @@ use Rattle.core_model.proofs.Children.{Kin, kin-step}
 use Rattle.core_model.proofs.Growth.{Grows, grows-same, grows-change}
 use Rattle.core_model.proofs.Decoded.{Change, bad, begin, lock, raise, refuse, finish, end_plain, end_snapshot, release, take_batch, vote, decide_some, decide_none, seal_batch, spoil_batch, doubt_batch, learn, emit, halt_run, want, load, decode}
 use Rattle.script_tree.specs.Programs.{ProgramTree}
-use Rattle.script_meaning.specs.Play.{Found, Want, WantLock, WantRaise}
-use Rattle.promise_spec.specs.Cores.{state_before}
 use Rattle.promise_spec.specs.Gotten.{Got, GotLock, GotRaise, got_lock, got_by, got_from, wanted_by, wanted_lock}
 use Rattle.promise_spec.specs.UnitRule.{IsDue, KeepsUnitRule}
 use Rattle.explained_runs.proofs.Handed.{want_of, reads_got, kids_got}
-use Rattle.explained_runs.proofs.Told.{found, Known, Traced, Told, IsSteady, steady-same, steady-phase, known-steady, traced-steady, quiet, first-lock, then-raise, map-push, traced-got, told-begun}
+use Rattle.explained_runs.proofs.Told.{found, Known, Told, IsSteady, steady-same, steady-phase, known-steady, traced-steady, quiet, first-lock, then-raise, map-push, traced-got, told-begun}
 
 -- a first lock
 told-locked : (types : ProgramTree) (lines : List (List ℕ)) (base : ℕ) (opening : GrainId → List Value) (w : World) (got : UnitNo → List Got) (u : UnitNo) (g : GrainId) (mode : Mode) → Kept opening w →
