@@ -45,6 +45,7 @@ kids_got (GotLock g mode state ∷ rest) = kids_got rest
 kids_got (GotRaise g ∷ rest) = kids_got rest
 kids_got (GotChild call depth child ∷ rest) = child ∷ kids_got rest
 
+-- those of two lists
 pub reads_got-append : (xs ys : List Got) → reads_got (xs ++ ys) ≡ reads_got xs ++ reads_got ys
 reads_got-append [] ys = refl
 reads_got-append (GotLock g mode state ∷ xs) ys = ap (λ (l : List Found). (g, state) ∷ l) (reads_got-append xs ys)
@@ -93,7 +94,7 @@ wants types w u got want e = by_given (given_by w got) refl e
     by_given None q h = absurd (cc)
     by_given (Some trail) q h = (trail, are_given w got trail q, some_is (next types (w.units.call u) (depth_of (w.units.origin u)) (locks_of trail) (answers_of trail)) want h)
 
--- there is one such list alone
+-- there is one such thing alone
 given-one : (outcome : UnitNo → Option Outcome) (x : Got) (a b : Given) → IsGiven outcome x a → IsGiven outcome x b → a ≡ b
 given-one outcome (GotLock g mode state) a b p q = p ∙ sym q
 given-one outcome (GotRaise g) a b p q = p ∙ sym q
@@ -101,6 +102,7 @@ given-one outcome (GotChild call depth child) a b p q =
     let same : p.0 ≡ q.0 = some_is p.0 q.0 (sym p.1 ∙ q.1) in
     p.2 ∙ ap (GivenOutcome call depth) same ∙ sym q.2
 
+-- and one such list alone
 given-alike : (outcome : UnitNo → Option Outcome) (got : List Got) (a b : List Given) → AreGiven outcome got a → AreGiven outcome got b → a ≡ b
 given-alike outcome [] [] [] p q = refl
 given-alike outcome [] [] (y ∷ b) p q = absurd q
@@ -122,6 +124,7 @@ given-push outcome (g ∷ got) (y ∷ trail) x one all is = (all.0, given-push o
 abbrev pub Extends : (UnitNo → Option Outcome) → (UnitNo → Option Outcome) → Type 0
 Extends outcome more = (u : UnitNo) (o : Outcome) → outcome u ≡ Some o → more u ≡ Some o
 
+-- so what was given then is given still
 given-later : (outcome more : UnitNo → Option Outcome) → Extends outcome more → (x : Got) (one : Given) → IsGiven outcome x one → IsGiven more x one
 given-later outcome more ext (GotLock g mode state) one is = is
 given-later outcome more ext (GotRaise g) one is = is
@@ -222,6 +225,7 @@ trail-on outcome types call depth before (x ∷ got) front (one ∷ trail) all g
     (trail-on outcome types call depth (before ++ (x ∷ [])) got (front ++ (one ∷ [])) trail all.1
     (given-push outcome before front x one given more.0) more.1 ((trails_grow_lem types call depth).grows front one is named))
 
+-- from the first one on
 pub named-trail : (outcome : UnitNo → Option Outcome) (types : ProgramTree) (call : Call) (depth : ℕ) (got : List Got) (trail : List Given) → AreNamed outcome types call depth [] got →
     AreGiven outcome got trail → IsTrail types call depth trail
 named-trail outcome types call depth got trail all given = trail-on outcome types call depth [] got [] trail all tt given (trails_grow_lem types call depth).begins

@@ -60,17 +60,20 @@ pub record Ground (types : ProgramTree) (asked : List (List ℕ)) (w : World) (s
 
 -- ---- a record and its unit
 
+-- the record is that of its unit, which finished and is to commit
 record IsAdded (w : World) (c : Commit) : Type 0 where
   of : IsRecordOf (effect_of w c.logged.unit) c
   finished : w.units.phase c.logged.unit ≡ Finished
   good : is_good (w.manager.verdict c.logged.unit) ≡ true
 
+-- each added record is such
 is-added : (types : ProgramTree) (asked : List (List ℕ)) (w : World) (states : States) (early added : List Commit) → Ground types asked w states early added → (c : Commit) → Member c added → IsAdded w c
 is-added types asked w states early added g c m =
     let t = record-unit w g.units.us added g.units.are.records c m in
     let d = g.units.are.done c.logged.unit t.0 in
     record { of = t.1; finished = d.0; good = d.1 }
 
+-- who finished has begun
 finished-begun : (w : World) (u : UnitNo) → w.units.phase u ≡ Finished → HasBegun w u
 finished-begun w u f z = (let q : Finished ≡ Unborn = sym f ∙ z in cc)
 
@@ -121,6 +124,7 @@ child-true u index (Child parent i d) e =
     let a : parent ≡ u = same_unit-true parent u p.0 in let b : i ≡ index = eqb-true i index p.1 in
     (d, λ j. Child (a j) (b j) d)
 
+-- and of that child's
 child-is : (u : UnitNo) (index d : ℕ) (o : Origin) → o ≡ Child u index d → is_child u index o ≡ true
 child-is u index d o e = ap (is_child u index) e ∙ and_from (u.0 == u.0) (index == index) (eq-eqb u.0 u.0 refl) (eq-eqb index index refl)
 
@@ -246,6 +250,7 @@ led-has types w child p i d states led reads = all-have states (reads_of led.tra
     (let t = led.reads one m in
     subst (λ (f : Found). states f.0 ≡ f.1) t.2 (reads t.0 t.1)))
 
+-- a child's record stands before its parent's, whose play asks for the child
 asked-before : (types : ProgramTree) (asked : List (List ℕ)) (w : World) (states : States) (early added : List Commit) → Ground types asked w states early added →
     (c d : Commit) (index depth : ℕ) → Member c added → Member d added → c.logged.origin ≡ Child d.logged.unit index depth → IsAskedBefore types states added c d index depth
 asked-before types asked w states early added g c d index depth mc md e =
@@ -292,6 +297,7 @@ state-among r (x ∷ xs) m same = elim (cases_Bool (same_grain x.grain r.grain))
 states-of-reads : (rs : List Read) → ((r s : Read) → Member r rs → Member s rs → r.grain ≡ s.grain → r ≡ s) → (r : Read) → Member r rs → states_of (map found rs) r.grain ≡ r.state
 states-of-reads rs once r m = state-among r rs m (λ s n e. once s r n m e)
 
+-- what led to a child leads to it over the reads that its parent has at the end
 leads-to : (types : ProgramTree) (asked : List (List ℕ)) (w : World) (states : States) (early added : List Commit) → Ground types asked w states early added →
     (u p : UnitNo) (i d : ℕ) → Led types w (w.units.call u) p i d → LeadsTo types w (early ++ added) p u i d
 leads-to types asked w states early added g u p i d led =
@@ -323,6 +329,7 @@ reached types asked w states early added g (suc n) u lt begun =
 
 -- ---- the whole
 
+-- the clauses one by one
 pub family : (types : ProgramTree) (asked : List (List ℕ)) (w : World) (states : States) (early added : List Commit) → Ground types asked w states early added → IsFamily types asked w states (early ++ added) added
 family types asked w states early added g = record {
   line = of-line types asked w states early added g;
@@ -340,6 +347,7 @@ next-grows : (before : Standing) (log : List Commit) → before.next ≤ (after_
 next-grows before [] = omega arith
 next-grows before (l ∷ log) = (let t = next-grows (after_record before l) log in omega (arith, t))
 
+-- each record's unit is below the next number
 below-next : (before : Standing) (log : List Commit) (c : Commit) → Member c log → c.logged.unit.0 < (after_records before log).next
 below-next before [] c m = absurd m
 below-next before (l ∷ log) c (inl e) = (let t = next-grows (after_record before l) log in let q : c.logged.unit.0 ≡ l.logged.unit.0 = ap (λ (x : Commit). x.logged.unit.0) e in omega (arith, t, q))
@@ -355,6 +363,7 @@ above-parent first (l ∷ log) c parent index depth numbered (inl q) e =
     omega (arith, above, number)
 above-parent first (l ∷ log) c parent index depth numbered (inr m) e = above-parent first log c parent index depth numbered.3 m e
 
+-- what the causes clause explains is a family
 pub explained_family : (p : Program) (r : Observed) (c : Course) → IsExplained p r c → AreNumbered (new_silo p.types).next c.opening →
     IsFamily p.types (lines r) (core_end p c) (opening_standing p c).states (order c) c.added
 explained_family p r c is numbered =

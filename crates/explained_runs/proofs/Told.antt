@@ -84,6 +84,7 @@ record Stays (w w' : World) : Type 0 where
   reads : (u : UnitNo) (r : Read) → Member r (w.units.reads u) → Member r (w'.units.reads u)
   outcome : Extends (outcome_of w) (outcome_of w')
 
+-- a child's outcome stays
 outcome-stays : (w w' : World) (p : UnitNo) (j : ℕ) (o : Outcome) → Stays w w' → HasOutcome w p j o → HasOutcome w' p j o
 outcome-stays w w' p j o s h = record {
   kid = h.kid;
@@ -93,6 +94,7 @@ outcome-stays w w' p j o s h = record {
   outcome = s.outcome h.kid o h.outcome;
 }
 
+-- and what led to a child
 led-stays : (types : ProgramTree) (w w' : World) (child : Call) (p : UnitNo) (i d : ℕ) → Stays w w' → Led types w child p i d → Led types w' child p i d
 led-stays types w w' child p i d s l =
     let call : w.units.call p ≡ w'.units.call p = sym (s.call p l.parent) in
@@ -120,6 +122,7 @@ pub record IsSteady (w w' : World) : Type 0 where
   plain : w'.units.plain ≡ w.units.plain
   kids : w'.units.kids ≡ w.units.kids
 
+-- then all that is set stays
 steady-stays : (w w' : World) → IsSteady w w' → Grows w w' → Stays w w'
 steady-stays w w' s g = record {
   begun = s.begun;
@@ -129,6 +132,7 @@ steady-stays w w' s g = record {
   outcome = grows-outcome w w' g;
 }
 
+-- and what is known of the units stays
 pub known-steady : (types : ProgramTree) (lines : List (List ℕ)) (base : ℕ) (w w' : World) → IsSteady w w' → Grows w w' → Known types lines base w → Known types lines base w'
 known-steady types lines base w w' s g k = record {
   above = subst (λ n. base ≤ n) (sym s.number) k.above;
@@ -150,6 +154,7 @@ named-steady types w w' got s g t u =
     (subst (λ (f : UnitNo → Call). AreNamed (outcome_of w') types (f u) (depth_of (w.units.origin u)) [] (got u)) (sym s.call)
     (named-later (outcome_of w) (outcome_of w') (grows-outcome w w' g) types (w.units.call u) (depth_of (w.units.origin u)) [] (got u) (t.named u)))
 
+-- and what each got, where nobody reads more
 pub traced-steady : (types : ProgramTree) (w w' : World) (got : UnitNo → List Got) → IsSteady w w' → Grows w w' → w'.units.reads ≡ w.units.reads → Traced types w got → Traced types w' got
 traced-steady types w w' got s g reads t = record {
   fresh = λ u e. t.fresh u (s.fresh u e);
@@ -162,6 +167,7 @@ traced-steady types w w' got s g reads t = record {
 abbrev pub Told : ProgramTree → List (List ℕ) → ℕ → World → (UnitNo → List Got) → Type 0
 Told types lines base w got = Known types lines base w × Traced types w got
 
+-- units that have all as before
 pub steady-same : (w w' : World) → w'.units.next ≡ w.units.next → w'.units.phase ≡ w.units.phase → w'.units.origin ≡ w.units.origin → w'.units.call ≡ w.units.call → w'.units.plain ≡ w.units.plain → w'.units.kids ≡ w.units.kids → IsSteady w w'
 steady-same w w' number phase origin call plain kids = record {
   number = number;
@@ -203,6 +209,7 @@ steady-phase w w' u end running over plainly number phase origin call plain kids
 pub nothing_more : (types : ProgramTree) (w : World) (got : UnitNo → List Got) → Traced types w got → Traced types w (λ u. got u ++ [])
 nothing_more types w got t = subst (Traced types w) (λ i u. sym (append-nil (got u)) i) t
 
+-- an event by which no unit begins or gets anything
 pub quiet : (types : ProgramTree) (lines : List (List ℕ)) (base : ℕ) (w w' : World) (got : UnitNo → List Got) → IsSteady w w' → w'.units.reads ≡ w.units.reads → Grows w w' → Told types lines base w got → Told types lines base w' (λ u. got u ++ [])
 quiet types lines base w w' got s reads g t =
     (known-steady types lines base w w' s g t.0, nothing_more types w' got (traced-steady types w w' got s g reads t.1))
@@ -222,11 +229,13 @@ contains-member [] x k lt e = absurd (omega (arith, lt))
 contains-member (y ∷ xs) x zero lt e = inl (sym e)
 contains-member (y ∷ xs) x (suc k) lt e = inr (contains-member xs x k (omega (arith, lt)) e)
 
+-- a member stands at a place
 member-contains : {A : Type 0} (xs : List A) (x : A) → Member x xs → Contains xs x
 member-contains [] x m = absurd m
 member-contains (y ∷ xs) x (inl e) = (0, omega arith, sym e)
 member-contains (y ∷ xs) x (inr m) = (let t = member-contains xs x m in (suc t.0, omega (arith, t.1), t.2))
 
+-- members of a mapped list
 map-member : {A B : Type 0} (f : A → B) (xs : List A) (y : B) → Member y (map f xs) → (x : A) × Member x xs × (f x ≡ y)
 map-member f [] y m = absurd m
 map-member f (x ∷ xs) y (inl e) = (x, inl refl, sym e)
@@ -245,6 +254,7 @@ record Trailed (types : ProgramTree) (w : World) (got : UnitNo → List Got) (u 
   is : IsTrail types (w.units.call u) (depth_of (w.units.origin u)) trail
   reads : reads_of trail ≡ map found (w.units.reads u)
 
+-- where a unit wants something, it has a trail
 trailed : (types : ProgramTree) (w : World) (got : UnitNo → List Got) (u : UnitNo) (asked : Want) → Traced types w got → wanted_by types w u (got u) ≡ Some asked → Trailed types w got u asked
 trailed types w got u asked t e =
     let g = wants types w u (got u) asked e in
@@ -285,6 +295,22 @@ reader-holds opening w u r k running m =
     let h = k.0.keeps u r running m in
     any-member (is_hold_of u) (w.cells.holds r.grain) h.0 h.1 (same_unit-is h.0.unit u h.2)
 
+-- a grain of the reads is that of a read, and the other way round
+read-there : (rs : List Read) (fs : List Found) (g : GrainId) → fs ≡ map found rs → Contains (grains_of fs) g → (r : Read) × Member r rs × (r.grain ≡ g)
+read-there rs fs g e there =
+    let t = map-member (λ (f : Found). f.0) fs g (contains-member (grains_of fs) g there.0 there.1 there.2) in
+    let r = map-member found rs t.0 (subst (Member t.0) e t.1) in
+    (r.0, r.1, ap (λ (f : Found). f.0) r.2 ∙ t.2)
+
+there-read : (rs : List Read) (fs : List Found) (g : GrainId) (r : Read) → fs ≡ map found rs → Member r rs → r.grain ≡ g → Contains (grains_of fs) g
+there-read rs fs g r e m same =
+    subst (Contains (grains_of fs)) same
+    (member-contains (grains_of fs) r.grain (member-map (λ (f : Found). f.0) fs (found r) (subst (Member (found r)) (sym e) (member-map found rs r m))))
+
+-- not both
+both-ways : (b : Bool) → b ≡ true → b ≡ false → ⊥
+both-ways b t f = (let z : true ≡ false = sym t ∙ f in cc)
+
 -- a grain that isn't held is locked for the first time
 pub first-lock : (types : ProgramTree) (opening : GrainId → List Value) (w : World) (got : UnitNo → List Got) (u : UnitNo) (g : GrainId) (mode : Mode) → Kept opening w → Traced types w got →
     w.units.phase u ≡ Running → holds_lock u (w.cells.holds g) ≡ false → wanted_lock (wanted_by types w u (got u)) ≡ Some (g, mode) → wanted_by types w u (got u) ≡ Some (WantLock g mode)
@@ -294,13 +320,9 @@ first-lock types opening w got u g mode k t running free due = elim (lock-cases 
       let s : Trailed types w got u (WantRaise g) = trailed types w got u (WantRaise g) t e in
       let missing : IsMissing types (depth_of (w.units.origin u)) s.trail (WantRaise g) = subst (λ (x : Want). IsMissing types (depth_of (w.units.origin u)) s.trail x) s.named
       (next_is_missing_lem types (w.units.call u) (depth_of (w.units.origin u)) s.trail s.is) in
-      let there : Member g (grains_of (reads_of s.trail)) = contains-member (grains_of (reads_of s.trail)) g missing.0.0 missing.0.1 missing.0.2 in
-      let one : (f : Found) × Member f (reads_of s.trail) × (f.0 ≡ g) = map-member (λ (f : Found). f.0) (reads_of s.trail) g there in
-      let read : (r : Read) × Member r (w.units.reads u) × (found r ≡ one.0) = map-member found (w.units.reads u) one.0 (subst (Member one.0) s.reads one.1) in
-      let same : read.0.grain ≡ g = ap (λ (f : Found). f.0) read.2 ∙ one.2 in
-      let held : holds_lock u (w.cells.holds g) ≡ true = subst (λ h. holds_lock u (w.cells.holds h) ≡ true) same (reader-holds opening w u read.0 k running read.1) in
-      let no : true ≡ false = sym held ∙ free in
-      absurd (cc)
+      let read : (r : Read) × Member r (w.units.reads u) × (r.grain ≡ g) = read-there (w.units.reads u) (reads_of s.trail) g s.reads missing.0 in
+      let held : holds_lock u (w.cells.holds g) ≡ true = subst (λ h. holds_lock u (w.cells.holds h) ≡ true) read.2 (reader-holds opening w u read.0 k running read.1) in
+      absurd (both-ways (holds_lock u (w.cells.holds g)) held free)
 ]
 
 -- a grain that is held is raised
@@ -312,9 +334,7 @@ then-raise types opening w got u g mode k t held due = elim (lock-cases (wanted_
       let missing : IsMissing types (depth_of (w.units.origin u)) s.trail (WantLock g mode) = subst (λ (x : Want). IsMissing types (depth_of (w.units.origin u)) s.trail x) s.named
       (next_is_missing_lem types (w.units.call u) (depth_of (w.units.origin u)) s.trail s.is) in
       let read : (r : Read) × Member r (w.units.reads u) × (r.grain ≡ g) = holder-read opening w u g k held in
-      let there : Member (found read.0) (reads_of s.trail) = subst (Member (found read.0)) (sym s.reads) (member-map found (w.units.reads u) read.0 read.1) in
-      let grain : Member read.0.grain (grains_of (reads_of s.trail)) = member-map (λ (f : Found). f.0) (reads_of s.trail) (found read.0) there in
-      absurd (missing.0 (subst (Contains (grains_of (reads_of s.trail))) read.2 (member-contains (grains_of (reads_of s.trail)) read.0.grain grain)))
+      absurd (missing.0 (there-read (w.units.reads u) (reads_of s.trail) g read.0 s.reads read.1 read.2))
   | inr e ↦ e
 ]
 
@@ -328,6 +348,7 @@ named-more types w w' got v x s g t due =
     (named-later (outcome_of w) (outcome_of w') (grows-outcome w w' g) types (w.units.call v) (depth_of (w.units.origin v)) [] (got v ++ (x ∷ []))
     (named-push (outcome_of w) types (w.units.call v) (depth_of (w.units.origin v)) [] (got v) x (t.named v) a.trail a.given a.named)))
 
+-- one more read at the end
 pub map-push : (rs : List Read) (r : Read) → map found (rs ++ (r ∷ [])) ≡ map found rs ++ (found r ∷ [])
 map-push [] r = refl
 map-push (x ∷ rs) r = ap (λ (l : List Found). found x ∷ l) (map-push rs r)
@@ -366,6 +387,7 @@ stays-begun opening w origin call plain k g = record {
     apart : (u : UnitNo) → HasBegun w u → u ≡ new_unit w → ⊥
     apart u b q = b (ap w.units.phase q ∙ k.0.unborn (new_unit w) (le_refl w.units.next))
 
+-- the new unit is a line's or a child's, as it must be
 known-begun : (types : ProgramTree) (lines : List (List ℕ)) (base : ℕ) (opening : GrainId → List Value) (w : World) (origin : Origin) (call : Call) (plain : Bool) → Kept opening w → Grows w (begun w origin call plain) →
     ((m : ℕ) → origin ≡ Line m → IsLineCall types lines m call) → ((p : UnitNo) (i d : ℕ) → origin ≡ Child p i d → (plain ≡ false) × Led types w call p i d) →
     Known types lines base w → Known types lines base (begun w origin call plain)
@@ -488,6 +510,7 @@ led-child types w got p i d call kin running at due t =
       named = a.named;
     }
 
+-- a unit that begins is due
 pub told-begun : (types : ProgramTree) (lines : List (List ℕ)) (base : ℕ) (opening : GrainId → List Value) (w : World) (got : UnitNo → List Got) (origin : Origin) (call : Call) (plain : Bool) → Kept opening w → Kin w →
     Grows w (begun w origin call plain) → can_begin w origin ≡ true → IsDue types lines w got (Begin origin call plain) → Told types lines base w got →
     Told types lines base (begun w origin call plain) (λ u. got u ++ got_by w u (Begin origin call plain))

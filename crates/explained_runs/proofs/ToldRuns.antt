@@ -82,6 +82,7 @@ told-raised types lines base opening w got u g mode k running held g' due t = (
     is : got_lock w u g mode ≡ GotRaise g
     is = ap (λ (b : Bool). if b then GotRaise g else GotLock g mode (top (cleaned w g)).state) held
 
+-- an event that applies and is due
 told-change : (types : ProgramTree) (lines : List (List ℕ)) (base : ℕ) (opening : GrainId → List Value) (w : World) (got : UnitNo → List Got) (e : CoreEvent) (w' : World) → Change w e w' → applies w e ≡ true →
     Kept opening w → Kin w → Grows w w' → IsDue types lines w got e → Told types lines base w got → Told types lines base w' (λ u. got u ++ got_by w u e)
 told-change types lines base opening w got e w' (bad line why q) a k kin g d t = quiet types lines base w w' got (steady-same w w' refl refl refl refl refl refl) refl g t
@@ -106,6 +107,7 @@ told-change types lines base opening w got e w' (halt_run q) a k kin g d t = qui
 told-change types lines base opening w got e w' (want u h running free fresh) a k kin g d t = quiet types lines base w w' got (steady-same w w' refl refl refl refl refl refl) refl g t
 told-change types lines base opening w got e w' (load h u state gone wanted) a k kin g d t = absurd d
 
+-- grains that leave memory change nothing of it
 swept-told : (types : ProgramTree) (lines : List (List ℕ)) (base : ℕ) (w : World) (got : UnitNo → List Got) → Told types lines base w got → Told types lines base (swept w) got
 swept-told types lines base w got t = go w.cells.capacity
   where
@@ -138,6 +140,7 @@ no-load : (types : ProgramTree) (lines : List (List ℕ)) (opening : GrainId →
 no-load types lines opening w got (Load g u state) due = λ a. absurd (due a)
 no-load types lines opening w got _ due = tt
 
+-- a list of events
 told-run : (types : ProgramTree) (lines : List (List ℕ)) (base : ℕ) (opening : GrainId → List Value) (events : List CoreEvent) (w : World) (got : UnitNo → List Got) → Kept opening w → Kin w → AllDue types lines w got events →
     Told types lines base w got → (more : UnitNo → List Got) × Told types lines base (run w events) more
 told-run types lines base opening [] w got k kin all t = (got, t)
@@ -150,6 +153,7 @@ told-run types lines base opening (e ∷ events) w got k kin all t =
     (λ i u. sym (append_assoc (got u) (new u) (got_from (step w e) (take at events) u)) i) (all (suc at) f there a))
     (told-step types lines base opening w got e k kin due t)
 
+-- nobody has begun
 told-start : (types : ProgramTree) (lines : List (List ℕ)) (base kinds : ℕ) (capacity : Option ℕ) (opening : GrainId → List Value) → Told types lines base (start base kinds capacity opening) (λ u. [])
 told-start types lines base kinds capacity opening = (
   record {
