@@ -35,11 +35,12 @@ use Rattle.promise_spec.specs.Explained.{AreAdded, AreSettled, IsExplained}
 use Rattle.promise_spec.specs.Journals.{Settlement, KeepsJournal, Backs, commits_of, entries_of}
 use Rattle.promise_spec.specs.Promise.{IsUndisturbed, IsNoLock, HasEnded, Keeps}
 use Rattle.promise_runs.specs.Examples.{accounts, account_program, account_1, unit_no, first_commit, first_entry, deposit_events, account_run}
-use Rattle.promise_runs.specs.DepositRuns.{IsDepositRun, deposit_course}
+use Rattle.promise_runs.specs.DepositRuns.{MayHaveDeposit, IsBetween, IsDepositRun, deposit_course}
 use Rattle.promise_spec.proofs.Lists.{none_is}
 use Rattle.promise_spec.proofs.OneLog.{one_log}
 use Rattle.promise_spec.proofs.Journaled.{chained, longest, holds, sound}
 use Rattle.promise_runs.proofs.FirstDeposit.{five}
+use Rattle.promise_runs.proofs.Between.{at_each, exit_there, all_less}
 use Rattle.promise_runs.proofs.FirstFamily.{only, only_at, serial, numbered, none_of, none_counted, family_of}
 use Rattle.promise_runs.proofs.DepositRules.{Each, each_from_0, one_unit_rule, one_turn_rule}
 
@@ -91,7 +92,7 @@ no_votes g =
 proper : IsProper (shape_in account_program) first_entry
 proper = record { line = (omega arith, lit< tt); unit = (omega arith, lit< tt); what = five }
 
-module _ (r : Observed) (opened sealing : Moment) (run : IsDepositRun r opened sealing) where
+module _ (r : Observed) (opened : Moment) (sealing : List Moment) (run : IsDepositRun r opened sealing) where
   abbrev course : Course
   course = deposit_course opened sealing r
 
@@ -117,27 +118,23 @@ module _ (r : Observed) (opened sealing : Moment) (run : IsDepositRun r opened s
   said_at : (image : Image) → IsLog (shape_in account_program) image (first_commit ∷ []) → KeepsAt (moment_of r.new) image
   said_at image log = (record { said = journal; unsaid = []; later = []; rest = []; split = refl; log = log; output = grew }, ([], refl))
 
-  at_opened : (image : Image) → IsImage opened.disk image → KeepsAt opened image × HasProgram account_program.text (image program_file)
-  at_opened image left = let has = run.entry image left in (unsaid_at opened image run.quiet.0 has.1.0, has.1.1)
-
-  at_sealing : (image : Image) → IsImage sealing.disk image → KeepsAt sealing image × HasProgram account_program.text (image program_file)
-  at_sealing image left = elim (run.sealed image left) [
-    | inl none ↦ (unsaid_at sealing image run.quiet.1 none.0, none.1)
-    | inr has ↦ (sealed_at sealing image run.quiet.1 has.0, has.1)
-  ]
-
-  at_exit : (image : Image) → IsImage r.new.disk image → KeepsAt (moment_of r.new) image × HasProgram account_program.text (image program_file)
-  at_exit image left = let has = run.logged image left in (said_at image has.0, has.1)
-
   abbrev Known : Moment → Type 0
   Known m = (image : Image) → IsImage m.disk image → KeepsAt m image × HasProgram account_program.text (image program_file)
 
+  at_opened : Known opened
+  at_opened image left = let has = run.entry image left in (unsaid_at opened image run.quiet has.1.0, has.1.1)
+
+  at_sealing : (m : Moment) → IsBetween r r.old.output MayHaveDeposit m → Known m
+  at_sealing m is image left = elim (is.images image left) [
+    | inl none ↦ (unsaid_at m image is.output none.0, none.1)
+    | inr has ↦ (sealed_at m image is.output has.0, has.1)
+  ]
+
+  at_exit : Known (moment_of r.new)
+  at_exit image left = let has = run.logged image left in (said_at image has.0, has.1)
+
   known : (m : Moment) → Member m (moments r course) → Known m
-  known m (inl same) = subst Known (sym same) at_opened
-  known m (inr (inl same)) = subst Known (sym same) at_sealing
-  known m (inr (inr (inl same))) = subst Known (sym same) at_exit
-  known m (inr (inr (inr (inl same)))) = subst Known (sym same) at_exit
-  known m (inr (inr (inr (inr none)))) = absurd none
+  known = at_each Known opened sealing (moment_of r.new) at_opened (all_less (IsBetween r r.old.output MayHaveDeposit) Known sealing at_sealing run.sealed) at_exit
 
   keeps_at : (image : Image) (is : IsImageOf (moments r course) image) → KeepsJournal account_program [] r.old.output journal is.moment image
   keeps_at image is = (known is.moment is.member image is.left).0.0
@@ -158,7 +155,7 @@ module _ (r : Observed) (opened sealing : Moment) (run : IsDepositRun r opened s
   ordered = record {
     read = run.read;
     opened = λ image left. record { entry = (run.entry image left).0; log = (run.entry image left).1.0 };
-    longest = longest account_program [] r.old.output journal (moments r course) run.some (record { moment = moment_of r.new; member = inr (inr (inl refl)); left = run.possible }) (run.logged run.some run.possible).0
+    longest = longest account_program [] r.old.output journal (moments r course) run.some (record { moment = moment_of r.new; member = exit_there opened sealing (moment_of r.new); left = run.possible }) (run.logged run.some run.possible).0
         (λ m there image left. (known m there image left).0.0);
     serial = serial;
     family = family_of (lines r) (core_end account_program course) run.asks begun unit_is reached;
@@ -181,16 +178,14 @@ module _ (r : Observed) (opened sealing : Moment) (run : IsDepositRun r opened s
 
   -- at each moment other files and the header are as they were
   alone : (m : Moment) → Member m (moments r course) → LeavesAlone r m
-  alone m (inl same) = subst (LeavesAlone r) (sym same) run.alone.0
-  alone m (inr (inl same)) = subst (LeavesAlone r) (sym same) run.alone.1
-  alone m (inr (inr (inl same))) = subst (LeavesAlone r) (sym same) run.alone.2
-  alone m (inr (inr (inr (inl same)))) = subst (LeavesAlone r) (sym same) run.alone.2
-  alone m (inr (inr (inr (inr none)))) = absurd none
+  alone =
+      at_each (LeavesAlone r) opened sealing (moment_of r.new) run.alone.0
+      (all_less (IsBetween r r.old.output MayHaveDeposit) (LeavesAlone r) sealing (λ m is. is.alone) run.sealed) run.alone.1
 
   crashes : SurvivesCrashes account_program r course
   crashes = record {
     past = run.past;
-    quiet = λ m there. only (λ (n : Moment). n.output ≡ r.old.output) opened m run.quiet.0 there;
+    quiet = λ m there. only (λ (n : Moment). n.output ≡ r.old.output) opened m run.quiet there;
     before = λ image is. only (λ (n : Moment). IsImage n.disk image → IsImage r.old.disk image) opened is.moment (λ left. (run.entry image left).0) is.member is.left;
     chain = λ one other a b. chained account_program [] r.old.output journal a.moment b.moment one other (keeps_at one a) (keeps_at other b);
     sound = λ image is. sound account_program [] r.old.output journal is.moment image (keeps_at image is) (known is.moment is.member image is.left).1 serial numbered;

@@ -1,5 +1,6 @@
 -- A run with a lock that is refused and a batch in doubt keeps the whole promise.
 use Rattle.std.proofs.Common.{◌≡◌, ◌≢◌, ◌⊎◌, inl, inr, ℕ, zero, suc, ◌+◌, ◌<◌, ◌≤◌, Bool, true, false, List, [], ◌∷◌, ◌++◌, length, Some, refl, sym, ◌∙◌, ap, subst, arith, lit<}
+use Rattle.std.specs.List.{AllByRecursion}
 use Rattle.std.specs.Prelude.{slice_get, count_by, ◌==◌, if◌then◌else◌}
 use Rattle.std.proofs.lemmas.Bool.{eqb-true}
 use Rattle.std.proofs.lemmas.List.{append-nil}
@@ -41,10 +42,11 @@ use Rattle.promise_spec.specs.Explained.{AreAdded, AreSettled, IsExplained}
 use Rattle.promise_spec.specs.Journals.{Settlement, KeepsJournal, Backs, commits_of, entries_of}
 use Rattle.promise_spec.specs.Promise.{HasEnded, Keeps}
 use Rattle.promise_runs.specs.Examples.{accounts, account_program, account_1, unit_no, first_commit, locked_entry, doubt_entry, conflict_entries, conflict_events, account_run}
-use Rattle.promise_runs.specs.DepositRuns.{HasNone, HasDeposit}
-use Rattle.promise_runs.specs.DoubtRuns.{IsDoubtRun, doubt_course}
-use Rattle.promise_spec.proofs.Lists.{none_at, some_is, in_append}
+use Rattle.promise_runs.specs.DepositRuns.{HasNone, HasDeposit, MayHaveDeposit, IsBetween}
+use Rattle.promise_runs.specs.DoubtRuns.{IsDoubtRun, doubt_course, first_told}
+use Rattle.promise_spec.proofs.Lists.{none_at, some_is, in_append, both_parts}
 use Rattle.promise_spec.proofs.Journaled.{chained, longest, holds, sound}
+use Rattle.promise_runs.proofs.Between.{at_each, exit_there, all_less}
 use Rattle.promise_runs.proofs.FirstFamily.{only, either_of, serial, numbered, none_of, none_counted, family_of}
 use Rattle.promise_runs.proofs.DepositRules.{two_unit_rule, two_turn_rule, two_settled}
 
@@ -141,7 +143,7 @@ earlier (suc zero) (suc zero) d e at other before = absurd (omega arith)
 earlier (suc zero) (suc (suc j)) d e at other before = absurd (none_at j e other)
 earlier (suc (suc i)) j d e at other before = absurd (none_at i d at)
 
-module _ (r : Observed) (opened told doubting : Moment) (run : IsDoubtRun r opened told doubting) where
+module _ (r : Observed) (opened : Moment) (told doubting : List Moment) (run : IsDoubtRun r opened told doubting) where
   abbrev course : Course
   course = doubt_course opened told doubting r
 
@@ -185,13 +187,13 @@ module _ (r : Observed) (opened told doubting : Moment) (run : IsDoubtRun r open
   at_exit : Known (moment_of r.new)
   at_exit image left = exit_at image (run.exit image left)
 
+  between : AllByRecursion Known (told ++ doubting)
+  between =
+      both_parts Known told doubting (all_less (IsBetween r (first_told r) HasNone) Known told (λ m is image left. told_at m image is.output (inl (is.images image left))) run.none)
+      (all_less (IsBetween r (first_told r) MayHaveDeposit) Known doubting (λ m is image left. told_at m image is.output (is.images image left)) run.either)
+
   known : (m : Moment) → Member m (moments r course) → Known m
-  known m (inl same) = subst Known (sym same) at_opened
-  known m (inr (inl same)) = subst Known (sym same) (λ image left. told_at told image run.first.0 (inl (run.none image left)))
-  known m (inr (inr (inl same))) = subst Known (sym same) (λ image left. told_at doubting image run.first.1 (run.either image left))
-  known m (inr (inr (inr (inl same)))) = subst Known (sym same) at_exit
-  known m (inr (inr (inr (inr (inl same))))) = subst Known (sym same) at_exit
-  known m (inr (inr (inr (inr (inr none))))) = absurd none
+  known = at_each Known opened (told ++ doubting) (moment_of r.new) at_opened between at_exit
 
   keeps_at : (image : Image) (is : IsImageOf (moments r course) image) → KeepsJournal account_program [] r.old.output journal is.moment image
   keeps_at image is = (known is.moment is.member image is.left).0.0
@@ -212,7 +214,7 @@ module _ (r : Observed) (opened told doubting : Moment) (run : IsDoubtRun r open
   ordered = record {
     read = run.read;
     opened = λ image left. record { entry = (run.entry image left).0; log = (run.entry image left).1.0 };
-    longest = longest account_program [] r.old.output journal (moments r course) run.some (record { moment = moment_of r.new; member = inr (inr (inr (inl refl))); left = run.possible }) run.there.0
+    longest = longest account_program [] r.old.output journal (moments r course) run.some (record { moment = moment_of r.new; member = exit_there opened (told ++ doubting) (moment_of r.new); left = run.possible }) run.there.0
         (λ m there image left. (known m there image left).0.0);
     serial = serial;
     family = family_of (lines r) (core_end account_program course) run.asks.first begun unit_is reached;
@@ -237,12 +239,11 @@ module _ (r : Observed) (opened told doubting : Moment) (run : IsDoubtRun r open
 
   -- at each moment other files and the header are as they were
   alone : (m : Moment) → Member m (moments r course) → LeavesAlone r m
-  alone m (inl same) = subst (LeavesAlone r) (sym same) run.alone.0
-  alone m (inr (inl same)) = subst (LeavesAlone r) (sym same) run.alone.1
-  alone m (inr (inr (inl same))) = subst (LeavesAlone r) (sym same) run.alone.2
-  alone m (inr (inr (inr (inl same)))) = subst (LeavesAlone r) (sym same) run.alone.3
-  alone m (inr (inr (inr (inr (inl same))))) = subst (LeavesAlone r) (sym same) run.alone.3
-  alone m (inr (inr (inr (inr (inr none))))) = absurd none
+  alone =
+      at_each (LeavesAlone r) opened (told ++ doubting) (moment_of r.new) run.alone.0
+      (both_parts (LeavesAlone r) told doubting (all_less (IsBetween r (first_told r) HasNone) (LeavesAlone r) told (λ m is. is.alone) run.none)
+      (all_less (IsBetween r (first_told r) MayHaveDeposit) (LeavesAlone r) doubting (λ m is. is.alone) run.either))
+      run.alone.1
 
   crashes : SurvivesCrashes account_program r course
   crashes = record {

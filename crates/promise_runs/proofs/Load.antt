@@ -33,6 +33,6 @@ module _ (p : Program) (n seed : ℕ) (r : Observed) (c : Course) where
   pub done_in_doubt : KeepsLoad p n seed r c → HasDoubt (core_run p c) → r.ending ≡ ending.Done → ⊥
   done_in_doubt keeps doubt is = subst ending.MayDoubt is (keeps.explained.ended doubt)
 
-pub summed : (r : Observed) (opened sealing : Moment) → length (lines r) ≡ 1 → summary_text account_program r (deposit_course opened sealing r) ≡ codes "{\"aborted\":0,\"committed\":1,\"faulted\":0,\"requests\":1,\"total\":5}\n"
+pub summed : (r : Observed) (opened : Moment) (sealing : List Moment) → length (lines r) ≡ 1 → summary_text account_program r (deposit_course opened sealing r) ≡ codes "{\"aborted\":0,\"committed\":1,\"faulted\":0,\"requests\":1,\"total\":5}\n"
 unfolding serde_json_on_literals digits
 summed r opened sealing one = rw one refl

@@ -33,7 +33,7 @@ use Rattle.promise_spec.specs.Logs.{magic, body_of}
 use Rattle.promise_spec.specs.Crashes.{IsAside}
 use Rattle.promise_spec.specs.Images.{IsSoundIfSilo}
 use Rattle.promise_spec.specs.Promise.{IsSoundFolder}
-use Rattle.promise_runs.specs.Examples.{account_text, accounts, account_program, program_bytes, account_1, deposit_of, first_version, grain_bytes, block_bytes, manager_bytes}
+use Rattle.promise_runs.specs.Examples.{account_text, accounts, account_program, program_bytes, account_1, deposit_of, read_call, first_version, grain_bytes, block_bytes, manager_bytes}
 use Rattle.promise_runs.specs.DepositRuns.{HasNone, HasDeposit}
 use Rattle.promise_runs.specs.WrittenRun.{new_manager, disk_of, new_disk, gate_pending, sealing_disk, sealed_disk}
 use Rattle.promise_runs.proofs.FirstDeposit.{logged}
@@ -49,7 +49,7 @@ module _ (image : Image) (program_is : image program_file ≡ program_bytes) whe
   has_program = subst (λ (file : List ℕ). HasProgram account_text file) (sym program_is) program_spelled
 
   -- a manager file whose first gate is closed
-  has_none : (file : List ℕ) → IsSilo magic file → LogsUpTo [] 15 file → image manager ≡ file → HasNone image
+  pub has_none : (file : List ℕ) → IsSilo magic file → LogsUpTo [] 15 file → image manager ≡ file → HasNone image
   has_none file silo blocks is = (
     record {
       silo = subst (λ (f : List ℕ). IsSilo magic f) (sym is) silo;
@@ -98,10 +98,10 @@ new_is_silo = record { long = omega arith; gate = refl; named = refl }
 new_has_none : LogsUpTo [] 15 new_manager
 new_has_none = record { blocks = record { small = tt; at = refl; within = omega arith; blocks = refl }; closed = λ e. cc e }
 
-gate_is_silo : (g : ℕ) → IsSilo magic (manager_bytes g)
+pub gate_is_silo : (g : ℕ) → IsSilo magic (manager_bytes g)
 gate_is_silo g = record { long = omega arith; gate = refl; named = refl }
 
-shut_has_none : (g : ℕ) → g ≢ 1 → LogsUpTo [] 15 (manager_bytes g)
+pub shut_has_none : (g : ℕ) → g ≢ 1 → LogsUpTo [] 15 (manager_bytes g)
 shut_has_none g shut = record { blocks = record { small = tt; at = refl; within = omega arith; blocks = refl }; closed = shut }
 
 -- ---- what a crash leaves of the pending gate
@@ -145,8 +145,12 @@ gate_only c left = ext_get_or 0 c (manager_bytes (slice_index c 15)) size byte w
 -- ---- the disks' images
 
 module _ (image : Image) where
+  -- a new silo's manager file has an empty log, whatever the file of `account/1` is
+  pub empty_images : (grain : FileState) → IsImage (disk_of (settled new_manager) grain) image → HasNone image
+  empty_images grain left = has_none image (settled_only program_bytes (image program_file) (left program_file)) new_manager new_is_silo new_has_none (settled_only new_manager (image manager) (left manager))
+
   pub new_images : IsImage new_disk image → HasNone image
-  new_images left = has_none image (settled_only program_bytes (image program_file) (left program_file)) new_manager new_is_silo new_has_none (settled_only new_manager (image manager) (left manager))
+  new_images left = empty_images (settled []) left
 
   pub sealing_images : IsImage sealing_disk image → HasNone image ⊎ HasDeposit image
   sealing_images left =
@@ -260,3 +264,16 @@ data_asks n fits = rw fits refl
 pub line_asks : (line : List ℕ) (n : ℕ) → are_ascii line ≡ true → read line ≡ Some (deposit_data n) → nat_lt n (2 ^ 63) ≡ true → call_of (names_in accounts) line ≡ Ok (deposit_of n)
 line_asks line n ascii is fits =
     ap (λ (d : Option Data). call_from (names_in accounts) d) (sym (json_of-read line (deposit_data n) (IsUtf8-are_ascii line ascii) is)) ∙ data_asks n fits
+
+-- what a read's line is as JSON
+abbrev pub read_data : Data
+read_data = object (member (codes "args") (array no_items) (member (codes "call") (string (codes "account/1.read")) no_members))
+
+read_data_asks : call_from (names_in accounts) (Some read_data) ≡ Ok read_call
+unfolding serde_json_on_literals
+read_data_asks = refl
+
+-- a line of ASCII that is this as JSON asks for the read
+pub read_asks : (line : List ℕ) → are_ascii line ≡ true → read line ≡ Some read_data → call_of (names_in accounts) line ≡ Ok read_call
+read_asks line ascii is =
+    ap (λ (d : Option Data). call_from (names_in accounts) d) (sym (json_of-read line read_data (IsUtf8-are_ascii line ascii) is)) ∙ read_data_asks

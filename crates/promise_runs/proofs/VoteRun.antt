@@ -39,10 +39,12 @@ use Rattle.promise_spec.specs.Explained.{AreSettled, IsExplained}
 use Rattle.promise_spec.specs.Journals.{Settlement, KeepsJournal, Backs, commits_of, entries_of}
 use Rattle.promise_spec.specs.Promise.{HasEnded, Keeps}
 use Rattle.promise_runs.specs.Examples.{accounts, account_program, account_1, unit_no, voted_entry, dependent_entry, vote_entries, vote_events, account_run}
+use Rattle.promise_runs.specs.DepositRuns.{HasNone, IsBetween}
 use Rattle.promise_runs.specs.VoteRuns.{IsVoteRun, vote_course}
-use Rattle.promise_spec.proofs.Lists.{none_at}
+use Rattle.promise_spec.proofs.Lists.{none_at, both_parts}
 use Rattle.promise_spec.proofs.OneLog.{one_log}
 use Rattle.promise_spec.proofs.Journaled.{chained, longest, holds, sound}
+use Rattle.promise_runs.proofs.Between.{at_each, exit_there, all_less}
 use Rattle.promise_runs.proofs.FirstFamily.{only, either_of, none_counted, no_family}
 use Rattle.promise_runs.proofs.DepositRules.{Each, each_from_0, vote_unit_rule, vote_turn_rule, vote_settled}
 
@@ -145,9 +147,9 @@ other_account g other same =
 not_manager : File manager ≢ File (Grain 0 account_1)
 not_manager same = let files : Manager 0 ≡ Grain 0 account_1 = cc same in absurd (cc files)
 
-module _ (r : Observed) (opened told : Moment) (run : IsVoteRun r opened told) where
+module _ (r : Observed) (opened : Moment) (failing told : List Moment) (run : IsVoteRun r opened failing told) where
   abbrev course : Course
-  course = vote_course opened told r
+  course = vote_course opened failing told r
 
   abbrev KeepsAt : Moment → Image → Type 0
   KeepsAt m image = (k : KeepsJournal account_program [] r.old.output journal m image) × IsPrefix (entries_of k.said) vote_entries
@@ -169,10 +171,18 @@ module _ (r : Observed) (opened told : Moment) (run : IsVoteRun r opened told) w
         has.1.1,
       )
 
-  at_told : Known told
-  at_told image left =
-      let has = run.between image left in (
-        (record { said = voted ∷ []; unsaid = []; later = depends ∷ []; rest = []; split = refl; log = has.0; output = record { output = grew told.output (voted_entry ∷ []) run.first; unended = tt; proper = (voted_proper, tt) } }, (dependent_entry ∷ [], refl)),
+  -- a moment at which nothing is said yet
+  at_failing : (m : Moment) → IsBetween r r.old.output HasNone m → Known m
+  at_failing m is image left =
+      let has = is.images image left in (
+        (record { said = []; unsaid = []; later = journal; rest = []; split = refl; log = has.0; output = record { output = is.output ∙ sym (append-nil r.old.output); unended = tt; proper = tt } }, (vote_entries, refl)),
+        has.1,
+      )
+
+  at_told : (m : Moment) → IsBetween r (r.old.output ++ reply_lines (shape_in account_program) (voted_entry ∷ [])) HasNone m → Known m
+  at_told m is image left =
+      let has = is.images image left in (
+        (record { said = voted ∷ []; unsaid = []; later = depends ∷ []; rest = []; split = refl; log = has.0; output = record { output = grew m.output (voted_entry ∷ []) is.output; unended = tt; proper = (voted_proper, tt) } }, (dependent_entry ∷ [], refl)),
         has.1,
       )
 
@@ -180,11 +190,11 @@ module _ (r : Observed) (opened told : Moment) (run : IsVoteRun r opened told) w
   at_exit image left = let has = run.exit image left in ((record { said = journal; unsaid = []; later = []; rest = []; split = refl; log = has.0; output = whole }, ([], refl)), has.1)
 
   known : (m : Moment) → Member m (moments r course) → Known m
-  known m (inl same) = subst Known (sym same) at_opened
-  known m (inr (inl same)) = subst Known (sym same) at_told
-  known m (inr (inr (inl same))) = subst Known (sym same) at_exit
-  known m (inr (inr (inr (inl same)))) = subst Known (sym same) at_exit
-  known m (inr (inr (inr (inr none)))) = absurd none
+  known =
+      at_each Known opened (failing ++ told) (moment_of r.new) at_opened
+      (both_parts Known failing told (all_less (IsBetween r r.old.output HasNone) Known failing at_failing run.unsaid)
+      (all_less (IsBetween r (r.old.output ++ reply_lines (shape_in account_program) (voted_entry ∷ [])) HasNone) Known told at_told run.first))
+      at_exit
 
   keeps_at : (image : Image) (is : IsImageOf (moments r course) image) → KeepsJournal account_program [] r.old.output journal is.moment image
   keeps_at image is = (known is.moment is.member image is.left).0.0
@@ -193,7 +203,7 @@ module _ (r : Observed) (opened told : Moment) (run : IsVoteRun r opened told) w
   ordered = record {
     read = run.read;
     opened = λ image left. record { entry = (run.entry image left).0; log = (run.entry image left).1.0 };
-    longest = longest account_program [] r.old.output journal (moments r course) run.some (record { moment = moment_of r.new; member = inr (inr (inl refl)); left = run.possible }) (run.exit run.some run.possible).0
+    longest = longest account_program [] r.old.output journal (moments r course) run.some (record { moment = moment_of r.new; member = exit_there opened (failing ++ told) (moment_of r.new); left = run.possible }) (run.exit run.some run.possible).0
         (λ m there image left. (known m there image left).0.0);
     serial = tt;
     family = no_family accounts (lines r) _ _ _;
@@ -214,11 +224,11 @@ module _ (r : Observed) (opened told : Moment) (run : IsVoteRun r opened told) w
 
   -- at each moment other files and the header are as they were
   alone : (m : Moment) → Member m (moments r course) → LeavesAlone r m
-  alone m (inl same) = subst (LeavesAlone r) (sym same) run.alone.0
-  alone m (inr (inl same)) = subst (LeavesAlone r) (sym same) run.alone.1
-  alone m (inr (inr (inl same))) = subst (LeavesAlone r) (sym same) run.alone.2
-  alone m (inr (inr (inr (inl same)))) = subst (LeavesAlone r) (sym same) run.alone.2
-  alone m (inr (inr (inr (inr none)))) = absurd none
+  alone =
+      at_each (LeavesAlone r) opened (failing ++ told) (moment_of r.new) run.alone.0
+      (both_parts (LeavesAlone r) failing told (all_less (IsBetween r r.old.output HasNone) (LeavesAlone r) failing (λ m is. is.alone) run.unsaid)
+      (all_less (IsBetween r (r.old.output ++ reply_lines (shape_in account_program) (voted_entry ∷ [])) HasNone) (LeavesAlone r) told (λ m is. is.alone) run.first))
+      run.alone.1
 
   crashes : SurvivesCrashes account_program r course
   crashes = record {

@@ -1,5 +1,6 @@
 -- The run that is written out, of two deposits of which one is left in doubt, meets all that is asked of such a run.
 use Rattle.std.proofs.Common.{◌≡◌, ◌≢◌, ◌⊎◌, inl, inr, ℕ, zero, suc, ◌+◌, ◌<◌, ◌≤◌, List, [], ◌∷◌, ◌++◌, length, take, drop, slice_index, refl, sym, ◌∙◌, ap, subst, arith}
+use Rattle.std.specs.List.{AllByRecursion}
 use Rattle.std.specs.Fmt.{digits}
 use Rattle.serde_json.proofs.OnLiterals.{serde_json_on_literals}
 use Rattle.host_trait.specs.declared.channels.Channel.{Channel}
@@ -7,24 +8,27 @@ use Rattle.host_trait.specs.declared.channels.Channel.TheVariants.{Input, Output
 use Rattle.host_trait.specs.declared.channels.FileId.{FileId}
 use Rattle.host_trait.specs.declared.channels.FileId.TheVariants.{Manager, Program as ProgramFile, Grain}
 use Rattle.host_trait.specs.Disk.{MayLeave, settled}
-use Rattle.host_trait.specs.World.{Image, IsImage}
-use Rattle.host_trait.proofs.Crashes.{settled_only}
+use Rattle.host_trait.specs.Faults.{FailedOn}
+use Rattle.host_trait.specs.World.{Image, IsImage, Moment}
 use Rattle.cell_model.specs.Units.{same_grain}
 use Rattle.gate_block.specs.Log.{HasBlocks}
 use Rattle.silo_spec.specs.Silos.{manager}
 use Rattle.promise_spec.specs.Programs.{Program, shape_in}
 use Rattle.promise_spec.specs.Outputs.{reply_lines}
 use Rattle.promise_spec.specs.Courses.{lines}
-use Rattle.promise_spec.specs.Crashes.{LeavesAlone}
 use Rattle.promise_spec.specs.Exits.{HasBlock, DifferAt}
 use Rattle.promise_spec.specs.Refusals.{HasOpened}
 use Rattle.promise_spec.specs.Promise.{IsSoundFolder, Keeps, Promises}
-use Rattle.promise_runs.specs.Examples.{account_program, account_1, program_bytes, first_commit, grain_bytes, manager_bytes, locked_entry, conflict_entries, AskDeposits}
-use Rattle.promise_runs.specs.DepositRuns.{HasDeposit}
-use Rattle.promise_runs.specs.DoubtRuns.{IsDoubtRun, doubt_course}
-use Rattle.promise_runs.specs.WrittenRun.{new_manager, gate_pending, sealing_disk, request_line, opened}
-use Rattle.promise_runs.specs.WrittenDoubt.{pair_manner, second_line, locked_text, doubt_text, told, doubting, doubt_told, pair_before, one_fault, doubted}
-use Rattle.promise_runs.proofs.NewSilo.{has_deposit, other_bytes, gate_only, same_aside, new_images, sealing_images, settled_stays, grain_stays, seen_possible, new_folder, sound_world, new_reads, only_program, line_asks}
+use Rattle.promise_runs.specs.Examples.{account_program, account_1, program_bytes, first_commit, grain_bytes, block_bytes, manager_bytes, locked_entry, conflict_entries, AskDeposits}
+use Rattle.promise_runs.specs.DepositRuns.{HasNone, HasDeposit, MayHaveDeposit, IsBetween}
+use Rattle.promise_runs.specs.DoubtRuns.{IsDoubtRun, doubt_course, first_told}
+use Rattle.promise_runs.specs.HostCalls.{IsHosted}
+use Rattle.promise_runs.specs.WrittenRun.{new_manager, new_disk, version_pending, block_pending, gate_pending, sealing_disk, request_line, opened}
+use Rattle.promise_runs.specs.WrittenDoubt.{pair_manner, second_line, locked_text, doubt_text, told, doubting, pair_before, one_fault, doubted, doubted_steps}
+use Rattle.promise_runs.proofs.NewSilo.{has_deposit, other_bytes, gate_only, new_images, sealing_images, settled_stays, grain_stays, seen_possible, new_folder, sound_world, new_reads, only_program, line_asks}
+use Rattle.promise_runs.proofs.SealingDisks.{at_new, at_block, at_staged, at_sealing}
+use Rattle.promise_runs.proofs.HostSteps.{pulled, ended, wrote_grain, wrote_log, synced_grain, synced_log, unsynced_log, emitted}
+use Rattle.promise_runs.proofs.WrittenRun.{version_wrote, block_wrote, gate_wrote}
 use Rattle.promise_runs.proofs.DoubtRun.{kept}
 
 -- ---- the lines
@@ -94,24 +98,6 @@ exit_has = has_deposit seen_at_exit refl refl refl
 
 -- ---- the run
 
-at_entry_alone : LeavesAlone doubted opened × LeavesAlone doubted told
-at_entry_alone = (
-  record { aside = λ file is. refl; header = λ image left. ap (λ (f : List ℕ). take 15 f) (settled_only new_manager (image manager) (left manager)) },
-  record { aside = λ file is. refl; header = λ image left. ap (λ (f : List ℕ). take 15 f) (settled_only new_manager (image manager) (left manager)) },
-)
-
-at_exit_alone : LeavesAlone doubted doubting × LeavesAlone doubted doubt_told
-at_exit_alone = (
-  record {
-    aside = same_aside (settled new_manager) (settled []) gate_pending (settled grain_bytes);
-    header = λ image left. ap (λ (f : List ℕ). take 15 f) (file_is image left);
-  },
-  record {
-    aside = same_aside (settled new_manager) (settled []) gate_pending (settled grain_bytes);
-    header = λ image left. ap (λ (f : List ℕ). take 15 f) (file_is image left);
-  },
-)
-
 other_counts : (channel : Channel) → channel ≢ File manager → one_fault channel ≡ 0
 other_counts Input other = refl
 other_counts Output other = refl
@@ -119,6 +105,10 @@ other_counts (File (Manager zero)) other = absurd (other refl)
 other_counts (File (Manager (suc slot))) other = refl
 other_counts (File (ProgramFile slot)) other = refl
 other_counts (File (Grain slot grain)) other = refl
+
+-- the output between is the second line's reply
+all_output : (Has : Image → Type 0) (moments : List Moment) → AllByRecursion (IsBetween doubted locked_text Has) moments → AllByRecursion (IsBetween doubted (first_told doubted) Has) moments
+all_output Has moments all = subst (λ (l : List ℕ). AllByRecursion (IsBetween doubted l Has) moments) locked_line all
 
 pub is_doubt_run : IsDoubtRun doubted opened told doubting
 is_doubt_run = record {
@@ -132,16 +122,18 @@ is_doubt_run = record {
   read = (new_images new_folder (seen_possible new_manager [])).0;
   past = refl;
   quiet = refl;
-  first = (locked_line, locked_line);
   output = both_lines;
   entry = λ image left. (left, new_images image left);
-  none = new_images;
-  either = sealing_images;
+  none = all_output HasNone told (
+    at_new doubted refl locked_text (settled []),
+    (at_new doubted refl locked_text version_pending, (at_new doubted refl locked_text (settled grain_bytes), (at_block doubted refl locked_text, (at_staged doubted refl locked_text, tt)))),
+  );
+  either = all_output MayHaveDeposit doubting (at_sealing doubted refl locked_text, (at_sealing doubted refl locked_text, tt));
   exit = sealing_images;
   front = front;
   block = block;
   differ = differ;
-  alone = (at_entry_alone.0, at_entry_alone.1, at_exit_alone.0, at_exit_alone.1);
+  alone = ((at_new doubted refl [] (settled [])).alone, (at_sealing doubted refl (locked_text ++ doubt_text)).alone);
   some = seen_at_exit;
   possible = exit_possible;
   there = exit_has;
@@ -170,3 +162,42 @@ doubted_promises = record {
   over_sound = λ p checked sound.
       inr (doubt_course opened told doubting doubted, subst (λ (q : Program). Keeps q doubted (doubt_course opened told doubting doubted)) (only_program p checked sound.sound) doubted_keeps);
 }
+
+-- ---- the host's calls
+
+-- so many of the moments
+abbrev past : ℕ → List Moment
+past many = opened ∷ take many (told ++ doubting)
+
+manager_fails : FailedOn (File manager) (λ channel. 0) one_fault
+manager_fails = record { counts = record { others = other_counts; later = omega arith }; rose = omega arith }
+
+pub is_hosted : IsHosted doubted doubted_steps
+is_hosted = (
+  synced_log [] (settled new_manager) (settled []) 0 [] pair_before.input,
+  (
+    pulled [] new_disk 1 (past 0) (λ channel. 0) pair_before.input (λ none. cc none),
+    (
+      ended [] new_disk 1 (past 0) (λ channel. 0) pair_before.input,
+      (
+        emitted [] locked_text new_disk 1 (past 0) (λ channel. 0) refl,
+        (
+          wrote_grain locked_text (settled new_manager) (settled []) 1 (past 1) version_pending 0 grain_bytes (omega arith) version_wrote,
+          (
+            synced_grain locked_text (settled new_manager) version_pending 1 (past 2),
+            (
+              wrote_log locked_text (settled new_manager) (settled grain_bytes) 2 (past 3) block_pending 16 block_bytes (omega arith) block_wrote,
+              (
+                synced_log locked_text block_pending (settled grain_bytes) 2 (past 4) [],
+                (
+                  wrote_log locked_text (settled (manager_bytes 0)) (settled grain_bytes) 3 (past 5) gate_pending 15 (1 ∷ []) (omega arith) gate_wrote,
+                  (unsynced_log locked_text gate_pending (settled grain_bytes) 3 (past 6) one_fault manager_fails, (emitted locked_text doubt_text sealing_disk 4 (past 7) one_fault refl, refl)),
+                ),
+              ),
+            ),
+          ),
+        ),
+      ),
+    ),
+  ),
+)

@@ -1,41 +1,24 @@
 -- The run of one deposit that is written out meets all that is asked of such a run.
 use Rattle.std.proofs.Common.{◌≡◌, inr, ℕ, List, [], ◌∷◌, ◌++◌, take, refl, sym, ap, subst, arith}
 use Rattle.serde_json.proofs.OnLiterals.{serde_json_on_literals}
-use Rattle.host_trait.specs.Disk.{settled}
-use Rattle.host_trait.proofs.Crashes.{settled_only}
-use Rattle.silo_spec.specs.Silos.{manager}
+use Rattle.host_trait.specs.Disk.{Overwrote, settled}
+use Rattle.host_trait.specs.World.{Moment}
 use Rattle.promise_spec.specs.Programs.{Program, shape_in}
 use Rattle.promise_spec.specs.Words.{plain_manner}
 use Rattle.promise_spec.specs.Refusals.{HasOpened}
 use Rattle.promise_spec.specs.Lines.{IsLineCall}
 use Rattle.promise_spec.specs.Outputs.{reply_lines}
 use Rattle.promise_spec.specs.Courses.{lines}
-use Rattle.promise_spec.specs.Crashes.{LeavesAlone}
 use Rattle.promise_spec.specs.Promise.{IsSoundFolder, Keeps, Promises}
-use Rattle.promise_runs.specs.Examples.{accounts, account_program, deposit_call, first_entry, grain_bytes, manager_bytes}
+use Rattle.promise_runs.specs.Examples.{accounts, account_program, deposit_call, first_entry, grain_bytes, block_bytes, manager_bytes}
 use Rattle.promise_runs.specs.DepositRuns.{IsDepositRun, deposit_course}
-use Rattle.promise_runs.specs.WrittenRun.{new_manager, gate_pending, sealed_disk, request_line, reply_text, opened, sealing, replied, world_before, written}
+use Rattle.promise_runs.specs.HostCalls.{IsHosted}
+use Rattle.promise_runs.specs.WrittenRun.{new_manager, new_disk, version_pending, block_pending, gate_pending, version_disk, voted_disk, block_disk, staged_disk, sealed_disk, request_line, reply_text, moment, opened, sealing, world_before, written, written_steps}
 use Rattle.promise_runs.proofs.FirstDeposit.{reply}
-use Rattle.promise_runs.proofs.NewSilo.{gate_only, same_aside, new_images, sealing_images, sealed_images, seen_possible, new_folder, sound_world, new_reads, only_program, line_asks}
+use Rattle.promise_runs.proofs.NewSilo.{new_images, sealed_images, seen_possible, new_folder, sound_world, new_reads, only_program, line_asks}
+use Rattle.promise_runs.proofs.SealingDisks.{at_new, at_block, at_staged, at_sealing, at_sealed, if_none, if_has}
+use Rattle.promise_runs.proofs.HostSteps.{pulled, ended, wrote_grain, wrote_log, synced_grain, synced_log, emitted}
 use Rattle.promise_runs.proofs.DepositRun.{kept}
-
-opened_alone : LeavesAlone written opened
-opened_alone = record {
-  aside = λ file is. refl;
-  header = λ image left. ap (λ (f : List ℕ). take 15 f) (settled_only new_manager (image manager) (left manager));
-}
-
-sealing_alone : LeavesAlone written sealing
-sealing_alone = record {
-  aside = same_aside (settled new_manager) (settled []) gate_pending (settled grain_bytes);
-  header = λ image left. ap (λ (f : List ℕ). take 15 f) (gate_only (image manager) (left manager));
-}
-
-replied_alone : LeavesAlone written replied
-replied_alone = record {
-  aside = same_aside (settled new_manager) (settled []) (settled (manager_bytes 1)) (settled grain_bytes);
-  header = λ image left. ap (λ (f : List ℕ). take 15 f) (settled_only (manager_bytes 1) (image manager) (left manager));
-}
 
 asks : IsLineCall accounts (lines written) 1 deposit_call
 unfolding serde_json_on_literals
@@ -55,12 +38,21 @@ is_deposit_run = record {
   left = refl;
   read = (new_images new_folder (seen_possible new_manager [])).0;
   past = refl;
-  quiet = (refl, refl);
+  quiet = refl;
   output = replies_are;
   entry = λ image left. (left, new_images image left);
-  sealed = sealing_images;
+  sealed = (
+    if_none written [] (moment [] version_disk) (at_new written refl [] version_pending),
+    (
+      if_none written [] (moment [] voted_disk) (at_new written refl [] (settled grain_bytes)),
+      (
+        if_none written [] (moment [] block_disk) (at_block written refl []),
+        (if_none written [] (moment [] staged_disk) (at_staged written refl []), (at_sealing written refl [], (if_has written [] (moment [] sealed_disk) (at_sealed written refl []), tt))),
+      ),
+    ),
+  );
   logged = sealed_images;
-  alone = (opened_alone, sealing_alone, replied_alone);
+  alone = ((at_new written refl [] (settled [])).alone, (at_sealed written refl reply_text).alone);
   some = λ file. (sealed_disk file).seen;
   possible = seen_possible (manager_bytes 1) grain_bytes;
   faults = λ channel. refl;
@@ -81,3 +73,45 @@ written_promises = record {
   answers = inr has_opened;
   over_sound = λ p checked sound. inr (deposit_course opened sealing written, subst (λ (q : Program). Keeps q written (deposit_course opened sealing written)) (only_program p checked sound.sound) written_keeps);
 }
+
+-- ---- the host's calls
+
+pub version_wrote : Overwrote 0 grain_bytes (settled []) version_pending
+version_wrote = record { pends = record { base = refl; ranges = refl; longest = refl }; seen = refl }
+
+pub block_wrote : Overwrote 16 block_bytes (settled new_manager) block_pending
+block_wrote = record { pends = record { base = refl; ranges = refl; longest = refl }; seen = refl }
+
+pub gate_wrote : Overwrote 15 (1 ∷ []) (settled (manager_bytes 0)) gate_pending
+gate_wrote = record { pends = record { base = refl; ranges = refl; longest = refl }; seen = refl }
+
+-- so many of the moments
+abbrev past : ℕ → List Moment
+past many = opened ∷ take many sealing
+
+pub is_hosted : IsHosted written written_steps
+is_hosted = (
+  synced_log [] (settled new_manager) (settled []) 0 [] world_before.input,
+  (
+    pulled [] new_disk 1 (past 0) (λ channel. 0) world_before.input (λ none. cc none),
+    (
+      ended [] new_disk 1 (past 0) (λ channel. 0) world_before.input,
+      (
+        wrote_grain [] (settled new_manager) (settled []) 1 (past 0) version_pending 0 grain_bytes (omega arith) version_wrote,
+        (
+          synced_grain [] (settled new_manager) version_pending 1 (past 1),
+          (
+            wrote_log [] (settled new_manager) (settled grain_bytes) 2 (past 2) block_pending 16 block_bytes (omega arith) block_wrote,
+            (
+              synced_log [] block_pending (settled grain_bytes) 2 (past 3) [],
+              (
+                wrote_log [] (settled (manager_bytes 0)) (settled grain_bytes) 3 (past 4) gate_pending 15 (1 ∷ []) (omega arith) gate_wrote,
+                (synced_log [] gate_pending (settled grain_bytes) 3 (past 5) [], (emitted [] reply_text sealed_disk 4 (past 6) (λ channel. 0) refl, refl)),
+              ),
+            ),
+          ),
+        ),
+      ),
+    ),
+  ),
+)

@@ -1,5 +1,6 @@
 -- A run whose one line deposits 5.
-use Rattle.std.specs.Prelude.{◌≡◌, ◌≤◌, ◌⊎◌, false, [], ◌∷◌, ◌++◌, length}
+use Rattle.std.specs.Prelude.{◌≡◌, ℕ, ◌≤◌, ◌⊎◌, false, List, [], ◌∷◌, ◌++◌, length}
+use Rattle.std.specs.List.{AllByRecursion}
 use Rattle.host_trait.specs.declared.channels.Channel.{Channel}
 use Rattle.host_trait.specs.World.{Moment, Image, IsImage, moment_of}
 use Rattle.silo_spec.specs.Silos.{program_file, HasProgram}
@@ -21,10 +22,21 @@ abbrev pub HasDeposit : Image → Type 0
 HasDeposit image =
     IsLog (shape_in account_program) image (first_commit ∷ []) × HasProgram account_program.text (image program_file)
 
--- The files read as an empty log at entry. The run synced it, had a moment at which it sealed the deposit, and one at
--- which it replied. At the first each image is one of those at entry and has an empty log, at the second it has the
--- deposit or not, and from then on it has it; there is one. No count of faults changed.
-pub record IsDepositRun (r : Observed) (opened sealing : Moment) : Type 0 where
+-- a moment between: what is written by then is this, each image is such a one, and other files and the header are as they
+-- were
+pub record IsBetween (r : Observed) (written : List ℕ) (Has : Image → Type 0) (m : Moment) : Type 0 where
+  pub output : m.output ≡ written
+  pub images : (image : Image) → IsImage m.disk image → Has image
+  pub alone : LeavesAlone r m
+
+-- the image has the deposit or not
+abbrev pub MayHaveDeposit : Image → Type 0
+MayHaveDeposit image = HasNone image ⊎ HasDeposit image
+
+-- The files read as an empty log at entry. The run synced it, had moments at which it sealed the deposit, and one at
+-- which it replied. At the first each image is one of those at entry and has an empty log, while it seals each has the
+-- deposit or not, and at the last each has it; there is one. No count of faults changed.
+pub record IsDepositRun (r : Observed) (opened : Moment) (sealing : List Moment) : Type 0 where
   pub ending : r.ending ≡ Done
   pub single : (r.manner.threaded ≡ false) × (r.manner.width ≡ 1) × (r.manner.picks ≡ [])
   pub small : length r.old.input ≤ input_limit
@@ -33,24 +45,24 @@ pub record IsDepositRun (r : Observed) (opened sealing : Moment) : Type 0 where
   pub asks : IsLineCall accounts (lines r) 1 deposit_call
   pub left : r.new.input ≡ []
   pub read : IsLog (shape_in account_program) (seen_at_entry r) []
-  pub past : r.new.past ≡ r.old.past ++ (opened ∷ [] ++ sealing ∷ moment_of r.new ∷ [])
-  pub quiet : (opened.output ≡ r.old.output) × (sealing.output ≡ r.old.output)
+  pub past : r.new.past ≡ r.old.past ++ (opened ∷ (sealing ++ moment_of r.new ∷ []))
+  pub quiet : opened.output ≡ r.old.output
   pub output : r.new.output ≡ r.old.output ++ reply_lines (shape_in account_program) (first_entry ∷ [])
   pub entry : (image : Image) → IsImage opened.disk image → IsImage r.old.disk image × HasNone image
-  pub sealed : (image : Image) → IsImage sealing.disk image → HasNone image ⊎ HasDeposit image
+  pub sealed : AllByRecursion (IsBetween r r.old.output MayHaveDeposit) sealing
   pub logged : (image : Image) → IsImage r.new.disk image → HasDeposit image
-  pub alone : LeavesAlone r opened × LeavesAlone r sealing × LeavesAlone r (moment_of r.new)
+  pub alone : LeavesAlone r opened × LeavesAlone r (moment_of r.new)
   pub some : Image
   pub possible : IsImage r.new.disk some
   pub faults : (channel : Channel) → r.faults_after channel ≡ r.faults_before channel
 
 -- the course of such a run
-abbrev pub deposit_course : Moment → Moment → Observed → Course
+abbrev pub deposit_course : Moment → List Moment → Observed → Course
 deposit_course opened sealing r = record {
   opening = [];
   added = first_commit ∷ [];
   early = opened ∷ [];
-  late = sealing ∷ moment_of r.new ∷ [];
+  late = sealing ++ moment_of r.new ∷ [];
   events = deposit_events;
   entries = first_entry ∷ [];
   rest = [];

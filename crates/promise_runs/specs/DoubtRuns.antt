@@ -1,5 +1,6 @@
 -- A run of two lines, of which the second meets the first one's lock, and the first is left in doubt.
-use Rattle.std.specs.Prelude.{◌≡◌, ◌≤◌, ◌≢◌, ◌⊎◌, ◌+◌, false, [], ◌∷◌, ◌++◌, length}
+use Rattle.std.specs.Prelude.{◌≡◌, ℕ, ◌≤◌, ◌≢◌, ◌+◌, false, List, [], ◌∷◌, ◌++◌, length}
+use Rattle.std.specs.List.{AllByRecursion}
 use Rattle.host_trait.specs.declared.channels.Channel.{Channel}
 use Rattle.host_trait.specs.declared.channels.Channel.TheVariants.{File}
 use Rattle.host_trait.specs.World.{Moment, Image, IsImage, moment_of}
@@ -14,12 +15,17 @@ use Rattle.promise_spec.specs.Crashes.{LeavesAlone}
 use Rattle.promise_spec.specs.Courses.{Observed, Course, seen_at_entry, lines}
 use Rattle.promise_spec.specs.Exits.{HasBlock, DifferAt}
 use Rattle.promise_runs.specs.Examples.{account_program, first_commit, locked_entry, conflict_entries, conflict_events, AskDeposits}
-use Rattle.promise_runs.specs.DepositRuns.{HasNone, HasDeposit}
+use Rattle.promise_runs.specs.DepositRuns.{HasNone, HasDeposit, MayHaveDeposit, IsBetween}
+
+-- what a run has written when the second line is told
+abbrev pub first_told : Observed → List ℕ
+first_told r = r.old.output ++ reply_lines (shape_in account_program) (locked_entry ∷ [])
 
 -- The files read as an empty log at entry. The run synced it, wrote that the second line met a lock, and then failed
--- to open the gate of the first line's block: from then on each image has the deposit or not, and the whole block, and
--- one has it. It wrote that the first line is in doubt. The manager file's count of faults rose by one, and no other.
-pub record IsDoubtRun (r : Observed) (opened told doubting : Moment) : Type 0 where
+-- to open the gate of the first line's block: from then on each image has the deposit or not, and at the exit the whole
+-- block, and one has it. It wrote that the first line is in doubt. The manager file's count of faults rose by one, and no
+-- other.
+pub record IsDoubtRun (r : Observed) (opened : Moment) (told doubting : List Moment) : Type 0 where
   pub ending : r.ending ≡ DiskFault manager
   pub pair : (r.manner.threaded ≡ false) × (r.manner.width ≡ 2) × (r.manner.picks ≡ 0 ∷ 1 ∷ 1 ∷ [])
   pub small : length r.old.input ≤ input_limit
@@ -28,20 +34,18 @@ pub record IsDoubtRun (r : Observed) (opened told doubting : Moment) : Type 0 wh
   pub asks : AskDeposits (lines r)
   pub left : r.new.input ≡ []
   pub read : IsLog (shape_in account_program) (seen_at_entry r) []
-  pub past : r.new.past ≡ r.old.past ++ (opened ∷ [] ++ told ∷ doubting ∷ moment_of r.new ∷ [])
+  pub past : r.new.past ≡ r.old.past ++ (opened ∷ (told ++ doubting ++ moment_of r.new ∷ []))
   pub quiet : opened.output ≡ r.old.output
-  pub first : (told.output ≡ r.old.output ++ reply_lines (shape_in account_program) (locked_entry ∷ []))
-      × (doubting.output ≡ r.old.output ++ reply_lines (shape_in account_program) (locked_entry ∷ []))
   pub output : r.new.output ≡ r.old.output ++ reply_lines (shape_in account_program) conflict_entries
   pub entry : (image : Image) → IsImage opened.disk image → IsImage r.old.disk image × HasNone image
-  pub none : (image : Image) → IsImage told.disk image → HasNone image
-  pub either : (image : Image) → IsImage doubting.disk image → HasNone image ⊎ HasDeposit image
-  pub exit : (image : Image) → IsImage r.new.disk image → HasNone image ⊎ HasDeposit image
+  pub none : AllByRecursion (IsBetween r (first_told r) HasNone) told
+  pub either : AllByRecursion (IsBetween r (first_told r) MayHaveDeposit) doubting
+  pub exit : (image : Image) → IsImage r.new.disk image → MayHaveDeposit image
   pub front : (image : Image) → IsImage r.new.disk image → HasBlocks [] 15 (image manager)
   pub block : (image : Image) → IsImage r.new.disk image → HasBlock 15 (first_commit ∷ []) image
   pub differ : (one other : Image) → IsImage r.new.disk one → IsImage r.new.disk other →
       DifferAt 15 (one manager) (other manager)
-  pub alone : LeavesAlone r opened × LeavesAlone r told × LeavesAlone r doubting × LeavesAlone r (moment_of r.new)
+  pub alone : LeavesAlone r opened × LeavesAlone r (moment_of r.new)
   pub some : Image
   pub possible : IsImage r.new.disk some
   pub there : HasDeposit some
@@ -49,12 +53,12 @@ pub record IsDoubtRun (r : Observed) (opened told doubting : Moment) : Type 0 wh
   pub others : (channel : Channel) → channel ≢ File manager → r.faults_after channel ≡ r.faults_before channel
 
 -- the course of such a run
-abbrev pub doubt_course : Moment → Moment → Moment → Observed → Course
+abbrev pub doubt_course : Moment → List Moment → List Moment → Observed → Course
 doubt_course opened told doubting r = record {
   opening = [];
   added = first_commit ∷ [];
   early = opened ∷ [];
-  late = told ∷ doubting ∷ moment_of r.new ∷ [];
+  late = told ++ doubting ++ moment_of r.new ∷ [];
   events = conflict_events;
   entries = conflict_entries;
   rest = [];

@@ -2,7 +2,9 @@ pub mod Examples
 pub mod Transfers
 pub mod EmptyRuns
 pub mod DepositRuns
+pub mod HostCalls
 pub mod WrittenRun
 pub mod DoubtRuns
 pub mod WrittenDoubt
 pub mod VoteRuns
+pub mod WrittenVote

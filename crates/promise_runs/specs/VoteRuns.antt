@@ -1,5 +1,6 @@
 -- A run of two lines, of which the first one's file can't be written, and the second read what the first left.
-use Rattle.std.specs.Prelude.{◌≡◌, ◌≤◌, ◌≢◌, ◌+◌, false, [], ◌∷◌, ◌++◌, length}
+use Rattle.std.specs.Prelude.{◌≡◌, ◌≤◌, ◌≢◌, ◌+◌, false, List, [], ◌∷◌, ◌++◌, length}
+use Rattle.std.specs.List.{AllByRecursion}
 use Rattle.host_trait.specs.declared.channels.Channel.{Channel}
 use Rattle.host_trait.specs.declared.channels.Channel.TheVariants.{File}
 use Rattle.host_trait.specs.declared.channels.FileId.TheVariants.{Grain}
@@ -12,12 +13,12 @@ use Rattle.promise_spec.specs.Endings.{Done, input_limit}
 use Rattle.promise_spec.specs.Crashes.{LeavesAlone}
 use Rattle.promise_spec.specs.Courses.{Observed, Course, seen_at_entry, lines}
 use Rattle.promise_runs.specs.Examples.{account_program, account_1, voted_entry, vote_entries, vote_events, AskBoth}
-use Rattle.promise_runs.specs.DepositRuns.{HasNone}
+use Rattle.promise_runs.specs.DepositRuns.{HasNone, IsBetween}
 
 -- The files read as an empty log at entry. The run synced it, failed to write the first line's file, and wrote that
 -- this line is aborted for its vote, and the second for what it depends on: each image has an empty log all along, and
 -- there is one. That file's count of faults rose by one, and no other.
-pub record IsVoteRun (r : Observed) (opened told : Moment) : Type 0 where
+pub record IsVoteRun (r : Observed) (opened : Moment) (failing told : List Moment) : Type 0 where
   pub ending : r.ending ≡ Done
   pub pair : (r.manner.threaded ≡ false) × (r.manner.width ≡ 2) × (r.manner.picks ≡ [])
   pub small : length r.old.input ≤ input_limit
@@ -26,26 +27,26 @@ pub record IsVoteRun (r : Observed) (opened told : Moment) : Type 0 where
   pub asks : AskBoth (lines r)
   pub left : r.new.input ≡ []
   pub read : IsLog (shape_in account_program) (seen_at_entry r) []
-  pub past : r.new.past ≡ r.old.past ++ (opened ∷ [] ++ told ∷ moment_of r.new ∷ [])
+  pub past : r.new.past ≡ r.old.past ++ (opened ∷ (failing ++ told ++ moment_of r.new ∷ []))
   pub quiet : opened.output ≡ r.old.output
-  pub first : told.output ≡ r.old.output ++ reply_lines (shape_in account_program) (voted_entry ∷ [])
   pub output : r.new.output ≡ r.old.output ++ reply_lines (shape_in account_program) vote_entries
   pub entry : (image : Image) → IsImage opened.disk image → IsImage r.old.disk image × HasNone image
-  pub between : (image : Image) → IsImage told.disk image → HasNone image
+  pub unsaid : AllByRecursion (IsBetween r r.old.output HasNone) failing
+  pub first : AllByRecursion (IsBetween r (r.old.output ++ reply_lines (shape_in account_program) (voted_entry ∷ [])) HasNone) told
   pub exit : (image : Image) → IsImage r.new.disk image → HasNone image
-  pub alone : LeavesAlone r opened × LeavesAlone r told × LeavesAlone r (moment_of r.new)
+  pub alone : LeavesAlone r opened × LeavesAlone r (moment_of r.new)
   pub some : Image
   pub possible : IsImage r.new.disk some
   pub rose : r.faults_after (File (Grain 0 account_1)) ≡ r.faults_before (File (Grain 0 account_1)) + 1
   pub others : (channel : Channel) → channel ≢ File (Grain 0 account_1) → r.faults_after channel ≡ r.faults_before channel
 
 -- the course of such a run
-abbrev pub vote_course : Moment → Moment → Observed → Course
-vote_course opened told r = record {
+abbrev pub vote_course : Moment → List Moment → List Moment → Observed → Course
+vote_course opened failing told r = record {
   opening = [];
   added = [];
   early = opened ∷ [];
-  late = told ∷ moment_of r.new ∷ [];
+  late = failing ++ told ++ moment_of r.new ∷ [];
   events = vote_events;
   entries = vote_entries;
   rest = [];

@@ -11,8 +11,10 @@ ghost use Rattle.promise_spec.specs.Logs.{IsLog, IsKept, body_of};
 ghost use Rattle.promise_spec.specs.Courses.{Observed, lines};
 ghost use Rattle.promise_spec.specs.Promise.{Keeps, IsSoundFolder, Promises};
 ghost use Rattle.promise_spec.specs.Words.{plain_manner};
-ghost use Rattle.promise_runs.specs.WrittenRun.{opened, sealing, written};
-ghost use Rattle.promise_runs.specs.WrittenDoubt.{pair_manner, told, doubting, doubted};
+ghost use Rattle.promise_runs.specs.HostCalls.{IsHosted};
+ghost use Rattle.promise_runs.specs.WrittenRun.{opened, sealing, written, written_steps};
+ghost use Rattle.promise_runs.specs.WrittenDoubt.{pair_manner, told, doubting, doubted, doubted_steps};
+ghost use Rattle.promise_runs.specs.WrittenVote.{reading_manner, failing, vote_told, voted, voted_steps};
 ghost use Rattle.promise_runs.specs.EmptyRuns.{IsEmptyRun, empty_course};
 ghost use Rattle.promise_runs.specs.DoubtRuns.{IsDoubtRun, doubt_course};
 ghost use Rattle.script_meaning.specs.Worked.{bank, at, int, call};
@@ -93,12 +95,12 @@ pub fn deposits_keep_the_rules()
 
 /// A run of one deposit keeps all six clauses: it opens an empty log, seals the deposit's record and replies.
 pub fn deposit_runs_keep()
-    ensures { (r : Observed) (opened sealing : Moment) → IsDepositRun r opened sealing → Keeps account_program r (deposit_course opened sealing r) }
+    ensures { (r : Observed) (opened : Moment) (sealing : List Moment) → IsDepositRun r opened sealing → Keeps account_program r (deposit_course opened sealing r) }
 {}
 
 /// And so does a run of two lines of which the second meets the first one's lock, and the first is left in doubt.
 pub fn doubt_runs_keep()
-    ensures { (r : Observed) (opened told doubting : Moment) → IsDoubtRun r opened told doubting → Keeps account_program r (doubt_course opened told doubting r) }
+    ensures { (r : Observed) (opened : Moment) (told doubting : List Moment) → IsDoubtRun r opened told doubting → Keeps account_program r (doubt_course opened told doubting r) }
 {}
 
 /// A third run keeps both rules: a deposit, and a read of what it left before it is logged. The deposit's file can't be
@@ -111,7 +113,7 @@ pub fn votes_keep_the_rules()
 
 /// And it keeps all six clauses, where its lines are told so and no image ever has a record of them.
 pub fn vote_runs_keep()
-    ensures { (r : Observed) (opened told : Moment) → IsVoteRun r opened told → Keeps account_program r (vote_course opened told r) }
+    ensures { (r : Observed) (opened : Moment) (failing told : List Moment) → IsVoteRun r opened failing told → Keeps account_program r (vote_course opened failing told r) }
 {}
 
 /// What a load draws from the seed 7, after its 64 deposits, and what it would print of the run of one deposit.
@@ -119,17 +121,18 @@ pub fn loads_draw_and_sum()
     ensures drawn { transfers_after 7 2 ≡ call (at 1 0) 0 (int 30 ∷ int 63 ∷ int 54 ∷ []) ∷ call (at 1 0) 0 (int 17 ∷ int 41 ∷ int 20 ∷ []) ∷ [] }
     ensures many { length (load_calls 2 7) ≡ 66 }
     ensures last { slice_get (load_calls 2 7) 63 ≡ Some (call (at 0 63) 0 (int 1000 ∷ [])) }
-    ensures summed { (r : Observed) (opened sealing : Moment) → length (lines r) ≡ 1 → summary_text account_program r (deposit_course opened sealing r) ≡ codes "{\"aborted\":0,\"committed\":1,\"faulted\":0,\"requests\":1,\"total\":5}\n" }
+    ensures summed { (r : Observed) (opened : Moment) (sealing : List Moment) → length (lines r) ≡ 1 → summary_text account_program r (deposit_course opened sealing r) ≡ codes "{\"aborted\":0,\"committed\":1,\"faulted\":0,\"requests\":1,\"total\":5}\n" }
 {}
 
-/// A run of one deposit is written out whole: the program is a checked one, the folder is a new silo's and sound, and what the
-/// run shows keeps the promise.
+/// A run of one deposit is written out whole: the program is a checked one, the folder is a new silo's and sound, what the run
+/// shows keeps the promise, and a host's calls lead from its begin to its end, each as the host's own contract says.
 pub fn a_run_is_written_out()
     ensures checked { IsChecked account_program }
     ensures sound { IsSoundFolder account_program written.old }
     ensures run { IsDepositRun written opened sealing }
     ensures kept { Keeps account_program written (deposit_course opened sealing written) }
     ensures promised { Promises plain_manner written }
+    ensures hosted { IsHosted written written_steps }
 {}
 
 /// And so is a run of two deposits at once, of which the second meets the first one's lock, and the first is left in doubt.
@@ -138,4 +141,14 @@ pub fn a_doubt_is_written_out()
     ensures run { IsDoubtRun doubted opened told doubting }
     ensures kept { Keeps account_program doubted (doubt_course opened told doubting doubted) }
     ensures promised { Promises pair_manner doubted }
+    ensures hosted { IsHosted doubted doubted_steps }
+{}
+
+/// And so is a run of a deposit whose version can't be written, and of a read of what it left.
+pub fn a_vote_is_written_out()
+    ensures sound { IsSoundFolder account_program voted.old }
+    ensures run { IsVoteRun voted opened failing vote_told }
+    ensures kept { Keeps account_program voted (vote_course opened failing vote_told voted) }
+    ensures promised { Promises reading_manner voted }
+    ensures hosted { IsHosted voted voted_steps }
 {}

@@ -2,18 +2,18 @@
 //! empty bodies, whose contracts are what is shown.
 //!
 //! `Examples` has a silo of accounts and lists of core events, `Transfers` a silo of a bank; `EmptyRuns`, `DepositRuns`,
-//! `DoubtRuns` and `VoteRuns` say what a run of each kind shows, and which course it took. `WrittenRun` and
-//! `WrittenDoubt` have two such runs, written out.
+//! `DoubtRuns` and `VoteRuns` say what a run of each kind shows, and which course it took. `WrittenRun`,
+//! `WrittenDoubt` and `WrittenVote` have three such runs, written out with the host's calls of `HostCalls`.
 #![tactic(auto)]
 
 mod examples;
 mod wrong_runs;
 
 pub use examples::{
-    a_doubt_is_written_out, a_run_is_written_out, deposit_runs_keep, deposits_are_serial,
-    deposits_keep_the_rules, doubt_runs_keep, empty_runs_keep, first_deposit_reads,
-    loads_draw_and_sum, reports_tell_the_first_deposit, torn_folders_have_no_log, transfers_read,
-    vote_runs_keep, votes_keep_the_rules,
+    a_doubt_is_written_out, a_run_is_written_out, a_vote_is_written_out, deposit_runs_keep,
+    deposits_are_serial, deposits_keep_the_rules, doubt_runs_keep, empty_runs_keep,
+    first_deposit_reads, loads_draw_and_sum, reports_tell_the_first_deposit,
+    torn_folders_have_no_log, transfers_read, vote_runs_keep, votes_keep_the_rules,
 };
 pub use wrong_runs::{
     aborted_units_have_no_record, aborts_have_causes, batches_are_small, cut_lines_are_replies,

@@ -1,4 +1,4 @@
-use Rattle.promise_runs.proofs.WrittenDoubt.{sound_at_entry, is_doubt_run, doubted_keeps, doubted_promises}
+use Rattle.promise_runs.proofs.WrittenDoubt.{sound_at_entry, is_doubt_run, doubted_keeps, doubted_promises, is_hosted}
 use Rattle.promise_runs.proofs.examples.a_doubt_is_written_out.Goals as goal
 
 pub returns-clause-sound : goal.returns-clause-sound
@@ -12,3 +12,6 @@ returns-clause-kept c = doubted_keeps
 
 pub returns-clause-promised : goal.returns-clause-promised
 returns-clause-promised c = doubted_promises
+
+pub returns-clause-hosted : goal.returns-clause-hosted
+returns-clause-hosted c = is_hosted

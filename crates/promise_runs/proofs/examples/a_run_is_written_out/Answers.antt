@@ -1,5 +1,5 @@
 use Rattle.promise_runs.proofs.AccountText.{account_is_checked}
-use Rattle.promise_runs.proofs.WrittenRun.{sound_at_entry, is_deposit_run, written_keeps, written_promises}
+use Rattle.promise_runs.proofs.WrittenRun.{sound_at_entry, is_deposit_run, written_keeps, written_promises, is_hosted}
 use Rattle.promise_runs.proofs.examples.a_run_is_written_out.Goals as goal
 
 pub returns-clause-checked : goal.returns-clause-checked
@@ -16,3 +16,6 @@ returns-clause-kept c = written_keeps
 
 pub returns-clause-promised : goal.returns-clause-promised
 returns-clause-promised c = written_promises
+
+pub returns-clause-hosted : goal.returns-clause-hosted
+returns-clause-hosted c = is_hosted
