@@ -13,6 +13,8 @@ pub mod DoubtRun
 pub mod WrittenDoubt
 pub mod VoteRun
 pub mod WrittenVote
+pub mod Readings
+pub mod WrittenRefusal
 pub mod Transfer
 pub mod Load
 pub mod Emitting

@@ -211,7 +211,7 @@ text_is_read : program_in account_text ≡ Ok accounts
 text_is_read = rw (account_is_checked.parsed, account_is_checked.checked) refl
 
 -- the program file is read as the program
-file_is_read : program_in_file program_bytes ≡ Ok account_program
+pub file_is_read : program_in_file program_bytes ≡ Ok account_program
 file_is_read = ap (λ (r : Result ProgramTree ProgramFault). with_types account_text r) text_is_read
 
 -- the folder reads as a new silo of it

@@ -87,6 +87,10 @@ program_bytes = 179 ∷ 0 ∷ 0 ∷ 0 ∷ account_text
 abbrev pub account_1 : GrainId
 account_1 = record { kind = 0; key = 1 }
 
+-- `account/2`
+abbrev pub account_2 : GrainId
+account_2 = record { kind = 0; key = 2 }
+
 -- the call `account/1.deposit` with a number
 abbrev pub deposit_of : ℕ → Call
 deposit_of n = record { grain = account_1; method = 0; args = Int (pos n) ∷ [] }

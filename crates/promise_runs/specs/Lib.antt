@@ -8,3 +8,5 @@ pub mod DoubtRuns
 pub mod WrittenDoubt
 pub mod VoteRuns
 pub mod WrittenVote
+pub mod Readings
+pub mod WrittenRefusal
