@@ -66,7 +66,7 @@ module _ (output : List ℕ) (disk : Disk) (syncs : ℕ) (past : List Moment) (f
   -- the whole input comes
   pub pulled : (input : List ℕ) → (length input ≡ 0 → ⊥) → IsStep (Pull (length input) input) (held input output disk syncs past faults) (held (drop (length input) input) output disk syncs past faults)
   pulled input some = record {
-    holds = record {
+    says = record {
       bytes = refl;
       count = omega arith;
       end = λ none. absurd (some none);
@@ -82,7 +82,7 @@ module _ (output : List ℕ) (disk : Disk) (syncs : ℕ) (past : List Moment) (f
   -- nothing comes at its end
   pub ended : (into : List ℕ) → IsStep (Pull 0 into) (held [] output disk syncs past faults) (held [] output disk syncs past faults)
   ended into = record {
-    holds = record { bytes = refl; count = omega arith; end = λ none room. refl; input = refl; output = refl; disk = refl; syncs = refl; past = inr (refl, refl) };
+    says = record { bytes = refl; count = omega arith; end = λ none room. refl; input = refl; output = refl; disk = refl; syncs = refl; past = inr (refl, refl) };
     counts = λ channel. refl;
   }
 
@@ -93,7 +93,7 @@ module _ (output : List ℕ) (log grain : FileState) (syncs : ℕ) (past : List 
   -- a write to the manager file
   pub wrote_log : (later : FileState) (at : ℕ) (bytes : List ℕ) → at ≤ length log.seen → Overwrote at bytes log later → IsStep (Write manager at bytes) (held [] output (disk_of log grain) syncs past (λ channel. 0)) (at_log later)
   wrote_log later at bytes within over = record {
-    holds = (
+    says = (
       record {
         place = within;
         written = record {
@@ -114,7 +114,7 @@ module _ (output : List ℕ) (log grain : FileState) (syncs : ℕ) (past : List 
   pub wrote_grain : (later : FileState) (at : ℕ) (bytes : List ℕ) → at ≤ length grain.seen → Overwrote at bytes grain later
       → IsStep (Write (Grain 0 account_1) at bytes) (held [] output (disk_of log grain) syncs past (λ channel. 0)) (held [] output (disk_of log later) syncs (past ++ moment output (disk_of log later) ∷ []) (λ channel. 0))
   wrote_grain later at bytes within over = record {
-    holds = (
+    says = (
       record {
         place = within;
         written = record {
@@ -135,7 +135,7 @@ module _ (output : List ℕ) (log grain : FileState) (syncs : ℕ) (past : List 
   pub cut_grain : (later : FileState) (at n : ℕ) (faults : Channel → ℕ) → at ≤ length grain.seen → Wrote at n grain later → FailedOn (File (Grain 0 account_1)) (λ channel. 0) faults
       → IsStep (FailedWrite (Grain 0 account_1) at n) (held [] output (disk_of log grain) syncs past (λ channel. 0)) (held [] output (disk_of log later) syncs (past ++ moment output (disk_of log later) ∷ []) faults)
   cut_grain later at n faults within wrote failed = record {
-    holds = record {
+    says = record {
       place = within;
       written = record { state = wrote; others = beside_grain log grain later; input = refl; output = refl; syncs = refl; past = inl refl };
     };
@@ -145,7 +145,7 @@ module _ (output : List ℕ) (log grain : FileState) (syncs : ℕ) (past : List 
   -- a sync of the manager file
   pub synced_log : (input : List ℕ) → IsStep (Sync manager) (held input output (disk_of log grain) syncs past (λ channel. 0)) (held input output (disk_of (settled log.seen) grain) (syncs + 1) (past ++ moment output (disk_of (settled log.seen) grain) ∷ []) (λ channel. 0))
   synced_log input = record {
-    holds = (
+    says = (
       record { state = refl; others = beside_log log (settled log.seen) grain; input = refl; output = refl; counted = omega arith; once = omega arith; past = inl refl },
       refl,
     );
@@ -155,7 +155,7 @@ module _ (output : List ℕ) (log grain : FileState) (syncs : ℕ) (past : List 
   -- a sync of the file of `account/1`
   pub synced_grain : IsStep (Sync (Grain 0 account_1)) (held [] output (disk_of log grain) syncs past (λ channel. 0)) (held [] output (disk_of log (settled grain.seen)) (syncs + 1) (past ++ moment output (disk_of log (settled grain.seen)) ∷ []) (λ channel. 0))
   synced_grain = record {
-    holds = (
+    says = (
       record { state = refl; others = beside_grain log grain (settled grain.seen); input = refl; output = refl; counted = omega arith; once = omega arith; past = inl refl },
       refl,
     );
@@ -166,7 +166,7 @@ module _ (output : List ℕ) (log grain : FileState) (syncs : ℕ) (past : List 
   pub unsynced_log : (faults : Channel → ℕ) → FailedOn (File manager) (λ channel. 0) faults
       → IsStep (FailedSync manager) (held [] output (disk_of log grain) syncs past (λ channel. 0)) (held [] output (disk_of log grain) (syncs + 1) (past ++ moment output (disk_of log grain) ∷ []) faults)
   unsynced_log faults failed = record {
-    holds = record { state = refl; others = λ f other. refl; input = refl; output = refl; counted = omega arith; once = omega arith; past = inl refl };
+    says = record { state = refl; others = λ f other. refl; input = refl; output = refl; counted = omega arith; once = omega arith; past = inl refl };
     counts = failed;
   }
 
@@ -174,7 +174,7 @@ module _ (output : List ℕ) (log grain : FileState) (syncs : ℕ) (past : List 
 pub emitted : (output bytes : List ℕ) (disk : Disk) (syncs : ℕ) (past : List Moment) (faults : Channel → ℕ) → take (length bytes) bytes ≡ bytes
     → IsStep (Emit bytes) (held [] output disk syncs past faults) (held [] (output ++ bytes) disk syncs (past ++ moment (output ++ bytes) disk ∷ []) faults)
 emitted output bytes disk syncs past faults all = record {
-  holds = record {
+  says = record {
     count = omega arith;
     input = refl;
     output = ap (λ (l : List ℕ). output ++ l) (sym all);

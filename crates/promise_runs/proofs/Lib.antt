@@ -14,6 +14,7 @@ pub mod WrittenDoubt
 pub mod VoteRun
 pub mod WrittenVote
 pub mod Readings
+pub mod BadTexts
 pub mod WrittenRefusal
 pub mod Transfer
 pub mod Load

@@ -1,35 +1,25 @@
 -- What the folders like that of the first deposit read as.
-use Rattle.std.proofs.Common.{◌≡◌, ◌≢◌, ℕ, false, List, [], ◌∷◌, ◌++◌, take, drop, Result, Err, refl, ◌∙◌, ap}
-use Rattle.std.specs.Str.Lossy.{utf8_valid_len}
+use Rattle.std.proofs.Common.{◌≡◌, ◌≢◌, ℕ, false, List, [], ◌∷◌, ◌++◌, length, take, drop, Result, refl, sym, ◌∙◌, ap}
 use Rattle.std.proofs.lemmas.Bool.{ne_eqb}
-use Rattle.std.proofs.lemmas.Str.{utf8_valid_len-IsUtf8}
-use Rattle.json.proofs.Printed.Utf8.{IsUtf8-are_ascii}
-use Rattle.script_lexer.specs.declared.faults.ParseFault.{ParseFault}
-use Rattle.script_lexer.specs.declared.faults.ParseFault.TheVariants.{BadToken}
-use Rattle.script_lexer.specs.declared.tokens.Spanned.{Spanned}
-use Rattle.script_lexer.specs.declared.tokens.Token.TheVariants as token
-use Rattle.script_lexer.specs.declared.tokens.Word.TheVariants as word
-use Rattle.script_lexer.specs.Lexemes.{name_lexeme, number_lexeme, text_lexeme, symbol_lexeme, lexeme}
-use Rattle.script_lexer.specs.Lexing.{TokensAndStop, lex, lexed, end_of}
-use Rattle.script_expressions.specs.Tokens.{expected, name_at, taken, taken_word}
-use Rattle.script_parser.specs.Types.{repeated, type_at}
-use Rattle.script_parser.specs.Programs.{program_over, program_of}
-use Rattle.script_tree.specs.Programs.{ProgramTree}
+use Rattle.std.proofs.lemmas.List.{take_at}
 use Rattle.host_trait.specs.declared.channels.FileId.TheVariants.{Grain}
 use Rattle.host_trait.specs.World.{Image}
 use Rattle.field_codec.specs.Reading.{whole, refused, field, choice, known, chain, count_at, list_at}
 use Rattle.field_codec.specs.Fields.{value_at, exactly_at, unit_at, origin_at, answer_at, result_at}
 use Rattle.commit_log.specs.Fields.{grain_in, call_in, write_in, writes_in, record_in}
 use Rattle.grain_log.specs.Reads.{version_in}
-use Rattle.silo_spec.specs.Silos.{manager, program_file, counter_magic}
-use Rattle.promise_spec.specs.Programs.{Program, checked_in}
-use Rattle.promise_spec.specs.Openings.{NoSilo, DamagedAt, Reads, is_silo, with_types, with_program, opened_as}
+use Rattle.silo_spec.specs.Silos.{manager, program_file}
+use Rattle.promise_spec.specs.Programs.{Program}
+use Rattle.promise_spec.specs.Logs.{magic}
+use Rattle.promise_spec.specs.Openings.{NoSilo, DamagedAt, Reads, is_silo, with_program, opened_as}
+use Rattle.promise_spec.proofs.Openings.{no_silo_is_read}
 use Rattle.promise_runs.specs.Examples.{account_program, account_1, account_2, first_commit, program_bytes, grain_bytes, manager_bytes, folder, torn_folder}
-use Rattle.promise_runs.specs.Readings.{changed, folder_of, program_folder, log_folder, log_changed, grain_folder, bad_text, bad_program, same_account, version_by, two_folder}
+use Rattle.promise_runs.specs.Readings.{changed, folder_of, program_folder, log_folder, log_changed, grain_folder, two_writes, same_account, version_by, two_folder}
 use Rattle.promise_runs.proofs.NewSilo.{file_is_read}
 
 -- ---- folders whose program file is the accounts'
 
+-- what the manager files read as
 pub record Logs : Type 0 where
   pub deposit : opened_as (folder 1 grain_bytes) ≡ Reads account_program (first_commit ∷ [])
   pub closed : opened_as (folder 0 grain_bytes) ≡ Reads account_program []
@@ -44,6 +34,12 @@ pub record Logs : Type 0 where
   pub type : opened_as (log_changed 37 1) ≡ DamagedAt manager 37
   pub method : opened_as (log_changed 43 2) ≡ DamagedAt manager 43
   pub params : opened_as (log_changed 45 2) ≡ DamagedAt manager 45
+  pub great_unit : opened_as (log_changed 31 128) ≡ DamagedAt manager 24
+  pub arguments : opened_as (log_changed 45 9) ≡ DamagedAt manager 45
+  pub written_type : opened_as (log_changed 70 1) ≡ DamagedAt manager 70
+  pub order : opened_as (log_folder two_writes) ≡ DamagedAt manager 88
+  pub short : opened_as (log_changed 16 67) ≡ DamagedAt manager 84
+  pub trailing : opened_as (log_folder (changed 16 69 (manager_bytes 1) ++ 0 ∷ [])) ≡ DamagedAt manager 88
   pub later : opened_as (log_folder (changed 93 65 same_account)) ≡ DamagedAt manager 93
   pub earlier : opened_as (log_folder (changed 24 0 (changed 93 65 same_account))) ≡ DamagedAt manager 24
 
@@ -63,10 +59,17 @@ logs_read = record {
   type = ap (λ (r : Result Program ℕ). with_program (log_changed 37 1) r) file_is_read;
   method = ap (λ (r : Result Program ℕ). with_program (log_changed 43 2) r) file_is_read;
   params = ap (λ (r : Result Program ℕ). with_program (log_changed 45 2) r) file_is_read;
+  great_unit = ap (λ (r : Result Program ℕ). with_program (log_changed 31 128) r) file_is_read;
+  arguments = ap (λ (r : Result Program ℕ). with_program (log_changed 45 9) r) file_is_read;
+  written_type = ap (λ (r : Result Program ℕ). with_program (log_changed 70 1) r) file_is_read;
+  order = ap (λ (r : Result Program ℕ). with_program (log_folder two_writes) r) file_is_read;
+  short = ap (λ (r : Result Program ℕ). with_program (log_changed 16 67) r) file_is_read;
+  trailing = ap (λ (r : Result Program ℕ). with_program (log_folder (changed 16 69 (manager_bytes 1) ++ 0 ∷ [])) r) file_is_read;
   later = ap (λ (r : Result Program ℕ). with_program (log_folder (changed 93 65 same_account)) r) file_is_read;
   earlier = ap (λ (r : Result Program ℕ). with_program (log_folder (changed 24 0 (changed 93 65 same_account))) r) file_is_read;
 }
 
+-- what the grains' files read as
 pub record Versions : Type 0 where
   pub cut : opened_as (grain_folder (take 10 grain_bytes)) ≡ DamagedAt (Grain 0 account_1) 0
   pub owner : opened_as (grain_folder (version_by 2)) ≡ DamagedAt (Grain 0 account_1) 0
@@ -106,8 +109,8 @@ short = no_silo (log_folder (take 15 (manager_bytes 1))) refl
 pub header_gate : (byte : ℕ) → byte ≢ 1 → opened_as (log_changed 0 byte) ≡ NoSilo
 header_gate byte other = no_silo (log_changed 0 byte) (rw (ne_eqb byte 1 other) refl)
 
-pub other_magic : opened_as (log_folder (1 ∷ (counter_magic ++ drop 9 (manager_bytes 1)))) ≡ NoSilo
-other_magic = no_silo (log_folder (1 ∷ (counter_magic ++ drop 9 (manager_bytes 1)))) refl
+pub other_magic : (name : List ℕ) → length name ≡ 8 → name ≢ magic → opened_as (log_folder (1 ∷ (name ++ drop 9 (manager_bytes 1)))) ≡ NoSilo
+other_magic name long other = (no_silo_is_read (log_folder (1 ∷ (name ++ drop 9 (manager_bytes 1))))).1 (λ silo. other (sym (take_at name (drop 9 (manager_bytes 1)) 8 long) ∙ silo.named))
 
 pub silo_first : opened_as (folder_of (take 3 program_bytes) (take 15 (manager_bytes 1)) grain_bytes) ≡ NoSilo
 silo_first = no_silo (folder_of (take 3 program_bytes) (take 15 (manager_bytes 1)) grain_bytes) refl
@@ -128,31 +131,3 @@ program_long = refl
 
 pub program_first : opened_as (folder_of (take 3 program_bytes) (take 80 (manager_bytes 1)) (take 10 grain_bytes)) ≡ DamagedAt program_file 3
 program_first = refl
-
--- ---- a text that is no program
-
--- the text is UTF-8 to its end
-all_text : utf8_valid_len bad_text ≡ 10
-all_text = utf8_valid_len-IsUtf8 bad_text (IsUtf8-are_ascii bad_text refl)
-
--- its one token, and where the next should begin
-abbrev first_token : List Spanned
-first_token = record { token = token.Word word.Type; at = 0 } ∷ []
-
-lexed_so : lex (end_of 10 10) 0 0 bad_text ≡ (first_token, BadToken 5)
-unfolding lex lexeme name_lexeme number_lexeme text_lexeme symbol_lexeme
-lexed_so = refl
-
-text_lexed : lexed bad_text ≡ (first_token, BadToken 5)
-unfolding lexed
-text_lexed = ap (λ (n : ℕ). lex (end_of 10 n) 0 0 (take n bad_text)) all_text ∙ lexed_so
-
-stopped : program_over (BadToken 5) first_token ≡ Err (BadToken 5)
-unfolding program_over repeated type_at expected name_at taken taken_word
-stopped = refl
-
-text_is_bad : program_of bad_text ≡ Err (BadToken 5)
-text_is_bad = ap (λ (l : TokensAndStop). program_over l.1 l.0) text_lexed ∙ stopped
-
-pub bad_token : opened_as (program_folder bad_program) ≡ DamagedAt program_file 9
-bad_token = ap (λ (r : Result ProgramTree ParseFault). with_program (program_folder bad_program) (with_types bad_text (checked_in r))) text_is_bad

@@ -23,14 +23,14 @@ pub record WroteWithin (file : FileId) (at n : ℕ) (old new : World) : Type 0 w
   pub place : at ≤ length (old.disk file).seen
   pub written : Written file at n old new
 
--- what the host says of what it holds before and after such a call
-abbrev pub Holds : HostCall → World → World → Type 0
-Holds (Pull n into) old new = Pulled n into old new
-Holds (Emit bytes) old new = IsEmitted bytes old new
-Holds (Write file at bytes) old new = WroteWithin file at (length bytes) old new × Overwrote at bytes (old.disk file) (new.disk file)
-Holds (FailedWrite file at n) old new = WroteWithin file at n old new
-Holds (Sync file) old new = Synced file true old new × (new.syncs ≡ old.syncs + 1)
-Holds (FailedSync file) old new = Synced file false old new
+-- what the host's contract says of what it holds before and after such a call
+abbrev pub Says : HostCall → World → World → Type 0
+Says (Pull n into) old new = Pulled n into old new
+Says (Emit bytes) old new = IsEmitted bytes old new
+Says (Write file at bytes) old new = WroteWithin file at (length bytes) old new × Overwrote at bytes (old.disk file) (new.disk file)
+Says (FailedWrite file at n) old new = WroteWithin file at n old new
+Says (Sync file) old new = Synced file true old new × (new.syncs ≡ old.syncs + 1)
+Says (FailedSync file) old new = Synced file false old new
 
 -- and of its counts: a call that fails raises that of its file, and no other count changes
 abbrev pub Counts : HostCall → (Channel → ℕ) → (Channel → ℕ) → Type 0
@@ -53,7 +53,7 @@ pub record Step : Type 0 where
 
 -- the call may lead from the one to the other
 pub record IsStep (call : HostCall) (old new : Held) : Type 0 where
-  pub holds : Holds call old.world new.world
+  pub says : Says call old.world new.world
   pub counts : Counts call old.faults new.faults
 
 -- the steps lead, one after another, from what is held before to what is held after
@@ -61,7 +61,8 @@ abbrev pub Lead : Held → List Step → Held → Type 0
 Lead old [] new = old ≡ new
 Lead old (step ∷ steps) new = IsStep step.call old step.after × Lead step.after steps new
 
--- A host's calls lead from what the run was given to what it left. Calls that only ask change nothing, and aren't listed.
+-- A host's calls lead from what the run was given to what it left. Calls that only ask, or that make a file ready, change
+-- nothing and aren't listed.
 abbrev pub IsHosted : Observed → List Step → Type 0
 IsHosted r steps =
     Lead (record { world = r.old; faults = r.faults_before }) steps (record { world = r.new; faults = r.faults_after })

@@ -1,5 +1,5 @@
 -- Folders like that of the first deposit, each with a small change.
-use Rattle.std.specs.Prelude.{ℕ, ◌+◌, List, [], ◌∷◌, ◌++◌, take, drop, codes, ◌==◌, if◌then◌else◌}
+use Rattle.std.specs.Prelude.{ℕ, ◌+◌, List, [], ◌∷◌, ◌++◌, length, take, drop, ◌==◌, if◌then◌else◌}
 use Rattle.host_trait.specs.declared.channels.FileId.TheVariants.{Manager, Program as ProgramFile, Grain}
 use Rattle.host_trait.specs.World.{Image}
 use Rattle.promise_spec.specs.Logs.{magic}
@@ -31,12 +31,15 @@ log_changed at byte = log_folder (changed at byte (manager_bytes 1))
 abbrev pub grain_folder : List ℕ → Image
 grain_folder file = folder_of program_bytes (manager_bytes 1) file
 
--- a text of ten bytes, of which the one at 5 begins no token, and its program file
-abbrev pub bad_text : List ℕ
-bad_text = codes "type A { }"
+-- the program file of a text of fewer than 256 bytes
+abbrev pub program_with : List ℕ → List ℕ
+program_with text = length text ∷ 0 ∷ 0 ∷ 0 ∷ text
 
-abbrev pub bad_program : List ℕ
-bad_program = 10 ∷ 0 ∷ 0 ∷ 0 ∷ bad_text
+-- the manager file, where the record has a second write, on the same grain
+abbrev pub two_writes : List ℕ
+two_writes =
+    changed 16 86 (changed 68 2 (take 88 (manager_bytes 1)))
+    ++ (0 ∷ 0 ∷ 1 ∷ 0 ∷ 0 ∷ 0 ∷ 19 ∷ 0 ∷ 0 ∷ 0 ∷ 0 ∷ 0 ∷ 0 ∷ 0 ∷ 19 ∷ 0 ∷ 0 ∷ 0 ∷ 0 ∷ [])
 
 -- ---- logs of two records
 

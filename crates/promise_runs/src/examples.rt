@@ -7,7 +7,7 @@ ghost use Rattle.request_wire.specs.Reply.{reply_line};
 ghost use Rattle.promise_spec.specs.Programs.{Program, IsChecked, shape_in};
 ghost use Rattle.promise_spec.specs.Records.{Commit, new_silo, standing_of};
 ghost use Rattle.promise_spec.specs.Serial.{IsSerial};
-ghost use Rattle.promise_spec.specs.Logs.{IsLog, IsKept, body_of};
+ghost use Rattle.promise_spec.specs.Logs.{magic, IsLog, IsKept, body_of};
 ghost use Rattle.promise_spec.specs.Courses.{Observed, lines, seen_at_entry};
 ghost use Rattle.promise_spec.specs.Promise.{Keeps, IsSoundFolder, Promises};
 ghost use Rattle.promise_spec.specs.Openings.{NoSilo, DamagedAt, Reads, opened_as};
@@ -26,8 +26,8 @@ ghost use Rattle.promise_runs.specs.VoteRuns.{IsVoteRun, vote_course};
 ghost use Rattle.promise_runs.specs.DepositRuns.{IsDepositRun, deposit_course};
 ghost use Rattle.host_trait.specs.World.{Moment};
 ghost use Rattle.host_trait.specs.declared.channels.FileId.TheVariants.{Grain};
-ghost use Rattle.silo_spec.specs.Silos.{manager, program_file, counter_magic};
-ghost use Rattle.promise_runs.specs.Readings.{changed, folder_of, program_folder, log_folder, log_changed, grain_folder, bad_program, same_account, version_by, two_folder};
+ghost use Rattle.silo_spec.specs.Silos.{manager, program_file};
+ghost use Rattle.promise_runs.specs.Readings.{changed, folder_of, program_folder, log_folder, log_changed, grain_folder, program_with, two_writes, same_account, version_by, two_folder};
 ghost use Rattle.promise_spec.specs.Reports.{show_text, history_text, audit_text};
 ghost use Rattle.promise_runs.specs.Examples.{accounts, account_program, program_bytes, account_1, account_2, deposit_call, first_commit, next_commit, first_version, grain_bytes, block_bytes, manager_bytes, folder, torn_folder, deposit, first_entry, deposit_events, conflict_events, conflict_entries, account_run, AskDeposits, vote_events, vote_entries, AskBoth};
 ghost use Rattle.core_model.specs.Legal.{ends};
@@ -158,49 +158,86 @@ pub fn a_vote_is_written_out()
     ensures hosted { IsHosted voted voted_steps }
 {}
 
-/// What folders like that of the first deposit read as when they are opened. Each place is that of the format's tables in
+/// What folders like that of the first deposit read as when they are opened: its log, or an empty one where the block's
+/// gate is closed; and where a byte or a file is another, which file is damaged, and at which place of the tables in
 /// `docs/FORMATS.md`.
 pub fn folders_read_so()
     ensures logged { opened_as (folder 1 grain_bytes) ≡ Reads account_program (first_commit ∷ []) }
     ensures closed { opened_as (folder 0 grain_bytes) ≡ Reads account_program [] }
 
+    // no silo: the manager file is too short, or has another header gate or magic
     ensures short { opened_as (log_folder (take 15 (manager_bytes 1))) ≡ NoSilo }
     ensures header_gate { (byte : ℕ) → byte ≢ 1 → opened_as (log_changed 0 byte) ≡ NoSilo }
-    ensures other_magic { opened_as (log_folder (1 ∷ (counter_magic ++ drop 9 (manager_bytes 1)))) ≡ NoSilo }
+    ensures other_magic { (name : List ℕ) → length name ≡ 8 → name ≢ magic
+        → opened_as (log_folder (1 ∷ (name ++ drop 9 (manager_bytes 1)))) ≡ NoSilo }
 
+    // a block that isn't whole
     ensures torn { opened_as (torn_folder 80) ≡ DamagedAt manager 16 }
     ensures cut { opened_as (torn_folder 16) ≡ DamagedAt manager 16 }
+
+    // a body: the count of its records; the unit's number, 0 or 2 to the 63; the origin's tag; the call's type, method and count
+    // of arguments, another one or one above 8; an argument's tag; the result's tag, and that of its value; a write's type; a
+    // second write on the same grain; a body that is a byte too short, or too long
     ensures count { opened_as (log_changed 20 65) ≡ DamagedAt manager 20 }
     ensures unit { opened_as (log_changed 24 0) ≡ DamagedAt manager 24 }
+    ensures great_unit { opened_as (log_changed 31 128) ≡ DamagedAt manager 24 }
     ensures origin { opened_as (log_changed 32 2) ≡ DamagedAt manager 32 }
-    ensures type_number { opened_as (log_changed 37 1) ≡ DamagedAt manager 37 }
+    ensures called_type { opened_as (log_changed 37 1) ≡ DamagedAt manager 37 }
     ensures method { opened_as (log_changed 43 2) ≡ DamagedAt manager 43 }
     ensures params { opened_as (log_changed 45 2) ≡ DamagedAt manager 45 }
+    ensures arguments { opened_as (log_changed 45 9) ≡ DamagedAt manager 45 }
     ensures argument { opened_as (log_changed 47 2) ≡ DamagedAt manager 47 }
     ensures outcome { opened_as (log_changed 58 0) ≡ DamagedAt manager 58 }
     ensures value { opened_as (log_changed 59 2) ≡ DamagedAt manager 59 }
+    ensures written_type { opened_as (log_changed 70 1) ≡ DamagedAt manager 70 }
+    ensures order { opened_as (log_folder two_writes) ≡ DamagedAt manager 88 }
+    ensures less { opened_as (log_changed 16 67) ≡ DamagedAt manager 84 }
+    ensures trailing { opened_as (log_folder (changed 16 69 (manager_bytes 1) ++ 0 ∷ [])) ≡ DamagedAt manager 88 }
+
+    // two blocks, of which the second is damaged, or both are
     ensures second_block { opened_as (log_folder (changed 93 65 same_account)) ≡ DamagedAt manager 93 }
     ensures first_block { opened_as (log_folder (changed 24 0 (changed 93 65 same_account))) ≡ DamagedAt manager 24 }
 
+    // a version: it's cut, it's another unit's, it has another count of fields, or another tag
     ensures version_cut { opened_as (grain_folder (take 10 grain_bytes)) ≡ DamagedAt (Grain 0 account_1) 0 }
     ensures other_unit { opened_as (grain_folder (version_by 2)) ≡ DamagedAt (Grain 0 account_1) 0 }
     ensures fields { opened_as (grain_folder (changed 8 2 grain_bytes)) ≡ DamagedAt (Grain 0 account_1) 8 }
     ensures tag { opened_as (grain_folder (changed 10 2 grain_bytes)) ≡ DamagedAt (Grain 0 account_1) 10 }
-    ensures second_cut { opened_as (folder_of program_bytes same_account (version_by 1 ++ take 10 (version_by 2))) ≡ DamagedAt (Grain 0 account_1) 19 }
-    ensures second_tag { opened_as (folder_of program_bytes same_account (version_by 1 ++ changed 10 2 (version_by 2))) ≡ DamagedAt (Grain 0 account_1) 29 }
-    ensures first_version { opened_as (folder_of program_bytes same_account (changed 10 2 (version_by 1))) ≡ DamagedAt (Grain 0 account_1) 10 }
-    ensures lower_grain { opened_as (two_folder (changed 10 2 (version_by 2)) (take 10 (version_by 1))) ≡ DamagedAt (Grain 0 account_1) 10 }
-    ensures upper_grain { opened_as (two_folder (version_by 2) (changed 10 2 (version_by 1))) ≡ DamagedAt (Grain 0 account_2) 10 }
 
+    // two versions of one grain, of which the second is damaged, or both are
+    ensures second_cut { opened_as (folder_of program_bytes same_account (version_by 1 ++ take 10 (version_by 2)))
+        ≡ DamagedAt (Grain 0 account_1) 19 }
+    ensures second_tag { opened_as (folder_of program_bytes same_account (version_by 1 ++ changed 10 2 (version_by 2)))
+        ≡ DamagedAt (Grain 0 account_1) 29 }
+    ensures first_version { opened_as (folder_of program_bytes same_account (changed 10 2 (version_by 1)))
+        ≡ DamagedAt (Grain 0 account_1) 10 }
+
+    // versions of two grains: where both are damaged the lower grain is named, though its record is the later one
+    ensures lower_grain { opened_as (two_folder (changed 10 2 (version_by 2)) (take 10 (version_by 1)))
+        ≡ DamagedAt (Grain 0 account_1) 10 }
+    ensures upper_grain { opened_as (two_folder (version_by 2) (changed 10 2 (version_by 1)))
+        ≡ DamagedAt (Grain 0 account_2) 10 }
+
+    // the program file: it's too short for its length field, or for its text, or the text would be too long
     ensures program_short { opened_as (program_folder (take 3 program_bytes)) ≡ DamagedAt program_file 3 }
     ensures program_cut { opened_as (program_folder (take 100 program_bytes)) ≡ DamagedAt program_file 100 }
     ensures program_less { opened_as (program_folder (changed 0 180 program_bytes)) ≡ DamagedAt program_file 183 }
     ensures program_long { opened_as (program_folder (1 ∷ 0 ∷ 4 ∷ 0 ∷ [])) ≡ DamagedAt program_file 0 }
-    ensures bad_token { opened_as (program_folder bad_program) ≡ DamagedAt program_file 9 }
 
+    // its text is no program, at the places that `docs/LANGUAGE.md` has: 5, 20, 8 and 16
+    ensures bad_token { opened_as (program_folder (program_with (codes "type A { }"))) ≡ DamagedAt program_file 9 }
+    ensures unexpected { opened_as (program_folder (program_with (codes "type a { field x = 01; }")))
+        ≡ DamagedAt program_file 24 }
+    ensures ended { opened_as (program_folder (program_with (codes "type a {"))) ≡ DamagedAt program_file 12 }
+    ensures twice { opened_as (program_folder (program_with (codes "type a { } type a { }")))
+        ≡ DamagedAt program_file 20 }
+
+    // several files: that the folder is no silo comes first, then the program file, the manager file and the grains' files
     ensures silo_first { opened_as (folder_of (take 3 program_bytes) (take 15 (manager_bytes 1)) grain_bytes) ≡ NoSilo }
-    ensures program_first { opened_as (folder_of (take 3 program_bytes) (take 80 (manager_bytes 1)) (take 10 grain_bytes)) ≡ DamagedAt program_file 3 }
-    ensures block_first { opened_as (folder_of program_bytes (take 80 (manager_bytes 1)) (take 10 grain_bytes)) ≡ DamagedAt manager 16 }
+    ensures program_first { opened_as (folder_of (take 3 program_bytes) (take 80 (manager_bytes 1)) (take 10 grain_bytes))
+        ≡ DamagedAt program_file 3 }
+    ensures block_first { opened_as (folder_of program_bytes (take 80 (manager_bytes 1)) (take 10 grain_bytes))
+        ≡ DamagedAt manager 16 }
 {}
 
 /// A refusal is written out: the first deposit's block is cut, and the run answers that the manager file is damaged at the

@@ -3,7 +3,8 @@
 //!
 //! `Examples` has a silo of accounts and lists of core events, `Transfers` a silo of a bank; `EmptyRuns`, `DepositRuns`,
 //! `DoubtRuns` and `VoteRuns` say what a run of each kind shows, and which course it took. `WrittenRun`,
-//! `WrittenDoubt` and `WrittenVote` have three such runs, written out with the host's calls of `HostCalls`.
+//! `WrittenDoubt`, `WrittenVote` and `WrittenRefusal` have such runs and a refusal, written out with the host's calls
+//! that `HostCalls` tells of. `Readings` has folders, each with a small damage.
 #![tactic(auto)]
 
 mod examples;

@@ -1,4 +1,5 @@
-use Rattle.promise_runs.proofs.Readings.{logs_read, versions_read, short, header_gate, other_magic, silo_first, program_short, program_cut, program_less, program_long, program_first, bad_token}
+use Rattle.promise_runs.proofs.Readings.{logs_read, versions_read, short, header_gate, other_magic, silo_first, program_short, program_cut, program_less, program_long, program_first}
+use Rattle.promise_runs.proofs.BadTexts.{texts_read}
 use Rattle.promise_runs.proofs.examples.folders_read_so.Goals as goal
 
 pub returns-clause-logged : goal.returns-clause-logged
@@ -28,17 +29,23 @@ returns-clause-count c = logs_read.count
 pub returns-clause-unit : goal.returns-clause-unit
 returns-clause-unit c = logs_read.unit
 
+pub returns-clause-great_unit : goal.returns-clause-great_unit
+returns-clause-great_unit c = logs_read.great_unit
+
 pub returns-clause-origin : goal.returns-clause-origin
 returns-clause-origin c = logs_read.origin
 
-pub returns-clause-type_number : goal.returns-clause-type_number
-returns-clause-type_number c = logs_read.type
+pub returns-clause-called_type : goal.returns-clause-called_type
+returns-clause-called_type c = logs_read.type
 
 pub returns-clause-method : goal.returns-clause-method
 returns-clause-method c = logs_read.method
 
 pub returns-clause-params : goal.returns-clause-params
 returns-clause-params c = logs_read.params
+
+pub returns-clause-arguments : goal.returns-clause-arguments
+returns-clause-arguments c = logs_read.arguments
 
 pub returns-clause-argument : goal.returns-clause-argument
 returns-clause-argument c = logs_read.argument
@@ -48,6 +55,18 @@ returns-clause-outcome c = logs_read.result
 
 pub returns-clause-value : goal.returns-clause-value
 returns-clause-value c = logs_read.value
+
+pub returns-clause-written_type : goal.returns-clause-written_type
+returns-clause-written_type c = logs_read.written_type
+
+pub returns-clause-order : goal.returns-clause-order
+returns-clause-order c = logs_read.order
+
+pub returns-clause-less : goal.returns-clause-less
+returns-clause-less c = logs_read.short
+
+pub returns-clause-trailing : goal.returns-clause-trailing
+returns-clause-trailing c = logs_read.trailing
 
 pub returns-clause-second_block : goal.returns-clause-second_block
 returns-clause-second_block c = logs_read.later
@@ -95,7 +114,16 @@ pub returns-clause-program_long : goal.returns-clause-program_long
 returns-clause-program_long c = program_long
 
 pub returns-clause-bad_token : goal.returns-clause-bad_token
-returns-clause-bad_token c = bad_token
+returns-clause-bad_token c = texts_read.bad_token
+
+pub returns-clause-unexpected : goal.returns-clause-unexpected
+returns-clause-unexpected c = texts_read.unexpected
+
+pub returns-clause-ended : goal.returns-clause-ended
+returns-clause-ended c = texts_read.ended
+
+pub returns-clause-twice : goal.returns-clause-twice
+returns-clause-twice c = texts_read.twice
 
 pub returns-clause-silo_first : goal.returns-clause-silo_first
 returns-clause-silo_first c = silo_first
