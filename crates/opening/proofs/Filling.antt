@@ -9,8 +9,8 @@ use Rattle.host_trait.proofs.Crashes.{Tears-at, Tears-trans, Tears-wider}
 use Rattle.host_trait.proofs.Runs.{settled_image, run_one_write, run_wrote, run_weaker}
 use Rattle.gate_block.specs.Log.{LogsUpTo, first_gate}
 use Rattle.gate_block.proofs.Logs.{no_blocks, logged}
-use Rattle.silo_spec.specs.Silos.{manager, program_file, counter_magic, IsSilo, HasProgram, IsNewSilo}
-use Rattle.silo_spec.specs.Making.{IsNewAt, IsMade, new_header}
+use Rattle.silo_spec.specs.Silos.{manager, program_file, counter_magic, IsSilo, HasProgram, IsNewSilo, new_header}
+use Rattle.silo_spec.specs.Making.{IsNewAt, IsMade}
 use Rattle.opening.specs.Steps.{IsShut}
 
 log_apart : manager ≢ program_file
@@ -46,10 +46,22 @@ pub new_log : (c : List ℕ) → 16 ≤ length c → slice_index c 15 ≡ 0 → 
 new_log c long closed = record { blocks = no_blocks c long; closed = λ one. let wrong : 0 ≡ 1 = sym closed ∙ one in omega (arith, wrong) }
 
 -- a silo whose first gate is closed
-pub new_silo : (text : List ℕ) (image : Image) → IsSilo counter_magic (image manager) → HasProgram text (image program_file) → slice_index (image manager) 15 ≡ 0 → IsNewSilo counter_magic text image
-new_silo text image silo program closed =
+pub new_silo : (text : List ℕ) (image : Image) → IsSilo counter_magic (image manager) → take 16 (image manager) ≡ new_header counter_magic → HasProgram text (image program_file) → slice_index (image manager) 15 ≡ 0 → IsNewSilo counter_magic text image
+new_silo text image silo head program closed =
     let log = logged [] first_gate (image manager) (new_log (image manager) silo.long closed) in
-    record { silo = silo; program = program; empty = log.0; whole = log.2 }
+    record { silo = silo; header = head; program = program; empty = log.0; whole = log.2 }
+
+-- the first bytes of a file, by its first one and those behind it
+first_and_rest : (c : List ℕ) (x : ℕ) (rest : List ℕ) → 16 ≤ length c → slice_index c 0 ≡ x → take 15 (drop 1 c) ≡ rest → take 16 c ≡ x ∷ rest
+first_and_rest [] x rest long first behind = absurd (omega (arith, long))
+first_and_rest (y ∷ c) x rest long first behind =
+    let one : y ≡ x = first in
+    let more : take 15 c ≡ rest = behind in
+    λ i. one i ∷ more i
+
+header_behind : (file : List ℕ) → 0 < length file → take 15 (drop 1 (overlaid file 1 header)) ≡ header
+header_behind [] some = absurd (omega arith)
+header_behind (x ∷ file) some = refl
 
 module _ (text : List ℕ) (w0 : World) (shut : IsShut (w0.disk manager)) where
   -- while the program file is written
@@ -95,7 +107,8 @@ module _ (text : List ℕ) (w0 : World) (shut : IsShut (w0.disk manager)) where
           let high : 0 + 1 ≤ 15 = omega arith in
           let closed : slice_index c 15 ≡ 0 = Tears-at 0 1 from.0 c from.2 15 (inr high) ∙ ap (λ (l : List ℕ). slice_index l 15) was ∙ gate_after (w0.disk manager).seen shut.some in
           let text_is : p ≡ overlaid (w0.disk program_file).seen 0 (program_bytes text) = settled_image m.disk program_file _ p (changes.others program_file program_apart ∙ program2) (is program_file) in
-          new_silo text image silo (subst (λ (l : List ℕ). HasProgram text l) (sym text_is) (has_program text (w0.disk program_file).seen)) closed
+          let behind : take 15 (drop 1 c) ≡ header = ap (λ (l : List ℕ). take 15 l) from.2.after ∙ ap (λ (l : List ℕ). take 15 (drop 1 l)) was ∙ header_behind (w0.disk manager).seen shut.some in
+          new_silo text image silo (first_and_rest c 1 header silo.long silo.gate behind) (subst (λ (l : List ℕ). HasProgram text l) (sym text_is) (has_program text (w0.disk program_file).seen)) closed
 
       -- and once it is open
       pub filled : (w3 : World) → ChangesFile manager (Tears 0 1) w2 (moment_of w3) → w3.disk manager ≡ settled (overlaid (w2.disk manager).seen 0 (1 ∷ [])) → IsMade counter_magic text w3.disk

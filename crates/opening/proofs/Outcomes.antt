@@ -3,10 +3,10 @@ use Rattle.std.proofs.Common.{◌≡◌, ◌⊎◌, inl, inr, ℕ, ◌≤◌, Li
 use Rattle.host_trait.proofs.Runs.{settled_image}
 use Rattle.host_trait.specs.World.{World, Moment, Image, Disk, IsImage, Passes, moment_of}
 use Rattle.gate_block.specs.Log.{first_gate}
-use Rattle.silo_spec.specs.Silos.{manager, program_file, counter_magic, IsSilo, HasProgram, IsNewSilo}
+use Rattle.silo_spec.specs.Silos.{manager, program_file, counter_magic, IsSilo, HasProgram, IsNewSilo, new_header}
 use Rattle.silo_spec.specs.Moments.{IsUntouched}
 use Rattle.silo_spec.specs.Logs.{IsLog}
-use Rattle.silo_spec.specs.Making.{IsMade, IsNewAt, IsUnsynced, FromFirstSync, Makes, new_header}
+use Rattle.silo_spec.specs.Making.{IsMade, IsNewAt, IsUnsynced, FromFirstSync, Makes}
 use Rattle.opening.specs.Steps.{HasNoSilo}
 use Rattle.opening.proofs.Closing.{first_then, first_weaker}
 use Rattle.opening.proofs.Filling.{new_log, new_silo}
@@ -37,7 +37,7 @@ module _ (text : List ℕ) (disk : Disk) (made : IsMade counter_magic text disk)
 
   -- each image of what was made is a new silo
   pub made_silo : IsNewSilo counter_magic text image
-  made_silo = new_silo text image silo text_is closed
+  made_silo = new_silo text image silo (sym header_is) text_is closed
 
   -- and its log has no unit
   pub made_log : IsLog counter_magic image [] first_gate

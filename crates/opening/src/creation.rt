@@ -7,12 +7,12 @@ ghost use Rattle.host_trait.specs.Files.{StaysReady};
 ghost use Rattle.host_trait.specs.Faults.{Counted, NoneFailed};
 ghost use Rattle.host_trait.specs.declared.channels.FileId.{FileId};
 ghost use Rattle.host_trait.specs.declared.channels.Channel.TheVariants.{File};
-ghost use Rattle.silo_spec.specs.Silos.{manager, program_file, counter_magic, IsSilo, IsNewSilo};
+ghost use Rattle.silo_spec.specs.Silos.{manager, program_file, counter_magic, IsSilo, IsNewSilo, new_header};
 ghost use Rattle.silo_spec.specs.Moments.{IsUntouched};
 ghost use Rattle.opening.specs.declared.faults.CreateFault.{CreateFault};
 ghost use Rattle.opening.specs.declared.creation.Front.{Front};
 ghost use Rattle.opening.specs.Counts.{CreateFaulted};
-ghost use Rattle.silo_spec.specs.Making.{IsMade, StaysBeside, IsUnsynced, FromFirstSync, IsNewAt, Makes, new_header};
+ghost use Rattle.silo_spec.specs.Making.{IsMade, StaysBeside, IsUnsynced, FromFirstSync, IsNewAt, Makes};
 ghost use Rattle.opening.specs.Steps.{Shows, Looks, SyncsFor, ClosesBy, MayClose, HasNoSilo, IsShut};
 
 use crate::faults::CreateFault;

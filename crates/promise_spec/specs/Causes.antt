@@ -1,5 +1,5 @@
 -- Why units are aborted, by the core's events, and what the counts of faults say of them.
-use Rattle.std.specs.Prelude.{◌≡◌, ℕ, ◌+◌, ◌-◌, ◌^◌, ◌<◌, ◌≤◌, min, Bool, true, false, ◌&&◌, not, List, ◌∷◌, ◌++◌, ⊤}
+use Rattle.std.specs.Prelude.{◌≡◌, ℕ, ◌+◌, ◌*◌, ◌-◌, ◌^◌, ◌<◌, ◌≤◌, min, Bool, true, false, ◌&&◌, not, List, ◌∷◌, ◌++◌, ⊤}
 use Rattle.base_types.specs.declared.entries.Settled.{Settled}
 use Rattle.base_types.specs.declared.entries.Settled.TheVariants.{Done, Lock, Vote as VotedDown, Dependency, Disk, InDoubt, Bad}
 use Rattle.host_trait.specs.declared.channels.Channel.{Channel}
@@ -10,7 +10,7 @@ use Rattle.core_model.specs.World.{UnitNo, GrainId, same_grain, Member, Entry, B
 use Rattle.core_model.specs.Causes.{HasCause, IsCaused, decided_state}
 use Rattle.core_model.specs.Dead.{IsDead}
 use Rattle.core_model.specs.declared.events.CoreEvent.{CoreEvent}
-use Rattle.core_model.specs.declared.events.CoreEvent.TheVariants.{Vote, NotSealed, Doubt}
+use Rattle.core_model.specs.declared.events.CoreEvent.TheVariants.{Vote, Sealed, NotSealed, Doubt}
 use Rattle.core_model.specs.Events.{applies, step, run}
 use Rattle.core_model.specs.Legal.{Run, begins, ends}
 use Rattle.silo_spec.specs.Silos.{manager}
@@ -64,6 +64,19 @@ abbrev pub is_unsealed : CoreEvent → Bool
 is_unsealed (NotSealed number) = true
 is_unsealed (Doubt number) = true
 is_unsealed e = false
+
+-- a vote, and a batch that is on disk
+abbrev pub is_vote : CoreEvent → Bool
+is_vote (Vote number g kept) = true
+is_vote e = false
+
+abbrev pub is_sealed : CoreEvent → Bool
+is_sealed (Sealed number) = true
+is_sealed e = false
+
+-- how many syncs a run asks for where nothing fails: the opening's, one for each vote, and two for each batch on disk
+abbrev pub syncs_of : Run → ℕ
+syncs_of r = 1 + (how_many is_vote r + 2 * how_many is_sealed r)
 
 -- No more votes of no came on a grain than its file's count of faults rose by, and no more batches failed to be
 -- sealed than the manager file's rose by.

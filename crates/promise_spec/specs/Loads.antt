@@ -16,13 +16,13 @@ use Rattle.silo_spec.specs.Moments.{IsUntouched}
 use Rattle.silo_spec.specs.Making.{StaysBeside, IsNewAt, FromFirstSync, Makes}
 use Rattle.script_tree.specs.Programs.{ProgramTree}
 use Rattle.script_meaning.specs.Worked.{at, int, call}
-use Rattle.promise_spec.specs.Programs.{Program, IsChecked}
+use Rattle.promise_spec.specs.Programs.{Program, IsChecked, shape_in}
 use Rattle.promise_spec.specs.Records.{States, standing_of}
-use Rattle.promise_spec.specs.Logs.{magic}
+use Rattle.promise_spec.specs.Logs.{magic, IsLog}
 use Rattle.promise_spec.specs.Lines.{IsLineCall}
-use Rattle.promise_spec.specs.Causes.{NoneRose}
+use Rattle.promise_spec.specs.Causes.{NoneRose, HasDoubt, syncs_of}
 use Rattle.promise_spec.specs.Endings as ending
-use Rattle.promise_spec.specs.Courses.{Observed, Course, order, lines, core_end}
+use Rattle.promise_spec.specs.Courses.{Observed, Course, order, moments, lines, core_run, core_end}
 use Rattle.promise_spec.specs.Orders.{IsOrdered}
 use Rattle.promise_spec.specs.Crashes.{SurvivesCrashes}
 use Rattle.promise_spec.specs.Exits.{IsLeft}
@@ -116,19 +116,22 @@ summary_text p r c =
 
 -- ---- the promise
 
--- How a load ends: it reads no input; a fault is shown by its count; all is done only where each line has its entry;
--- and where no count rises, and none stands at its last value, it goes through, at width 1 without nested units with
--- no abort.
+-- How a load ends: it reads no input; a fault is shown by its count; it is done, or fails to write its summary, only where
+-- each line has its entry and no batch is in doubt; and where no count rises, and none stands at its last value, it goes
+-- through, at width 1 without nested units with no abort, and asks for so many syncs.
 pub record HasLoaded (p : Program) (r : Observed) (c : Course) : Type 0 where
   pub unread : r.new.input ≡ r.old.input
   pub carried : ending.IsBegun r.ending
   pub risen : ending.HasRisen r.ending r.faults_before r.faults_after
-  pub done : r.ending ≡ ending.Done → IsAnswered r c
+  pub done : (r.ending ≡ ending.Done) ⊎ (r.ending ≡ ending.WriteFault) → IsAnswered r c
+  pub undoubted : r.ending ≡ ending.WriteFault → HasDoubt (core_run p c) → ⊥
   pub complete : NoneRose r.faults_before r.faults_after → GoesThrough r c
   pub alone : r.manner.threaded ≡ false → r.manner.width ≡ 1 → HasNoChild p c → (e : Entry) → Member e c.entries → IsNoLock e.what
+  pub syncs : NoneRose r.faults_before r.faults_after → r.ending ≡ ending.Done → r.new.syncs ≡ r.old.syncs + syncs_of (core_run p c)
 
 -- A load keeps the clauses of a run but those that speak of written replies: it asks for its calls, its entries are
--- those that the core settles, and it prints the summary alone: nothing unless it is done or the output failed.
+-- those that the core settles, and it prints the summary alone: nothing unless it is done or the output failed, and
+-- nothing before each image has the whole order.
 pub record KeepsLoad (p : Program) (n seed : ℕ) (r : Observed) (c : Course) : Type 0 where
   pub asked : AskFor p.types (lines r) (load_calls n seed)
   pub ordered : IsOrdered p r c
@@ -137,6 +140,8 @@ pub record KeepsLoad (p : Program) (n seed : ℕ) (r : Observed) (c : Course) : 
   pub settled : c.entries ≡ (core_end p c).manager.settled
   pub explained : IsExplained p r c
   pub output : Prints (summary_text p r c) r
+  pub lasting : (m : Moment) (image : Image) → Member m (moments r c) → IsImage m.disk image → m.output ≢ r.old.output →
+      IsLog (shape_in p) image (order c)
   pub silent : r.ending ≢ ending.Done → r.ending ≢ ending.WriteFault → r.new.output ≡ r.old.output
   pub ended : HasLoaded p r c
 
@@ -215,6 +220,8 @@ pub record IsQuietRun (r : Observed) (c : Course) (text : List ℕ) (told : List
   pub unread : s.new.input ≡ s.old.input
   pub past : s.new.past ≡ s.old.past ++ (c.early ++ (map (quieted r.old.output) c.late ++ told))
   pub left : (m : Moment) → Member m told → m.disk ≡ r.new.disk
+  pub syncs_before : s.old.syncs ≡ r.old.syncs
+  pub syncs_after : s.new.syncs ≡ r.new.syncs
   pub faults_before : s.faults_before ≡ r.faults_before
   pub faults_after : s.faults_after ≡ r.faults_after
   pub ending : s.ending ≡ r.ending

@@ -1,5 +1,5 @@
 -- The whole promise of a run.
-use Rattle.std.specs.Prelude.{◌≡◌, ◌⊎◌, ℕ, ◌≤◌, false, [], length, ⊤}
+use Rattle.std.specs.Prelude.{◌≡◌, ◌⊎◌, ℕ, ◌+◌, ◌≤◌, false, [], length, ⊤}
 use Rattle.base_types.specs.declared.calls.Call.{Call}
 use Rattle.base_types.specs.declared.calls.Origin.TheVariants.{Child}
 use Rattle.base_types.specs.declared.entries.Entry.{Entry}
@@ -12,7 +12,7 @@ use Rattle.request_wire.specs.Lines.{lines_of}
 use Rattle.promise_spec.specs.Programs.{Program, IsChecked}
 use Rattle.promise_spec.specs.Images.{AreChained, IsSoundIfSilo}
 use Rattle.promise_spec.specs.Cores.{AppliesAt}
-use Rattle.promise_spec.specs.Causes.{NoneRose}
+use Rattle.promise_spec.specs.Causes.{NoneRose, syncs_of}
 use Rattle.promise_spec.specs.Endings.{Done, HasRisen, IsCarried, IsBegun, IsCalm, HasLength, input_limit}
 use Rattle.promise_spec.specs.Words.{Manner}
 use Rattle.promise_spec.specs.Courses.{Observed, Course, lines, core_run}
@@ -69,7 +69,7 @@ pub record HasReadAll (r : Observed) : Type 0 where
 -- How a run that opened the folder ends: its lines are the input's; a fault is shown by its count, and an input that is
 -- too long by its length; nothing begins before the input is read whole and found within the limit; all is done only
 -- where each line has its entry; and where no count rises, and none stands at its last value, it goes through, at
--- width 1 without nested units with no abort.
+-- width 1 without nested units with no abort, and asks for so many syncs.
 pub record HasEnded (p : Program) (r : Observed) (c : Course) : Type 0 where
   pub given : lines r ≡ lines_of r.old.input
   pub risen : HasRisen r.ending r.faults_before r.faults_after
@@ -79,6 +79,7 @@ pub record HasEnded (p : Program) (r : Observed) (c : Course) : Type 0 where
   pub done : r.ending ≡ Done → IsDone r c
   pub complete : NoneRose r.faults_before r.faults_after → GoesThrough r c
   pub alone : r.manner.threaded ≡ false → r.manner.width ≡ 1 → HasNoChild p c → (e : Entry) → Member e c.entries → IsNoLock e.what
+  pub syncs : NoneRose r.faults_before r.faults_after → r.ending ≡ Done → r.new.syncs ≡ r.old.syncs + syncs_of (core_run p c)
 
 -- ---- the promise
 

@@ -1,53 +1,72 @@
 -- What a command answers that doesn't open the folder, and when it may open it.
-use Rattle.std.specs.Prelude.{◌≡◌, ◌⊎◌, List, length, ⊤}
+use Rattle.std.specs.Prelude.{◌≡◌, ◌⊎◌, ℕ, ◌≤◌, List, [], length, map, Ok, ⊤}
 use Rattle.base_types.specs.declared.calls.GrainId.{GrainId}
+use Rattle.base_types.specs.declared.entries.Entry.{Entry}
 use Rattle.host_trait.specs.declared.channels.FileId.{FileId}
 use Rattle.host_trait.specs.declared.channels.FileId.TheVariants.{Program as ProgramFile, Manager, Grain}
+use Rattle.host_trait.specs.World.{Image}
+use Rattle.commit_log.specs.declared.records.CommitRecord.{CommitRecord}
+use Rattle.core_model.specs.World.{Member}
+use Rattle.core_model.specs.Lines.{DifferInLine}
 use Rattle.silo_spec.specs.Silos.{manager, program_file}
 use Rattle.silo_spec.specs.Moments.{IsUntouched}
-use Rattle.promise_spec.specs.Programs.{Program}
+use Rattle.request_wire.specs.Lines.{lines_of}
+use Rattle.promise_spec.specs.Programs.{Program, shape_in}
 use Rattle.promise_spec.specs.Records.{Commit}
-use Rattle.promise_spec.specs.Openings.{Reading, NoSilo, DamagedAt, Reads, opened_as}
-use Rattle.promise_spec.specs.Endings.{Ending, Done, BadUse, Memory, ReadFault, WriteFault, DiskFault, NotASilo, AlreadyASilo, Damaged, BadProgram, InputTooLong, HasRisen, HasLength, IsCarried}
+use Rattle.promise_spec.specs.Outputs.{Grew}
+use Rattle.promise_spec.specs.Openings.{Reading, NoSilo, DamagedAt, Reads, program_in_file, records_in_file, Named, named_by, opened_as}
+use Rattle.promise_spec.specs.Endings.{Ending, Done, BadUse, Memory, ReadFault, WriteFault, DiskFault, NotASilo, AlreadyASilo, Damaged, BadProgram, InputTooLong, HasRisen, HasLength, IsCarried, IsBegun}
 use Rattle.promise_spec.specs.Courses.{Observed, seen_at_entry}
 
 -- the file is the manager file, or the program's
 abbrev pub IsHead : FileId → Type 0
 IsHead file = (file ≡ manager) ⊎ (file ≡ program_file)
 
--- so many files have to be read where the first damage is in this one
-abbrev pub IsReadBefore : FileId → FileId → Type 0
-IsReadBefore (ProgramFile slot) file = IsHead file
-IsReadBefore (Manager slot) file = IsHead file
-IsReadBefore (Grain slot last) file = IsHead file ⊎ ((grain : GrainId) × (file ≡ Grain 0 grain))
+-- a record of the manager file names the grain
+pub record IsNamedIn (image : Image) (grain : GrainId) : Type 0 where
+  pub program : Program
+  pub records : List CommitRecord
+  pub first : program_in_file (image program_file) ≡ Ok program
+  pub then_log : records_in_file (shape_in program) (image manager) ≡ Ok records
+  pub named : Member grain (map (λ n. n.written.grain) (named_by records))
+
+-- the file is the manager file, the program's, or that of a grain that a record names
+abbrev pub IsReadFor : Image → FileId → Type 0
+IsReadFor image file = IsHead file ⊎ ((grain : GrainId) × (file ≡ Grain 0 grain) × IsNamedIn image grain)
+
+-- such files have to be read where the first damage is in this one
+abbrev pub IsReadBefore : Image → FileId → FileId → Type 0
+IsReadBefore image (ProgramFile slot) file = IsHead file
+IsReadBefore image (Manager slot) file = IsHead file
+IsReadBefore image (Grain slot last) file = IsReadFor image file
 
 -- the file has to be read to see that the folder reads so
-abbrev pub MustBeRead : Reading → FileId → Type 0
-MustBeRead NoSilo file = file ≡ manager
-MustBeRead (DamagedAt last place) file = IsReadBefore last file
-MustBeRead (Reads p log) file = IsHead file ⊎ ((grain : GrainId) × (file ≡ Grain 0 grain))
+abbrev pub MustBeRead : Image → Reading → FileId → Type 0
+MustBeRead image NoSilo file = file ≡ manager
+MustBeRead image (DamagedAt last place) file = IsReadBefore image last file
+MustBeRead image (Reads p log) file = IsReadFor image file
 
 -- A folder that reads so may be refused so: for want of memory always, for a fault of a file that has to be read, as no
 -- silo exactly where it reads as none, and as damaged exactly where and at the place at which it first is.
-abbrev pub IsRefusedBy : Reading → Ending → Type 0
-IsRefusedBy reading Done = ⊥
-IsRefusedBy reading BadUse = ⊥
-IsRefusedBy reading Memory = ⊤
-IsRefusedBy reading ReadFault = ⊥
-IsRefusedBy reading WriteFault = ⊥
-IsRefusedBy reading (DiskFault file) = MustBeRead reading file
-IsRefusedBy reading NotASilo = reading ≡ NoSilo
-IsRefusedBy reading AlreadyASilo = ⊥
-IsRefusedBy reading (Damaged file place) = reading ≡ DamagedAt file place
-IsRefusedBy reading (BadProgram fault) = ⊥
-IsRefusedBy reading (InputTooLong line) = ⊥
+abbrev pub IsRefusedBy : Image → Reading → Ending → Type 0
+IsRefusedBy image reading Done = ⊥
+IsRefusedBy image reading BadUse = ⊥
+IsRefusedBy image reading Memory = ⊤
+IsRefusedBy image reading ReadFault = ⊥
+IsRefusedBy image reading WriteFault = ⊥
+IsRefusedBy image reading (DiskFault file) = MustBeRead image reading file
+IsRefusedBy image reading NotASilo = reading ≡ NoSilo
+IsRefusedBy image reading AlreadyASilo = ⊥
+IsRefusedBy image reading (Damaged file place) = reading ≡ DamagedAt file place
+IsRefusedBy image reading (BadProgram fault) = ⊥
+IsRefusedBy image reading (InputTooLong line) = ⊥
 
 -- The folder wasn't opened: nothing was written, no input was read, and at each moment each image is one of those at
 -- entry. Why is shown by how the folder reads, and a fault by its count.
 pub record IsUnopened (r : Observed) : Type 0 where
   pub untouched : IsUntouched r.old r.new
   pub unread : r.new.input ≡ r.old.input
-  pub refused : IsRefusedBy (opened_as (seen_at_entry r)) r.ending
+  pub refused : IsRefusedBy (seen_at_entry r) (opened_as (seen_at_entry r)) r.ending
   pub risen : HasRisen r.ending r.faults_before r.faults_after
 
 -- the folder reads as a silo of this program with this log
@@ -56,10 +75,23 @@ pub record IsOpenable (r : Observed) : Type 0 where
   pub log : List Commit
   pub reads : opened_as (seen_at_entry r) ≡ Reads program log
 
--- A run opened the folder, sound or not: it reads as a silo, a fault is shown by its count, and an input that is too
--- long by its length.
+-- the input was read to its end, and what was written is one entry for each line
+pub record HasAnswered (p : Program) (r : Observed) : Type 0 where
+  pub input : r.new.input ≡ []
+  pub entries : List Entry
+  pub output : Grew (shape_in p) r.old.output r.new.output entries []
+  pub once : DifferInLine entries
+  pub within : (e : Entry) → Member e entries → (1 ≤ e.line) × (e.line ≤ length (lines_of r.old.input))
+  pub each : (n : ℕ) → 1 ≤ n → n ≤ length (lines_of r.old.input) → (e : Entry) × Member e entries × (e.line ≡ n)
+
+-- A run opened the folder, sound or not: it reads as a silo. A fault is shown by its count, and is one of the input, the
+-- output or the manager file; an input that is too long is so by its length; done means that the input was read to its end
+-- and each line answered; and nothing is written where no line may have begun.
 pub record HasOpened (r : Observed) : Type 0 where
   pub openable : IsOpenable r
   pub carried : IsCarried r.ending
   pub risen : HasRisen r.ending r.faults_before r.faults_after
+  pub file : (f : FileId) → r.ending ≡ DiskFault f → f ≡ manager
   pub long : HasLength r.ending (length r.old.input)
+  pub done : r.ending ≡ Done → HasAnswered openable.program r
+  pub unbegun : (IsBegun r.ending → ⊥) → r.new.output ≡ r.old.output

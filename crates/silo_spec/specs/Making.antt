@@ -1,16 +1,11 @@
 -- What `create` does to a folder, at each moment and at its end.
-use Rattle.std.specs.Prelude.{◌≡◌, ◌≢◌, ◌⊎◌, ℕ, List, [], ◌∷◌, ◌++◌, take}
+use Rattle.std.specs.Prelude.{◌≡◌, ◌≢◌, ◌⊎◌, ℕ, List, [], take}
 use Rattle.host_trait.specs.declared.channels.FileId.{FileId}
 use Rattle.host_trait.specs.Disk.{Tears, settled}
 use Rattle.host_trait.specs.World.{World, Moment, Image, Disk, IsImage, Passes, PassesTwice, moment_of}
 use Rattle.host_trait.specs.Runs.{ComesFrom}
-use Rattle.silo_spec.specs.Silos.{manager, program_file, HasProgram, IsNewIfSilo}
+use Rattle.silo_spec.specs.Silos.{manager, program_file, HasProgram, IsNewIfSilo, new_header}
 use Rattle.silo_spec.specs.Moments.{IsAsAtEntry, IsUntouched}
-
--- The first 16 bytes of a new silo's manager file: the open header gate, the magic, the generation 0, two zeros, and the
--- closed gate of the first block.
-abbrev pub new_header : List ℕ → List ℕ
-new_header magic = 1 ∷ (magic ++ 0 ∷ 0 ∷ 0 ∷ 0 ∷ 0 ∷ 0 ∷ 0 ∷ [])
 
 -- the two files of a new silo: nothing is pending in them
 pub record IsMade (magic text : List ℕ) (disk : Disk) : Type 0 where

@@ -1,5 +1,5 @@
 -- Whether an image is a silo, and of which program.
-use Rattle.std.specs.Prelude.{◌≡◌, ℕ, ◌+◌, ◌≤◌, List, [], ◌++◌, length, take, drop, slice_index, codes}
+use Rattle.std.specs.Prelude.{◌≡◌, ℕ, ◌+◌, ◌≤◌, List, [], ◌∷◌, ◌++◌, length, take, drop, slice_index, codes}
 use Rattle.std.specs.Int.{w32, to_le_bytes}
 use Rattle.host_trait.specs.declared.channels.FileId.{FileId}
 use Rattle.host_trait.specs.declared.channels.FileId.TheVariants.{Manager, Program}
@@ -27,9 +27,15 @@ pub record IsSilo (magic file : List ℕ) : Type 0 where
 abbrev pub HasProgram : List ℕ → List ℕ → Type 0
 HasProgram text file = take (4 + length text) file ≡ to_le_bytes w32 (length text) ++ text
 
--- a silo of this program with an empty log
+-- The first 16 bytes of a new silo's manager file: the open header gate, the magic, the generation 0, two zeros, and the
+-- closed gate of the first block.
+abbrev pub new_header : List ℕ → List ℕ
+new_header magic = 1 ∷ (magic ++ 0 ∷ 0 ∷ 0 ∷ 0 ∷ 0 ∷ 0 ∷ 0 ∷ [])
+
+-- a silo of this program with an empty log, as it is made
 pub record IsNewSilo (magic text : List ℕ) (image : Image) : Type 0 where
   pub silo : IsSilo magic (image manager)
+  pub header : take 16 (image manager) ≡ new_header magic
   pub program : HasProgram text (image program_file)
   pub empty : bodies_of (image manager) ≡ []
   pub whole : IsWhole (image manager)
