@@ -14,3 +14,6 @@ pub mod Told
 pub mod ToldRuns
 pub mod Added
 pub mod OneFamily
+pub mod Doubted
+pub mod ShownOrder
+pub mod ShownRuns

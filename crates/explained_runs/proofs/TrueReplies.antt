@@ -49,16 +49,16 @@ use Rattle.explained_runs.proofs.Tellings.{Tells, Telling, telling-ends}
 
 -- ---- what is known of the core's last state
 
-record Known (types : ProgramTree) (lines : List (List ℕ)) (opening : GrainId → List Value) (base : ℕ) (w : World) : Type 0 where
-  kept : Kept opening w
-  split : Split w
-  once : core.EntriesAreOnce w
-  kids : ChildrenAreKnown w
-  answers : AnswersAreOutcomes w
-  turned : Turned w
-  plays : PlainRunsArePlays (is_play types) w
-  rule : ByRule types lines base w
-  tells : Telling types lines w
+pub record Known (types : ProgramTree) (lines : List (List ℕ)) (opening : GrainId → List Value) (base : ℕ) (w : World) : Type 0 where
+  pub kept : Kept opening w
+  pub split : Split w
+  pub once : core.EntriesAreOnce w
+  pub kids : ChildrenAreKnown w
+  pub answers : AnswersAreOutcomes w
+  pub turned : Turned w
+  pub plays : PlainRunsArePlays (is_play types) w
+  pub rule : ByRule types lines base w
+  pub tells : Telling types lines w
 
 known-ends : (types : ProgramTree) (lines : List (List ℕ)) (r : Run) → IsLegal (is_play types) r → AllSaid types lines r.events → Known types lines r.opening r.base (ends r)
 known-ends types lines r l said = record {
@@ -73,7 +73,7 @@ known-ends types lines r l said = record {
   tells = telling-ends (is_play types) types lines r l said;
 }
 
-known_of : (p : Program) (r : Observed) (c : Course) → IsExplained p r c → Known p.types (lines r) (opening_standing p c).states (opening_standing p c).next (core_end p c)
+pub known_of : (p : Program) (r : Observed) (c : Course) → IsExplained p r c → Known p.types (lines r) (opening_standing p c).states (opening_standing p c).next (core_end p c)
 known_of p r c is =
     subst (Known p.types (lines r) (opening_standing p c).states (opening_standing p c).next) (ends_alike (core_run p c))
     (known-ends p.types (lines r) (applied_run (core_run p c)) (legal p.types (lines r) (core_run p c) (above_records (new_silo p.types) c.opening (omega arith)) is.units) (all_said p.types (lines r) (core_run p c) is.units))
@@ -81,15 +81,15 @@ known_of p r c is =
 -- ---- the records are those of the units that meet a test
 
 -- the units in the finish order that meet the test
-abbrev chosen_by : (Verdict → Bool) → World → List UnitNo
+abbrev pub chosen_by : (Verdict → Bool) → World → List UnitNo
 chosen_by test w = filter (λ u. test (w.manager.verdict u)) w.manager.order
 
 -- The test holds of the committed ones, and of nobody who is aborted, or to abort.
-record Recorded (w : World) (added : List Commit) : Type 0 where
-  test : Verdict → Bool
-  good : (v : Verdict) → test v ≡ true → is_good v ≡ true
-  sure : test Committed ≡ true
-  records : AreRecordsOf (map (effect_of w) (chosen_by test w)) added
+pub record Recorded (w : World) (added : List Commit) : Type 0 where
+  pub test : Verdict → Bool
+  pub good : (v : Verdict) → test v ≡ true → is_good v ≡ true
+  pub sure : test Committed ≡ true
+  pub records : AreRecordsOf (map (effect_of w) (chosen_by test w)) added
 
 committed-good : (v : Verdict) → is_committed v ≡ true → is_good v ≡ true
 committed-good Open e = absurd cc
@@ -98,7 +98,7 @@ committed-good Condemned e = absurd cc
 committed-good Committed e = refl
 committed-good Aborted e = absurd cc
 
-recorded : (opening : GrainId → List Value) (w : World) (added : List Commit) → Kept opening w → Split w → AreAdded w added → Recorded w added
+pub recorded : (opening : GrainId → List Value) (w : World) (added : List Commit) → Kept opening w → Split w → AreAdded w added → Recorded w added
 recorded opening w added k s (inl all) = record { test = is_committed; good = committed-good; sure = refl; records = all }
 recorded opening w added k s (inr more) = record {
   test = is_good;
@@ -108,7 +108,7 @@ recorded opening w added k s (inr more) = record {
 }
 
 -- each record is that of a unit, at its place
-unit_of : (w : World) (us : List UnitNo) (log : List Commit) (l : Commit) → AreRecordsOf (map (effect_of w) us) log → Member l log → (u : UnitNo) × Member u us × IsRecordOf (effect_of w u) l
+pub unit_of : (w : World) (us : List UnitNo) (log : List Commit) (l : Commit) → AreRecordsOf (map (effect_of w) us) log → Member l log → (u : UnitNo) × Member u us × IsRecordOf (effect_of w u) l
 unit_of w [] [] l are m = absurd m
 unit_of w [] (k ∷ log) l are m = absurd are
 unit_of w (u ∷ us) [] l are m = absurd m
@@ -135,7 +135,7 @@ record HasUnit (w : World) (l : Commit) (u : UnitNo) : Type 0 where
   finished : w.units.phase u ≡ Finished
   of : IsRecordOf (effect_of w u) l
 
-order-finished : (opening : GrainId → List Value) (w : World) → Kept opening w → (u : UnitNo) → Member u w.manager.order → w.units.phase u ≡ Finished
+pub order-finished : (opening : GrainId → List Value) (w : World) → Kept opening w → (u : UnitNo) → Member u w.manager.order → w.units.phase u ≡ Finished
 order-finished opening w k u m = (in_drop opening _ w k.0 0 u m).0
 
 has_unit : (opening : GrainId → List Value) (w : World) (added : List Commit) → Kept opening w → (a : Recorded w added) → (l : Commit) → Member l added → (u : UnitNo) × HasUnit w l u
@@ -201,11 +201,11 @@ answer_in (l ∷ log) u i a all some =
     rest e (inl (x, (inr m), is)) = inl (x, m, is)
 
 -- the opening log's units are below the next number, and each is above its parent
-next-grows : (before : Standing) (log : List Commit) → before.next ≤ (after_records before log).next
+pub next-grows : (before : Standing) (log : List Commit) → before.next ≤ (after_records before log).next
 next-grows before [] = omega arith
 next-grows before (l ∷ log) = (let t = next-grows (after_record before l) log in omega (arith, t))
 
-below-next : (before : Standing) (log : List Commit) (l : Commit) → Member l log → l.logged.unit.0 < (after_records before log).next
+pub below-next : (before : Standing) (log : List Commit) (l : Commit) → Member l log → l.logged.unit.0 < (after_records before log).next
 below-next before [] l m = absurd m
 below-next before (k ∷ log) l (inl same) = (let t = next-grows (after_record before k) log in let q = ap (λ (z : Commit). z.logged.unit.0) same in omega (arith, t, q))
 below-next before (k ∷ log) l (inr m) = below-next (after_record before k) log l m
@@ -347,7 +347,7 @@ told-true p r c known are numbered e m (settled.Bad why) t = t
 
 -- ---- the entries that were written
 
-in_settled : (p : Program) (c : Course) → IsPrefix c.entries (core_end p c).manager.settled → (e : Entry) → Member e c.entries → Member e (core_end p c).manager.settled
+pub in_settled : (p : Program) (c : Course) → IsPrefix c.entries (core_end p c).manager.settled → (e : Entry) → Member e c.entries → Member e (core_end p c).manager.settled
 in_settled p c front e m = subst (Member e) (sym front.1) (Member-left e c.entries front.0 m)
 
 pub replies_within : (p : Program) (r : Observed) (c : Course) → IsExplained p r c → IsPrefix c.entries (core_end p c).manager.settled → (e : Entry) → Member e c.entries → (1 ≤ e.line) × (e.line ≤ length (lines r))
@@ -387,7 +387,7 @@ places-of w (x ∷ xs) zero (suc j) d e s there later lt f g =
 places-of w (x ∷ xs) (suc i) (suc j) d e s there later lt f g = places-of w xs i j d e s.1 there later (omega (arith, lt)) f g
 
 -- and the earlier record
-rises-filter : (place : UnitNo → ℕ) (test : UnitNo → Bool) (us : List UnitNo) → Rises place us → Rises place (filter test us)
+pub rises-filter : (place : UnitNo → ℕ) (test : UnitNo → Bool) (us : List UnitNo) → Rises place us → Rises place (filter test us)
 rises-filter place test [] s = tt
 rises-filter place test (u ∷ us) s =
     cond_both (test u) (u ∷ filter test us) (filter test us) (Rises place)
@@ -403,7 +403,7 @@ index-of place (x ∷ us) (suc m) zero u v s there later lt =
     (let same = ap place (some_is x v later) in let less = s.0 u (member_at m u us there) in absurd (omega (arith, lt, same, less)))
 index-of place (x ∷ us) (suc m) (suc n) u v s there later lt = (let t = index-of place us m n u v s.1 there later lt in omega (arith, t))
 
-order-rises : (opening : GrainId → List Value) (w : World) → Kept opening w → Rises w.manager.place w.manager.order
+pub order-rises : (opening : GrainId → List Value) (w : World) → Kept opening w → Rises w.manager.place w.manager.order
 order-rises opening w k =
     rises-part opening _ w k.0 w.manager.order 0 (λ j h. (let e : j ≡ 0 + j = omega arith in (omega (arith, h), ap (λ z. get_or w.manager.order z nobody) e)))
 

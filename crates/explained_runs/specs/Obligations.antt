@@ -1,30 +1,34 @@
 -- What a run has to show, so that it keeps its promise: the rest follows.
-use Rattle.std.specs.Prelude.{◌≡◌, ◌≢◌, ◌⊎◌, ℕ, List, [], ◌++◌, length}
+use Rattle.std.specs.Prelude.{◌≡◌, ◌≢◌, ◌⊎◌, false, List, [], ◌++◌, length}
+use Rattle.base_types.specs.declared.entries.Entry.{Entry}
+use Rattle.base_types.specs.declared.entries.Settled.TheVariants.{InDoubt}
+use Rattle.host_trait.specs.declared.channels.FileId.{FileId}
 use Rattle.host_trait.specs.World.{Moment, Image, IsImage, moment_of}
 use Rattle.core_model.specs.World.{Member}
-use Rattle.silo_spec.specs.Silos.{program_file, HasProgram}
+use Rattle.silo_spec.specs.Silos.{manager}
 use Rattle.request_wire.specs.Lines.{lines_of}
-use Rattle.promise_spec.specs.Programs.{Program, IsChecked, shape_in}
+use Rattle.promise_spec.specs.Programs.{Program, shape_in}
 use Rattle.promise_spec.specs.Logs.{IsLog, IsPrefix}
 use Rattle.promise_spec.specs.Moments.{IsImageOf, last_of}
 use Rattle.promise_spec.specs.Outputs.{Grew}
-use Rattle.promise_spec.specs.Causes.{NoneRose}
-use Rattle.promise_spec.specs.Endings as ending
-use Rattle.promise_spec.specs.Courses.{Observed, Course, order, moments, lines, seen_at_entry}
-use Rattle.promise_spec.specs.Orders.{IsOpened}
+use Rattle.promise_spec.specs.UnitRule.{KeepsUnitRule}
+use Rattle.promise_spec.specs.TurnRule.{KeepsTurnRule}
+use Rattle.promise_spec.specs.Causes.{AreFaults, HasDoubt}
+use Rattle.promise_spec.specs.Endings.{Done, WriteFault, DiskFault, HasRisen, IsCarried, HasLength, MayDoubt}
+use Rattle.promise_spec.specs.Courses.{Observed, Course, order, moments, lines, seen_at_entry, core_run, core_end}
 use Rattle.promise_spec.specs.Crashes.{LeavesAlone}
-use Rattle.promise_spec.specs.Exits.{IsLeft}
-use Rattle.promise_spec.specs.Explained.{AreSettled, IsExplained}
-use Rattle.promise_spec.specs.Journals.{Settlement, commits_of, entries_of, KeepsJournal, AllKeep, Backs}
+use Rattle.promise_spec.specs.Replies.{HasNoRecord}
+use Rattle.promise_spec.specs.Exits.{EndsWith, IsNowhere, HasDoubtfulBlock}
+use Rattle.promise_spec.specs.Explained.{AreAdded, AreSettled}
+use Rattle.promise_spec.specs.Journals.{Settlement, commits_of, entries_of, KeepsJournal, AllLog, Backs}
 use Rattle.promise_spec.specs.Promise.{HasReadAll, IsDone, IsSoundFolder}
 
 -- The run opened this log, over a sound folder: the files read as it, and each image at the return of the opening's last
--- sync is one of those at entry and has it; there is one. Until then nothing was written.
+-- sync has it; there is one. Until then nothing was written, and each image was one of those at entry.
 pub record Opens (p : Program) (r : Observed) (c : Course) : Type 0 where
-  pub checked : IsChecked p
   pub folder : IsSoundFolder p r.old
   pub read : IsLog (shape_in p) (seen_at_entry r) c.opening
-  pub opened : (image : Image) → IsImage (last_of (moment_of r.old) c.early).disk image → IsOpened p r c image
+  pub opened : AllLog p c.opening (last_of (moment_of r.old) c.early).disk
   pub some : Image
   pub possible : IsImage (last_of (moment_of r.old) c.early).disk some
   pub past : r.new.past ≡ r.old.past ++ (c.early ++ c.late)
@@ -37,36 +41,52 @@ SaysIn p r c journal m = (image : Image) → IsImage m.disk image →
     (k : KeepsJournal p c.opening r.old.output journal m image) × IsPrefix (entries_of k.said) c.entries
 
 -- The run kept a journal, whose records are those that were added and back what they acknowledge: each image of each
--- moment has a first part of it, and the program; an image has the whole of it. Other files and the header stay.
+-- moment has a first part of it, and one has the whole of it. Other files and the header stay.
 pub record Journals (p : Program) (r : Observed) (c : Course) : Type 0 where
   pub journal : List Settlement
   pub commits : c.added ≡ commits_of journal
   pub backs : Backs journal c.added
   pub kept : (m : Moment) → Member m (moments r c) → SaysIn p r c journal m
-  pub programs : (image : Image) → IsImageOf (moments r c) image → HasProgram p.text (image program_file)
   pub last : Image
   pub left : IsImageOf (moments r c) last
   pub longest : IsLog (shape_in p) last (order c)
   pub alone : (m : Moment) → Member m (moments r c) → LeavesAlone r m
 
+-- The records are those of the core's committed units. The events keep the unit rule, and on one thread the turn rule.
+-- No more faults show than were counted. Of files the manager file alone may end a run, and only with a batch in doubt;
+-- and a doubt ends the run.
+pub record Explains (p : Program) (r : Observed) (c : Course) : Type 0 where
+  pub records : AreAdded (core_end p c) c.added
+  pub units : KeepsUnitRule p.types (lines r) (core_run p c)
+  pub turns : r.manner.threaded ≡ false → KeepsTurnRule p.types (length (lines r)) r.manner.width r.manner.picks (core_run p c)
+  pub faults : AreFaults (core_run p c) r.faults_before r.faults_after
+  pub doubted : (file : FileId) → r.ending ≡ DiskFault file → (file ≡ manager) × HasDoubt (core_run p c)
+  pub ended : HasDoubt (core_run p c) → MayDoubt r.ending
+
+-- The log at the exit: each image has the whole order, or lacks the records of the batch in doubt. A unit that is told to
+-- be in doubt and that no image has is in no record, and the block of a batch in doubt stands behind its gate.
+pub record Leaves (p : Program) (r : Observed) (c : Course) : Type 0 where
+  pub logs : (image : Image) → IsImage r.new.disk image → EndsWith p c (core_end p c) image
+  pub nowhere : (e : Entry) → Member e c.entries → e.what ≡ InDoubt → IsNowhere p r e.unit → HasNoRecord c e.unit
+  pub block : HasDoubt (core_run p c) → HasDoubtfulBlock r c (core_end p c)
+
 -- How it ended: its lines are the input's, nothing began before the input was read whole, and done means that each line
--- has its entry; where no count rose, it went through.
+-- has its entry; a fault is shown by its count, and an input that is too long by its length.
 pub record Ends (r : Observed) (c : Course) : Type 0 where
   pub given : lines r ≡ lines_of r.old.input
-  pub risen : ending.HasRisen r.ending r.faults_before r.faults_after
-  pub carried : ending.IsCarried r.ending
-  pub long : ending.HasLength r.ending (length r.old.input)
+  pub risen : HasRisen r.ending r.faults_before r.faults_after
+  pub carried : IsCarried r.ending
+  pub long : HasLength r.ending (length r.old.input)
   pub begun : (c.events ≡ []) ⊎ HasReadAll r
-  pub done : r.ending ≡ ending.Done → IsDone r c
-  pub calm : NoneRose r.faults_before r.faults_after → ending.IsCalm r.ending
+  pub done : r.ending ≡ Done → IsDone r c
 
 -- what a run has to show
 pub record Shows (p : Program) (r : Observed) (c : Course) : Type 0 where
   pub opens : Opens p r c
-  pub explained : IsExplained p r c
+  pub explains : Explains p r c
   pub settled : AreSettled p r c
   pub output : Grew (shape_in p) r.old.output r.new.output c.entries c.rest
-  pub whole : r.ending ≢ ending.WriteFault → c.rest ≡ []
+  pub whole : r.ending ≢ WriteFault → c.rest ≡ []
   pub journals : Journals p r c
-  pub exit : IsLeft p r c
+  pub leaves : Leaves p r c
   pub ends : Ends r c
