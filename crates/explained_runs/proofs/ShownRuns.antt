@@ -148,6 +148,7 @@ module _ (p : Program) (r : Observed) (c : Course) (s : Shows p r c) where
     keeps = λ image of.
         (let k = kept_in p r c j image of in
         record { log = c.opening ++ commits_of (k.said ++ k.unsaid); is = k.log; longer = (commits_of (k.said ++ k.unsaid), refl) });
+    whole = j.batches;
     alone = j.alone;
   }
 
@@ -220,6 +221,7 @@ module _ (p : Program) (r : Observed) (c : Course) (s : Shows p r c) where
     done = s.ends.done;
     complete = λ none. record { calm = calm none; undisturbed = λ e m. calm_undisturbed p r c is none e (in_settled p c s.settled.entries e m) };
     alone = λ unthreaded one childless e m. single_unlocked p r c is unthreaded one childless e (in_settled p c s.settled.entries e m);
+    syncs = s.ends.syncs;
   }
 
   -- all clauses

@@ -1,5 +1,5 @@
 -- What a run has to show, so that it keeps its promise: the rest follows.
-use Rattle.std.specs.Prelude.{◌≡◌, ◌≢◌, ◌⊎◌, false, List, [], ◌++◌, length}
+use Rattle.std.specs.Prelude.{◌≡◌, ◌≢◌, ◌⊎◌, ◌+◌, false, List, [], ◌++◌, length}
 use Rattle.base_types.specs.declared.entries.Entry.{Entry}
 use Rattle.base_types.specs.declared.entries.Settled.TheVariants.{InDoubt}
 use Rattle.host_trait.specs.declared.channels.FileId.{FileId}
@@ -8,15 +8,16 @@ use Rattle.core_model.specs.World.{Member}
 use Rattle.silo_spec.specs.Silos.{manager}
 use Rattle.request_wire.specs.Lines.{lines_of}
 use Rattle.promise_spec.specs.Programs.{Program, shape_in}
+use Rattle.promise_spec.specs.Records.{Commit}
 use Rattle.promise_spec.specs.Logs.{IsLog, IsPrefix}
 use Rattle.promise_spec.specs.Moments.{IsImageOf, last_of}
 use Rattle.promise_spec.specs.Outputs.{Grew}
 use Rattle.promise_spec.specs.UnitRule.{KeepsUnitRule}
 use Rattle.promise_spec.specs.TurnRule.{KeepsTurnRule}
-use Rattle.promise_spec.specs.Causes.{AreFaults, HasDoubt}
+use Rattle.promise_spec.specs.Causes.{AreFaults, HasDoubt, NoneRose, syncs_of}
 use Rattle.promise_spec.specs.Endings.{Done, WriteFault, DiskFault, HasRisen, IsCarried, HasLength, MayDoubt}
 use Rattle.promise_spec.specs.Courses.{Observed, Course, order, moments, lines, seen_at_entry, core_run, core_end}
-use Rattle.promise_spec.specs.Crashes.{LeavesAlone}
+use Rattle.promise_spec.specs.Crashes.{EndsABatch, LeavesAlone}
 use Rattle.promise_spec.specs.Replies.{HasNoRecord}
 use Rattle.promise_spec.specs.Exits.{EndsWith, IsNowhere, HasDoubtfulBlock}
 use Rattle.promise_spec.specs.Explained.{AreAdded, AreSettled}
@@ -41,12 +42,15 @@ SaysIn p r c journal m = (image : Image) → IsImage m.disk image →
     (k : KeepsJournal p c.opening r.old.output journal m image) × IsPrefix (entries_of k.said) c.entries
 
 -- The run kept a journal, whose records are those that were added and back what they acknowledge: each image of each
--- moment has a first part of it, and one has the whole of it. Other files and the header stay.
+-- moment has a first part of it, which ends where a batch does, and one has the whole of it. Other files and the header
+-- stay.
 pub record Journals (p : Program) (r : Observed) (c : Course) : Type 0 where
   pub journal : List Settlement
   pub commits : c.added ≡ commits_of journal
   pub backs : Backs journal c.added
   pub kept : (m : Moment) → Member m (moments r c) → SaysIn p r c journal m
+  pub batches : (image : Image) (log : List Commit) → IsImageOf (moments r c) image → IsLog (shape_in p) image log →
+      EndsABatch (core_end p c) c.opening log
   pub last : Image
   pub left : IsImageOf (moments r c) last
   pub longest : IsLog (shape_in p) last (order c)
@@ -71,14 +75,16 @@ pub record Leaves (p : Program) (r : Observed) (c : Course) : Type 0 where
   pub block : HasDoubt (core_run p c) → HasDoubtfulBlock r c (core_end p c)
 
 -- How it ended: its lines are the input's, nothing began before the input was read whole, and done means that each line
--- has its entry; a fault is shown by its count, and an input that is too long by its length.
-pub record Ends (r : Observed) (c : Course) : Type 0 where
+-- has its entry; a fault is shown by its count, and an input that is too long by its length. Where nothing failed, so many
+-- syncs were asked for.
+pub record Ends (p : Program) (r : Observed) (c : Course) : Type 0 where
   pub given : lines r ≡ lines_of r.old.input
   pub risen : HasRisen r.ending r.faults_before r.faults_after
   pub carried : IsCarried r.ending
   pub long : HasLength r.ending (length r.old.input)
   pub begun : (c.events ≡ []) ⊎ HasReadAll r
   pub done : r.ending ≡ Done → IsDone r c
+  pub syncs : NoneRose r.faults_before r.faults_after → r.ending ≡ Done → r.new.syncs ≡ r.old.syncs + syncs_of (core_run p c)
 
 -- what a run has to show
 pub record Shows (p : Program) (r : Observed) (c : Course) : Type 0 where
@@ -89,4 +95,4 @@ pub record Shows (p : Program) (r : Observed) (c : Course) : Type 0 where
   pub whole : r.ending ≢ WriteFault → c.rest ≡ []
   pub journals : Journals p r c
   pub leaves : Leaves p r c
-  pub ends : Ends r c
+  pub ends : Ends p r c
