@@ -6,5 +6,6 @@ pub mod PlainNames
 pub mod ReadBlocks
 pub mod ReadVersions
 pub mod Openings
+pub mod Doubts
 pub mod Quiet
 pub mod Words

@@ -1,12 +1,15 @@
 -- A load that follows a run keeps what is promised of a load.
-use Rattle.std.proofs.Common.{◌≡◌, inl, inr, ℕ, List, [], ◌∷◌, ◌++◌, map, refl, sym, ap, subst, ◌∙◌}
+use Rattle.std.proofs.Common.{◌≡◌, ◌≢◌, ◌⊎◌, inl, inr, ℕ, ◌+◌, List, [], ◌∷◌, ◌++◌, map, refl, sym, ap, subst, ◌∙◌}
 use Rattle.std.proofs.lemmas.List.{append-nil}
 use Rattle.core_model.specs.World.{Member, World as CoreWorld}
 use Rattle.host_trait.specs.World.{Moment, Image, IsImage, moment_of}
-use Rattle.promise_spec.specs.Programs.{Program}
+use Rattle.promise_spec.specs.Programs.{Program, shape_in}
+use Rattle.promise_spec.specs.Records.{Commit}
+use Rattle.promise_spec.specs.Logs.{IsLog}
+use Rattle.promise_spec.specs.Causes.{syncs_of}
 use Rattle.promise_spec.specs.Moments.{IsImageOf, last_of}
-use Rattle.promise_spec.specs.Endings.{Done, IsBegun, IsAllWritten}
-use Rattle.promise_spec.specs.Courses.{Observed, Course, moments, lines, core_end}
+use Rattle.promise_spec.specs.Endings.{Done, WriteFault, IsBegun, IsAllWritten, MayDoubt}
+use Rattle.promise_spec.specs.Courses.{Observed, Course, order, moments, lines, core_run, core_end}
 use Rattle.promise_spec.specs.Orders.{IsOrdered}
 use Rattle.promise_spec.specs.Crashes.{SurvivesCrashes}
 use Rattle.promise_spec.specs.Exits.{IsLeft, LacksDoubtful}
@@ -15,6 +18,7 @@ use Rattle.promise_spec.specs.Promise.{Keeps}
 use Rattle.promise_spec.specs.Commands.{Prints}
 use Rattle.promise_spec.specs.Loads.{AskFor, HasLoaded, KeepsLoad, IsQuietRun, load_calls, quieted, quiet_course, summary_text}
 use Rattle.promise_spec.proofs.Lists.{either_in, in_append}
+use Rattle.promise_spec.proofs.Doubts.{doubt_left}
 
 -- ---- moments by their disks
 
@@ -41,6 +45,19 @@ image_among : (ms ns : List Moment) (image : Image) → ((m : Moment) → Member
 image_among ms ns image among is =
     let h = among is.moment is.member in
     record { moment = h.moment; member = h.member; left = subst (λ d. IsImage d image) h.disk is.left }
+
+-- ---- moments by what was written
+
+-- a quieted moment has written nothing more
+said_nothing : (output : List ℕ) (late : List Moment) (m : Moment) → Member m (map (quieted output) late) → m.output ≡ output
+said_nothing output [] m none = absurd none
+said_nothing output (x ∷ late) m (inl here) = ap (λ (n : Moment). n.output) here
+said_nothing output (x ∷ late) m (inr there) = said_nothing output late m there
+
+-- nor has the last of some that haven't
+last_quiet : (output : List ℕ) (before : Moment) (early : List Moment) → before.output ≡ output → ((m : Moment) → Member m early → m.output ≡ output) → (last_of before early).output ≡ output
+last_quiet output before [] same quiet = same
+last_quiet output before (x ∷ early) same quiet = last_quiet output x early (quiet x (inl refl)) (λ m there. quiet m (inr there))
 
 -- ---- the load with what the run shows
 
@@ -134,6 +151,7 @@ module _ (p : Program) (r s : Observed) (c : Course) (told : List Moment) (told_
     chain = λ one other is_one is_other. k.chain one other (of_run one is_one) (of_run other is_other);
     sound = λ image is. k.sound image (of_run image is);
     keeps = λ image is. let o = k.keeps image (of_run image is) in record { log = o.log; is = o.is; longer = o.longer };
+    whole = λ image log is is_log. let o = k.whole image log (of_run image is) is_log in record { batches = o.batches; more = o.more; split = o.split; records = o.records };
     alone = λ m there.
         let h = to_run m there in
         let o = k.alone h.moment h.member in
@@ -171,14 +189,44 @@ module _ (p : Program) (r s : Observed) (c : Course) (told : List Moment) (told_
     ended = k.ended;
   }
 
-  ended : Keeps p r c → r.ending ≡ Done → s.new.input ≡ s.old.input → HasLoaded p (alike r s) (quiet_course r c told)
-  ended k done unread = record {
+  -- where the run is done, each image that it left has the whole order
+  whole_order : Keeps p r c → r.ending ≡ Done → (image : Image) → IsImage r.new.disk image → IsLog (shape_in p) image (order c)
+  whole_order k done image left =
+      let o = k.exit.logs image left in
+      elim o.which [
+        | inl whole ↦ subst (λ (l : List Commit). IsLog (shape_in p) image l) whole o.is
+        | inr lack ↦ absurd (subst MayDoubt done (k.explained.ended (doubt_left (core_run p c) lack.begins lack.doubt)))
+      ]
+
+  -- a moment of the load has written nothing, or has the disk that the run left
+  unsaid_or_left : SurvivesCrashes p r c → (m : Moment) → Member m (moments (alike r s) (quiet_course r c told)) → (m.output ≡ r.old.output) ⊎ (m.disk ≡ r.new.disk)
+  unsaid_or_left k m (inl here) = inl (ap (λ (n : Moment). n.output) here ∙ last_quiet r.old.output (moment_of r.old) c.early refl k.quiet)
+  unsaid_or_left k m (inr there) =
+      let late : List Moment = map (quieted r.old.output) c.late in
+      elim (either_in m (late ++ told) (moment_of (alike r s).new ∷ []) there) [
+        | inl x ↦ elim (either_in m late told x) [
+          | inl y ↦ inl (said_nothing r.old.output c.late m y)
+          | inr y ↦ inr (told_disk m y)
+        ]
+        | inr x ↦ inr (elim x [ inl here ↦ ap (λ (n : Moment). n.disk) here | inr none ↦ absurd none ])
+      ]
+
+  lasting : Keeps p r c → r.ending ≡ Done → (m : Moment) (image : Image) → Member m (moments (alike r s) (quiet_course r c told)) → IsImage m.disk image → m.output ≢ r.old.output → IsLog (shape_in p) image (order c)
+  lasting k done m image there left said = elim (unsaid_or_left k.crashes m there) [
+    | inl quiet ↦ absurd (said quiet)
+    | inr same ↦ whole_order k done image (subst (λ d. IsImage d image) same left)
+  ]
+
+  ended : Keeps p r c → r.ending ≡ Done → s.new.input ≡ s.old.input → s.old.syncs ≡ r.old.syncs → s.new.syncs ≡ r.new.syncs → HasLoaded p (alike r s) (quiet_course r c told)
+  ended k done unread before after = record {
     unread = unread;
     carried = subst IsBegun (sym done) tt;
     risen = k.ended.risen;
-    done = λ is. (k.ended.done is).answered;
+    done = λ is. (k.ended.done done).answered;
+    undoubted = λ fault doubt. absurd (let e : Done ≡ WriteFault = sym done ∙ fault in cc e);
     complete = λ calm. let o = k.ended.complete calm in record { calm = o.calm; undisturbed = o.undisturbed };
     alone = k.ended.alone;
+    syncs = λ calm is. after ∙ k.ended.syncs calm is ∙ ap (λ (n : ℕ). n + syncs_of (core_run p c)) (sym before);
   }
 
   prints : (text : List ℕ) → r.ending ≡ Done → s.new.output ≡ r.old.output ++ text → Prints text (alike r s)
@@ -200,8 +248,9 @@ module _ (p : Program) (r s : Observed) (c : Course) (told : List Moment) (told_
     settled = k.settled.all (inl (subst IsAllWritten (sym done) tt));
     explained = explained k.explained;
     output = prints (summary_text p r c) done (q.output ∙ ap (λ (o : List ℕ). o ++ summary_text p r c) q.output_before);
+    lasting = lasting k done;
     silent = λ undone. absurd (undone done);
-    ended = ended k done q.unread;
+    ended = ended k done q.unread q.syncs_before q.syncs_after;
   }
 
 -- a load that follows a run keeps what is promised of a load
