@@ -1,5 +1,5 @@
 -- A run of one deposit keeps the whole promise.
-use Rattle.std.proofs.Common.{◌≡◌, inl, inr, ℕ, ◌≤◌, Bool, true, false, List, [], ◌∷◌, ◌++◌, length, take, drop, refl, sym, ◌∙◌, ap, subst, arith, lit<}
+use Rattle.std.proofs.Common.{◌≡◌, inl, inr, ℕ, ◌+◌, ◌≤◌, Bool, true, false, List, [], ◌∷◌, ◌++◌, length, take, drop, refl, sym, ◌∙◌, ap, subst, arith, lit<}
 use Rattle.std.specs.Prelude.{count_by, if◌then◌else◌}
 use Rattle.std.proofs.lemmas.List.{append-nil}
 use Rattle.base_types.specs.declared.calls.GrainId.{GrainId}
@@ -18,18 +18,19 @@ use Rattle.host_trait.specs.declared.channels.FileId.TheVariants.{Grain}
 use Rattle.host_trait.specs.World.{Moment, Image, IsImage, moment_of}
 use Rattle.silo_spec.specs.Silos.{manager, program_file, HasProgram}
 use Rattle.promise_spec.specs.Programs.{shape_in}
+use Rattle.promise_spec.specs.Records.{Commit}
 use Rattle.promise_spec.specs.Logs.{IsLog, IsPrefix}
 use Rattle.promise_spec.specs.Moments.{IsImageOf}
 use Rattle.promise_spec.specs.Outputs.{IsProper, Grew, reply_lines}
 use Rattle.promise_spec.specs.Cores.{HasBegun, applied_in, how_many}
 use Rattle.promise_spec.specs.TurnRule.{KeepsTurnRule}
-use Rattle.promise_spec.specs.Causes.{RoseBy, HasDoubt, AreCaused, is_no, is_unsealed}
+use Rattle.promise_spec.specs.Causes.{RoseBy, HasDoubt, AreCaused, is_no, is_unsealed, syncs_of}
 use Rattle.promise_spec.specs.Family.{IsUnitOf, IsReached, by_line}
 use Rattle.promise_spec.specs.Endings as ending
 use Rattle.promise_spec.specs.Courses.{Observed, Course, moments, lines, core_end}
 use Rattle.promise_spec.specs.Orders.{IsOrdered}
 use Rattle.promise_spec.specs.Replies.{AreReplies, IsTrueOf, HasNoRecord}
-use Rattle.promise_spec.specs.Crashes.{LeavesAlone, SurvivesCrashes, HoldsReplies}
+use Rattle.promise_spec.specs.Crashes.{EndsABatch, LeavesAlone, SurvivesCrashes, HoldsReplies}
 use Rattle.promise_spec.specs.Exits.{IsLeft, IsNowhere}
 use Rattle.promise_spec.specs.Explained.{AreAdded, AreSettled, IsExplained}
 use Rattle.promise_spec.specs.Journals.{Settlement, KeepsJournal, Backs, commits_of, entries_of}
@@ -41,6 +42,7 @@ use Rattle.promise_spec.proofs.OneLog.{one_log}
 use Rattle.promise_spec.proofs.Journaled.{chained, longest, holds, sound}
 use Rattle.promise_runs.proofs.FirstDeposit.{five}
 use Rattle.promise_runs.proofs.Between.{at_each, exit_there, all_less}
+use Rattle.promise_runs.proofs.WholeBatches.{no_batch}
 use Rattle.promise_runs.proofs.FirstFamily.{only, only_at, serial, numbered, none_of, none_counted, family_of}
 use Rattle.promise_runs.proofs.DepositRules.{Each, each_from_0, one_unit_rule, one_turn_rule}
 
@@ -88,6 +90,15 @@ no_votes : (g : GrainId) → how_many (is_no g) core ≡ 0
 no_votes g =
     ap (λ (events : List CoreEvent). count_by (is_no g) events) all_apply
     ∙ none_counted (is_no g) deposit_events (refl, (refl, (refl, (refl, (refl, (none_of (same_grain account_1 g), (refl, (refl, (refl, (refl, tt))))))))))
+
+-- one of the opening, one of the vote, and two of the batch
+four_syncs : syncs_of core ≡ 4
+unfolding put put_grain
+four_syncs = refl
+
+-- each image of the moment has the deposit or not
+abbrev AllMayHave : Moment → Type 0
+AllMayHave m = (image : Image) → IsImage m.disk image → MayHaveDeposit image
 
 proper : IsProper (shape_in account_program) first_entry
 proper = record { line = (omega arith, lit< tt); unit = (omega arith, lit< tt); what = five }
@@ -182,6 +193,23 @@ module _ (r : Observed) (opened : Moment) (sealing : List Moment) (run : IsDepos
       at_each (LeavesAlone r) opened sealing (moment_of r.new) run.alone.0
       (all_less (IsBetween r r.old.output MayHaveDeposit) (LeavesAlone r) sealing (λ m is. is.alone) run.sealed) run.alone.1
 
+  -- each image of each moment has the deposit or not
+  may_have : (m : Moment) → Member m (moments r course) → (image : Image) → IsImage m.disk image → MayHaveDeposit image
+  may_have =
+      at_each AllMayHave opened sealing (moment_of r.new) (λ image left. inl (run.entry image left).1)
+      (all_less (IsBetween r r.old.output MayHaveDeposit) AllMayHave sealing (λ m is. is.images) run.sealed) (λ image left. inr (run.logged image left))
+
+  -- the one batch is the deposit's
+  one_batch : EndsABatch (core_end account_program course) [] (first_commit ∷ [])
+  unfolding put put_grain
+  one_batch = record { batches = 1; more = first_commit ∷ []; split = refl; records = (record { unit = refl; origin = refl; call = refl; answers = refl; result = refl; writes = refl }, tt) }
+
+  whole_batches : (image : Image) (log : List Commit) → MayHaveDeposit image → IsLog (shape_in account_program) image log → EndsABatch (core_end account_program course) [] log
+  whole_batches image log (inl none) is =
+      subst (EndsABatch (core_end account_program course) []) (one_log (shape_in account_program) image [] log none.0 is) (no_batch (core_end account_program course) [])
+  whole_batches image log (inr has) is =
+      subst (EndsABatch (core_end account_program course) []) (one_log (shape_in account_program) image (first_commit ∷ []) log has.0 is) one_batch
+
   crashes : SurvivesCrashes account_program r course
   crashes = record {
     past = run.past;
@@ -190,6 +218,7 @@ module _ (r : Observed) (opened : Moment) (sealing : List Moment) (run : IsDepos
     chain = λ one other a b. chained account_program [] r.old.output journal a.moment b.moment one other (keeps_at one a) (keeps_at other b);
     sound = λ image is. sound account_program [] r.old.output journal is.moment image (keeps_at image is) (known is.moment is.member image is.left).1 serial numbered;
     keeps = λ image is. let k = keeps_at image is in record { log = commits_of (k.said ++ k.unsaid); is = k.log; longer = (commits_of (k.said ++ k.unsaid), refl) };
+    whole = λ image log is log_is. whole_batches image log (may_have is.moment is.member image is.left) log_is;
     alone = alone;
   }
 
@@ -268,6 +297,7 @@ module _ (r : Observed) (opened : Moment) (sealing : List Moment) (run : IsDepos
     done = λ is. record { input = run.left; answered = λ n low high. (first_entry, inl refl, (let one : length (lines r) ≡ 1 = run.one in omega arith)) };
     complete = λ calm. record { calm = statuses.3; undisturbed = λ e there. only (λ (d : Entry). IsUndisturbed d.what) first_entry e tt there };
     alone = λ single one none e there. only (λ (d : Entry). IsNoLock d.what) first_entry e tt there;
+    syncs = λ calm is. run.syncs ∙ ap (λ (n : ℕ). r.old.syncs + n) (sym four_syncs);
   }
 
   pub kept : Keeps account_program r course

@@ -25,7 +25,7 @@ use Rattle.host_trait.specs.World.{Moment, Image, IsImage, moment_of}
 use Rattle.silo_spec.specs.Silos.{manager, program_file, HasProgram}
 use Rattle.promise_spec.specs.Programs.{shape_in}
 use Rattle.promise_spec.specs.Records.{Commit, AreRecordsOf}
-use Rattle.promise_spec.specs.Logs.{IsPrefix}
+use Rattle.promise_spec.specs.Logs.{IsLog, IsPrefix}
 use Rattle.promise_spec.specs.Moments.{IsImageOf}
 use Rattle.promise_spec.specs.Outputs.{IsProper, reply_lines}
 use Rattle.promise_spec.specs.Cores.{HasBegun, applied_in, how_many}
@@ -36,7 +36,7 @@ use Rattle.promise_spec.specs.Endings as ending
 use Rattle.promise_spec.specs.Courses.{Observed, Course, moments, lines, core_end}
 use Rattle.promise_spec.specs.Orders.{IsOrdered}
 use Rattle.promise_spec.specs.Replies.{AreReplies, IsTrueOf, HasNoRecord}
-use Rattle.promise_spec.specs.Crashes.{HasOutcome, LeavesAlone, SurvivesCrashes, HoldsReplies}
+use Rattle.promise_spec.specs.Crashes.{HasOutcome, EndsABatch, LeavesAlone, SurvivesCrashes, HoldsReplies}
 use Rattle.promise_spec.specs.Exits.{IsLeft, IsDoubt, EndsWith, IsNowhere, doubtful}
 use Rattle.promise_spec.specs.Explained.{AreAdded, AreSettled, IsExplained}
 use Rattle.promise_spec.specs.Journals.{Settlement, KeepsJournal, Backs, commits_of, entries_of}
@@ -45,8 +45,10 @@ use Rattle.promise_runs.specs.Examples.{accounts, account_program, account_1, un
 use Rattle.promise_runs.specs.DepositRuns.{HasNone, HasDeposit, MayHaveDeposit, IsBetween}
 use Rattle.promise_runs.specs.DoubtRuns.{IsDoubtRun, doubt_course, first_told}
 use Rattle.promise_spec.proofs.Lists.{none_at, some_is, in_append, both_parts}
+use Rattle.promise_spec.proofs.OneLog.{one_log}
 use Rattle.promise_spec.proofs.Journaled.{chained, longest, holds, sound}
 use Rattle.promise_runs.proofs.Between.{at_each, exit_there, all_less}
+use Rattle.promise_runs.proofs.WholeBatches.{no_batch}
 use Rattle.promise_runs.proofs.FirstFamily.{only, either_of, serial, numbered, none_of, none_counted, family_of}
 use Rattle.promise_runs.proofs.DepositRules.{two_unit_rule, two_turn_rule, two_settled}
 
@@ -134,6 +136,10 @@ not_one same = let numbers : 2 ≡ 1 = ap (λ (u : UnitNo). u.0) same in omega (
 only_get : {A : Type 0} (x : A) (i : ℕ) (y : A) → slice_get (x ∷ []) i ≡ Some y → x ≡ y
 only_get x zero y is = some_is x y is
 only_get x (suc i) y is = absurd (none_at i y is)
+
+-- each image of the moment has the deposit or not
+abbrev AllMayHave : Moment → Type 0
+AllMayHave m = (image : Image) → IsImage m.disk image → MayHaveDeposit image
 
 -- of two entries the first is the one that met a lock
 earlier : (i j : ℕ) (d e : Entry) → slice_get conflict_entries i ≡ Some d → slice_get conflict_entries j ≡ Some e → i < j → d ≡ locked_entry
@@ -245,6 +251,25 @@ module _ (r : Observed) (opened : Moment) (told doubting : List Moment) (run : I
       (all_less (IsBetween r (first_told r) MayHaveDeposit) (LeavesAlone r) doubting (λ m is. is.alone) run.either))
       run.alone.1
 
+  -- each image of each moment has the deposit or not
+  may_have : (m : Moment) → Member m (moments r course) → (image : Image) → IsImage m.disk image → MayHaveDeposit image
+  may_have =
+      at_each AllMayHave opened (told ++ doubting) (moment_of r.new) (λ image left. inl (run.entry image left).1)
+      (both_parts AllMayHave told doubting (all_less (IsBetween r (first_told r) HasNone) AllMayHave told (λ m is image left. inl (is.images image left)) run.none)
+      (all_less (IsBetween r (first_told r) MayHaveDeposit) AllMayHave doubting (λ m is. is.images) run.either))
+      run.exit
+
+  -- the one batch is the deposit's, which is in doubt
+  one_batch : EndsABatch (core_end account_program course) [] (first_commit ∷ [])
+  unfolding put put_grain
+  one_batch = record { batches = 1; more = first_commit ∷ []; split = refl; records = (record { unit = refl; origin = refl; call = refl; answers = refl; result = refl; writes = refl }, tt) }
+
+  whole_batches : (image : Image) (log : List Commit) → MayHaveDeposit image → IsLog (shape_in account_program) image log → EndsABatch (core_end account_program course) [] log
+  whole_batches image log (inl none) is =
+      subst (EndsABatch (core_end account_program course) []) (one_log (shape_in account_program) image [] log none.0 is) (no_batch (core_end account_program course) [])
+  whole_batches image log (inr has) is =
+      subst (EndsABatch (core_end account_program course) []) (one_log (shape_in account_program) image (first_commit ∷ []) log has.0 is) one_batch
+
   crashes : SurvivesCrashes account_program r course
   crashes = record {
     past = run.past;
@@ -253,6 +278,7 @@ module _ (r : Observed) (opened : Moment) (told doubting : List Moment) (run : I
     chain = λ one other a b. chained account_program [] r.old.output journal a.moment b.moment one other (keeps_at one a) (keeps_at other b);
     sound = λ image is. sound account_program [] r.old.output journal is.moment image (keeps_at image is) (known is.moment is.member image is.left).1 serial numbered;
     keeps = λ image is. let k = keeps_at image is in record { log = commits_of (k.said ++ k.unsaid); is = k.log; longer = (commits_of (k.said ++ k.unsaid), refl) };
+    whole = λ image log is log_is. whole_batches image log (may_have is.moment is.member image is.left) log_is;
     alone = alone;
   }
 
@@ -381,6 +407,7 @@ module _ (r : Observed) (opened : Moment) (told doubting : List Moment) (run : I
     done = λ is. absurd (let e : ending.DiskFault manager ≡ ending.Done = sym run.ending ∙ is in cc e);
     complete = λ calm. absurd (not_calm calm);
     alone = λ single one none e there. absurd (let two : r.manner.width ≡ 2 = run.pair.1 in let width : r.manner.width ≡ 1 = one in omega arith);
+    syncs = λ calm is. absurd (not_calm calm);
   }
 
   pub kept : Keeps account_program r course

@@ -11,12 +11,13 @@ use Rattle.promise_spec.specs.Logs.{IsLog}
 use Rattle.promise_spec.specs.Moments.{IsImageOf}
 use Rattle.promise_spec.specs.Causes.{RoseBy}
 use Rattle.promise_spec.specs.Endings.{Done, DiskFault, HasRisen, IsCarried, HasLength, IsCalm}
-use Rattle.promise_spec.specs.Crashes.{LeavesAlone}
-use Rattle.promise_spec.specs.Courses.{Observed, moments, lines}
+use Rattle.promise_spec.specs.Crashes.{LeavesAlone, EndsABatch}
+use Rattle.promise_spec.specs.Courses.{Observed, moments, lines, core_end}
 use Rattle.promise_spec.specs.Promise.{Keeps}
 use Rattle.promise_spec.proofs.Lists.{none_at}
 use Rattle.promise_spec.proofs.OneLog.{one_log}
 use Rattle.promise_runs.proofs.FirstFamily.{no_family}
+use Rattle.promise_runs.proofs.WholeBatches.{no_batch}
 use Rattle.promise_runs.specs.EmptyRuns.{IsEmptyRun, empty_course}
 
 module _ (p : Program) (r : Observed) (opening : List Commit) (run : IsEmptyRun p r opening) where
@@ -82,6 +83,7 @@ module _ (p : Program) (r : Observed) (opening : List Commit) (run : IsEmptyRun 
       chain = λ one other a b silo. (opening ++ [], whole one (at_exit one a), λ silo_too. (opening ++ [], whole other (at_exit other b), inl ([], sym (append-nil (opening ++ [])))));
       sound = λ image is. run.sound image (at_exit image is);
       keeps = λ image is. record { log = opening; is = run.logs image (at_exit image is); longer = ([], sym (append-nil opening)) };
+      whole = λ image log is log_is. subst (EndsABatch (core_end p (empty_course r opening)) opening) (one_log (shape_in p) image opening log (run.logs image (at_exit image is)) log_is) (no_batch (core_end p (empty_course r opening)) opening);
       alone = λ m there. elim there [
         | inl same ↦ subst (LeavesAlone r) (sym same) run.alone
         | inr more ↦ elim more [ inl same ↦ subst (LeavesAlone r) (sym same) run.alone | inr none ↦ absurd none ]
@@ -126,5 +128,6 @@ module _ (p : Program) (r : Observed) (opening : List Commit) (run : IsEmptyRun 
       done = λ is. record { input = run.left; answered = λ n low high. absurd (omega (arith, no_lines)) };
       complete = λ calm. record { calm = ended.3; undisturbed = λ e none. absurd none };
       alone = λ single one none e there. absurd there;
+      syncs = λ calm is. run.syncs;
     };
   }

@@ -2,9 +2,13 @@ pub mod FirstDeposit
 pub mod AccountText
 pub mod FirstFamily
 pub mod Between
+pub mod WholeBatches
 pub mod DepositRules
 pub mod EmptyRun
 pub mod DepositRun
+pub mod Emitting
+pub mod WrongRuns
+pub mod Opened
 pub mod NewSilo
 pub mod SealingDisks
 pub mod HostSteps
@@ -18,6 +22,4 @@ pub mod BadTexts
 pub mod WrittenRefusal
 pub mod Transfer
 pub mod Load
-pub mod Emitting
-pub mod WrongRuns
 pub mod WrongAnswers

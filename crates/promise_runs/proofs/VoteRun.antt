@@ -33,7 +33,7 @@ use Rattle.promise_spec.specs.Endings as ending
 use Rattle.promise_spec.specs.Courses.{Observed, Course, moments, lines, core_end}
 use Rattle.promise_spec.specs.Orders.{IsOrdered}
 use Rattle.promise_spec.specs.Replies.{AreReplies, IsTrueOf}
-use Rattle.promise_spec.specs.Crashes.{LeavesAlone, SurvivesCrashes, HoldsReplies}
+use Rattle.promise_spec.specs.Crashes.{EndsABatch, LeavesAlone, SurvivesCrashes, HoldsReplies}
 use Rattle.promise_spec.specs.Exits.{IsLeft}
 use Rattle.promise_spec.specs.Explained.{AreSettled, IsExplained}
 use Rattle.promise_spec.specs.Journals.{Settlement, KeepsJournal, Backs, commits_of, entries_of}
@@ -45,6 +45,7 @@ use Rattle.promise_spec.proofs.Lists.{none_at, both_parts}
 use Rattle.promise_spec.proofs.OneLog.{one_log}
 use Rattle.promise_spec.proofs.Journaled.{chained, longest, holds, sound}
 use Rattle.promise_runs.proofs.Between.{at_each, exit_there, all_less}
+use Rattle.promise_runs.proofs.WholeBatches.{no_batch}
 use Rattle.promise_runs.proofs.FirstFamily.{only, either_of, none_counted, no_family}
 use Rattle.promise_runs.proofs.DepositRules.{Each, each_from_0, vote_unit_rule, vote_turn_rule, vote_settled}
 
@@ -144,6 +145,10 @@ other_account g other same =
     let is : same_grain account_1 account_1 ≡ false = subst (λ (h : GrainId). same_grain account_1 h ≡ false) files other in
     absurd (cc is)
 
+-- no image of the moment has a record
+abbrev AllHaveNone : Moment → Type 0
+AllHaveNone m = (image : Image) → IsImage m.disk image → HasNone image
+
 not_manager : File manager ≢ File (Grain 0 account_1)
 not_manager same = let files : Manager 0 ≡ Grain 0 account_1 = cc same in absurd (cc files)
 
@@ -230,6 +235,14 @@ module _ (r : Observed) (opened : Moment) (failing told : List Moment) (run : Is
       (all_less (IsBetween r (r.old.output ++ reply_lines (shape_in account_program) (voted_entry ∷ [])) HasNone) (LeavesAlone r) told (λ m is. is.alone) run.first))
       run.alone.1
 
+  -- no image of any moment has a record
+  have_none : (m : Moment) → Member m (moments r course) → (image : Image) → IsImage m.disk image → HasNone image
+  have_none =
+      at_each AllHaveNone opened (failing ++ told) (moment_of r.new) (λ image left. (run.entry image left).1)
+      (both_parts AllHaveNone failing told (all_less (IsBetween r r.old.output HasNone) AllHaveNone failing (λ m is. is.images) run.unsaid)
+      (all_less (IsBetween r (r.old.output ++ reply_lines (shape_in account_program) (voted_entry ∷ [])) HasNone) AllHaveNone told (λ m is. is.images) run.first))
+      run.exit
+
   crashes : SurvivesCrashes account_program r course
   crashes = record {
     past = run.past;
@@ -238,6 +251,8 @@ module _ (r : Observed) (opened : Moment) (failing told : List Moment) (run : Is
     chain = λ one other a b. chained account_program [] r.old.output journal a.moment b.moment one other (keeps_at one a) (keeps_at other b);
     sound = λ image is. sound account_program [] r.old.output journal is.moment image (keeps_at image is) (known is.moment is.member image is.left).1 tt tt;
     keeps = λ image is. let k = keeps_at image is in record { log = commits_of (k.said ++ k.unsaid); is = k.log; longer = (commits_of (k.said ++ k.unsaid), refl) };
+    whole = λ image log is log_is.
+        subst (EndsABatch (core_end account_program course) []) (one_log (shape_in account_program) image [] log (have_none is.moment is.member image is.left).0 log_is) (no_batch (core_end account_program course) []);
     alone = alone;
   }
 
@@ -324,6 +339,7 @@ module _ (r : Observed) (opened : Moment) (failing told : List Moment) (run : Is
     done = λ is. record { input = run.left; answered = λ n low high. answered n low (let two : length (lines r) ≡ 2 = run.two in omega arith) };
     complete = λ calm. absurd (not_calm calm);
     alone = λ single one none e there. absurd (let two : r.manner.width ≡ 2 = run.pair.1 in let width : r.manner.width ≡ 1 = one in omega arith);
+    syncs = λ calm is. absurd (not_calm calm);
   }
 
   pub kept : Keeps account_program r course

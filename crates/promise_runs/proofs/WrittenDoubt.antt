@@ -17,7 +17,6 @@ use Rattle.promise_spec.specs.Programs.{Program, shape_in}
 use Rattle.promise_spec.specs.Outputs.{reply_lines}
 use Rattle.promise_spec.specs.Courses.{lines}
 use Rattle.promise_spec.specs.Exits.{HasBlock, DifferAt}
-use Rattle.promise_spec.specs.Refusals.{HasOpened}
 use Rattle.promise_spec.specs.Promise.{IsSoundFolder, Keeps, Promises}
 use Rattle.promise_runs.specs.Examples.{account_program, account_1, program_bytes, first_commit, grain_bytes, block_bytes, manager_bytes, locked_entry, conflict_entries, AskDeposits}
 use Rattle.promise_runs.specs.DepositRuns.{HasNone, HasDeposit, MayHaveDeposit, IsBetween}
@@ -30,6 +29,7 @@ use Rattle.promise_runs.proofs.SealingDisks.{at_new, at_block, at_staged, at_sea
 use Rattle.promise_runs.proofs.HostSteps.{pulled, ended, wrote_grain, wrote_log, synced_grain, synced_log, unsynced_log, emitted}
 use Rattle.promise_runs.proofs.WrittenRun.{version_wrote, block_wrote, gate_wrote}
 use Rattle.promise_runs.proofs.DoubtRun.{kept}
+use Rattle.promise_runs.proofs.Opened.{has_opened}
 
 -- ---- the lines
 
@@ -147,18 +147,10 @@ sound_at_entry = sound_world pair_before (λ image left. left)
 pub doubted_keeps : Keeps account_program doubted (doubt_course opened told doubting doubted)
 doubted_keeps = kept doubted opened told doubting is_doubt_run
 
-has_opened : HasOpened doubted
-has_opened = record {
-  openable = record { program = account_program; log = []; reads = new_reads };
-  carried = tt;
-  risen = omega arith;
-  long = omega arith;
-}
-
 pub doubted_promises : Promises pair_manner doubted
 doubted_promises = record {
   manner = refl;
-  answers = inr has_opened;
+  answers = inr (has_opened account_program doubted (doubt_course opened told doubting doubted) doubted_keeps [] new_reads);
   over_sound = λ p checked sound.
       inr (doubt_course opened told doubting doubted, subst (λ (q : Program). Keeps q doubted (doubt_course opened told doubting doubted)) (only_program p checked sound.sound) doubted_keeps);
 }

@@ -5,7 +5,6 @@ use Rattle.host_trait.specs.Disk.{Overwrote, settled}
 use Rattle.host_trait.specs.World.{Moment}
 use Rattle.promise_spec.specs.Programs.{Program, shape_in}
 use Rattle.promise_spec.specs.Words.{plain_manner}
-use Rattle.promise_spec.specs.Refusals.{HasOpened}
 use Rattle.promise_spec.specs.Lines.{IsLineCall}
 use Rattle.promise_spec.specs.Outputs.{reply_lines}
 use Rattle.promise_spec.specs.Courses.{lines}
@@ -19,6 +18,7 @@ use Rattle.promise_runs.proofs.NewSilo.{new_images, sealed_images, seen_possible
 use Rattle.promise_runs.proofs.SealingDisks.{at_new, at_block, at_staged, at_sealing, at_sealed, if_none, if_has}
 use Rattle.promise_runs.proofs.HostSteps.{pulled, ended, wrote_grain, wrote_log, synced_grain, synced_log, emitted}
 use Rattle.promise_runs.proofs.DepositRun.{kept}
+use Rattle.promise_runs.proofs.Opened.{has_opened}
 
 asks : IsLineCall accounts (lines written) 1 deposit_call
 unfolding serde_json_on_literals
@@ -39,6 +39,7 @@ is_deposit_run = record {
   read = (new_images new_folder (seen_possible new_manager [])).0;
   past = refl;
   quiet = refl;
+  syncs = refl;
   output = replies_are;
   entry = λ image left. (left, new_images image left);
   sealed = (
@@ -64,13 +65,10 @@ sound_at_entry = sound_world world_before (λ image left. left)
 pub written_keeps : Keeps account_program written (deposit_course opened sealing written)
 written_keeps = kept written opened sealing is_deposit_run
 
-has_opened : HasOpened written
-has_opened = record { openable = record { program = account_program; log = []; reads = new_reads }; carried = tt; risen = tt; long = omega arith }
-
 pub written_promises : Promises plain_manner written
 written_promises = record {
   manner = refl;
-  answers = inr has_opened;
+  answers = inr (has_opened account_program written (deposit_course opened sealing written) written_keeps [] new_reads);
   over_sound = λ p checked sound. inr (deposit_course opened sealing written, subst (λ (q : Program). Keeps q written (deposit_course opened sealing written)) (only_program p checked sound.sound) written_keeps);
 }
 

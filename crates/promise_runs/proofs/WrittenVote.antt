@@ -15,7 +15,6 @@ use Rattle.cell_model.specs.Units.{same_grain}
 use Rattle.promise_spec.specs.Programs.{Program, shape_in}
 use Rattle.promise_spec.specs.Outputs.{reply_lines}
 use Rattle.promise_spec.specs.Courses.{lines}
-use Rattle.promise_spec.specs.Refusals.{HasOpened}
 use Rattle.promise_spec.specs.Promise.{IsSoundFolder, Keeps, Promises}
 use Rattle.promise_runs.specs.Examples.{account_program, account_1, program_bytes, voted_entry, vote_entries, AskBoth}
 use Rattle.promise_runs.specs.DepositRuns.{HasNone, IsBetween}
@@ -27,6 +26,7 @@ use Rattle.promise_runs.proofs.NewSilo.{empty_images, new_images, settled_stays,
 use Rattle.promise_runs.proofs.SealingDisks.{at_new}
 use Rattle.promise_runs.proofs.HostSteps.{account_same, pulled, ended, cut_grain, synced_log, emitted}
 use Rattle.promise_runs.proofs.VoteRun.{kept}
+use Rattle.promise_runs.proofs.Opened.{has_opened}
 
 asks : AskBoth (lines voted)
 unfolding serde_json_on_literals
@@ -109,13 +109,10 @@ sound_at_entry = sound_world reading_before (λ image left. left)
 pub voted_keeps : Keeps account_program voted (vote_course opened failing vote_told voted)
 voted_keeps = kept voted opened failing vote_told is_vote_run
 
-has_opened : HasOpened voted
-has_opened = record { openable = record { program = account_program; log = []; reads = new_reads }; carried = tt; risen = tt; long = omega arith }
-
 pub voted_promises : Promises reading_manner voted
 voted_promises = record {
   manner = refl;
-  answers = inr has_opened;
+  answers = inr (has_opened account_program voted (vote_course opened failing vote_told voted) voted_keeps [] new_reads);
   over_sound = λ p checked sound.
       inr (vote_course opened failing vote_told voted, subst (λ (q : Program). Keeps q voted (vote_course opened failing vote_told voted)) (only_program p checked sound.sound) voted_keeps);
 }

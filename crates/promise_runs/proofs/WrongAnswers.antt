@@ -36,7 +36,7 @@ one_log p q a b e = (cc e, cc e)
 -- ---- refusals
 
 pub not_opened : (r : Observed) → IsUnopened r → r.ending ≡ ending.Done → ⊥
-not_opened r unopened is = subst (IsRefusedBy (opened_as (seen_at_entry r))) is unopened.refused
+not_opened r unopened is = subst (IsRefusedBy (seen_at_entry r) (opened_as (seen_at_entry r))) is unopened.refused
 
 pub read_unopened : (r : Observed) → IsUnopened r → r.old.input ≢ [] → r.new.input ≡ [] → ⊥
 read_unopened r unopened some all = some (sym unopened.unread ∙ all)
@@ -44,7 +44,7 @@ read_unopened r unopened some all = some (sym unopened.unread ∙ all)
 module _ (m : Manner) (r : Observed) where
   pub another_place : (f : FileId) (place : ℕ) → Promises m r → r.ending ≡ ending.Damaged f place → opened_as (seen_at_entry r) ≢ DamagedAt f place → ⊥
   another_place f place keeps is other = elim keeps.answers [
-    | inl unopened ↦ other (subst (IsRefusedBy (opened_as (seen_at_entry r))) is unopened.refused)
+    | inl unopened ↦ other (subst (IsRefusedBy (seen_at_entry r) (opened_as (seen_at_entry r))) is unopened.refused)
     | inr opened ↦ subst ending.IsCarried is opened.carried
   ]
 
@@ -54,7 +54,7 @@ module _ (m : Manner) (r : Observed) where
 
   pub silo_called_none : Promises m r → IsSilo magic (seen_at_entry r manager) → r.ending ≡ ending.NotASilo → ⊥
   silo_called_none keeps silo is = elim keeps.answers [
-    | inl unopened ↦ (no_silo_is_read (seen_at_entry r)).0 (subst (IsRefusedBy (opened_as (seen_at_entry r))) is unopened.refused) silo
+    | inl unopened ↦ (no_silo_is_read (seen_at_entry r)).0 (subst (IsRefusedBy (seen_at_entry r) (opened_as (seen_at_entry r))) is unopened.refused) silo
     | inr opened ↦ subst ending.IsCarried is opened.carried
   ]
 
@@ -72,15 +72,15 @@ module _ (m : Manner) (r : Observed) where
 
   pub no_bad_use : Promises m r → r.ending ≡ ending.BadUse → ⊥
   no_bad_use keeps is = elim keeps.answers [
-    | inl unopened ↦ subst (IsRefusedBy (opened_as (seen_at_entry r))) is unopened.refused
+    | inl unopened ↦ subst (IsRefusedBy (seen_at_entry r) (opened_as (seen_at_entry r))) is unopened.refused
     | inr opened ↦ subst ending.IsCarried is opened.carried
   ]
 
   pub grain_blamed : (slot : ℕ) (grain : GrainId) → Promises m r → (IsSilo magic (seen_at_entry r manager) → ⊥) → r.ending ≡ ending.DiskFault (file.Grain slot grain) → ⊥
   grain_blamed slot grain keeps none is = elim keeps.answers [
     | inl unopened ↦
-        let must : MustBeRead (opened_as (seen_at_entry r)) (file.Grain slot grain) = subst (IsRefusedBy (opened_as (seen_at_entry r))) is unopened.refused in
-        let same : file.Grain slot grain ≡ manager = subst (λ (reading : Reading). MustBeRead reading (file.Grain slot grain)) ((no_silo_is_read (seen_at_entry r)).1 none) must in
+        let must : MustBeRead (seen_at_entry r) (opened_as (seen_at_entry r)) (file.Grain slot grain) = subst (IsRefusedBy (seen_at_entry r) (opened_as (seen_at_entry r))) is unopened.refused in
+        let same : file.Grain slot grain ≡ manager = subst (λ (reading : Reading). MustBeRead (seen_at_entry r) reading (file.Grain slot grain)) ((no_silo_is_read (seen_at_entry r)).1 none) must in
         absurd (cc same)
     | inr opened ↦ not_none (opened_as (seen_at_entry r)) opened.openable.program opened.openable.log opened.openable.reads ((no_silo_is_read (seen_at_entry r)).1 none)
   ]
@@ -139,7 +139,7 @@ module _ (r : Observed) (makes : MakesSilo r) where
 -- ---- words
 
 unopened_bad : (r : Observed) → IsUnopened r → r.ending ≡ ending.BadUse → ⊥
-unopened_bad r unopened is = subst (IsRefusedBy (opened_as (seen_at_entry r))) is unopened.refused
+unopened_bad r unopened is = subst (IsRefusedBy (seen_at_entry r) (opened_as (seen_at_entry r))) is unopened.refused
 
 reported_bad : (text : Program → List Commit → List ℕ) (r : Observed) → IsReported text r → r.ending ≡ ending.BadUse → ⊥
 reported_bad text r reported is = elim reported.ending [

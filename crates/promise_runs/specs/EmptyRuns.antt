@@ -1,5 +1,5 @@
 -- A run that reads no line.
-use Rattle.std.specs.Prelude.{◌≡◌, List, [], ◌∷◌, ◌++◌}
+use Rattle.std.specs.Prelude.{◌≡◌, ◌+◌, List, [], ◌∷◌, ◌++◌}
 use Rattle.host_trait.specs.declared.channels.Channel.{Channel}
 use Rattle.host_trait.specs.World.{Image, IsImage, moment_of}
 use Rattle.request_wire.specs.Lines.{lines_of}
@@ -12,7 +12,7 @@ use Rattle.promise_spec.specs.Crashes.{LeavesAlone}
 use Rattle.promise_spec.specs.Courses.{Observed, Course, seen_at_entry, lines}
 
 -- The files read as this log at entry. The run synced it, read that the input is empty, and ended. Each image is one of
--- those at entry, has this log and is sound; there is one. No count of faults changed,
+-- those at entry, has this log and is sound; there is one. It asked for no other sync. No count of faults changed,
 -- nor did another file or the header.
 pub record IsEmptyRun (p : Program) (r : Observed) (opening : List Commit) : Type 0 where
   pub ending : r.ending ≡ Done
@@ -20,6 +20,7 @@ pub record IsEmptyRun (p : Program) (r : Observed) (opening : List Commit) : Typ
   pub given : lines r ≡ lines_of r.old.input
   pub left : r.new.input ≡ []
   pub output : r.new.output ≡ r.old.output
+  pub syncs : r.new.syncs ≡ r.old.syncs + 1
   pub read : IsLog (shape_in p) (seen_at_entry r) opening
   pub synced : r.new.past ≡ r.old.past ++ moment_of r.new ∷ []
   pub entry : (image : Image) → IsImage r.new.disk image → IsImage r.old.disk image

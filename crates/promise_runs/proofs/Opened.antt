@@ -1,0 +1,54 @@
+-- A run that keeps its six clauses has opened the folder, as is promised over any folder.
+use Rattle.std.proofs.Common.{◌≡◌, inl, ℕ, ◌≤◌, List, [], ◌∷◌, ◌++◌, length, refl, sym, ap, subst, ◌∙◌}
+use Rattle.std.proofs.lemmas.List.{append-nil}
+use Rattle.base_types.specs.declared.entries.Entry.{Entry}
+use Rattle.core_model.specs.World.{Member}
+use Rattle.promise_spec.specs.Programs.{Program, shape_in}
+use Rattle.promise_spec.specs.Records.{Commit}
+use Rattle.promise_spec.specs.Outputs.{Grew, reply_lines}
+use Rattle.promise_spec.specs.Openings.{Reads, opened_as}
+use Rattle.promise_spec.specs.Endings as ending
+use Rattle.promise_spec.specs.Courses.{Observed, Course, seen_at_entry}
+use Rattle.promise_spec.specs.Refusals.{HasAnswered, HasOpened}
+use Rattle.promise_spec.specs.Promise.{Keeps}
+use Rattle.promise_runs.proofs.WrongRuns.{unbegun_entry}
+
+no_member : {A : Type 0} (xs : List A) → ((x : A) → Member x xs → ⊥) → xs ≡ []
+no_member [] none = refl
+no_member (x ∷ xs) none = absurd (none x (inl refl))
+
+module _ (p : Program) (r : Observed) (c : Course) (keeps : Keeps p r c) where
+  -- one that is done has answered each line
+  has_answered : r.ending ≡ ending.Done → HasAnswered p r
+  has_answered is =
+      let done = keeps.ended.done is in
+      let whole : c.rest ≡ [] = keeps.replies.whole (λ fault. let e : ending.Done ≡ ending.WriteFault = sym is ∙ fault in absurd (cc e)) in
+      record {
+        input = done.input;
+        entries = c.entries;
+        output = subst (λ (rest : List ℕ). Grew (shape_in p) r.old.output r.new.output c.entries rest) whole keeps.replies.output;
+        once = keeps.replies.once;
+        within = λ e there. subst (λ (lines : List (List ℕ)). (1 ≤ e.line) × (e.line ≤ length lines)) keeps.ended.given (keeps.replies.within e there);
+        each = λ n low high. done.answered n low (subst (λ (lines : List (List ℕ)). n ≤ length lines) (sym keeps.ended.given) high);
+      }
+
+  -- one in which nothing has begun has written nothing
+  nothing_said : (ending.IsBegun r.ending → ⊥) → r.new.output ≡ r.old.output
+  nothing_said never =
+      let none : c.entries ≡ [] = no_member c.entries (λ e there. unbegun_entry p r c e keeps never there) in
+      let whole : c.rest ≡ [] = keeps.replies.whole (λ fault. never (subst ending.IsBegun (sym fault) tt)) in
+      keeps.replies.output.output
+      ∙ ap (λ (entries : List Entry). r.old.output ++ (reply_lines (shape_in p) entries ++ c.rest)) none
+      ∙ ap (λ (rest : List ℕ). r.old.output ++ rest) whole
+      ∙ append-nil r.old.output
+
+  pub has_opened : (log : List Commit) → opened_as (seen_at_entry r) ≡ Reads p log → HasOpened r
+  has_opened log reads = record {
+    openable = record { program = p; log = log; reads = reads };
+    carried = keeps.ended.carried;
+    risen = keeps.ended.risen;
+    file = λ f is. (keeps.explained.doubted f is).0;
+    long = keeps.ended.long;
+    done = has_answered;
+    unbegun = nothing_said;
+  }
