@@ -1,9 +1,19 @@
 -- Answers that don't keep the promise, over any folder and to any words.
-use Rattle.std.proofs.Common.{◌≡◌, ◌≢◌, inl, inr, ℕ, Bool, List, [], ◌++◌, Ok, Err, sym, ap, subst, ◌∙◌}
+use Rattle.std.proofs.Common.{◌≡◌, ◌≢◌, inl, inr, ℕ, ◌-◌, ◌^◌, ◌<◌, ◌≤◌, Bool, List, [], ◌∷◌, ◌++◌, length, Ok, Err, refl, sym, ap, subst, ◌∙◌, arith}
+use Rattle.std.proofs.lemmas.List.{append-nil, append_cancel_left}
 use Rattle.base_types.specs.declared.calls.GrainId.{GrainId}
+use Rattle.base_types.specs.declared.entries.Entry.{Entry}
+use Rattle.base_types.specs.declared.shapes.Shape.{Shape}
+use Rattle.core_model.specs.World.{Member}
+use Rattle.host_trait.specs.Faults.{Rose}
+use Rattle.host_trait.specs.declared.channels.Channel.{Channel}
+use Rattle.host_trait.specs.declared.channels.Channel.TheVariants.{File}
 use Rattle.host_trait.specs.declared.channels.FileId.{FileId}
 use Rattle.host_trait.specs.declared.channels.FileId.TheVariants as file
 use Rattle.host_trait.specs.World.{Image, IsImage}
+use Rattle.serde_json.specs.Written.{compact_text}
+use Rattle.request_wire.specs.Lines.{lines_of}
+use Rattle.request_wire.specs.Reply.{reply_data, reply_line}
 use Rattle.script_tree.specs.Programs.{ProgramTree}
 use Rattle.silo_spec.specs.Silos.{manager, program_file, IsSilo, HasProgram}
 use Rattle.promise_spec.specs.Programs.{Program, ProgramFault, IsChecked, shape_in, unless_fault, checked_in, program_in}
@@ -11,15 +21,17 @@ use Rattle.promise_spec.specs.Records.{Commit}
 use Rattle.promise_spec.specs.Logs.{magic, IsLog}
 use Rattle.promise_spec.specs.Images.{IsSound}
 use Rattle.promise_spec.specs.Openings.{Reading, NoSilo, DamagedAt, Reads, opened_as}
+use Rattle.promise_spec.specs.Outputs.{reply_lines}
 use Rattle.promise_spec.specs.Words.{Given, Command, Init, Run, Show, History, Audit, Load, Manner}
 use Rattle.promise_spec.specs.Endings as ending
 use Rattle.promise_spec.specs.Courses.{Observed, seen_at_entry}
-use Rattle.promise_spec.specs.Refusals.{IsRefusedBy, MustBeRead, IsUnopened}
+use Rattle.promise_spec.specs.Refusals.{IsHead, IsNamedIn, IsReadFor, IsRefusedBy, MustBeRead, IsUnopened}
 use Rattle.promise_spec.specs.Reports.{show_text, history_text}
 use Rattle.promise_spec.specs.Promise.{Promises}
 use Rattle.promise_spec.specs.Commands.{MakesAs, MakesSilo, MayCut, IsReported, Reports, Audits}
 use Rattle.promise_spec.specs.Loads.{IsUnmadeBy, from_there, Loads}
-use Rattle.promise_spec.specs.Calls.{Understands, Obeys, Serves}
+use Rattle.promise_spec.specs.Calls.{Understands, Obeys, Serves, AnswersAs}
+use Rattle.promise_spec.proofs.Lists.{in_append}
 use Rattle.promise_spec.proofs.Openings.{log_is_read, no_silo_is_read, sound_is_read}
 
 -- ---- a folder reads in one way
@@ -40,6 +52,30 @@ not_opened r unopened is = subst (IsRefusedBy (seen_at_entry r) (opened_as (seen
 
 pub read_unopened : (r : Observed) → IsUnopened r → r.old.input ≢ [] → r.new.input ≡ [] → ⊥
 read_unopened r unopened some all = some (sym unopened.unread ∙ all)
+
+-- a grain's file is not the manager file, nor the program's
+not_manager : (slot : ℕ) (grain : GrainId) → file.Grain slot grain ≡ manager → ⊥
+not_manager slot grain same = absurd (cc same)
+
+no_head : (slot : ℕ) (grain : GrainId) → IsHead (file.Grain slot grain) → ⊥
+no_head slot grain (inl same) = absurd (cc same)
+no_head slot grain (inr same) = absurd (cc same)
+
+same_file : (slot : ℕ) (grain other : GrainId) → file.Grain slot grain ≡ file.Grain 0 other → other ≡ grain
+same_file slot grain other same = cc
+
+named_of_file : (image : Image) (slot : ℕ) (grain : GrainId) → IsReadFor image (file.Grain slot grain) → IsNamedIn image grain
+named_of_file image slot grain (inl head) = absurd (no_head slot grain head)
+named_of_file image slot grain (inr named) = subst (IsNamedIn image) (same_file slot grain named.0 named.1) named.2
+
+-- the line of an entry is no empty text
+said_some : (shape : Shape) (entries : List Entry) (e : Entry) → Member e entries → [] ≡ reply_lines shape entries ++ [] → ⊥
+said_some shape [] e there same = absurd there
+said_some shape (x ∷ entries) e there same =
+    let feed : Member 10 (reply_line shape x) = in_append 10 (compact_text (reply_data shape x)) (10 ∷ []) (inr (inl refl)) in
+    let all : List ℕ = reply_lines shape (x ∷ entries) in
+    let inside : Member 10 all = in_append 10 (reply_line shape x) (reply_lines shape entries) (inl feed) in
+    absurd (subst (λ (l : List ℕ). Member 10 l) (sym same) (in_append 10 all [] (inl inside)))
 
 module _ (m : Manner) (r : Observed) where
   pub another_place : (f : FileId) (place : ℕ) → Promises m r → r.ending ≡ ending.Damaged f place → opened_as (seen_at_entry r) ≢ DamagedAt f place → ⊥
@@ -83,6 +119,50 @@ module _ (m : Manner) (r : Observed) where
         let same : file.Grain slot grain ≡ manager = subst (λ (reading : Reading). MustBeRead (seen_at_entry r) reading (file.Grain slot grain)) ((no_silo_is_read (seen_at_entry r)).1 none) must in
         absurd (cc same)
     | inr opened ↦ not_none (opened_as (seen_at_entry r)) opened.openable.program opened.openable.log opened.openable.reads ((no_silo_is_read (seen_at_entry r)).1 none)
+  ]
+
+  -- where a grain's file is blamed a record names the grain
+  named_of_reading : (image : Image) (reading : Reading) (slot : ℕ) (grain : GrainId) → MustBeRead image reading (file.Grain slot grain) → IsNamedIn image grain
+  named_of_reading image NoSilo slot grain must = absurd (cc must)
+  named_of_reading image (DamagedAt (file.Program other) place) slot grain must = absurd (no_head slot grain must)
+  named_of_reading image (DamagedAt (file.Manager other) place) slot grain must = absurd (no_head slot grain must)
+  named_of_reading image (DamagedAt (file.Grain other last) place) slot grain must = named_of_file image slot grain must
+  named_of_reading image (Reads p log) slot grain must = named_of_file image slot grain must
+
+  pub unnamed_blamed : (slot : ℕ) (grain : GrainId) → Promises m r → (IsNamedIn (seen_at_entry r) grain → ⊥) → r.ending ≡ ending.DiskFault (file.Grain slot grain) → ⊥
+  unnamed_blamed slot grain keeps unnamed is = elim keeps.answers [
+    | inl unopened ↦
+        unnamed (named_of_reading (seen_at_entry r) (opened_as (seen_at_entry r)) slot grain (subst (IsRefusedBy (seen_at_entry r) (opened_as (seen_at_entry r))) is unopened.refused))
+    | inr opened ↦ not_manager slot grain (opened.file (file.Grain slot grain) is)
+  ]
+
+  pub done_unread : Promises m r → r.ending ≡ ending.Done → r.new.input ≢ [] → ⊥
+  done_unread keeps is some = elim keeps.answers [
+    | inl unopened ↦ not_opened r unopened is
+    | inr opened ↦ some (opened.done is).input
+  ]
+
+  pub done_unanswered : Promises m r → r.ending ≡ ending.Done → 1 ≤ length (lines_of r.old.input) → r.new.output ≡ r.old.output → ⊥
+  done_unanswered keeps is line quiet = elim keeps.answers [
+    | inl unopened ↦ not_opened r unopened is
+    | inr opened ↦
+        let a = opened.done is in
+        let e = a.each 1 (omega arith) line in
+        let text : List ℕ = reply_lines (shape_in opened.openable.program) a.entries in
+        let none : [] ≡ text ++ [] = append_cancel_left r.old.output [] (text ++ []) (append-nil r.old.output ∙ sym quiet ∙ a.output.output) in
+        said_some (shape_in opened.openable.program) a.entries e.0 e.1 none
+  ]
+
+  pub grain_fault_opened : (slot : ℕ) (grain : GrainId) → Promises m r → r.new.input ≢ r.old.input → r.ending ≡ ending.DiskFault (file.Grain slot grain) → ⊥
+  grain_fault_opened slot grain keeps pulled is = elim keeps.answers [
+    | inl unopened ↦ pulled unopened.unread
+    | inr opened ↦ not_manager slot grain (opened.file (file.Grain slot grain) is)
+  ]
+
+  pub said_unbegun : Promises m r → (ending.IsBegun r.ending → ⊥) → r.new.output ≢ r.old.output → ⊥
+  said_unbegun keeps never said = elim keeps.answers [
+    | inl unopened ↦ said unopened.untouched.now.quiet
+    | inr opened ↦ said (opened.unbegun never)
   ]
 
 -- ---- reports
@@ -182,3 +262,20 @@ module _ (built : Command → Bool) (takes : Given → Bool) (words : List (List
 
   pub said_bad : (c : Command) → Understands built takes words c → r.ending ≡ ending.BadUse → ⊥
   said_bad c says is = never_bad_use c r (serves.obeys c says) is
+
+-- ---- over any host
+
+module _ (built : Command → Bool) (takes : Given → Bool) (words : List (List ℕ)) (e : ending.Ending) (old new : Channel → ℕ) where
+  pub understood_bad : (c : Command) → AnswersAs built takes words e old new → Understands built takes words c → e ≡ ending.BadUse → ⊥
+  understood_bad c answers says is = answers.said c says is
+
+  pub answered_otherwise : AnswersAs built takes words e old new → ((c : Command) → Understands built takes words c → ⊥) → e ≢ ending.BadUse → ⊥
+  answered_otherwise answers none differ = differ (answers.other none).0
+
+  pub risen_for_none : (channel : Channel) → AnswersAs built takes words e old new → ((c : Command) → Understands built takes words c → ⊥) → new channel ≢ old channel → ⊥
+  risen_for_none channel answers none rose = rose ((answers.other none).1 channel)
+
+  pub fault_uncounted : (f : FileId) → AnswersAs built takes words e old new → e ≡ ending.DiskFault f → old (File f) < 2 ^ 64 - 1 → new (File f) ≡ old (File f) → ⊥
+  fault_uncounted f answers is low same =
+      let rose : Rose (old (File f)) (new (File f)) = subst (λ (x : ending.Ending). ending.HasRisen x old new) is answers.risen in
+      omega (arith, rose, low, same)

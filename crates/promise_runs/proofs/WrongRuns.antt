@@ -47,16 +47,17 @@ use Rattle.promise_spec.specs.Moments.{IsImageOf, last_of}
 use Rattle.promise_spec.specs.Lines.{Reads, IsLineCall}
 use Rattle.promise_spec.specs.Outputs.{reply_lines}
 use Rattle.promise_spec.specs.Cores.{AppliesAt, state_before, core_from}
-use Rattle.promise_spec.specs.Causes.{HasDoubt, IsAlive}
+use Rattle.promise_spec.specs.Causes.{HasDoubt, IsAlive, NoneRose, syncs_of}
 use Rattle.promise_spec.specs.Family.{states_after}
 use Rattle.promise_spec.specs.Endings as ending
 use Rattle.promise_spec.specs.Courses.{Observed, Course, order, moments, seen_at_entry, lines, opening_standing, core_run, core_end}
 use Rattle.promise_spec.specs.Replies.{IsEntryOf, IsTrueOf, HasNoRecord}
-use Rattle.promise_spec.specs.Crashes.{Acknowledges, IsAside}
+use Rattle.promise_spec.specs.Crashes.{Acknowledges, IsAside, kept_by}
 use Rattle.promise_spec.specs.Explained.{AreAdded}
 use Rattle.promise_spec.specs.Exits.{HasBlock}
 use Rattle.promise_spec.specs.Promise.{Keeps, HasReadAll}
 use Rattle.promise_spec.proofs.Lists.{head_of, none_is, none_at, some_is, each_of, in_append, either_in, get_seam, member_at}
+use Rattle.promise_runs.proofs.WholeBatches.{not_between}
 use Rattle.promise_runs.proofs.Emitting.{emitted_before, nothing_unwritten}
 use Rattle.promise_spec.proofs.OneLog.{one_log}
 
@@ -126,6 +127,23 @@ module _ (p : Program) (r : Observed) (c : Course) where
   shorter image log keeps left is lost =
       let k = keeps.crashes.keeps image left in
       lost (subst (λ (l : List Commit). IsPrefix c.opening l) (one_log (shape_in p) image k.log log k.is is) k.longer)
+
+  pub part_of_batch : (image : Image) (more : List Commit) (n : ℕ) → Keeps p r c → IsImageOf (moments r c) image → IsLog (shape_in p) image (c.opening ++ more)
+      → length (kept_by (core_end p c) n) < length more → length more < length (kept_by (core_end p c) (n + 1)) → ⊥
+  part_of_batch image more n keeps left is above below =
+      not_between (core_end p c) c.opening more n (keeps.crashes.whole image (c.opening ++ more) left is) above below
+
+  pub one_of_two : (image : Image) (l : Commit) → Keeps p r c → IsImageOf (moments r c) image → IsLog (shape_in p) image (c.opening ++ (l ∷ [])) → 2 ≤ length (kept_by (core_end p c) 1) → ⊥
+  one_of_two image l keeps left is two =
+      let none : length (kept_by (core_end p c) 0) ≡ 0 = refl in
+      let below : length (l ∷ []) < length (kept_by (core_end p c) (0 + 1)) = omega (arith, two) in
+      part_of_batch image (l ∷ []) 0 keeps left is (omega (arith, none)) below
+
+  pub more_syncs : Keeps p r c → NoneRose r.faults_before r.faults_after → r.ending ≡ ending.Done → r.old.syncs + syncs_of (core_run p c) < r.new.syncs → ⊥
+  more_syncs keeps calm is more = let same : r.new.syncs ≡ r.old.syncs + syncs_of (core_run p c) = keeps.ended.syncs calm is in omega (arith, same, more)
+
+  pub fewer_syncs : Keeps p r c → NoneRose r.faults_before r.faults_after → r.ending ≡ ending.Done → r.new.syncs < r.old.syncs + syncs_of (core_run p c) → ⊥
+  fewer_syncs keeps calm is fewer = let same : r.new.syncs ≡ r.old.syncs + syncs_of (core_run p c) = keeps.ended.syncs calm is in omega (arith, same, fewer)
 
   pub closed : (image : Image) → Keeps p r c → IsImage r.new.disk image → (IsSilo magic (image manager) → ⊥) → ⊥
   closed image keeps left none = none (keeps.exit.logs image left).is.silo

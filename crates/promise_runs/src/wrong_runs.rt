@@ -1,4 +1,4 @@
-ghost use Rattle.std.specs.Prelude.{◌≡◌, ◌≢◌, ◌<◌, ◌++◌, ◌∷◌, [], ℕ, Bool, false, List, length, Err, map, take};
+ghost use Rattle.std.specs.Prelude.{◌≡◌, ◌≢◌, ◌+◌, ◌-◌, ◌^◌, ◌<◌, ◌≤◌, ◌++◌, ◌∷◌, [], ℕ, Bool, false, List, length, Err, map, take};
 ghost use Rattle.base_types.specs.declared.calls.Call.{Call};
 ghost use Rattle.base_types.specs.declared.calls.GrainId.{GrainId};
 ghost use Rattle.base_types.specs.declared.calls.Origin.TheVariants.{Line, Child};
@@ -17,9 +17,12 @@ ghost use Rattle.core_model.specs.Legal.{begins};
 ghost use Rattle.core_model.specs.Serial.{committed, chosen};
 ghost use Rattle.core_model.specs.World.{Member, Mode};
 ghost use Rattle.gate_block.specs.Log.{HasBlocks, LogsUpTo};
+ghost use Rattle.host_trait.specs.declared.channels.Channel.{Channel};
+ghost use Rattle.host_trait.specs.declared.channels.Channel.TheVariants.{File};
 ghost use Rattle.host_trait.specs.declared.channels.FileId.{FileId};
 ghost use Rattle.host_trait.specs.declared.channels.FileId.TheVariants as file;
 ghost use Rattle.host_trait.specs.World.{Image, IsImage, Moment, moment_of};
+ghost use Rattle.request_wire.specs.Lines.{lines_of};
 ghost use Rattle.request_wire.specs.Reply.{reply_line};
 ghost use Rattle.script_meaning.specs.Play.{IsTransaction};
 ghost use Rattle.silo_spec.specs.Silos.{manager, program_file, IsSilo, HasProgram};
@@ -27,23 +30,23 @@ ghost use Rattle.promise_spec.specs.Programs.{Program, ProgramFault, IsChecked, 
 ghost use Rattle.promise_spec.specs.Images.{IsSound};
 ghost use Rattle.promise_spec.specs.Openings.{DamagedAt, opened_as};
 ghost use Rattle.promise_spec.specs.Words.{Given, Command, Manner};
-ghost use Rattle.promise_spec.specs.Refusals.{IsUnopened};
+ghost use Rattle.promise_spec.specs.Refusals.{IsUnopened, IsNamedIn};
 ghost use Rattle.promise_spec.specs.Records.{Commit, States, AreRecordsOf};
 ghost use Rattle.promise_spec.specs.Serial.{played};
 ghost use Rattle.promise_spec.specs.Logs.{magic, IsLog, IsPrefix, body_of};
 ghost use Rattle.promise_spec.specs.Moments.{IsImageOf, last_of};
 ghost use Rattle.promise_spec.specs.Lines.{IsLineCall};
 ghost use Rattle.promise_spec.specs.Cores.{AppliesAt, state_before};
-ghost use Rattle.promise_spec.specs.Causes.{HasDoubt, IsAlive};
+ghost use Rattle.promise_spec.specs.Causes.{HasDoubt, IsAlive, NoneRose, syncs_of};
 ghost use Rattle.promise_spec.specs.Family.{states_after};
 ghost use Rattle.promise_spec.specs.Endings as ending;
-ghost use Rattle.promise_spec.specs.Courses.{Observed, Course, moments, seen_at_entry, lines, opening_standing, core_run, core_end};
+ghost use Rattle.promise_spec.specs.Courses.{Observed, Course, order, moments, seen_at_entry, lines, opening_standing, core_run, core_end};
 ghost use Rattle.promise_spec.specs.Replies.{IsEntryOf};
-ghost use Rattle.promise_spec.specs.Crashes.{Acknowledges, IsAside};
+ghost use Rattle.promise_spec.specs.Crashes.{Acknowledges, IsAside, kept_by};
 ghost use Rattle.promise_spec.specs.Exits.{HasBlock};
 ghost use Rattle.promise_spec.specs.Promise.{Keeps, Promises};
 ghost use Rattle.promise_spec.specs.Commands.{MakesSilo, Reports};
-ghost use Rattle.promise_spec.specs.Calls.{Understands, Serves};
+ghost use Rattle.promise_spec.specs.Calls.{Understands, Serves, AnswersAs};
 ghost use Rattle.promise_spec.specs.Loads.{KeepsLoad, summary_text};
 
 /// The opening log is the disk's: no run can take another for it, as one that answers from an old log again would, or one
@@ -62,6 +65,29 @@ pub fn logs_are_not_lost()
         → IsImageOf (moments r c) image → IsLog (shape_in p) image log → (IsPrefix c.opening log → ⊥) → ⊥ }
     ensures closed { (p : Program) (r : Observed) (c : Course) (image : Image) → Keeps p r c
         → IsImage r.new.disk image → (IsSilo magic (image manager) → ⊥) → ⊥ }
+{}
+
+/// No run keeps the promise that at some moment may leave a part of a batch: a log with more records behind the opening log than
+/// some first batches have units to commit, and fewer than these have with the next batch; so none that may leave one record
+/// where the first batch has two.
+pub fn batches_are_whole()
+    ensures part { (p : Program) (r : Observed) (c : Course) (image : Image) (more : List Commit) (n : ℕ) → Keeps p r c
+        → IsImageOf (moments r c) image → IsLog (shape_in p) image (c.opening ++ more)
+        → length (kept_by (core_end p c) n) < length more → length more < length (kept_by (core_end p c) (n + 1)) → ⊥ }
+    ensures one { (p : Program) (r : Observed) (c : Course) (image : Image) (l : Commit) → Keeps p r c
+        → IsImageOf (moments r c) image → IsLog (shape_in p) image (c.opening ++ (l ∷ []))
+        → 2 ≤ length (kept_by (core_end p c) 1) → ⊥ }
+{}
+
+/// No run or load keeps its promise that is done with no count risen, and asks for more syncs than the opening's, one for each
+/// vote, and two for each batch on disk; or for fewer.
+pub fn calm_runs_sync_once()
+    ensures more { (p : Program) (r : Observed) (c : Course) → Keeps p r c → NoneRose r.faults_before r.faults_after → r.ending ≡ ending.Done
+        → r.old.syncs + syncs_of (core_run p c) < r.new.syncs → ⊥ }
+    ensures fewer { (p : Program) (r : Observed) (c : Course) → Keeps p r c → NoneRose r.faults_before r.faults_after → r.ending ≡ ending.Done
+        → r.new.syncs < r.old.syncs + syncs_of (core_run p c) → ⊥ }
+    ensures load { (p : Program) (n seed : ℕ) (r : Observed) (c : Course) → KeepsLoad p n seed r c → NoneRose r.faults_before r.faults_after
+        → r.ending ≡ ending.Done → r.new.syncs ≢ r.old.syncs + syncs_of (core_run p c) → ⊥ }
 {}
 
 /// No run keeps the promise that changes the program file or a file that isn't of the first slot, or that may leave another
@@ -163,7 +189,9 @@ pub fn endings_are_true()
 
 /// Over any folder, sound or not: no run keeps the promise that calls a folder damaged at another place than the first one, or
 /// one that isn't damaged, or no silo what reads as one; that opens one that is damaged or no silo, that calls its words bad use,
-/// or that blames a grain's file for not seeing that the folder is no silo.
+/// or that blames a grain's file for not seeing that the folder is no silo, or one that no record names; nor one that is done and
+/// hasn't read its input to the end, or has told a line nothing; that ends with a grain file's fault though it opened the folder, as
+/// the input shows that it read; or that writes something and ends as none does of which a line has begun.
 pub fn refusals_are_true()
     ensures place { (m : Manner) (r : Observed) (f : FileId) (place : ℕ) → Promises m r → r.ending ≡ ending.Damaged f place
         → opened_as (seen_at_entry r) ≢ DamagedAt f place → ⊥ }
@@ -176,6 +204,14 @@ pub fn refusals_are_true()
     ensures bad_use { (m : Manner) (r : Observed) → Promises m r → r.ending ≡ ending.BadUse → ⊥ }
     ensures blamed { (m : Manner) (r : Observed) (slot : ℕ) (grain : GrainId) → Promises m r → (IsSilo magic (seen_at_entry r manager) → ⊥)
         → r.ending ≡ ending.DiskFault (file.Grain slot grain) → ⊥ }
+    ensures unnamed { (m : Manner) (r : Observed) (slot : ℕ) (grain : GrainId) → Promises m r → (IsNamedIn (seen_at_entry r) grain → ⊥)
+        → r.ending ≡ ending.DiskFault (file.Grain slot grain) → ⊥ }
+    ensures unread { (m : Manner) (r : Observed) → Promises m r → r.ending ≡ ending.Done → r.new.input ≢ [] → ⊥ }
+    ensures unanswered { (m : Manner) (r : Observed) → Promises m r → r.ending ≡ ending.Done → 1 ≤ length (lines_of r.old.input)
+        → r.new.output ≡ r.old.output → ⊥ }
+    ensures grain { (m : Manner) (r : Observed) (slot : ℕ) (grain : GrainId) → Promises m r → r.new.input ≢ r.old.input
+        → r.ending ≡ ending.DiskFault (file.Grain slot grain) → ⊥ }
+    ensures said { (m : Manner) (r : Observed) → Promises m r → (ending.IsBegun r.ending → ⊥) → r.new.output ≢ r.old.output → ⊥ }
 {}
 
 /// No call keeps what the program promises that answers words that say nothing otherwise than as bad use, or that changes
@@ -187,6 +223,20 @@ pub fn words_are_answered()
         → ((c : Command) → Understands built takes words c → ⊥) → r.new ≢ r.old → ⊥ }
     ensures said { (built : Command → Bool) (takes : Given → Bool) (words : List (List ℕ)) (r : Observed) (c : Command) → Serves built takes words r
         → Understands built takes words c → r.ending ≡ ending.BadUse → ⊥ }
+{}
+
+/// Over any host, one that tells nothing of what it holds too: no answer is right that calls words bad use that say a command,
+/// that answers other words otherwise or lets a count of faults rise for them, or that ends with a file's fault though its count,
+/// below its last value, is what it was.
+pub fn bad_use_is_said_by_words()
+    ensures said { (built : Command → Bool) (takes : Given → Bool) (words : List (List ℕ)) (e : ending.Ending) (old new : Channel → ℕ) (c : Command)
+        → AnswersAs built takes words e old new → Understands built takes words c → e ≡ ending.BadUse → ⊥ }
+    ensures other { (built : Command → Bool) (takes : Given → Bool) (words : List (List ℕ)) (e : ending.Ending) (old new : Channel → ℕ)
+        → AnswersAs built takes words e old new → ((c : Command) → Understands built takes words c → ⊥) → e ≢ ending.BadUse → ⊥ }
+    ensures used { (built : Command → Bool) (takes : Given → Bool) (words : List (List ℕ)) (e : ending.Ending) (old new : Channel → ℕ) (channel : Channel)
+        → AnswersAs built takes words e old new → ((c : Command) → Understands built takes words c → ⊥) → new channel ≢ old channel → ⊥ }
+    ensures fault { (built : Command → Bool) (takes : Given → Bool) (words : List (List ℕ)) (e : ending.Ending) (old new : Channel → ℕ) (f : FileId)
+        → AnswersAs built takes words e old new → e ≡ ending.DiskFault f → old (File f) < 2 ^ 64 - 1 → new (File f) ≡ old (File f) → ⊥ }
 {}
 
 /// No run keeps the promise in which anything begins before the input is read whole, or where it is too long, or couldn't be
@@ -227,7 +277,7 @@ pub fn inits_make_their_input()
 {}
 
 /// No load keeps what is promised of it that is done and prints anything but its summary, that prints where memory was
-/// wanting, or that is done after a doubt.
+/// wanting, or while some image lacks the order, or that is done after a doubt, or ends with a fault of the output then.
 pub fn loads_tell_their_summary()
     ensures text { (p : Program) (n seed : ℕ) (r : Observed) (c : Course) → KeepsLoad p n seed r c → r.ending ≡ ending.Done
         → r.new.output ≢ r.old.output ++ summary_text p r c → ⊥ }
@@ -235,6 +285,10 @@ pub fn loads_tell_their_summary()
         → r.new.output ≢ r.old.output → ⊥ }
     ensures doubt { (p : Program) (n seed : ℕ) (r : Observed) (c : Course) → KeepsLoad p n seed r c → HasDoubt (core_run p c)
         → r.ending ≡ ending.Done → ⊥ }
+    ensures fault { (p : Program) (n seed : ℕ) (r : Observed) (c : Course) → KeepsLoad p n seed r c → HasDoubt (core_run p c)
+        → r.ending ≡ ending.WriteFault → ⊥ }
+    ensures soon { (p : Program) (n seed : ℕ) (r : Observed) (c : Course) (m : Moment) (image : Image) → KeepsLoad p n seed r c
+        → Member m (moments r c) → IsImage m.disk image → (IsLog (shape_in p) image (order c) → ⊥) → m.output ≢ r.old.output → ⊥ }
 {}
 
 /// A manager file with a block of 65 records has no log.

@@ -1,4 +1,4 @@
-use Rattle.promise_runs.proofs.Load.{another_summary, told_early, done_in_doubt}
+use Rattle.promise_runs.proofs.Load.{another_summary, told_early, done_in_doubt, fault_in_doubt, told_too_soon}
 use Rattle.promise_runs.proofs.wrong_runs.loads_tell_their_summary.Goals as goal
 
 pub returns-clause-text : goal.returns-clause-text
@@ -9,3 +9,9 @@ returns-clause-early c = told_early
 
 pub returns-clause-doubt : goal.returns-clause-doubt
 returns-clause-doubt c = done_in_doubt
+
+pub returns-clause-fault : goal.returns-clause-fault
+returns-clause-fault c = fault_in_doubt
+
+pub returns-clause-soon : goal.returns-clause-soon
+returns-clause-soon c = told_too_soon

@@ -1,4 +1,4 @@
-use Rattle.promise_runs.proofs.WrongAnswers.{another_place, sound_damaged, silo_called_none, none_opened, damaged_carried, no_bad_use, grain_blamed}
+use Rattle.promise_runs.proofs.WrongAnswers.{another_place, sound_damaged, silo_called_none, none_opened, damaged_carried, no_bad_use, grain_blamed, unnamed_blamed, done_unread, done_unanswered, grain_fault_opened, said_unbegun}
 use Rattle.promise_runs.proofs.wrong_runs.refusals_are_true.Goals as goal
 
 pub returns-clause-place : goal.returns-clause-place
@@ -21,3 +21,18 @@ returns-clause-bad_use c = no_bad_use
 
 pub returns-clause-blamed : goal.returns-clause-blamed
 returns-clause-blamed c = grain_blamed
+
+pub returns-clause-unnamed : goal.returns-clause-unnamed
+returns-clause-unnamed c = unnamed_blamed
+
+pub returns-clause-unread : goal.returns-clause-unread
+returns-clause-unread c = done_unread
+
+pub returns-clause-unanswered : goal.returns-clause-unanswered
+returns-clause-unanswered c = done_unanswered
+
+pub returns-clause-grain : goal.returns-clause-grain
+returns-clause-grain c = grain_fault_opened
+
+pub returns-clause-said : goal.returns-clause-said
+returns-clause-said c = said_unbegun
