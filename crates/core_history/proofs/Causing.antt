@@ -18,7 +18,7 @@ use Rattle.core_model.specs.World.{UnitNo, GrainId, Mode, Value, Entry, Settled,
 use Rattle.core_model.specs.Tests.{is_bad, is_good, members, ask}
 use Rattle.core_model.specs.Dead.{Dead, itself}
 use Rattle.core_model.specs.Holders.{DifferInUnit}
-use Rattle.core_model.specs.Causes.{HasCause, IsRefusedBy}
+use Rattle.core_model.specs.Causes.{Settles, HasCause, IsRefusedBy}
 use Rattle.core_model.specs.Changes.{entry_for, entries_in, told, result_told, decisions_of, with_decisions, judged, verdict_of, refusal}
 use Rattle.core_model.proofs.Decoded.{Change, bad, refuse, end_plain, end_snapshot, decide_none, seal_batch, spoil_batch, doubt_batch, ask-refused}
 use Rattle.core_model.proofs.Basics.{Dead-more}
@@ -31,7 +31,7 @@ use Rattle.core_model.proofs.Caused.{entry-parts, entries-parts, dead-bad, refus
 use Rattle.core_history.specs.Histories.{Applied}
 use Rattle.core_history.specs.Units.{BeganFor, reads_in}
 use Rattle.core_history.specs.Fates.{IsDeadIn}
-use Rattle.core_history.specs.Causes.{IsLockedOut, Settles, IsVotedDown, once_decided, DependsOnDead, CouldCommit, CauseIn, HasLineIn, IsCausedIn}
+use Rattle.core_history.specs.Causes.{IsLockedOut, IsVotedDown, once_decided, DependsOnDead, CouldCommit, CauseIn, HasLineIn, IsCausedIn}
 use Rattle.core_history.specs.States.{mode_of}
 use Rattle.core_history.proofs.Words.{some-is, more}
 use Rattle.core_history.proofs.Along.{answered}
@@ -97,7 +97,7 @@ refused-in : (opening : GrainId → List Value) (h : List Applied) (w : World) (
 refused-in opening h w u g mode why c t f running q = elim (ask-refused w u g mode why q).1 [
   | inl d ↦ subst (CauseIn h (answered w (Refuse u g mode)) u) (sym d.2) (elim (subst (HasCause w (Refuse u g mode) w u) d.2 cause) [
     | inl r ↦ inl (record { refused = r.refused; source = (r.gone.0, subst (Member r.gone.0) (t.reads u) r.gone.1, r.gone.2); dead = dead-in h w t f d.0 r.dead })
-    | inr r ↦ (let z : Finished ≡ Running = sym (member-finished opening w r.0 c.kept u r.2) ∙ running in cc)
+    | inr r ↦ (let z : Finished ≡ Running = sym (member-finished opening w r.0 c.kept u r.3) ∙ running in cc)
   ])
   | inr d ↦ subst (CauseIn h (answered w (Refuse u g mode)) u) (sym d.3) (locked-out opening h w c t (Refuse u g mode) u d.0 g (subst (HasCause w (Refuse u g mode) w u) d.3 cause))
 ]

@@ -5,6 +5,7 @@ use Rattle.cell_model.specs.Locks.{is_update}
 use Rattle.core_model.specs.declared.effects.Read.{Read}
 use Rattle.core_model.specs.World.{UnitNo, GrainId, Mode, Outcome, Entry, Settled, Member, nobody}
 use Rattle.core_model.specs.Tests.{is_before}
+use Rattle.core_model.specs.Causes.{Settles}
 use Rattle.core_model.specs.declared.events.CoreEvent.{CoreEvent}
 use Rattle.core_model.specs.declared.events.CoreEvent.TheVariants.{Bad, Refuse, EndPlain, EndSnapshot, Vote, Decide, Sealed, NotSealed, Doubt}
 use Rattle.core_history.specs.Histories.{Applied, Happened}
@@ -34,14 +35,6 @@ pub record IsDoomed (front : List Applied) (e : CoreEvent) (u on : UnitNo) : Typ
   pub refused : (g : GrainId) × ((mode : Mode) × (e ≡ Refuse u g mode))
   pub source : (r : Read) × Member r (reads_in u front) × (r.source ≡ on)
   pub dead : IsDeadIn front on
-
--- the event decides or ends the batch of that number
-abbrev pub Settles : CoreEvent → ℕ → Type 0
-Settles (Decide m) n = m ≡ n
-Settles (Sealed m) n = m ≡ n
-Settles (NotSealed m) n = m ≡ n
-Settles (Doubt m) n = m ≡ n
-Settles _ n = ⊥
 
 -- the unit's batch is decided or ended
 abbrev pub IsSettledBy : List Applied → CoreEvent → ℕ → UnitNo → Type 0

@@ -225,29 +225,29 @@ caused-change opening w e w' (decide_none n b q number d voted none) k dep s nex
     elim (Member-append x w.manager.settled (entries_in v (result_told v) (members w b) (decisions_of w b)) m) [
       | inl h ↦ inl h
       | inr h ↦ inr (batch-told opening w v (Decide n) next (result_told v) b (decisions_of w b) (inv-decided opening w b k q d) dep q refl refl
-          (λ u Holds mem h. (b, q, mem, h)) (argued-decided opening w b k dep q d)
+          (λ u Holds mem h. (b, q, sym number, mem, h)) (argued-decided opening w b k dep q d)
           (λ u mem f c can. (same u ∙ sealed-outcome v u f c, λ y l. l)) x h)
     ])
 caused-change opening w e w' (seal_batch n b ds q number d) k dep s next same x m =
     elim (Member-append x w.manager.settled (entries_in w (result_told w) (members w b) ds) m) [
       | inl h ↦ inl h
       | inr h ↦ inr (batch-told opening w w (Sealed n) next (result_told w) b ds (inv-judged opening w b ds k q d) dep q refl refl
-          (λ u Holds mem h. (b, q, mem, h)) (s b ds q d)
+          (λ u Holds mem h. (b, q, sym number, mem, h)) (s b ds q d)
           (λ u mem f c can. (same u ∙ sealed-outcome w u f c, λ y l. l)) x h)
     ]
 caused-change opening w e w' (spoil_batch n b ds q number d) k dep s next same x m =
     elim (Member-append x w.manager.settled (entries_in w (λ u. settled.Disk) (members w b) ds) m) [
       | inl h ↦ inl h
       | inr h ↦ inr (batch-told opening w w (NotSealed n) next (λ u. settled.Disk) b ds (inv-judged opening w b ds k q d) dep q refl refl
-          (λ u Holds mem h. (b, q, mem, h)) (s b ds q d)
-          (λ u mem f c can. (((n, refl), (b, q, mem, can)), λ y l. l)) x h)
+          (λ u Holds mem h. (b, q, sym number, mem, h)) (s b ds q d)
+          (λ u mem f c can. (((n, refl), (b, q, sym number, mem, can)), λ y l. l)) x h)
     ]
 caused-change opening w e w' (doubt_batch n b ds q number d) k dep s next same x m =
     elim (Member-append x w.manager.settled (entries_in w (λ u. settled.InDoubt) (members w b) ds) m) [
       | inl h ↦ inl h
       | inr h ↦ inr (batch-told opening w w (Doubt n) next (λ u. settled.InDoubt) b ds (inv-judged opening w b ds k q d) dep q refl refl
-          (λ u Holds mem h. (b, q, mem, h)) (s b ds q d)
-          (λ u mem f c can. (((n, refl), (b, q, mem, can)), λ y l. l)) x h)
+          (λ u Holds mem h. (b, q, sym number, mem, h)) (s b ds q d)
+          (λ u mem f c can. (((n, refl), (b, q, sym number, mem, can)), λ y l. l)) x h)
     ]
 caused-change opening w e w' (learn u g wrote final fresh) k dep s next same x m = inl m
 caused-change opening w e w' (emit q) k dep s next same x m = inl m

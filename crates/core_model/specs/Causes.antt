@@ -8,7 +8,7 @@ use Rattle.core_model.specs.Tests.{is_gone, is_before, has_failed, members, outc
 use Rattle.core_model.specs.Dead.{IsDead}
 use Rattle.core_model.specs.Chains.{Wrote}
 use Rattle.core_model.specs.Changes.{with_decisions, decisions_of}
-use Rattle.core_model.specs.Events.{CoreEvent, Bad, Refuse, Decide, NotSealed, Doubt, applies, step, run}
+use Rattle.core_model.specs.Events.{CoreEvent, Bad, Refuse, Decide, Sealed, NotSealed, Doubt, applies, step, run}
 use Rattle.core_model.specs.Legal.{Run, begins}
 
 -- The unit wrote the grain, whose file failed, and it is the first such grain.
@@ -52,9 +52,18 @@ abbrev pub decided_state : World → CoreEvent → Batch → World
 decided_state w (Decide n) b = with_decisions w b (decisions_of w b)
 decided_state w _ b = w
 
--- the unit is one of the open batch, and this holds of it where the batch is decided
+-- the event decides or ends the batch of that number
+abbrev pub Settles : CoreEvent → ℕ → Type 0
+Settles (Decide m) n = m ≡ n
+Settles (Sealed m) n = m ≡ n
+Settles (NotSealed m) n = m ≡ n
+Settles (Doubt m) n = m ≡ n
+Settles _ n = ⊥
+
+-- The unit is one of the open batch, which the event decides or ends, and this holds of it where the batch is decided.
 abbrev pub AtDecision : World → CoreEvent → UnitNo → (World → Batch → Type 0) → Type 0
-AtDecision w e u Holds = (b : Batch) × (w.manager.batch ≡ Some b) × Member u (members w b) × Holds (decided_state w e b) b
+AtDecision w e u Holds =
+    (b : Batch) × (w.manager.batch ≡ Some b) × Settles e b.number × Member u (members w b) × Holds (decided_state w e b) b
 
 -- why an event that leads from a state to the next settles a unit so
 abbrev pub HasCause : World → CoreEvent → World → UnitNo → Settled → Type 0

@@ -169,7 +169,7 @@ stops-change opening w e w' (vote n g kept b q number d planned fresh) a k dep a
 stops-change opening w e w' (decide_some n b q number d voted some) a k dep arg s t next x h = inl (judged-aborted (members w b) (decisions_of w b) w.manager.verdict x h)
 stops-change opening w e w' (decide_none n b q number d voted none) a k dep arg s t next x h =
     close-stops opening w (with_decisions w b (decisions_of w b)) (Decide n) next seal b (decisions_of w b) x refl refl (inv-decided opening w b k q d) dep (argued-decided opening w b k dep q d)
-    (λ Holds m y. (b, q, m, y)) (judged-aborted (members w b) (decisions_of w b) w.manager.verdict x)
+    (λ Holds m y. (b, q, sym number, m, y)) (judged-aborted (members w b) (decisions_of w b) w.manager.verdict x)
     (λ fixed final. elim (member-or-not x (members w b)) [
       | inl m ↦ m
       | inr m ↦ (let same : judged (members w b) (decisions_of w b) w.manager.verdict x ≡ w.manager.verdict x = judged-other (members w b) (decisions_of w b) w.manager.verdict x m in
@@ -179,17 +179,17 @@ stops-change opening w e w' (decide_none n b q number d voted none) a k dep arg 
     (λ z m can. absurd cc) h
 stops-change opening w e w' (seal_batch n b ds q number d) a k dep arg s t next x h =
     let i = inv-judged opening w b ds k q d in
-    close-stops opening w w (Sealed n) next seal b ds x refl refl i dep (arg b ds q d) (λ Holds m y. (b, q, m, y)) (λ z. z)
+    close-stops opening w w (Sealed n) next seal b ds x refl refl i dep (arg b ds q d) (λ Holds m y. (b, q, sym number, m, y)) (λ z. z)
     (λ o final. (let p = pending opening _ w i s (no_doubt w (Sealed n) a refl) t x o final in in_batch opening _ w b i (size-open opening w b k q) x p.0 p.1 p.2))
     (λ z m can. absurd cc) h
 stops-change opening w e w' (spoil_batch n b ds q number d) a k dep arg s t next x h =
     let i = inv-judged opening w b ds k q d in
-    close-stops opening w w (NotSealed n) next spoil b ds x refl refl i dep (arg b ds q d) (λ Holds m y. (b, q, m, y)) (λ z. z)
+    close-stops opening w w (NotSealed n) next spoil b ds x refl refl i dep (arg b ds q d) (λ Holds m y. (b, q, sym number, m, y)) (λ z. z)
     (λ o final. (let p = pending opening _ w i s (no_doubt w (NotSealed n) a refl) t x o final in in_batch opening _ w b i (size-open opening w b k q) x p.0 p.1 p.2))
-    (λ z m can. (settled.Disk, tt, ((n, refl), (b, q, m, can)))) h
+    (λ z m can. (settled.Disk, tt, ((n, refl), (b, q, sym number, m, can)))) h
 stops-change opening w e w' (doubt_batch n b ds q number d) a k dep arg s t next x h =
     let i = inv-judged opening w b ds k q d in
-    close-stops opening w w (Doubt n) next leave b ds x refl refl i dep (arg b ds q d) (λ Holds m y. (b, q, m, y)) (λ z. z)
+    close-stops opening w w (Doubt n) next leave b ds x refl refl i dep (arg b ds q d) (λ Holds m y. (b, q, sym number, m, y)) (λ z. z)
     (λ o final. (let p = pending opening _ w i s (no_doubt w (Doubt n) a refl) t x o final in in_batch opening _ w b i (size-open opening w b k q) x p.0 p.1 p.2))
     (λ z m can. absurd cc) h
 stops-change opening w e w' (learn u g wrote final fresh) a k dep arg s t next x h = inl h
