@@ -92,7 +92,7 @@ locked-out opening h w c t e u by g r = record {
     parts = and_parts (not (is_hold_of u k)) (is_update r.mode || is_update k.mode) r.rival.rival.2
 
 -- the cause of a refusal
-refused-in : (opening : GrainId → List Value) (h : List Applied) (w : World) (u : UnitNo) (g : GrainId) (mode : Mode) (why : Settled) → Core opening w → Tells h w → FatesOf h w → w.units.phase u ≡ Running → refusal g (ask w u g mode) ≡ Some why →
+pub refused-in : (opening : GrainId → List Value) (h : List Applied) (w : World) (u : UnitNo) (g : GrainId) (mode : Mode) (why : Settled) → Core opening w → Tells h w → FatesOf h w → w.units.phase u ≡ Running → refusal g (ask w u g mode) ≡ Some why →
     CauseIn h (answered w (Refuse u g mode)) u why
 refused-in opening h w u g mode why c t f running q = elim (ask-refused w u g mode why q).1 [
   | inl d ↦ subst (CauseIn h (answered w (Refuse u g mode)) u) (sym d.2) (elim (subst (HasCause w (Refuse u g mode) w u) d.2 cause) [
@@ -159,7 +159,7 @@ entries-in h w v a answer votes us ds reasons cause tells origin finished x own 
     (let l = line-of h w tells t.0 x (λ q. (let z : Unborn ≡ Finished = sym q ∙ finished t.0 t.1.1 in cc)) t.1.4 (ap (λ f. f t.0) (sym origin) ∙ t.1.6) in told-line h a.event x (answer t.0) t.1.0 l (own l t.0))
 
 -- what an event that ends a batch tells its units, but for those that could commit
-ended-in : (opening : GrainId → List Value) (h : List Applied) (w : World) (a : Applied) (b : Batch) (ds : List Decision) → Core opening w → Tells h w → FatesOf h w → DependsOf h w → w.manager.batch ≡ Some b → b.decisions ≡ Some ds → Settles a.event b.number →
+pub ended-in : (opening : GrainId → List Value) (h : List Applied) (w : World) (a : Applied) (b : Batch) (ds : List Decision) → Core opening w → Tells h w → FatesOf h w → DependsOf h w → w.manager.batch ≡ Some b → b.decisions ≡ Some ds → Settles a.event b.number →
     once_decided h a a.event ≡ h → (answer : Settled) (u : UnitNo) → Member u (members w b) → (w.manager.verdict u ≡ Chosen → CouldCommit h b.number u → CauseIn h a u answer) → (d : Decision) → w.manager.verdict u ≡ verdict_of d →
     Reason b.votes (w.manager.writes u) (w.units.deps u) w.manager.verdict d → CauseIn h a u (told answer d)
 ended-in opening h w a b ds c t f dep q e s before answer u m commits decision.Commit v r =
@@ -171,7 +171,7 @@ ended-in opening h w a b ds c t f dep q e s before answer u m commits (decision.
     (λ d n y. dead-bad opening w b (inv-judged opening w b ds c.kept q e) c.depends u m d n (dead-by h w t f d (subst (λ z. IsDeadIn z d) before y))))
 
 -- the entries of a batch that is decided and closed at once
-closed-in : (opening : GrainId → List Value) (h : List Applied) (w : World) (n : ℕ) (w' : World) → Change w (Decide n) w' → Step opening h w (Decide n) w' → DependsOf h w → (b : Batch) → w.manager.batch ≡ Some b → b.number ≡ n → b.decisions ≡ None →
+pub closed-in : (opening : GrainId → List Value) (h : List Applied) (w : World) (n : ℕ) (w' : World) → Change w (Decide n) w' → Step opening h w (Decide n) w' → DependsOf h w → (b : Batch) → w.manager.batch ≡ Some b → b.number ≡ n → b.decisions ≡ None →
     any is_commit (decisions_of w b) ≡ false → ((u : UnitNo) → w.units.reads u ≡ reads_in u (more h (answered w (Decide n)))) →
     ((u : UnitNo) → IsDeadIn (more h (answered w (Decide n))) u → Dead (judged (members w b) (decisions_of w b) w.manager.verdict) w.units.reads u) →
     (answer : Settled) (u : UnitNo) → Member u (members w b) → (d : Decision) → judged (members w b) (decisions_of w b) w.manager.verdict u ≡ verdict_of d →

@@ -20,6 +20,7 @@ use Rattle.core_history.proofs.Cores.{Core, core-step, core-begins}
 use Rattle.core_history.proofs.Fated.{Step, FatesOf, fates-after, dead-in, dead-by, committed-in, committed-by}
 use Rattle.core_history.proofs.Depending.{DependsOf, depends-after}
 use Rattle.core_history.proofs.Causing.{CausesOf, causes-after}
+use Rattle.core_history.proofs.Stopping.{AbortsOf, aborts-after}
 
 -- the state is a core's, and the history tells it
 pub record Knows (opening : GrainId → List Value) (h : List Applied) (w : World) : Type 0 where
@@ -28,6 +29,7 @@ pub record Knows (opening : GrainId → List Value) (h : List Applied) (w : Worl
   pub fates : FatesOf h w
   pub depends : DependsOf h w
   pub causes : CausesOf h w
+  pub aborts : AbortsOf h w
 
 -- what is known at an event
 pub at-event : (opening : GrainId → List Value) (h : List Applied) (w : World) (e : CoreEvent) (w' : World) → applies w e ≡ true → Knows opening h w → Change w e w' → Step opening h w e w'
@@ -41,6 +43,7 @@ knows-step opening h w e es l a k = record {
   fates = after-step (FatesOf (more h (answered w e))) w e a (λ c. fates-after opening h w e _ c (at-event opening h w e _ a k c)) (λ v here f. f);
   depends = after-step (DependsOf (more h (answered w e))) w e a (λ c. depends-after opening h w e _ c k.core k.tells k.fates k.depends) (λ v here f. f);
   causes = after-step (CausesOf (more h (answered w e))) w e a (λ c. causes-after opening h w e _ c (at-event opening h w e _ a k c) k.depends k.causes) (λ v here f. f);
+  aborts = after-step (AbortsOf (more h (answered w e))) w e a (λ c. aborts-after opening h w e _ c (at-event opening h w e _ a k c) k.depends k.aborts) (λ v here f. f);
 }
 
 -- it holds where a run begins
@@ -62,6 +65,7 @@ knows-begins plays r l = record {
   };
   depends = λ u d. ((λ m. absurd m), (λ x. absurd (never x.at x.back x.front x.split)));
   causes = λ x m. absurd m;
+  aborts = λ u e. cc;
 }
   where
     never : (x : Applied) (back : List Applied) (front : List Applied) → [] ≡ front ++ (x ∷ back) → ⊥

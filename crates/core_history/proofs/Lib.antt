@@ -10,5 +10,6 @@ pub mod Cores
 pub mod Fated
 pub mod Depending
 pub mod Causing
+pub mod Stopping
 pub mod Knows
 pub mod Examples

@@ -5,7 +5,7 @@ use Rattle.cell_model.specs.Locks.{is_update}
 use Rattle.core_model.specs.declared.effects.Read.{Read}
 use Rattle.core_model.specs.World.{UnitNo, GrainId, Mode, Outcome, Entry, Settled, Member, nobody}
 use Rattle.core_model.specs.Tests.{is_before}
-use Rattle.core_model.specs.Causes.{Settles}
+use Rattle.core_model.specs.Causes.{Settles, IsAbort}
 use Rattle.core_model.specs.declared.events.CoreEvent.{CoreEvent}
 use Rattle.core_model.specs.declared.events.CoreEvent.TheVariants.{Bad, Refuse, EndPlain, EndSnapshot, Vote, Decide, Sealed, NotSealed, Doubt}
 use Rattle.core_history.specs.Histories.{Applied, Happened}
@@ -98,3 +98,12 @@ pub record IsCausedIn (h : List Applied) (x : Entry) : Type 0 where
   pub split : h ≡ front ++ (at ∷ back)
   pub cause : CauseIn front at x.unit x.what
   pub line : HasLineIn front at.event x x.what
+
+-- an event of the history aborted the unit, with this cause
+pub record IsAbortedIn (h : List Applied) (u : UnitNo) (why : Settled) : Type 0 where
+  pub front : List Applied
+  pub at : Applied
+  pub back : List Applied
+  pub split : h ≡ front ++ (at ∷ back)
+  pub abort : IsAbort why
+  pub cause : CauseIn front at u why

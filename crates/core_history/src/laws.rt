@@ -1,8 +1,8 @@
 ghost use Rattle.std.specs.Prelude.{◌≡◌, ◌↔◌, ℕ, Bool, Some};
 ghost use Rattle.core_model.specs.declared.effects.Effect.{Effect};
 ghost use Rattle.core_model.specs.declared.phases.Phase.TheVariants.{Finished};
-ghost use Rattle.core_model.specs.declared.phases.Verdict.TheVariants.{Committed};
-ghost use Rattle.core_model.specs.World.{UnitNo, GrainId, Entry, Batch, Member};
+ghost use Rattle.core_model.specs.declared.phases.Verdict.TheVariants.{Committed, Aborted};
+ghost use Rattle.core_model.specs.World.{UnitNo, GrainId, Entry, Settled, Batch, Member};
 ghost use Rattle.core_model.specs.Tests.{is_running, members};
 ghost use Rattle.core_model.specs.Lines.{HasBegun};
 ghost use Rattle.core_model.specs.Dead.{IsDead};
@@ -12,7 +12,7 @@ ghost use Rattle.core_history.specs.Units.{finish_order, runs, BeganFor, held, r
 ghost use Rattle.core_history.specs.Batches.{batches_in, InBatch};
 ghost use Rattle.core_history.specs.Fates.{IsDeadIn, IsCommittedIn};
 ghost use Rattle.core_history.specs.Dependencies.{IsDependency};
-ghost use Rattle.core_history.specs.Causes.{IsCausedIn};
+ghost use Rattle.core_history.specs.Causes.{IsCausedIn, IsAbortedIn};
 ghost use Rattle.core_history.specs.States.{mode_of, batches_of};
 
 /// A unit holds what it was granted last and hasn't released. The finish order is that of the finishes, a unit runs
@@ -46,7 +46,9 @@ pub fn the_dead_are_dead()
     ensures committed { (plays : Effect → Bool) (r : Run) → IsLegal plays r → (u : UnitNo) → ((ends r).manager.verdict u ≡ Committed) ↔ IsCommittedIn (history_of r) u }
 {}
 
-/// Each settled entry was settled by an event of the history, with the cause that it names, and has its unit's line.
+/// Each settled entry was settled by an event of the history, with the cause that it names, and has its unit's line; and
+/// each aborted unit was aborted so, a child too.
 pub fn causes_are_in_the_history()
-    ensures { (plays : Effect → Bool) (r : Run) → IsLegal plays r → (x : Entry) → Member x (ends r).manager.settled → IsCausedIn (history_of r) x }
+    ensures entries { (plays : Effect → Bool) (r : Run) → IsLegal plays r → (x : Entry) → Member x (ends r).manager.settled → IsCausedIn (history_of r) x }
+    ensures units { (plays : Effect → Bool) (r : Run) → IsLegal plays r → (u : UnitNo) → (ends r).manager.verdict u ≡ Aborted → (why : Settled) × IsAbortedIn (history_of r) u why }
 {}

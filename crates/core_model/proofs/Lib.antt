@@ -32,6 +32,7 @@ pub mod Further
 pub mod Failures
 pub mod Reasons
 pub mod Caused
+pub mod Aborting
 pub mod Removed
 pub mod Remembered
 pub mod Voted

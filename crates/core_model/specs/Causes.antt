@@ -1,5 +1,5 @@
 -- What each settled entry comes from.
-use Rattle.std.specs.Prelude.{◌≡◌, ◌↔◌, ◌⊎◌, ◌≤◌, ◌<◌, ◌+◌, ℕ, List, ◌∷◌, ◌++◌, true, false, Some}
+use Rattle.std.specs.Prelude.{◌≡◌, ◌↔◌, ◌⊎◌, ◌≤◌, ◌<◌, ◌+◌, ℕ, List, ◌∷◌, ◌++◌, true, false, Some, ⊤}
 use Rattle.base_types.specs.declared.calls.Origin.TheVariants.{Line}
 use Rattle.base_types.specs.declared.entries.Settled.TheVariants as settled
 use Rattle.cell_model.specs.Laws.{IsOldestRival}
@@ -74,6 +74,16 @@ HasCause w e next u (settled.Dependency on) = IsRefusedFor w e u on ⊎ AtDecisi
 HasCause w e next u settled.Disk = ((n : ℕ) × (e ≡ NotSealed n)) × AtDecision w e u (λ v b. CanCommit v b u)
 HasCause w e next u settled.InDoubt = ((n : ℕ) × (e ≡ Doubt n)) × AtDecision w e u (λ v b. CanCommit v b u)
 HasCause w e next u (settled.Bad why) = (line : ℕ) × (e ≡ Bad line why)
+
+-- what may become of a unit that is aborted
+abbrev pub IsAbort : Settled → Type 0
+IsAbort (settled.Done result) = ⊥
+IsAbort (settled.Lock by g) = ⊤
+IsAbort (settled.Vote g) = ⊤
+IsAbort (settled.Dependency on) = ⊤
+IsAbort settled.Disk = ⊤
+IsAbort settled.InDoubt = ⊥
+IsAbort (settled.Bad why) = ⊥
 
 -- a bad line has nobody's unit and the next number; every other entry has its unit's line
 abbrev pub HasLine : World → Entry → Settled → Type 0

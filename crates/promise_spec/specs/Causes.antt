@@ -1,13 +1,12 @@
 -- Why units are aborted, by the core's events, and what the counts of faults say of them.
-use Rattle.std.specs.Prelude.{◌≡◌, ℕ, ◌+◌, ◌*◌, ◌-◌, ◌^◌, ◌<◌, ◌≤◌, min, Bool, true, false, ◌&&◌, not, List, ◌∷◌, ◌++◌, ⊤}
+use Rattle.std.specs.Prelude.{◌≡◌, ℕ, ◌+◌, ◌*◌, ◌-◌, ◌^◌, ◌<◌, ◌≤◌, min, Bool, true, false, ◌&&◌, not, List, ◌∷◌, ◌++◌}
 use Rattle.base_types.specs.declared.entries.Settled.{Settled}
-use Rattle.base_types.specs.declared.entries.Settled.TheVariants.{Done, Lock, Vote as VotedDown, Dependency, Disk, InDoubt, Bad}
 use Rattle.host_trait.specs.declared.channels.Channel.{Channel}
 use Rattle.host_trait.specs.declared.channels.Channel.TheVariants.{File}
 use Rattle.host_trait.specs.declared.channels.FileId.TheVariants.{Grain}
 use Rattle.core_model.specs.declared.phases.Verdict.TheVariants.{Aborted}
 use Rattle.core_model.specs.World.{UnitNo, GrainId, same_grain, Member, Entry, Batch, World}
-use Rattle.core_model.specs.Causes.{HasCause, IsCaused, decided_state}
+use Rattle.core_model.specs.Causes.{IsAbort, HasCause, IsCaused, decided_state}
 use Rattle.core_model.specs.Dead.{IsDead}
 use Rattle.core_model.specs.declared.events.CoreEvent.{CoreEvent}
 use Rattle.core_model.specs.declared.events.CoreEvent.TheVariants.{Vote, Sealed, NotSealed, Doubt}
@@ -15,16 +14,6 @@ use Rattle.core_model.specs.Events.{applies, step, run}
 use Rattle.core_model.specs.Legal.{Run, begins, ends}
 use Rattle.silo_spec.specs.Silos.{manager}
 use Rattle.promise_spec.specs.Cores.{AppliesAt, how_many}
-
--- what may become of a unit that is aborted
-abbrev pub IsAbort : Settled → Type 0
-IsAbort (Done outcome) = ⊥
-IsAbort (Lock by grain) = ⊤
-IsAbort (VotedDown grain) = ⊤
-IsAbort (Dependency on) = ⊤
-IsAbort Disk = ⊤
-IsAbort InDoubt = ⊥
-IsAbort (Bad why) = ⊥
 
 -- an event of the run aborted the unit, with this cause
 pub record IsAbortedFor (r : Run) (u : UnitNo) (why : Settled) : Type 0 where
