@@ -30,14 +30,17 @@ AbortsOf h w = (u : UnitNo) → w.manager.verdict u ≡ Aborted → (why : Settl
 
 -- a cause stays one
 stopped-before : (h : List Applied) (a : Applied) (u : UnitNo) → (why : Settled) × IsAbortedIn h u why → (why : Settled) × IsAbortedIn (more h a) u why
-stopped-before h a u t = (t.0, record {
-  front = t.1.front;
-  at = t.1.at;
-  back = t.1.back ++ a ∷ [];
-  split = ap (λ z. z ++ a ∷ []) t.1.split ∙ append_assoc t.1.front (t.1.at ∷ t.1.back) (a ∷ []);
-  abort = t.1.abort;
-  cause = t.1.cause;
-})
+stopped-before h a u t = (
+  t.0,
+  record {
+    front = t.1.front;
+    at = t.1.at;
+    back = t.1.back ++ a ∷ [];
+    split = ap (λ z. z ++ a ∷ []) t.1.split ∙ append_assoc t.1.front (t.1.at ∷ t.1.back) (a ∷ []);
+    abort = t.1.abort;
+    cause = t.1.cause;
+  },
+)
 
 -- what an event tells a unit
 abbrev Stopped : List Applied → Applied → UnitNo → Type 0
@@ -73,34 +76,50 @@ aborts-after opening h w e w' (decide_none n b q number d voted none) s dep k = 
     (let c : Change w (Decide n) w' = decide_none n b q number d voted none in
     let fates = fates-after opening h w (Decide n) w' c s in
     elim (decided-stops opening w b x (Stopped h (answered w (Decide n)) x) s.core.kept s.core.depends s.core.split s.core.turned (no_doubt w (Decide n) s.applied refl) q d
-    (λ j m y z r. (told settled.Disk j, told-abort j, closed-in opening h w n w' c s dep b q number d none s.next.reads
-    (λ y' z'. Dead-more _ (judged (members w b) (decisions_of w b) w.manager.verdict) w.units.reads w.units.reads (λ u' t'. seal-bad (judged (members w b) (decisions_of w b) w.manager.verdict u') t') (λ u' r' m'. m') y'
-    (dead-by (more h (answered w (Decide n))) w' s.next fates y' z'))
-    settled.Disk x m j y r))
+    (λ j m y z r. (
+      told settled.Disk j,
+      told-abort j,
+      closed-in opening h w n w' c s dep b q number d none s.next.reads
+          (λ y' z'. Dead-more _ (judged (members w b) (decisions_of w b) w.manager.verdict) w.units.reads w.units.reads (λ u' t'. seal-bad (judged (members w b) (decisions_of w b) w.manager.verdict u') t') (λ u' r' m'. m') y'
+          (dead-by (more h (answered w (Decide n))) w' s.next fates y' z'))
+          settled.Disk x m j y r,
+    ))
     v) [
       | inl o ↦ stopped-before h (answered w (Decide n)) x (k x o)
       | inr o ↦ stopped-now h (answered w (Decide n)) x o
     ])
 aborts-after opening h w e w' (seal_batch n b ds q number d) s dep k = λ x v.
     elim (ended-stops opening w seal b ds x (Stopped h (answered w (Sealed n)) x) refl refl s.core.kept s.core.argued s.core.split s.core.turned (no_doubt w (Sealed n) s.applied refl) q d
-    (λ j m y z r. (told settled.Disk j, told-abort j, ended-in opening h w (answered w (Sealed n)) b ds s.core s.told s.fates dep q d (sym number) refl settled.Disk x m
-    (λ is can. absurd (seal-commit (w.manager.verdict x) is z)) j y r))
+    (λ j m y z r. (
+      told settled.Disk j,
+      told-abort j,
+      ended-in opening h w (answered w (Sealed n)) b ds s.core s.told s.fates dep q d (sym number) refl settled.Disk x m
+          (λ is can. absurd (seal-commit (w.manager.verdict x) is z)) j y r,
+    ))
     v) [
       | inl o ↦ stopped-before h (answered w (Sealed n)) x (k x o)
       | inr o ↦ stopped-now h (answered w (Sealed n)) x o
     ]
 aborts-after opening h w e w' (spoil_batch n b ds q number d) s dep k = λ x v.
     elim (ended-stops opening w spoil b ds x (Stopped h (answered w (NotSealed n)) x) refl refl s.core.kept s.core.argued s.core.split s.core.turned (no_doubt w (NotSealed n) s.applied refl) q d
-    (λ j m y z r. (told settled.Disk j, told-abort j, ended-in opening h w (answered w (NotSealed n)) b ds s.core s.told s.fates dep q d (sym number) refl settled.Disk x m
-    (λ is can. (n, refl, subst (λ i. CouldCommit h i x) number can)) j y r))
+    (λ j m y z r. (
+      told settled.Disk j,
+      told-abort j,
+      ended-in opening h w (answered w (NotSealed n)) b ds s.core s.told s.fates dep q d (sym number) refl settled.Disk x m
+          (λ is can. (n, refl, subst (λ i. CouldCommit h i x) number can)) j y r,
+    ))
     v) [
       | inl o ↦ stopped-before h (answered w (NotSealed n)) x (k x o)
       | inr o ↦ stopped-now h (answered w (NotSealed n)) x o
     ]
 aborts-after opening h w e w' (doubt_batch n b ds q number d) s dep k = λ x v.
     elim (ended-stops opening w leave b ds x (Stopped h (answered w (Doubt n)) x) refl refl s.core.kept s.core.argued s.core.split s.core.turned (no_doubt w (Doubt n) s.applied refl) q d
-    (λ j m y z r. (told settled.Disk j, told-abort j, ended-in opening h w (answered w (Doubt n)) b ds s.core s.told s.fates dep q d (sym number) refl settled.Disk x m
-    (λ is can. absurd (leave-commit (w.manager.verdict x) is z)) j y r))
+    (λ j m y z r. (
+      told settled.Disk j,
+      told-abort j,
+      ended-in opening h w (answered w (Doubt n)) b ds s.core s.told s.fates dep q d (sym number) refl settled.Disk x m
+          (λ is can. absurd (leave-commit (w.manager.verdict x) is z)) j y r,
+    ))
     v) [
       | inl o ↦ stopped-before h (answered w (Doubt n)) x (k x o)
       | inr o ↦ stopped-now h (answered w (Doubt n)) x o

@@ -122,7 +122,7 @@ close-stops w v f b ds u IsTold still sure reasons before within tells = from (v
 -- the same where the event decides the batch
 pub decided-stops : (opening : GrainId → List Value) (w : World) (b : Batch) (u : UnitNo) (IsTold : Type 0) → Kept opening w → Depends w → Split w → Turned w → w.manager.doubt ≡ None → w.manager.batch ≡ Some b → b.decisions ≡ None
     → ((d : Decision) → Member u (members w b) → judged (members w b) (decisions_of w b) w.manager.verdict u ≡ verdict_of d → seal (judged (members w b) (decisions_of w b) w.manager.verdict u) ≡ Aborted
-        → Reason b.votes (w.manager.writes u) (w.units.deps u) (judged (members w b) (decisions_of w b) w.manager.verdict) d → IsTold)
+    → Reason b.votes (w.manager.writes u) (w.units.deps u) (judged (members w b) (decisions_of w b) w.manager.verdict) d → IsTold)
     → seal (judged (members w b) (decisions_of w b) w.manager.verdict u) ≡ Aborted → (w.manager.verdict u ≡ Aborted) ⊎ IsTold
 decided-stops opening w b u IsTold k dep s t none q d tells =
     close-stops w (with_decisions w b (decisions_of w b)) seal b (decisions_of w b) u IsTold refl refl (argued-decided opening w b k dep q d) (judged-aborted (members w b) (decisions_of w b) w.manager.verdict u)

@@ -277,7 +277,7 @@ module _ (p : Program) (r : Observed) (c : Course) where
       let lives = alive k.before k.later k.event k.split in
       elim (subst (λ (x : Settled). HasCause w k.event (step w k.event) e.unit x) is k.cause) [
         | inl refused ↦ lives.before refused.dead
-        | inr decided ↦ lives.decided decided.0 decided.3.dead
+        | inr decided ↦ lives.decided decided.0 decided.4.dead
       ]
 
   -- where an event applies the input was read whole
