@@ -40,6 +40,7 @@ use Rattle.core_history.proofs.Placed.{open-batch}
 use Rattle.core_history.proofs.Cores.{Core, seal-bad}
 use Rattle.core_history.proofs.Fated.{Step, FatesOf, fates-after, dead-in, dead-by, decided-dead, judged-chosen, wrote-in, wrote-by}
 use Rattle.core_history.proofs.Depending.{DependsOf}
+use Rattle.core_history.proofs.Going.{SameGone}
 
 -- each settled entry of a state has its cause in the history
 abbrev pub CausesOf : List Applied → World → Type 0
@@ -92,11 +93,16 @@ locked-out opening h w c t e u by g r = record {
     parts = and_parts (not (is_hold_of u k)) (is_update r.mode || is_update k.mode) r.rival.rival.2
 
 -- the cause of a refusal
-pub refused-in : (opening : GrainId → List Value) (h : List Applied) (w : World) (u : UnitNo) (g : GrainId) (mode : Mode) (why : Settled) → Core opening w → Tells h w → FatesOf h w → w.units.phase u ≡ Running → refusal g (ask w u g mode) ≡ Some why →
+pub refused-in : (opening : GrainId → List Value) (h : List Applied) (w : World) (u : UnitNo) (g : GrainId) (mode : Mode) (why : Settled) → Core opening w → Tells h w → FatesOf h w → SameGone h w → w.units.phase u ≡ Running → refusal g (ask w u g mode) ≡ Some why →
     CauseIn h (answered w (Refuse u g mode)) u why
-refused-in opening h w u g mode why c t f running q = elim (ask-refused w u g mode why q).1 [
+refused-in opening h w u g mode why c t f same running q = elim (ask-refused w u g mode why q).1 [
   | inl d ↦ subst (CauseIn h (answered w (Refuse u g mode)) u) (sym d.2) (elim (subst (HasCause w (Refuse u g mode) w u) d.2 cause) [
-    | inl r ↦ inl (record { refused = r.refused; source = (r.gone.0, subst (Member r.gone.0) (t.reads u) r.gone.1, r.gone.2); dead = dead-in h w t f d.0 r.dead })
+    | inl r ↦ inl (record {
+      refused = r.refused;
+      gone = (r.gone.0, subst (Member r.gone.0) (t.reads u) r.gone.1, r.gone.2, (same u r.gone.0 running r.gone.1).0 r.gone.3);
+      dead = dead-in h w t f d.0 r.dead;
+      oldest = λ x m k. (let n = subst (Member x) (sym (t.reads u)) m in r.oldest x n ((same u x running n).1 k));
+    })
     | inr r ↦ (let z : Finished ≡ Running = sym (member-finished opening w r.0 c.kept u r.3) ∙ running in cc)
   ])
   | inr d ↦ subst (CauseIn h (answered w (Refuse u g mode)) u) (sym d.3) (locked-out opening h w c t (Refuse u g mode) u d.0 g (subst (HasCause w (Refuse u g mode) w u) d.3 cause))
@@ -186,28 +192,28 @@ closed-in opening h w n w' c s dep b q number d none reads dead answer u m (deci
     (λ e k y. dead-bad opening (with_decisions w b (decisions_of w b)) b (inv-decided opening w b s.core.kept q d) s.core.depends u m e k (dead e y)))
 
 -- the causes after an event
-pub causes-after : (opening : GrainId → List Value) (h : List Applied) (w : World) (e : CoreEvent) (w' : World) → Change w e w' → Step opening h w e w' → DependsOf h w → CausesOf h w → CausesOf (more h (answered w e)) w'
-causes-after opening h w e w' (bad line why q) s dep k = λ x m. elim (Member-append x w.manager.settled (record { line = line; unit = nobody; what = settled.Bad why } ∷ []) m) [
+pub causes-after : (opening : GrainId → List Value) (h : List Applied) (w : World) (e : CoreEvent) (w' : World) → Change w e w' → Step opening h w e w' → DependsOf h w → SameGone h w → CausesOf h w → CausesOf (more h (answered w e)) w'
+causes-after opening h w e w' (bad line why q) s dep same k = λ x m. elim (Member-append x w.manager.settled (record { line = line; unit = nobody; what = settled.Bad why } ∷ []) m) [
   | inl o ↦ caused-before h (answered w (Bad line why)) x (k x o)
   | inr o ↦ elim o [
     | inl z ↦ caused-now h (answered w (Bad line why)) x nobody (settled.Bad why) (ap (λ (y : Entry). y.unit) z) (ap (λ (y : Entry). y.what) z) (line, refl) (ap (λ (y : Entry). y.unit) z, ap (λ k. Bad k why) (sym (ap (λ (y : Entry). y.line) z)))
     | inr z ↦ absurd z
   ]
 ]
-causes-after opening h w e w' (refuse u g mode why running q) s dep k = λ x m. elim (Member-append x w.manager.settled (entry_for (w.units.origin u) u why) m) [
+causes-after opening h w e w' (refuse u g mode why running q) s dep same k = λ x m. elim (Member-append x w.manager.settled (entry_for (w.units.origin u) u why) m) [
   | inl o ↦ caused-before h (answered w (Refuse u g mode)) x (k x o)
-  | inr o ↦ (let t = entry-parts w u why x o in caused-now h (answered w (Refuse u g mode)) x u why t.0 t.1 (refused-in opening h w u g mode why s.core s.told s.fates running q)
+  | inr o ↦ (let t = entry-parts w u why x o in caused-now h (answered w (Refuse u g mode)) x u why t.0 t.1 (refused-in opening h w u g mode why s.core s.told s.fates same running q)
       (refused-line h w u g mode why x q (line-of h w s.told u x (λ z. (let y : Unborn ≡ Running = sym z ∙ running in cc)) t.0 t.2)))
 ]
-causes-after opening h w e w' (end_plain u effect running plain of_call bare) s dep k = λ x m. elim (Member-append x w.manager.settled (entry_for (w.units.origin u) u (settled.Done effect.result)) m) [
+causes-after opening h w e w' (end_plain u effect running plain of_call bare) s dep same k = λ x m. elim (Member-append x w.manager.settled (entry_for (w.units.origin u) u (settled.Done effect.result)) m) [
   | inl o ↦ caused-before h (answered w (EndPlain u effect)) x (k x o)
   | inr o ↦ (let t = entry-parts w u (settled.Done effect.result) x o in caused-now h (answered w (EndPlain u effect)) x u (settled.Done effect.result) t.0 t.1 (refl, refl) (line-of h w s.told u x (λ z. (let y : Unborn ≡ Running = sym z ∙ running in cc)) t.0 t.2))
 ]
-causes-after opening h w e w' (end_snapshot u at outcome running plain kids answer) s dep k = λ x m. elim (Member-append x w.manager.settled (entry_for (w.units.origin u) u (settled.Done outcome)) m) [
+causes-after opening h w e w' (end_snapshot u at outcome running plain kids answer) s dep same k = λ x m. elim (Member-append x w.manager.settled (entry_for (w.units.origin u) u (settled.Done outcome)) m) [
   | inl o ↦ caused-before h (answered w (EndSnapshot u at outcome)) x (k x o)
   | inr o ↦ (let t = entry-parts w u (settled.Done outcome) x o in caused-now h (answered w (EndSnapshot u at outcome)) x u (settled.Done outcome) t.0 t.1 (refl, refl) (line-of h w s.told u x (λ z. (let y : Unborn ≡ Running = sym z ∙ running in cc)) t.0 t.2))
 ]
-causes-after opening h w e w' (decide_none n b q number d voted none) s dep k = λ x m.
+causes-after opening h w e w' (decide_none n b q number d voted none) s dep same k = λ x m.
     (let v : World = with_decisions w b (decisions_of w b) in
     let fates = fates-after opening h w (Decide n) w' (decide_none n b q number d voted none) s in
     elim (Member-append x w.manager.settled (entries_in v (result_told v) (members w b) (decisions_of w b)) m) [
@@ -219,25 +225,25 @@ causes-after opening h w e w' (decide_none n b q number d voted none) s dep k = 
           (result_told v u) u y c z r)
           s.told refl (member-finished opening w b s.core.kept) x (λ l u. l) o
     ])
-causes-after opening h w e w' (seal_batch n b ds q number d) s dep k = λ x m. elim (Member-append x w.manager.settled (entries_in w (result_told w) (members w b) ds) m) [
+causes-after opening h w e w' (seal_batch n b ds q number d) s dep same k = λ x m. elim (Member-append x w.manager.settled (entries_in w (result_told w) (members w b) ds) m) [
   | inl o ↦ caused-before h (answered w (Sealed n)) x (k x o)
   | inr o ↦ entries-in h w w (answered w (Sealed n)) (result_told w) b.votes (members w b) ds (s.core.argued b ds q d)
       (λ u c y z r. ended-in opening h w (answered w (Sealed n)) b ds s.core s.told s.fates dep q d (sym number) refl (result_told w u) u y
       (λ v can. (subst (λ i. CouldCommit h i u) number can, s.told.results u (member-finished opening w b s.core.kept u y))) c z r)
       s.told refl (member-finished opening w b s.core.kept) x (λ l u. l) o
 ]
-causes-after opening h w e w' (spoil_batch n b ds q number d) s dep k = λ x m. elim (Member-append x w.manager.settled (entries_in w (λ u. settled.Disk) (members w b) ds) m) [
+causes-after opening h w e w' (spoil_batch n b ds q number d) s dep same k = λ x m. elim (Member-append x w.manager.settled (entries_in w (λ u. settled.Disk) (members w b) ds) m) [
   | inl o ↦ caused-before h (answered w (NotSealed n)) x (k x o)
   | inr o ↦ entries-in h w w (answered w (NotSealed n)) (λ u. settled.Disk) b.votes (members w b) ds (s.core.argued b ds q d)
       (λ u c y z r. ended-in opening h w (answered w (NotSealed n)) b ds s.core s.told s.fates dep q d (sym number) refl settled.Disk u y
       (λ v can. (n, refl, subst (λ i. CouldCommit h i u) number can)) c z r)
       s.told refl (member-finished opening w b s.core.kept) x (λ l u. l) o
 ]
-causes-after opening h w e w' (doubt_batch n b ds q number d) s dep k = λ x m. elim (Member-append x w.manager.settled (entries_in w (λ u. settled.InDoubt) (members w b) ds) m) [
+causes-after opening h w e w' (doubt_batch n b ds q number d) s dep same k = λ x m. elim (Member-append x w.manager.settled (entries_in w (λ u. settled.InDoubt) (members w b) ds) m) [
   | inl o ↦ caused-before h (answered w (Doubt n)) x (k x o)
   | inr o ↦ entries-in h w w (answered w (Doubt n)) (λ u. settled.InDoubt) b.votes (members w b) ds (s.core.argued b ds q d)
       (λ u c y z r. ended-in opening h w (answered w (Doubt n)) b ds s.core s.told s.fates dep q d (sym number) refl settled.InDoubt u y
       (λ v can. (n, refl, subst (λ i. CouldCommit h i u) number can)) c z r)
       s.told refl (member-finished opening w b s.core.kept) x (λ l u. l) o
 ]
-causes-after opening h w e w' c s dep k = λ x m. caused-before h (answered w e) x (k x m)
+causes-after opening h w e w' c s dep same k = λ x m. caused-before h (answered w e) x (k x m)

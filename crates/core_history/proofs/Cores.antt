@@ -20,6 +20,7 @@ use Rattle.core_model.proofs.Reasons.{Argued, argued-step, Reason, Reasons}
 use Rattle.core_model.proofs.Held.{Tidy, tidy-step}
 use Rattle.core_model.proofs.Split.{Split, split-step}
 use Rattle.core_model.proofs.Verdicts.{Turned, turned-step}
+use Rattle.core_model.proofs.Batching.{Unheld, unheld-step}
 use Rattle.core_model.proofs.Ends.{kept-begins}
 use Rattle.core_model.proofs.Orders.{in_part}
 use Rattle.core_model.proofs.Caused.{member-place}
@@ -34,6 +35,7 @@ pub record Core (opening : GrainId → List Value) (w : World) : Type 0 where
   pub tidy : Tidy w
   pub split : Split w
   pub turned : Turned w
+  pub unheld : Unheld w
 
 -- an event keeps it
 pub core-step : (opening : GrainId → List Value) (w : World) (e : CoreEvent) → IsTrueLoad opening w e → Core opening w → Core opening (step w e)
@@ -45,6 +47,7 @@ core-step opening w e l c = record {
   tidy = tidy-step opening w e l c.kept c.tidy;
   split = split-step opening w e l c.kept c.split;
   turned = turned-step opening w e l c.kept c.turned;
+  unheld = unheld-step opening w e l c.kept c.unheld;
 }
 
 -- it holds where a run begins
@@ -57,6 +60,7 @@ core-begins plays r l = record {
   tidy = ((λ g. tt), (λ g. tt), (λ u r s m. absurd m), (λ u g wr. (let z = wr.1 in cc)));
   split = ((λ u f. cc), (λ u f. cc), omega arith);
   turned = ((λ u n. absurd (n refl)), (λ u f. cc));
+  unheld = λ u f. cc;
 }
 
 -- who is to commit or is committed has finished

@@ -101,7 +101,7 @@ wrote-less opening h w e w' c s n u g b wr =
     (t.0, ap (written g) (sym (writes-stay w e w' c u (batch-finished opening h w s.core.kept s.told n u b))) ∙ t.1)
 
 -- what was read stays read
-read-stays : (reads : List Read) (o : Option Read) (r : Read) → Member r reads → Member r (with_read reads o)
+pub read-stays : (reads : List Read) (o : Option Read) (r : Read) → Member r reads → Member r (with_read reads o)
 read-stays reads None r m = m
 read-stays reads (Some x) r m = cond_both (has_read x.grain reads) reads (reads ++ x ∷ []) (Member r) (λ e. m) (λ e. Member-left r reads (x ∷ []) m)
 
@@ -239,7 +239,7 @@ refusals-after opening h w e w' c s u g mode m = elim (happened-cases h (answere
 ]
 
 -- no batch is new where something has happened in it
-old-batch : (opening : GrainId → List Value) (h : List Applied) (w : World) (e : CoreEvent) (w' : World) → Step opening h w e w' → (n : ℕ) (u : UnitNo) (x : CoreEvent) → number_of x ≡ n → (x ≡ Take → ⊥) → InBatch (more h (answered w e)) n u → Happened (more h (answered w e)) x → InBatch h n u
+pub old-batch : (opening : GrainId → List Value) (h : List Applied) (w : World) (e : CoreEvent) (w' : World) → Step opening h w e w' → (n : ℕ) (u : UnitNo) (x : CoreEvent) → number_of x ≡ n → (x ≡ Take → ⊥) → InBatch (more h (answered w e)) n u → Happened (more h (answered w e)) x → InBatch h n u
 old-batch opening h w e w' s n u x is not_take b m = elim (batch-cases h (answered w e) n u b) [
   | inl o ↦ o
   | inr t ↦ elim (happened-cases h (answered w e) x m) [
@@ -249,7 +249,7 @@ old-batch opening h w e w' s n u x is not_take b m = elim (batch-cases h (answer
 ]
 
 -- the verdicts of a batch that is decided now
-decided-reason : (opening : GrainId → List Value) (h : List Applied) (w : World) (e : CoreEvent) (w' : World) → Step opening h w e w' → (b : Batch) → w.manager.batch ≡ Some b → b.decisions ≡ None → (x : UnitNo) → Member x (members w b) →
+pub decided-reason : (opening : GrainId → List Value) (h : List Applied) (w : World) (e : CoreEvent) (w' : World) → Step opening h w e w' → (b : Batch) → w.manager.batch ≡ Some b → b.decisions ≡ None → (x : UnitNo) → Member x (members w b) →
     (d : Decision) × Member d (decisions_of w b) × (judged (members w b) (decisions_of w b) w.manager.verdict x ≡ verdict_of d) × Reason b.votes (w.manager.writes x) (w.units.deps x) (judged (members w b) (decisions_of w b) w.manager.verdict) d
 decided-reason opening h w e w' s b q d x m =
     reasons-at b.votes w.manager.writes w.units.deps (judged (members w b) (decisions_of w b) w.manager.verdict) (members w b) (decisions_of w b) x (argued-decided opening w b s.core.kept s.core.depends q d) m
@@ -341,7 +341,7 @@ spoils-after opening h w e w' c s n u i m =
     ]
 
 -- a unit is in a list or not
-member-or-not : (u : UnitNo) (us : List UnitNo) → Member u us ⊎ (Member u us → ⊥)
+pub member-or-not : (u : UnitNo) (us : List UnitNo) → Member u us ⊎ (Member u us → ⊥)
 member-or-not u [] = inr (λ m. m)
 member-or-not u (x ∷ xs) = elim (cases_unit u x) [
   | inl e ↦ inl (inl e)

@@ -14,11 +14,13 @@ use Rattle.core_model.proofs.Growth.{grows-change}
 use Rattle.core_history.specs.Histories.{Applied, history_of}
 use Rattle.core_history.specs.Fates.{IsDeadIn, IsCommittedIn}
 use Rattle.core_history.proofs.Words.{more}
-use Rattle.core_history.proofs.Along.{answered, after-step, along}
+use Rattle.core_history.proofs.Along.{answered, with_here, after-step, along}
 use Rattle.core_history.proofs.Tells.{Tells, tells-after, tells-step, tells-begins}
 use Rattle.core_history.proofs.Cores.{Core, core-step, core-begins}
 use Rattle.core_history.proofs.Fated.{Step, FatesOf, fates-after, dead-in, dead-by, committed-in, committed-by}
 use Rattle.core_history.proofs.Depending.{DependsOf, depends-after}
+use Rattle.core_history.proofs.Ended.{Endings, endings-after}
+use Rattle.core_history.proofs.Going.{OffOf, GoneOf, SameGone, off-after, gone-after, same-gone}
 use Rattle.core_history.proofs.Causing.{CausesOf, causes-after}
 use Rattle.core_history.proofs.Stopping.{AbortsOf, aborts-after}
 
@@ -28,12 +30,19 @@ pub record Knows (opening : GrainId → List Value) (h : List Applied) (w : Worl
   pub tells : Tells h w
   pub fates : FatesOf h w
   pub depends : DependsOf h w
+  pub endings : Endings h w
+  pub off : OffOf h w
+  pub gone : GoneOf h w
   pub causes : CausesOf h w
   pub aborts : AbortsOf h w
 
 -- what is known at an event
 pub at-event : (opening : GrainId → List Value) (h : List Applied) (w : World) (e : CoreEvent) (w' : World) → applies w e ≡ true → Knows opening h w → Change w e w' → Step opening h w e w'
 at-event opening h w e w' a k c = record { core = k.core; told = k.tells; next = tells-after h w e w' c k.tells; fates = k.fates; applied = a; grows = grows-change opening w e w' c a k.core.kept }
+
+-- which grains are in memory doesn't matter
+endings-here : (h : List Applied) (w : World) (here : GrainId → Bool) → Endings h w → Endings h (with_here w here)
+endings-here h w here k = record { aborted = k.aborted; doubted = k.doubted; doubts = k.doubts; decided = k.decided; condemned = k.condemned }
 
 -- each step keeps it
 knows-step : (opening : GrainId → List Value) (h : List Applied) (w : World) (e : CoreEvent) (es : List CoreEvent) → AllLoadsTrue opening w (e ∷ es) → applies w e ≡ true → Knows opening h w → Knows opening (more h (answered w e)) (step w e)
@@ -42,9 +51,15 @@ knows-step opening h w e es l a k = record {
   tells = tells-step h w e a k.tells;
   fates = after-step (FatesOf (more h (answered w e))) w e a (λ c. fates-after opening h w e _ c (at-event opening h w e _ a k c)) (λ v here f. f);
   depends = after-step (DependsOf (more h (answered w e))) w e a (λ c. depends-after opening h w e _ c k.core k.tells k.fates k.depends) (λ v here f. f);
-  causes = after-step (CausesOf (more h (answered w e))) w e a (λ c. causes-after opening h w e _ c (at-event opening h w e _ a k c) k.depends k.causes) (λ v here f. f);
-  aborts = after-step (AbortsOf (more h (answered w e))) w e a (λ c. aborts-after opening h w e _ c (at-event opening h w e _ a k c) k.depends k.aborts) (λ v here f. f);
+  endings = after-step (Endings (more h (answered w e))) w e a (λ c. endings-after opening h w e _ c (at-event opening h w e _ a k c) k.endings) (λ v here f. endings-here (more h (answered w e)) v here f);
+  off = after-step (OffOf (more h (answered w e))) w e a (λ c. off-after opening h w e _ c (at-event opening h w e _ a k c) k.endings l.0 k.off) (λ v here f. f);
+  gone = after-step (GoneOf (more h (answered w e))) w e a (λ c. gone-after opening h w e _ c (at-event opening h w e _ a k c) k.endings k.gone) (λ v here f. f);
+  causes = after-step (CausesOf (more h (answered w e))) w e a (λ c. causes-after opening h w e _ c (at-event opening h w e _ a k c) k.depends same k.causes) (λ v here f. f);
+  aborts = after-step (AbortsOf (more h (answered w e))) w e a (λ c. aborts-after opening h w e _ c (at-event opening h w e _ a k c) k.depends same k.aborts) (λ v here f. f);
 }
+  where
+    same : SameGone h w
+    same = same-gone opening h w k.core k.tells k.off k.gone
 
 -- it holds where a run begins
 knows-begins : (plays : Effect → Bool) (r : Run) → IsLegal plays r → Knows r.opening [] (begins r)
@@ -64,6 +79,15 @@ knows-begins plays r l = record {
     commits = λ u e. cc;
   };
   depends = λ u d. ((λ m. absurd m), (λ x. absurd (never x.at x.back x.front x.split)));
+  endings = record {
+    aborted = λ v f. cc;
+    doubted = λ n m. absurd m;
+    doubts = λ n v b m. absurd m;
+    decided = λ n v b m. absurd m;
+    condemned = λ n v b m. absurd m;
+  };
+  off = λ v g x. absurd (never x.at x.back x.front x.split);
+  gone = λ u r q m. absurd m;
   causes = λ x m. absurd m;
   aborts = λ u e. cc;
 }

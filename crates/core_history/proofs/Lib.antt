@@ -9,6 +9,8 @@ pub mod Placed
 pub mod Cores
 pub mod Fated
 pub mod Depending
+pub mod Ended
+pub mod Going
 pub mod Causing
 pub mod Stopping
 pub mod Knows

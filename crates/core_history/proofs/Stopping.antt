@@ -22,6 +22,7 @@ use Rattle.core_history.proofs.Along.{answered}
 use Rattle.core_history.proofs.Cores.{seal-bad}
 use Rattle.core_history.proofs.Fated.{Step, fates-after, dead-by}
 use Rattle.core_history.proofs.Depending.{DependsOf}
+use Rattle.core_history.proofs.Going.{SameGone}
 use Rattle.core_history.proofs.Causing.{refused-in, ended-in, closed-in}
 
 -- each aborted unit of a state has its cause in the history
@@ -64,15 +65,15 @@ refused-abort w u g mode why q = elim (ask-refused w u g mode why q).1 [
 ]
 
 -- the causes of aborted units after an event
-pub aborts-after : (opening : GrainId → List Value) (h : List Applied) (w : World) (e : CoreEvent) (w' : World) → Change w e w' → Step opening h w e w' → DependsOf h w → AbortsOf h w → AbortsOf (more h (answered w e)) w'
-aborts-after opening h w e w' (refuse u g mode why running q) s dep k = λ x.
+pub aborts-after : (opening : GrainId → List Value) (h : List Applied) (w : World) (e : CoreEvent) (w' : World) → Change w e w' → Step opening h w e w' → DependsOf h w → SameGone h w → AbortsOf h w → AbortsOf (more h (answered w e)) w'
+aborts-after opening h w e w' (refuse u g mode why running q) s dep same k = λ x.
     put-from w.manager.verdict u Aborted (λ z. z ≡ Aborted) ((c : Settled) × IsAbortedIn (more h (answered w (Refuse u g mode))) x c) x
     (λ z y. subst (λ j. (c : Settled) × IsAbortedIn (more h (answered w (Refuse u g mode))) j c) (sym z)
-    (stopped-now h (answered w (Refuse u g mode)) u (why, refused-abort w u g mode why q, refused-in opening h w u g mode why s.core s.told s.fates running q)))
+    (stopped-now h (answered w (Refuse u g mode)) u (why, refused-abort w u g mode why q, refused-in opening h w u g mode why s.core s.told s.fates same running q)))
     (λ z y. stopped-before h (answered w (Refuse u g mode)) x (k x y))
-aborts-after opening h w e w' (decide_some n b q number d voted some) s dep k = λ x v.
+aborts-after opening h w e w' (decide_some n b q number d voted some) s dep same k = λ x v.
     stopped-before h (answered w (Decide n)) x (k x (judged-aborted (members w b) (decisions_of w b) w.manager.verdict x v))
-aborts-after opening h w e w' (decide_none n b q number d voted none) s dep k = λ x v.
+aborts-after opening h w e w' (decide_none n b q number d voted none) s dep same k = λ x v.
     (let c : Change w (Decide n) w' = decide_none n b q number d voted none in
     let fates = fates-after opening h w (Decide n) w' c s in
     elim (decided-stops opening w b x (Stopped h (answered w (Decide n)) x) s.core.kept s.core.depends s.core.split s.core.turned (no_doubt w (Decide n) s.applied refl) q d
@@ -88,7 +89,7 @@ aborts-after opening h w e w' (decide_none n b q number d voted none) s dep k = 
       | inl o ↦ stopped-before h (answered w (Decide n)) x (k x o)
       | inr o ↦ stopped-now h (answered w (Decide n)) x o
     ])
-aborts-after opening h w e w' (seal_batch n b ds q number d) s dep k = λ x v.
+aborts-after opening h w e w' (seal_batch n b ds q number d) s dep same k = λ x v.
     elim (ended-stops opening w seal b ds x (Stopped h (answered w (Sealed n)) x) refl refl s.core.kept s.core.argued s.core.split s.core.turned (no_doubt w (Sealed n) s.applied refl) q d
     (λ j m y z r. (
       told settled.Disk j,
@@ -100,7 +101,7 @@ aborts-after opening h w e w' (seal_batch n b ds q number d) s dep k = λ x v.
       | inl o ↦ stopped-before h (answered w (Sealed n)) x (k x o)
       | inr o ↦ stopped-now h (answered w (Sealed n)) x o
     ]
-aborts-after opening h w e w' (spoil_batch n b ds q number d) s dep k = λ x v.
+aborts-after opening h w e w' (spoil_batch n b ds q number d) s dep same k = λ x v.
     elim (ended-stops opening w spoil b ds x (Stopped h (answered w (NotSealed n)) x) refl refl s.core.kept s.core.argued s.core.split s.core.turned (no_doubt w (NotSealed n) s.applied refl) q d
     (λ j m y z r. (
       told settled.Disk j,
@@ -112,7 +113,7 @@ aborts-after opening h w e w' (spoil_batch n b ds q number d) s dep k = λ x v.
       | inl o ↦ stopped-before h (answered w (NotSealed n)) x (k x o)
       | inr o ↦ stopped-now h (answered w (NotSealed n)) x o
     ]
-aborts-after opening h w e w' (doubt_batch n b ds q number d) s dep k = λ x v.
+aborts-after opening h w e w' (doubt_batch n b ds q number d) s dep same k = λ x v.
     elim (ended-stops opening w leave b ds x (Stopped h (answered w (Doubt n)) x) refl refl s.core.kept s.core.argued s.core.split s.core.turned (no_doubt w (Doubt n) s.applied refl) q d
     (λ j m y z r. (
       told settled.Disk j,
@@ -124,4 +125,4 @@ aborts-after opening h w e w' (doubt_batch n b ds q number d) s dep k = λ x v.
       | inl o ↦ stopped-before h (answered w (Doubt n)) x (k x o)
       | inr o ↦ stopped-now h (answered w (Doubt n)) x o
     ]
-aborts-after opening h w e w' c s dep k = λ x v. stopped-before h (answered w e) x (k x v)
+aborts-after opening h w e w' c s dep same k = λ x v. stopped-before h (answered w e) x (k x v)

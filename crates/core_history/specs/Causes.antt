@@ -13,6 +13,7 @@ use Rattle.core_history.specs.Units.{BeganFor, held, reads_in, result_in, WroteI
 use Rattle.core_history.specs.Batches.{InBatch}
 use Rattle.core_history.specs.Fates.{IsDeadIn}
 use Rattle.core_history.specs.Dependencies.{IsDependency}
+use Rattle.core_history.specs.Gone.{IsGone}
 
 -- another unit holds the grain, and one of the two modes is for one unit alone
 pub record IsRival (h : List Applied) (u : UnitNo) (g : GrainId) (mode : Mode) (v : UnitNo) : Type 0 where
@@ -29,12 +30,12 @@ pub record IsLockedOut (front : List Applied) (e : CoreEvent) (u by : UnitNo) (g
   pub oldest : (v : UnitNo) → IsRival front u g mode v → by.0 ≤ v.0
   pub older : by.0 < u.0
 
--- The unit is refused, and read from the other, who is dead. Which of several such sources is named is the oldest whose
--- version is gone, and which versions are gone the core's stacks tell, not the history.
+-- The unit is refused, and the other is the oldest source of what the unit read and what is gone; it is dead.
 pub record IsDoomed (front : List Applied) (e : CoreEvent) (u on : UnitNo) : Type 0 where
   pub refused : (g : GrainId) × ((mode : Mode) × (e ≡ Refuse u g mode))
-  pub source : (r : Read) × Member r (reads_in u front) × (r.source ≡ on)
+  pub gone : (r : Read) × Member r (reads_in u front) × (r.source ≡ on) × IsGone front r
   pub dead : IsDeadIn front on
+  pub oldest : (r : Read) → Member r (reads_in u front) → IsGone front r → on.0 ≤ r.source.0
 
 -- the unit's batch is decided or ended
 abbrev pub IsSettledBy : List Applied → CoreEvent → ℕ → UnitNo → Type 0

@@ -1,0 +1,50 @@
+-- Which versions that a unit read were taken off their grain's stack.
+use Rattle.std.specs.Prelude.{◌≡◌, ℕ, List, ◌∷◌, ◌++◌}
+use Rattle.core_model.specs.declared.effects.Read.{Read}
+use Rattle.core_model.specs.World.{UnitNo, GrainId, Member}
+use Rattle.core_model.specs.declared.events.CoreEvent.{CoreEvent}
+use Rattle.core_model.specs.declared.events.CoreEvent.TheVariants.{Grant, Decide, Sealed, NotSealed, Doubt, Learn}
+use Rattle.core_history.specs.Histories.{Applied, Happened}
+use Rattle.core_history.specs.Units.{reads_in}
+use Rattle.core_history.specs.Batches.{InBatch}
+use Rattle.core_history.specs.Fates.{IsDeadIn}
+
+-- The batch of that number has ended: it is on disk, or it isn't, or nobody knows; or it was decided and all its units are
+-- dead.
+pub data HasEnded (h : List Applied) (n : ℕ) : Type 0 where
+  on_disk : Happened h (Sealed n) → HasEnded h n
+  not_on_disk : Happened h (NotSealed n) → HasEnded h n
+  in_doubt : Happened h (Doubt n) → HasEnded h n
+  all_dead : Happened h (Decide n) → ((u : UnitNo) → InBatch h n u → IsDeadIn h u) → HasEnded h n
+
+-- the unit is dead, and its batch has ended
+pub record IsDecidedDead (h : List Applied) (u : UnitNo) : Type 0 where
+  pub dead : IsDeadIn h u
+  pub batch : ℕ
+  pub within : InBatch h batch u
+  pub ended : HasEnded h batch
+
+-- the event takes the version of that unit, once it is decided dead, off the grain's stack: any grant of the grain, or the
+-- grain learns of the unit
+abbrev pub TakesOff : CoreEvent → UnitNo → GrainId → Type 0
+TakesOff (Grant u k mode) v g = k ≡ g
+TakesOff (Learn u k) v g = (u ≡ v) × (k ≡ g)
+TakesOff _ v g = ⊥
+
+-- The one unit's version of the grain is the other's, or was made from one that stands on it: the unit read the grain from
+-- a unit whose version does.
+pub data StandsOn (h : List Applied) (g : GrainId) : UnitNo → UnitNo → Type 0 where
+  itself : {s v : UnitNo} → s ≡ v → StandsOn h g s v
+  above : {s v : UnitNo} (r : Read) → Member r (reads_in s h) → r.grain ≡ g → StandsOn h g r.source v → StandsOn h g s v
+
+-- What was read is gone: an event took off its grain's stack the version of a unit that was decided dead before, and the
+-- version that was read stood on it.
+pub record IsGone (h : List Applied) (r : Read) : Type 0 where
+  pub front : List Applied
+  pub at : Applied
+  pub back : List Applied
+  pub split : h ≡ front ++ (at ∷ back)
+  pub off : UnitNo
+  pub takes : TakesOff at.event off r.grain
+  pub dead : IsDecidedDead front off
+  pub stands : StandsOn front r.grain r.source off
