@@ -3,7 +3,8 @@ use Rattle.std.proofs.Common.{◌≡◌, List, [], ◌∷◌, ◌++◌, Bool, tr
 use Rattle.std.specs.Prelude.{◌↔◌}
 use Rattle.core_model.specs.declared.events.CoreEvent.{CoreEvent}
 use Rattle.core_model.specs.declared.effects.Effect.{Effect}
-use Rattle.core_model.specs.declared.phases.Verdict.TheVariants.{Committed}
+use Rattle.core_model.specs.declared.phases.Phase.TheVariants.{Finished}
+use Rattle.core_model.specs.declared.phases.Verdict.TheVariants.{Committed, Aborted}
 use Rattle.core_model.specs.World.{UnitNo, GrainId, Value, World}
 use Rattle.core_model.specs.Dead.{IsDead}
 use Rattle.core_model.specs.Serial.{AllLoadsTrue}
@@ -13,13 +14,15 @@ use Rattle.core_model.proofs.Decoded.{Change}
 use Rattle.core_model.proofs.Growth.{grows-change}
 use Rattle.core_history.specs.Histories.{Applied, history_of}
 use Rattle.core_history.specs.Fates.{IsDeadIn, IsCommittedIn}
+use Rattle.core_history.specs.Gone.{IsDecidedDead}
+use Rattle.core_history.proofs.Placed.{batch-finished}
 use Rattle.core_history.proofs.Words.{more}
 use Rattle.core_history.proofs.Along.{answered, with_here, after-step, along}
 use Rattle.core_history.proofs.Tells.{Tells, tells-after, tells-step, tells-begins}
 use Rattle.core_history.proofs.Cores.{Core, core-step, core-begins}
 use Rattle.core_history.proofs.Fated.{Step, FatesOf, fates-after, dead-in, dead-by, committed-in, committed-by}
 use Rattle.core_history.proofs.Depending.{DependsOf, depends-after}
-use Rattle.core_history.proofs.Ended.{Endings, endings-after}
+use Rattle.core_history.proofs.Ended.{Endings, endings-after, decided-dead-in, decided-dead-by}
 use Rattle.core_history.proofs.Going.{OffOf, GoneOf, SameGone, off-after, gone-after, same-gone}
 use Rattle.core_history.proofs.Causing.{CausesOf, causes-after}
 use Rattle.core_history.proofs.Stopping.{AbortsOf, aborts-after}
@@ -107,3 +110,14 @@ dead-ends plays r l u = (let k = knows-ends plays r l in (dead-in (history_of r)
 -- the committed after a legal run
 pub committed-ends : (plays : Effect → Bool) (r : Run) → IsLegal plays r → (u : UnitNo) → ((ends r).manager.verdict u ≡ Committed) ↔ IsCommittedIn (history_of r) u
 committed-ends plays r l u = (let k = knows-ends plays r l in (committed-in r.opening (history_of r) (ends r) k.core k.tells k.fates u, committed-by (history_of r) (ends r) k.tells k.fates u))
+
+-- who is aborted after its finish
+pub decided-ends : (plays : Effect → Bool) (r : Run) → IsLegal plays r → (u : UnitNo) → (((ends r).units.phase u ≡ Finished) × ((ends r).manager.verdict u ≡ Aborted)) ↔ IsDecidedDead (history_of r) u
+decided-ends plays r l u = (let k = knows-ends plays r l in (
+  (λ x. decided-dead-in (history_of r) (ends r) k.fates k.endings u x.0 x.1),
+  (λ x. (batch-finished r.opening (history_of r) (ends r) k.core.kept k.tells x.batch u x.within, decided-dead-by r.opening (history_of r) (ends r) k.core k.tells k.fates k.endings u x)),
+))
+
+-- what is gone after a legal run
+pub gone-ends : (plays : Effect → Bool) (r : Run) → IsLegal plays r → SameGone (history_of r) (ends r)
+gone-ends plays r l = (let k = knows-ends plays r l in same-gone r.opening (history_of r) (ends r) k.core k.tells k.off k.gone)

@@ -1,9 +1,10 @@
-ghost use Rattle.std.specs.Prelude.{◌≡◌, ◌↔◌, ℕ, Bool, Some};
+ghost use Rattle.std.specs.Prelude.{◌≡◌, ◌↔◌, ℕ, Bool, true, Some};
 ghost use Rattle.core_model.specs.declared.effects.Effect.{Effect};
-ghost use Rattle.core_model.specs.declared.phases.Phase.TheVariants.{Finished};
+ghost use Rattle.core_model.specs.declared.effects.Read.{Read};
+ghost use Rattle.core_model.specs.declared.phases.Phase.TheVariants.{Running, Finished};
 ghost use Rattle.core_model.specs.declared.phases.Verdict.TheVariants.{Committed, Aborted};
 ghost use Rattle.core_model.specs.World.{UnitNo, GrainId, Entry, Settled, Batch, Member};
-ghost use Rattle.core_model.specs.Tests.{is_running, members};
+ghost use Rattle.core_model.specs.Tests.{is_running, is_gone, members};
 ghost use Rattle.core_model.specs.Lines.{HasBegun};
 ghost use Rattle.core_model.specs.Dead.{IsDead};
 ghost use Rattle.core_model.specs.Legal.{Run, IsLegal, ends};
@@ -12,6 +13,7 @@ ghost use Rattle.core_history.specs.Units.{finish_order, runs, BeganFor, held, r
 ghost use Rattle.core_history.specs.Batches.{batches_in, InBatch};
 ghost use Rattle.core_history.specs.Fates.{IsDeadIn, IsCommittedIn};
 ghost use Rattle.core_history.specs.Dependencies.{IsDependency};
+ghost use Rattle.core_history.specs.Gone.{IsDecidedDead, IsGone};
 ghost use Rattle.core_history.specs.Causes.{IsCausedIn, IsAbortedIn};
 ghost use Rattle.core_history.specs.States.{mode_of, batches_of};
 
@@ -44,6 +46,13 @@ pub fn batches_are_taken()
 pub fn the_dead_are_dead()
     ensures dead { (plays : Effect → Bool) (r : Run) → IsLegal plays r → (u : UnitNo) → IsDead (ends r) u ↔ IsDeadIn (history_of r) u }
     ensures committed { (plays : Effect → Bool) (r : Run) → IsLegal plays r → (u : UnitNo) → ((ends r).manager.verdict u ≡ Committed) ↔ IsCommittedIn (history_of r) u }
+{}
+
+/// Who is aborted after its finish is dead by the history and had a batch that has ended; and what a running unit read is
+/// no longer on top of its grain's stack exactly where the history says that it's gone.
+pub fn versions_are_taken_off()
+    ensures decided { (plays : Effect → Bool) (r : Run) → IsLegal plays r → (u : UnitNo) → (((ends r).units.phase u ≡ Finished) × ((ends r).manager.verdict u ≡ Aborted)) ↔ IsDecidedDead (history_of r) u }
+    ensures gone { (plays : Effect → Bool) (r : Run) → IsLegal plays r → (u : UnitNo) (x : Read) → (ends r).units.phase u ≡ Running → Member x ((ends r).units.reads u) → (is_gone (ends r) x ≡ true) ↔ IsGone (history_of r) x }
 {}
 
 /// Each settled entry was settled by an event of the history, with the cause that it names, and has its unit's line; and

@@ -1,5 +1,6 @@
 //! What the core model says of a state, read off the list of events that applied and their replies: who holds a
-//! grain, what a unit read, the batches, who is dead or committed, and why an entry was settled.
+//! grain, what a unit read, the batches, who is dead or committed, what a unit read and is gone, and why an entry was settled or a
+//! unit aborted.
 //!
 //! There is no code here but laws: each public function has an empty body, and its contract ties a history's word
 //! to the core model's own.
@@ -9,5 +10,5 @@ mod laws;
 
 pub use laws::{
     batches_are_taken, causes_are_in_the_history, holders_are_granted, reads_are_granted,
-    the_dead_are_dead,
+    the_dead_are_dead, versions_are_taken_off,
 };
