@@ -1,5 +1,5 @@
 -- Who is decided dead, by the state and by the history.
-use Rattle.std.proofs.Common.{◌≡◌, ℕ, ◌<◌, List, [], ◌∷◌, ◌++◌, Bool, true, false, ◌⊎◌, inl, inr, refl, sym, ap, ◌∙◌, subst, arith, Some, None}
+use Rattle.std.proofs.Common.{◌≡◌, ℕ, List, [], ◌∷◌, Bool, true, false, ◌⊎◌, inl, inr, refl, sym, ap, ◌∙◌, subst, Some, None}
 use Rattle.std.specs.List.{list_any as any}
 use Rattle.cell_model.specs.declared.outcomes.Decision.{Decision}
 use Rattle.cell_model.specs.declared.outcomes.Decision.TheVariants as decision
@@ -19,7 +19,7 @@ use Rattle.core_model.proofs.Basics.{is_final-cases}
 use Rattle.core_model.proofs.Alive.{good-alive}
 use Rattle.core_model.proofs.Orders.{judged-other, in_part}
 use Rattle.core_model.proofs.Kept.{inv-open}
-use Rattle.core_model.proofs.Reasons.{Reason, Reasons, argued-decided}
+use Rattle.core_model.proofs.Reasons.{Reasons, argued-decided}
 use Rattle.core_model.proofs.Split.{no_doubt}
 use Rattle.core_model.proofs.Aborting.{judged-aborted, decided-stops, ended-stops}
 use Rattle.core_history.specs.Histories.{Applied, Happened}

@@ -6,13 +6,15 @@ use Rattle.base_types.specs.declared.calls.Outcome.TheVariants as outcome
 use Rattle.base_types.specs.declared.calls.Mode.TheVariants.{Read as Shared, Update as Alone}
 use Rattle.base_types.specs.declared.entries.Settled.TheVariants as settled
 use Rattle.core_model.specs.declared.events.CoreEvent.{CoreEvent}
-use Rattle.core_model.specs.declared.events.CoreEvent.TheVariants.{Begin, Grant, Finish, Release, Take, Vote, Decide, NotSealed}
+use Rattle.core_model.specs.declared.events.CoreEvent.TheVariants.{Begin, Grant, Refuse, Finish, Release, Take, Vote, Decide, NotSealed, Learn}
+use Rattle.core_model.specs.declared.events.CoreReply.TheVariants as reply
 use Rattle.core_model.specs.World.{put, put_grain}
 use Rattle.core_model.proofs.Examples.{account, unit, state, deposit, balance, found, deposited, entry, bank, settled_in, dirty_read, wait_for_younger}
 use Rattle.core_history.specs.Histories.{Applied, Happened, history_from}
 use Rattle.core_history.specs.Units.{finish_order, runs, held, reads_in}
 use Rattle.core_history.specs.Batches.{batches_in}
 use Rattle.core_history.specs.Fates.{IsDeadIn, voted_down, not_sealed, by_source}
+use Rattle.core_history.specs.Gone.{not_on_disk, itself, IsGone}
 
 abbrev told : List CoreEvent → List Applied
 told es = history_from bank es
@@ -87,3 +89,43 @@ told_of_second = refl
 first_dies_later : IsDeadIn (told (two_sources ++ NotSealed 1 ∷ [])) (unit 1)
 unfolding put put_grain
 first_dies_later = not_sealed {u = unit 1} 1 (0, refl, inl refl) (inr (inr (inr (inr (inr (inr (inr (inr (inr (inr (inr (inr (inr (inr (inr (inr (inr (inr (inl refl)))))))))))))))))))
+
+-- A unit reads two deposits whose batch isn't on disk, and only the second one's account has learnt of it.
+abbrev one_learnt : List CoreEvent
+one_learnt =
+    Begin (Line 1) (deposit 1 5) false ∷ Begin (Line 2) (deposit 2 4) false ∷ Begin (Line 3) (balance 1) false ∷
+    Grant (unit 1) (account 1) Alone ∷ deposited 1 1 5 0 0 ∷ Release (unit 1) (account 1) ∷
+    Grant (unit 2) (account 2) Alone ∷ deposited 2 2 4 0 0 ∷ Release (unit 2) (account 2) ∷
+    Grant (unit 3) (account 1) Shared ∷ Grant (unit 3) (account 2) Shared ∷
+    Take ∷ Vote 1 (account 1) true ∷ Vote 1 (account 2) true ∷ Decide 1 ∷ NotSealed 1 ∷ []
+
+-- It is refused for the second one. The first one is older, a source and dead too, but its version isn't gone.
+refused_for_second : settled_in (one_learnt ++ Learn (unit 2) (account 2) ∷ Refuse (unit 3) (account 3) Shared ∷ []) ≡ entry 1 settled.Disk ∷ entry 2 settled.Disk ∷ entry 3 (settled.Dependency (unit 2)) ∷ []
+unfolding put put_grain
+refused_for_second = refl
+
+unsealed : Happened (told one_learnt) (NotSealed 1)
+unfolding put put_grain
+unsealed = (inr (inr (inr (inr (inr (inr (inr (inr (inr (inr (inr (inr (inr (inr (inr (inl refl))))))))))))))))
+
+-- what the account then learns
+abbrev learns : Applied
+learns = record { event = Learn (unit 2) (account 2); reply = reply.Done }
+
+second_is_gone : IsGone (told one_learnt ++ (learns ∷ [])) (found 2 4 2)
+unfolding put put_grain
+second_is_gone = record {
+  front = told one_learnt;
+  at = learns;
+  back = [];
+  split = refl;
+  off = unit 2;
+  takes = (refl, refl);
+  dead = record {
+    dead = not_sealed {u = unit 2} 1 (0, refl, inr (inl refl)) unsealed;
+    batch = 1;
+    within = (0, refl, inr (inl refl));
+    ended = not_on_disk unsealed;
+  };
+  stands = itself refl;
+}

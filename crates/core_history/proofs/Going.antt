@@ -1,30 +1,30 @@
 -- What a running unit read is gone from its stack exactly where the history says so.
-use Rattle.std.proofs.Common.{◌≡◌, ℕ, ◌<◌, List, [], ◌∷◌, ◌++◌, Bool, true, false, ◌⊎◌, inl, inr, refl, sym, ap, ◌∙◌, subst, Option, Some, None, le_refl, arith, append_assoc}
+use Rattle.std.proofs.Common.{◌≡◌, ℕ, List, [], ◌∷◌, ◌++◌, Bool, true, false, ◌⊎◌, inl, inr, refl, sym, ap, ◌∙◌, subst, Option, Some, None, le_refl, arith, append_assoc}
 use Rattle.std.specs.Prelude.{◌↔◌}
 use Rattle.std.specs.List.{list_any as any, fold}
 use Rattle.std.proofs.lemmas.Bool.{cases_Bool, cases_lt, cond_both, not-true, not_from_false}
 use Rattle.std.proofs.lemmas.List.Sums.{fold-append}
 use Rattle.cell_model.specs.Locks.{is_hold_of, holds_lock}
-use Rattle.cell_model.specs.Stacks.{is_of, committed, pushed}
+use Rattle.cell_model.specs.Stacks.{is_of, pushed}
 use Rattle.cell_model.specs.Cells.{stacked, reads_top, learnt}
-use Rattle.cell_model.proofs.Units.{same_unit-true, same_unit-false, same_unit-is, same_unit-not, any-true, any-false, Member-append}
+use Rattle.cell_model.proofs.Units.{same_unit-true, same_unit-false, same_unit-not, any-true, any-false, Member-append}
 use Rattle.cell_model.proofs.Stacks.{committed-top, cut-none, cut-stranger}
 use Rattle.core_model.specs.declared.events.CoreEvent.{CoreEvent}
-use Rattle.core_model.specs.declared.events.CoreEvent.TheVariants.{Grant, Learn, Load}
+use Rattle.core_model.specs.declared.events.CoreEvent.TheVariants.{Grant, Learn}
 use Rattle.core_model.specs.declared.effects.Read.{Read}
 use Rattle.core_model.specs.declared.phases.Phase.{Phase}
 use Rattle.core_model.specs.declared.phases.Phase.TheVariants.{Running, Finished, Refused, Ended}
 use Rattle.core_model.specs.declared.phases.Verdict.TheVariants.{Open, Committed, Aborted}
-use Rattle.core_model.specs.World.{UnitNo, GrainId, Mode, Value, Version, World, Member, nobody, top, cut, put, put_grain}
+use Rattle.core_model.specs.World.{UnitNo, GrainId, Mode, Value, Version, World, Member, nobody, top, cut, put}
 use Rattle.core_model.specs.Tests.{is_aborted, is_committed, is_final, is_gone, written}
 use Rattle.core_model.specs.Chains.{Chain, IsBottom, IsLink}
 use Rattle.core_model.specs.Serial.{IsTrueLoad}
 use Rattle.core_model.specs.Changes.{new_unit, restacked, cleaned, locked, released, loaded, read_of}
 use Rattle.core_model.proofs.Decoded.{Change, begin, lock, raise, refuse, finish, end_plain, end_snapshot, release, learn, load}
 use Rattle.core_model.proofs.Puts.{put-from, grain-at, grain-from}
-use Rattle.core_model.proofs.Basics.{is_over-not, is_aborted-true, is_committed-true, is_final-cases}
+use Rattle.core_model.proofs.Basics.{is_aborted-true, is_final-cases}
 use Rattle.core_model.proofs.Invariant.{Inv, wrote-finished}
-use Rattle.core_model.proofs.Released.{cut-member, committed-member, learnt-member, Chain-member}
+use Rattle.core_model.proofs.Released.{cut-member, learnt-member}
 use Rattle.core_model.proofs.Removed.{Absent}
 use Rattle.core_history.specs.Histories.{Applied}
 use Rattle.core_history.specs.Units.{shown, with_read, reads_in}

@@ -6,7 +6,7 @@ use Rattle.cell_model.specs.declared.outcomes.Decision.TheVariants as decision
 use Rattle.core_model.specs.declared.events.CoreEvent.{CoreEvent}
 use Rattle.core_model.specs.declared.events.CoreEvent.TheVariants.{Refuse, Decide, Sealed, NotSealed, Doubt}
 use Rattle.core_model.specs.declared.phases.Verdict.TheVariants.{Aborted}
-use Rattle.core_model.specs.World.{UnitNo, GrainId, Mode, Value, Settled, Batch, World, Member}
+use Rattle.core_model.specs.World.{UnitNo, GrainId, Mode, Value, Settled, World}
 use Rattle.core_model.specs.Tests.{ask, members}
 use Rattle.core_model.specs.Causes.{IsAbort}
 use Rattle.core_model.specs.Changes.{told, decisions_of, judged, seal, spoil, leave, refusal}
