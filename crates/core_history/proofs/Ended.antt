@@ -95,8 +95,11 @@ aborted-after opening h w e w' (decide_some n b q number d voted some) s k v = �
 aborted-after opening h w e w' (decide_none n b q number d voted none) s k v = λ f a.
     (let c : Change w (Decide n) w' = decide_none n b q number d voted none in
     elim (decided-stops opening w b v (Over (more h (answered w (Decide n))) v) s.core.kept s.core.depends s.core.split s.core.turned (no_doubt w (Decide n) s.applied refl) q d
-    (λ j m y z r. (n, batch-before h (answered w (Decide n)) n v (subst (λ i. InBatch h i v) number (open-batch h w b s.told q v m)),
-    all_dead (happened-now h (answered w (Decide n))) (closed-dead opening h w n w' c s b q number d none)))
+    (λ j m y z r. (
+      n,
+      batch-before h (answered w (Decide n)) n v (subst (λ i. InBatch h i v) number (open-batch h w b s.told q v m)),
+      all_dead (happened-now h (answered w (Decide n))) (closed-dead opening h w n w' c s b q number d none),
+    ))
     a) [ inl o ↦ over-more opening h w (Decide n) w' c s v (k.aborted v f o) | inr o ↦ o ])
 aborted-after opening h w e w' (seal_batch n b ds q number d) s k v = λ f a.
     elim (ended-stops opening w seal b ds v (Over (more h (answered w (Sealed n))) v) refl refl s.core.kept s.core.argued s.core.split s.core.turned (no_doubt w (Sealed n) s.applied refl) q d
