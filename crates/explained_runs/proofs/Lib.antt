@@ -17,3 +17,4 @@ pub mod OneFamily
 pub mod Doubted
 pub mod ShownOrder
 pub mod ShownRuns
+pub mod ShownPromise

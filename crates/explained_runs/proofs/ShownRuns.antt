@@ -59,7 +59,7 @@ last-in before [] = inl refl
 last-in before (m ∷ ms) = inr (last-in m ms)
 
 -- each image at the return of the opening's last sync is one of those at entry
-at_entry : (p : Program) (r : Observed) (c : Course) → Opens p r c → (image : Image) → IsImage (last_of (moment_of r.old) c.early).disk image → IsImage r.old.disk image
+pub at_entry : (p : Program) (r : Observed) (c : Course) → Opens p r c → (image : Image) → IsImage (last_of (moment_of r.old) c.early).disk image → IsImage r.old.disk image
 at_entry p r c o image is = elim (last-in (moment_of r.old) c.early) [
   | inl same ↦ subst (λ (m : Moment). IsImage m.disk image) same is
   | inr there ↦ o.before image (record { moment = last_of (moment_of r.old) c.early; member = there; left = is })

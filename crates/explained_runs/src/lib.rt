@@ -20,4 +20,4 @@ pub use causes::explained_aborts_have_causes;
 pub use families::explained_runs_are_families;
 pub use replies::explained_replies_are_true;
 pub use serial::{explained_entries_have_causes, explained_runs_are_serial, runs_are_legal};
-pub use shown::shown_runs_keep;
+pub use shown::{shown_runs_keep, shown_runs_promise};

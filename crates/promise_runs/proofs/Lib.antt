@@ -8,7 +8,6 @@ pub mod EmptyRun
 pub mod DepositRun
 pub mod Emitting
 pub mod WrongRuns
-pub mod Opened
 pub mod NewSilo
 pub mod SealingDisks
 pub mod HostSteps

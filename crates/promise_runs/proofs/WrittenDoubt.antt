@@ -29,7 +29,7 @@ use Rattle.promise_runs.proofs.SealingDisks.{at_new, at_block, at_staged, at_sea
 use Rattle.promise_runs.proofs.HostSteps.{pulled, ended, wrote_grain, wrote_log, synced_grain, synced_log, unsynced_log, emitted}
 use Rattle.promise_runs.proofs.WrittenRun.{version_wrote, block_wrote, gate_wrote}
 use Rattle.promise_runs.proofs.DoubtRun.{kept}
-use Rattle.promise_runs.proofs.Opened.{has_opened}
+use Rattle.promise_spec.proofs.Opened.{has_opened}
 
 -- ---- the lines
 

@@ -18,7 +18,7 @@ use Rattle.promise_runs.proofs.NewSilo.{new_images, sealed_images, seen_possible
 use Rattle.promise_runs.proofs.SealingDisks.{at_new, at_block, at_staged, at_sealing, at_sealed, if_none, if_has}
 use Rattle.promise_runs.proofs.HostSteps.{pulled, ended, wrote_grain, wrote_log, synced_grain, synced_log, emitted}
 use Rattle.promise_runs.proofs.DepositRun.{kept}
-use Rattle.promise_runs.proofs.Opened.{has_opened}
+use Rattle.promise_spec.proofs.Opened.{has_opened}
 
 asks : IsLineCall accounts (lines written) 1 deposit_call
 unfolding serde_json_on_literals

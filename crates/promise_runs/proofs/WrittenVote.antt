@@ -26,7 +26,7 @@ use Rattle.promise_runs.proofs.NewSilo.{empty_images, new_images, settled_stays,
 use Rattle.promise_runs.proofs.SealingDisks.{at_new}
 use Rattle.promise_runs.proofs.HostSteps.{account_same, pulled, ended, cut_grain, synced_log, emitted}
 use Rattle.promise_runs.proofs.VoteRun.{kept}
-use Rattle.promise_runs.proofs.Opened.{has_opened}
+use Rattle.promise_spec.proofs.Opened.{has_opened}
 
 asks : AskBoth (lines voted)
 unfolding serde_json_on_literals

@@ -57,6 +57,7 @@ use Rattle.promise_spec.specs.Explained.{AreAdded}
 use Rattle.promise_spec.specs.Exits.{HasBlock}
 use Rattle.promise_spec.specs.Promise.{Keeps, HasReadAll}
 use Rattle.promise_spec.proofs.Lists.{head_of, none_is, none_at, some_is, each_of, in_append, either_in, get_seam, member_at}
+use Rattle.promise_spec.proofs.Opened.{in_settled, no_events}
 use Rattle.promise_runs.proofs.WholeBatches.{not_between}
 use Rattle.promise_runs.proofs.Emitting.{emitted_before, nothing_unwritten}
 use Rattle.promise_spec.proofs.OneLog.{one_log}
@@ -248,12 +249,9 @@ module _ (p : Program) (r : Observed) (c : Course) where
         | inr follow ↦ differ (first_of (committed (core_end p c) ++ chosen (core_end p c)) first (later ++ chosen (core_end p c)) l more follow.records (ap (λ (x : List Effect). x ++ chosen (core_end p c)) is) split)
       ]
 
-  in_settled : (e : Entry) → Keeps p r c → Member e c.entries → Member e (core_end p c).manager.settled
-  in_settled e keeps there = subst (λ (x : List Entry). Member e x) (sym keeps.settled.entries.1) (in_append e c.entries keeps.settled.entries.0 (inl there))
-
   settled_too : (e : Entry) → Keeps p r c → Member e c.entries → IsCaused (core_run p c) e
   settled_too e keeps there =
-      keeps.explained.caused.entries e (in_settled e keeps there)
+      keeps.explained.caused.entries e (in_settled p r c e keeps there)
 
   pub no_refusal : (e : Entry) (by : UnitNo) (grain : GrainId) → Keeps p r c → Member e c.entries → e.what ≡ settled.Lock by grain
       → ((at : ℕ) (mode : Mode) → AppliesAt (core_run p c) at (event.Refuse e.unit grain mode) → ⊥) → ⊥
@@ -296,18 +294,10 @@ module _ (p : Program) (r : Observed) (c : Course) where
   pub begun_and_unreadable : (at : ℕ) (e : CoreEvent) → Keeps p r c → AppliesAt (core_run p c) at e → r.ending ≡ ending.ReadFault → ⊥
   begun_and_unreadable at e keeps applies_it is = subst ending.IsBegun is (read_all at e keeps applies_it).ending
 
-  -- a run that ends as none does that has begun has no events
-  no_events : Keeps p r c → (ending.IsBegun r.ending → ⊥) → c.events ≡ []
-  no_events keeps never = elim keeps.ended.begun [ inl none ↦ none | inr all ↦ absurd (never all.ending) ]
-
-  pub unbegun_entry : (e : Entry) → Keeps p r c → (ending.IsBegun r.ending → ⊥) → Member e c.entries → ⊥
-  unbegun_entry e keeps never there =
-      let settled_is : (core_end p c).manager.settled ≡ [] = ap (λ (events : List CoreEvent). (ends (core_from p.types (opening_standing p c) events)).manager.settled) (no_events keeps never) in
-      subst (λ (x : List Entry). Member e x) settled_is (in_settled e keeps there)
-
+  -- a run that ends as none does that has begun has no records
   pub unbegun_record : (l : Commit) → Keeps p r c → (ending.IsBegun r.ending → ⊥) → Member l c.added → ⊥
   unbegun_record l keeps never there =
-      nothing_added p.types (opening_standing p c) c.added (subst (λ (events : List CoreEvent). AreAdded (ends (core_from p.types (opening_standing p c) events)) c.added) (no_events keeps never) keeps.explained.records) l there
+      nothing_added p.types (opening_standing p c) c.added (subst (λ (events : List CoreEvent). AreAdded (ends (core_from p.types (opening_standing p c) events)) c.added) (no_events p r c keeps never) keeps.explained.records) l there
 
   pub grain_fault : (slot : ℕ) (grain : GrainId) → Keeps p r c → r.ending ≡ ending.DiskFault (file.Grain slot grain) → ⊥
   grain_fault slot grain keeps is = let same : file.Grain slot grain ≡ manager = (keeps.explained.doubted (file.Grain slot grain) is).0 in absurd (cc same)

@@ -9,3 +9,4 @@ pub mod Openings
 pub mod Doubts
 pub mod Quiet
 pub mod Words
+pub mod Opened

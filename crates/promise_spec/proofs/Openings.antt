@@ -268,3 +268,7 @@ no_silo_is_read image =
 -- A folder that is sound for a checked program reads as it and its log.
 pub sound_is_read : (p : Program) (image : Image) → IsChecked p → (s : IsSound p image) → opened_as image ≡ Reads p s.log
 sound_is_read p image checked s = log_is_read image p s.log checked s.program s.is
+
+-- A file has one checked program.
+pub one_program : (file : List ℕ) (p q : Program) → IsChecked p → IsChecked q → HasProgram p.text file → HasProgram q.text file → p ≡ q
+one_program file p q checked checked_too has has_too = let e : Ok p ≡ Ok q = sym (program_is file p checked has) ∙ program_is file q checked_too has_too in cc e

@@ -1,4 +1,5 @@
-use Rattle.promise_runs.proofs.WrongRuns.{begun_unread, begun_too_long, begun_and_unreadable, unbegun_entry, unbegun_record}
+use Rattle.promise_spec.proofs.Opened.{unbegun_entry}
+use Rattle.promise_runs.proofs.WrongRuns.{begun_unread, begun_too_long, begun_and_unreadable, unbegun_record}
 use Rattle.promise_runs.proofs.wrong_runs.lines_begin_after_the_input.Goals as goal
 
 pub returns-clause-unread : goal.returns-clause-unread

@@ -1,21 +1,39 @@
 -- A run that keeps its six clauses has opened the folder, as is promised over any folder.
-use Rattle.std.proofs.Common.{◌≡◌, inl, ℕ, ◌≤◌, List, [], ◌∷◌, ◌++◌, length, refl, sym, ap, subst, ◌∙◌}
+use Rattle.std.proofs.Common.{◌≡◌, inl, inr, ℕ, ◌≤◌, List, [], ◌∷◌, ◌++◌, length, refl, sym, ap, subst, ◌∙◌}
 use Rattle.std.proofs.lemmas.List.{append-nil}
 use Rattle.base_types.specs.declared.entries.Entry.{Entry}
+use Rattle.core_model.specs.declared.events.CoreEvent.{CoreEvent}
+use Rattle.core_model.specs.Legal.{ends}
 use Rattle.core_model.specs.World.{Member}
 use Rattle.promise_spec.specs.Programs.{Program, shape_in}
 use Rattle.promise_spec.specs.Records.{Commit}
 use Rattle.promise_spec.specs.Outputs.{Grew, reply_lines}
 use Rattle.promise_spec.specs.Openings.{Reads, opened_as}
 use Rattle.promise_spec.specs.Endings as ending
-use Rattle.promise_spec.specs.Courses.{Observed, Course, seen_at_entry}
+use Rattle.promise_spec.specs.Cores.{core_from}
+use Rattle.promise_spec.specs.Courses.{Observed, Course, seen_at_entry, opening_standing, core_end}
 use Rattle.promise_spec.specs.Refusals.{HasAnswered, HasOpened}
 use Rattle.promise_spec.specs.Promise.{Keeps}
-use Rattle.promise_runs.proofs.WrongRuns.{unbegun_entry}
+use Rattle.promise_spec.proofs.Lists.{in_append}
 
 no_member : {A : Type 0} (xs : List A) → ((x : A) → Member x xs → ⊥) → xs ≡ []
 no_member [] none = refl
 no_member (x ∷ xs) none = absurd (none x (inl refl))
+
+module _ (p : Program) (r : Observed) (c : Course) where
+  -- each entry is one that the core settled
+  pub in_settled : (e : Entry) → Keeps p r c → Member e c.entries → Member e (core_end p c).manager.settled
+  in_settled e keeps there = subst (λ (x : List Entry). Member e x) (sym keeps.settled.entries.1) (in_append e c.entries keeps.settled.entries.0 (inl there))
+
+  -- a run that ends as none does that has begun has no events
+  pub no_events : Keeps p r c → (ending.IsBegun r.ending → ⊥) → c.events ≡ []
+  no_events keeps never = elim keeps.ended.begun [ inl none ↦ none | inr all ↦ absurd (never all.ending) ]
+
+  -- and no entries
+  pub unbegun_entry : (e : Entry) → Keeps p r c → (ending.IsBegun r.ending → ⊥) → Member e c.entries → ⊥
+  unbegun_entry e keeps never there =
+      let settled_is : (core_end p c).manager.settled ≡ [] = ap (λ (events : List CoreEvent). (ends (core_from p.types (opening_standing p c) events)).manager.settled) (no_events keeps never) in
+      subst (λ (x : List Entry). Member e x) settled_is (in_settled e keeps there)
 
 module _ (p : Program) (r : Observed) (c : Course) (keeps : Keeps p r c) where
   -- one that is done has answered each line
