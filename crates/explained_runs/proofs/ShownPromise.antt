@@ -1,6 +1,5 @@
 -- What a run shows is enough for what is promised of it over any folder.
-use Rattle.std.proofs.Common.{◌≡◌, inr, ap, subst}
-use Rattle.host_trait.specs.World.{moment_of}
+use Rattle.std.proofs.Common.{◌≡◌, inr, subst}
 use Rattle.silo_spec.specs.Silos.{program_file, HasProgram}
 use Rattle.promise_spec.specs.Programs.{Program, IsChecked}
 use Rattle.promise_spec.specs.Words.{Manner}

@@ -34,7 +34,8 @@ use Rattle.promise_spec.specs.Crashes.{EndsABatch, LeavesAlone, SurvivesCrashes,
 use Rattle.promise_spec.specs.Exits.{IsLeft, IsNowhere}
 use Rattle.promise_spec.specs.Explained.{AreAdded, AreSettled, IsExplained}
 use Rattle.promise_spec.specs.Journals.{Settlement, KeepsJournal, Backs, commits_of, entries_of}
-use Rattle.promise_spec.specs.Promise.{IsUndisturbed, IsNoLock, HasEnded, Keeps}
+use Rattle.promise_spec.specs.Promise.{IsSoundFolder, IsUndisturbed, IsNoLock, HasEnded, Keeps}
+use Rattle.explained_runs.specs.Obligations.{Shows}
 use Rattle.promise_runs.specs.Examples.{accounts, account_program, account_1, unit_no, first_commit, first_entry, deposit_events, account_run}
 use Rattle.promise_runs.specs.DepositRuns.{MayHaveDeposit, IsBetween, IsDepositRun, deposit_course}
 use Rattle.promise_spec.proofs.Lists.{none_is}
@@ -43,6 +44,7 @@ use Rattle.promise_spec.proofs.Journaled.{chained, longest, holds, sound}
 use Rattle.promise_runs.proofs.FirstDeposit.{five}
 use Rattle.promise_runs.proofs.Between.{at_each, exit_there, all_less}
 use Rattle.promise_runs.proofs.WholeBatches.{no_batch}
+use Rattle.promise_runs.proofs.Showing.{shows}
 use Rattle.promise_runs.proofs.FirstFamily.{only, only_at, serial, numbered, none_of, none_counted, family_of}
 use Rattle.promise_runs.proofs.DepositRules.{Each, each_from_0, one_unit_rule, one_turn_rule}
 
@@ -302,3 +304,7 @@ module _ (r : Observed) (opened : Moment) (sealing : List Moment) (run : IsDepos
 
   pub kept : Keeps account_program r course
   kept = record { ordered = ordered; replies = replies; crashes = crashes; holds = replied; exit = exit; settled = written; explained = explained; ended = ended }
+
+  -- and over a sound folder it shows what has to be shown, where some image was there at the return of the opening's sync
+  pub shown : IsSoundFolder account_program r.old → (some : Image) → IsImage opened.disk some → Shows account_program r course
+  shown sound_folder some possible = shows account_program r course kept sound_folder some possible journal refl backs (λ m there image left. (known m there image left).0)

@@ -40,7 +40,8 @@ use Rattle.promise_spec.specs.Crashes.{HasOutcome, EndsABatch, LeavesAlone, Surv
 use Rattle.promise_spec.specs.Exits.{IsLeft, IsDoubt, EndsWith, IsNowhere, doubtful}
 use Rattle.promise_spec.specs.Explained.{AreAdded, AreSettled, IsExplained}
 use Rattle.promise_spec.specs.Journals.{Settlement, KeepsJournal, Backs, commits_of, entries_of}
-use Rattle.promise_spec.specs.Promise.{HasEnded, Keeps}
+use Rattle.promise_spec.specs.Promise.{IsSoundFolder, HasEnded, Keeps}
+use Rattle.explained_runs.specs.Obligations.{Shows}
 use Rattle.promise_runs.specs.Examples.{accounts, account_program, account_1, unit_no, first_commit, locked_entry, doubt_entry, conflict_entries, conflict_events, account_run}
 use Rattle.promise_runs.specs.DepositRuns.{HasNone, HasDeposit, MayHaveDeposit, IsBetween}
 use Rattle.promise_runs.specs.DoubtRuns.{IsDoubtRun, doubt_course, first_told}
@@ -49,6 +50,7 @@ use Rattle.promise_spec.proofs.OneLog.{one_log}
 use Rattle.promise_spec.proofs.Journaled.{chained, longest, holds, sound}
 use Rattle.promise_runs.proofs.Between.{at_each, exit_there, all_less}
 use Rattle.promise_runs.proofs.WholeBatches.{no_batch}
+use Rattle.promise_runs.proofs.Showing.{shows}
 use Rattle.promise_runs.proofs.FirstFamily.{only, either_of, serial, numbered, none_of, none_counted, family_of}
 use Rattle.promise_runs.proofs.DepositRules.{two_unit_rule, two_turn_rule, two_settled}
 
@@ -412,3 +414,7 @@ module _ (r : Observed) (opened : Moment) (told doubting : List Moment) (run : I
 
   pub kept : Keeps account_program r course
   kept = record { ordered = ordered; replies = replies; crashes = crashes; holds = replied; exit = exit; settled = written; explained = explained; ended = ended }
+
+  -- and over a sound folder it shows what has to be shown, where some image was there at the return of the opening's sync
+  pub shown : IsSoundFolder account_program r.old → (some : Image) → IsImage opened.disk some → Shows account_program r course
+  shown sound_folder some possible = shows account_program r course kept sound_folder some possible journal refl backs (λ m there image left. (known m there image left).0)

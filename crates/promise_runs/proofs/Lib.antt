@@ -7,6 +7,7 @@ pub mod DepositRules
 pub mod EmptyRun
 pub mod DepositRun
 pub mod Emitting
+pub mod Showing
 pub mod WrongRuns
 pub mod NewSilo
 pub mod SealingDisks

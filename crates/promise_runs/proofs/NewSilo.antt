@@ -1,11 +1,9 @@
 -- The disks of a new silo of the accounts, and of one whose first deposit is sealed or being sealed: what their images have.
-use Rattle.std.proofs.Common.{◌≡◌, ◌≢◌, ◌⊎◌, inl, inr, ℕ, zero, suc, ◌+◌, ◌^◌, ◌<◌, ◌≤◌, Bool, true, false, if◌then◌else◌, List, [], ◌∷◌, ◌++◌, length, map, take, drop, slice_index, Option, Some, Result, Ok, refl, sym, ◌∙◌, ap, subst, arith}
+use Rattle.std.proofs.Common.{◌≡◌, ◌≢◌, ◌⊎◌, inl, inr, ℕ, zero, suc, ◌^◌, ◌<◌, ◌≤◌, Bool, true, false, if◌then◌else◌, List, [], ◌∷◌, ◌++◌, length, map, slice_index, Option, Some, Result, Ok, refl, sym, ◌∙◌, ap, subst, arith}
 use Rattle.std.specs.Prelude.{codes, nat_lt}
 use Rattle.std.specs.Option.{ok_or}
 use Rattle.std.proofs.lemmas.Bool.{cases_eq, cases_lt}
-use Rattle.std.proofs.lemmas.List.{ext_get_or, take_at, drop_at, take-take}
-use Rattle.std.proofs.lemmas.Nat.{from_le_bytes-to_le_bytes_4}
-use Rattle.std.specs.Int.{w32, to_le_bytes, from_le_bytes}
+use Rattle.std.proofs.lemmas.List.{ext_get_or}
 use Rattle.json.proofs.Printed.Utf8.{are_ascii, IsUtf8-are_ascii}
 use Rattle.serde_json.specs.Data.{Data, unsigned, number, string, array, object, no_items, item, no_members, member}
 use Rattle.serde_json.specs.Read.{read}
@@ -14,7 +12,6 @@ use Rattle.base_types.specs.declared.calls.Call.{Call}
 use Rattle.base_types.specs.declared.entries.BadRequest.{BadRequest}
 use Rattle.base_types.specs.declared.entries.BadRequest.TheVariants.{Json, Shape, Grain as BadGrain, Method, Args}
 use Rattle.script_tree.specs.Programs.{ProgramTree}
-use Rattle.script_parser.specs.Programs.{program_of}
 use Rattle.host_trait.specs.declared.channels.FileId.{FileId}
 use Rattle.host_trait.specs.declared.channels.FileId.TheVariants.{Manager, Program as ProgramFile, Grain}
 use Rattle.host_trait.specs.Disk.{FileState, Untouched, MayLeave, settled}
@@ -27,11 +24,10 @@ use Rattle.silo_spec.specs.Silos.{manager, program_file, IsSilo, HasProgram}
 use Rattle.request_wire.specs.Names.{TypeNames, names_in}
 use Rattle.request_wire.specs.Request.{shape_of, grain_of, method_of, args_of, passed, call_of}
 use Rattle.request_wire.proofs.Arguments.{json_of-read}
-use Rattle.promise_spec.specs.Programs.{Program, ProgramFault, IsChecked, text_limit, program_in}
-use Rattle.promise_spec.specs.Openings.{Reads, opened_as, with_types, program_in_file, with_program}
+use Rattle.promise_spec.specs.Programs.{ProgramFault, program_in}
+use Rattle.promise_spec.specs.Openings.{with_types, program_in_file}
 use Rattle.promise_spec.specs.Logs.{magic, body_of}
 use Rattle.promise_spec.specs.Crashes.{IsAside}
-use Rattle.promise_spec.specs.Images.{IsSoundIfSilo}
 use Rattle.promise_spec.specs.Promise.{IsSoundFolder}
 use Rattle.promise_runs.specs.Examples.{account_text, accounts, account_program, program_bytes, account_1, deposit_of, read_call, first_version, grain_bytes, block_bytes, manager_bytes}
 use Rattle.promise_runs.specs.DepositRuns.{HasNone, HasDeposit}
@@ -41,7 +37,7 @@ use Rattle.promise_runs.proofs.AccountText.{account_is_checked}
 
 -- ---- what images have
 
-program_spelled : HasProgram account_text program_bytes
+pub program_spelled : HasProgram account_text program_bytes
 program_spelled = refl
 
 module _ (image : Image) (program_is : image program_file ≡ program_bytes) where
@@ -204,7 +200,7 @@ sound_world w same = record {
   sound = λ image left silo. let has = new_images image (same image left) in record { log = []; is = has.0; program = has.1; serial = tt; numbered = tt };
 }
 
--- ---- a new silo's folder, as any program's
+-- ---- the program file
 
 -- the text is read as its types
 text_is_read : program_in account_text ≡ Ok accounts
@@ -213,32 +209,6 @@ text_is_read = rw (account_is_checked.parsed, account_is_checked.checked) refl
 -- the program file is read as the program
 pub file_is_read : program_in_file program_bytes ≡ Ok account_program
 file_is_read = ap (λ (r : Result ProgramTree ProgramFault). with_types account_text r) text_is_read
-
--- the folder reads as a new silo of it
-pub new_reads : opened_as new_folder ≡ Reads account_program []
-new_reads = ap (λ (r : Result Program ℕ). with_program new_folder r) file_is_read
-
--- a text of at most 262,144 bytes that the program file has is that of the accounts
-text_same : (text : List ℕ) → length text ≤ text_limit → HasProgram text program_bytes → text ≡ account_text
-text_same text small has =
-    let n = length text in
-    let fits : n < 2 ^ 32 = omega arith in
-    let four : length (to_le_bytes w32 n) ≡ 4 = refl in
-    let front : take 4 (take (4 + n) program_bytes) ≡ take 4 program_bytes = take-take 4 (4 + n) program_bytes (omega arith) in
-    let field : take 4 program_bytes ≡ to_le_bytes w32 n = sym front ∙ ap (λ (l : List ℕ). take 4 l) has ∙ take_at (to_le_bytes w32 n) text 4 four in
-    let size : n ≡ 179 = sym (from_le_bytes-to_le_bytes_4 n fits) ∙ ap (λ (l : List ℕ). from_le_bytes w32 l) (sym field) in
-    sym (drop_at (to_le_bytes w32 n) text 4 four) ∙ ap (λ (l : List ℕ). drop 4 l) (sym has) ∙ ap (λ (k : ℕ). drop 4 (take (4 + k) program_bytes)) size
-
--- and a checked program with that text is the program of the accounts
-program_same : (p : Program) → IsChecked p → p.text ≡ account_text → p ≡ account_program
-program_same p checked same =
-    let types : Ok p.types ≡ Ok accounts = sym checked.parsed ∙ ap program_of same ∙ account_is_checked.parsed in
-    let is : p.types ≡ accounts = cc types in
-    λ i. record { text = same i; types = is i }
-
--- the folder is a sound one of no other program
-pub only_program : (p : Program) → IsChecked p → ((image : Image) → IsImage new_disk image → IsSoundIfSilo p image) → account_program ≡ p
-only_program p checked sound = sym (program_same p checked (text_same p.text checked.small (sound new_folder (seen_possible new_manager []) new_is_silo).program))
 
 -- ---- lines of requests
 

@@ -37,7 +37,8 @@ use Rattle.promise_spec.specs.Crashes.{EndsABatch, LeavesAlone, SurvivesCrashes,
 use Rattle.promise_spec.specs.Exits.{IsLeft}
 use Rattle.promise_spec.specs.Explained.{AreSettled, IsExplained}
 use Rattle.promise_spec.specs.Journals.{Settlement, KeepsJournal, Backs, commits_of, entries_of}
-use Rattle.promise_spec.specs.Promise.{HasEnded, Keeps}
+use Rattle.promise_spec.specs.Promise.{IsSoundFolder, HasEnded, Keeps}
+use Rattle.explained_runs.specs.Obligations.{Shows}
 use Rattle.promise_runs.specs.Examples.{accounts, account_program, account_1, unit_no, voted_entry, dependent_entry, vote_entries, vote_events, account_run}
 use Rattle.promise_runs.specs.DepositRuns.{HasNone, IsBetween}
 use Rattle.promise_runs.specs.VoteRuns.{IsVoteRun, vote_course}
@@ -46,6 +47,7 @@ use Rattle.promise_spec.proofs.OneLog.{one_log}
 use Rattle.promise_spec.proofs.Journaled.{chained, longest, holds, sound}
 use Rattle.promise_runs.proofs.Between.{at_each, exit_there, all_less}
 use Rattle.promise_runs.proofs.WholeBatches.{no_batch}
+use Rattle.promise_runs.proofs.Showing.{shows}
 use Rattle.promise_runs.proofs.FirstFamily.{only, either_of, none_counted, no_family}
 use Rattle.promise_runs.proofs.DepositRules.{Each, each_from_0, vote_unit_rule, vote_turn_rule, vote_settled}
 
@@ -344,3 +346,7 @@ module _ (r : Observed) (opened : Moment) (failing told : List Moment) (run : Is
 
   pub kept : Keeps account_program r course
   kept = record { ordered = ordered; replies = replies; crashes = crashes; holds = replied; exit = exit; settled = written; explained = explained; ended = ended }
+
+  -- and over a sound folder it shows what has to be shown, where some image was there at the return of the opening's sync
+  pub shown : IsSoundFolder account_program r.old → (some : Image) → IsImage opened.disk some → Shows account_program r course
+  shown sound_folder some possible = shows account_program r course kept sound_folder some possible journal refl backs (λ m there image left. (known m there image left).0)

@@ -13,23 +13,25 @@ use Rattle.host_trait.specs.World.{Image, IsImage, Moment}
 use Rattle.cell_model.specs.Units.{same_grain}
 use Rattle.gate_block.specs.Log.{HasBlocks}
 use Rattle.silo_spec.specs.Silos.{manager}
-use Rattle.promise_spec.specs.Programs.{Program, shape_in}
+use Rattle.promise_spec.specs.Programs.{shape_in}
 use Rattle.promise_spec.specs.Outputs.{reply_lines}
 use Rattle.promise_spec.specs.Courses.{lines}
 use Rattle.promise_spec.specs.Exits.{HasBlock, DifferAt}
 use Rattle.promise_spec.specs.Promise.{IsSoundFolder, Keeps, Promises}
+use Rattle.explained_runs.specs.Obligations.{Shows}
+use Rattle.explained_runs.proofs.ShownPromise.{promised}
 use Rattle.promise_runs.specs.Examples.{account_program, account_1, program_bytes, first_commit, grain_bytes, block_bytes, manager_bytes, locked_entry, conflict_entries, AskDeposits}
 use Rattle.promise_runs.specs.DepositRuns.{HasNone, HasDeposit, MayHaveDeposit, IsBetween}
 use Rattle.promise_runs.specs.DoubtRuns.{IsDoubtRun, doubt_course, first_told}
 use Rattle.promise_runs.specs.HostCalls.{IsHosted}
 use Rattle.promise_runs.specs.WrittenRun.{new_manager, new_disk, version_pending, block_pending, gate_pending, sealing_disk, request_line, opened}
 use Rattle.promise_runs.specs.WrittenDoubt.{pair_manner, second_line, locked_text, doubt_text, told, doubting, pair_before, one_fault, doubted, doubted_steps}
-use Rattle.promise_runs.proofs.NewSilo.{has_deposit, other_bytes, gate_only, new_images, sealing_images, settled_stays, grain_stays, seen_possible, new_folder, sound_world, new_reads, only_program, line_asks}
+use Rattle.promise_runs.proofs.NewSilo.{has_deposit, other_bytes, gate_only, new_images, sealing_images, settled_stays, grain_stays, seen_possible, new_folder, sound_world, program_spelled, line_asks}
 use Rattle.promise_runs.proofs.SealingDisks.{at_new, at_block, at_staged, at_sealing}
 use Rattle.promise_runs.proofs.HostSteps.{pulled, ended, wrote_grain, wrote_log, synced_grain, synced_log, unsynced_log, emitted}
 use Rattle.promise_runs.proofs.WrittenRun.{version_wrote, block_wrote, gate_wrote}
-use Rattle.promise_runs.proofs.DoubtRun.{kept}
-use Rattle.promise_spec.proofs.Opened.{has_opened}
+use Rattle.promise_runs.proofs.DoubtRun.{kept, shown}
+use Rattle.promise_runs.proofs.AccountText.{account_is_checked}
 
 -- ---- the lines
 
@@ -147,13 +149,12 @@ sound_at_entry = sound_world pair_before (λ image left. left)
 pub doubted_keeps : Keeps account_program doubted (doubt_course opened told doubting doubted)
 doubted_keeps = kept doubted opened told doubting is_doubt_run
 
+-- it shows what has to be shown
+pub doubted_shows : Shows account_program doubted (doubt_course opened told doubting doubted)
+doubted_shows = shown doubted opened told doubting is_doubt_run sound_at_entry new_folder (seen_possible new_manager [])
+
 pub doubted_promises : Promises pair_manner doubted
-doubted_promises = record {
-  manner = refl;
-  answers = inr (has_opened account_program doubted (doubt_course opened told doubting doubted) doubted_keeps [] new_reads);
-  over_sound = λ p checked sound.
-      inr (doubt_course opened told doubting doubted, subst (λ (q : Program). Keeps q doubted (doubt_course opened told doubting doubted)) (only_program p checked sound.sound) doubted_keeps);
-}
+doubted_promises = promised account_program doubted (doubt_course opened told doubting doubted) account_is_checked doubted_shows pair_manner refl program_spelled
 
 -- ---- the host's calls
 

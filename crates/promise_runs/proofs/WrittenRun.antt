@@ -1,24 +1,26 @@
 -- The run of one deposit that is written out meets all that is asked of such a run.
-use Rattle.std.proofs.Common.{◌≡◌, inr, ℕ, List, [], ◌∷◌, ◌++◌, take, refl, sym, ap, subst, arith}
+use Rattle.std.proofs.Common.{◌≡◌, ℕ, List, [], ◌∷◌, ◌++◌, take, refl, sym, ap, arith}
 use Rattle.serde_json.proofs.OnLiterals.{serde_json_on_literals}
 use Rattle.host_trait.specs.Disk.{Overwrote, settled}
 use Rattle.host_trait.specs.World.{Moment}
-use Rattle.promise_spec.specs.Programs.{Program, shape_in}
+use Rattle.promise_spec.specs.Programs.{shape_in}
 use Rattle.promise_spec.specs.Words.{plain_manner}
 use Rattle.promise_spec.specs.Lines.{IsLineCall}
 use Rattle.promise_spec.specs.Outputs.{reply_lines}
 use Rattle.promise_spec.specs.Courses.{lines}
 use Rattle.promise_spec.specs.Promise.{IsSoundFolder, Keeps, Promises}
+use Rattle.explained_runs.specs.Obligations.{Shows}
+use Rattle.explained_runs.proofs.ShownPromise.{promised}
 use Rattle.promise_runs.specs.Examples.{accounts, account_program, deposit_call, first_entry, grain_bytes, block_bytes, manager_bytes}
 use Rattle.promise_runs.specs.DepositRuns.{IsDepositRun, deposit_course}
 use Rattle.promise_runs.specs.HostCalls.{IsHosted}
 use Rattle.promise_runs.specs.WrittenRun.{new_manager, new_disk, version_pending, block_pending, gate_pending, version_disk, voted_disk, block_disk, staged_disk, sealed_disk, request_line, reply_text, moment, opened, sealing, world_before, written, written_steps}
 use Rattle.promise_runs.proofs.FirstDeposit.{reply}
-use Rattle.promise_runs.proofs.NewSilo.{new_images, sealed_images, seen_possible, new_folder, sound_world, new_reads, only_program, line_asks}
+use Rattle.promise_runs.proofs.NewSilo.{new_images, sealed_images, seen_possible, new_folder, sound_world, program_spelled, line_asks}
 use Rattle.promise_runs.proofs.SealingDisks.{at_new, at_block, at_staged, at_sealing, at_sealed, if_none, if_has}
 use Rattle.promise_runs.proofs.HostSteps.{pulled, ended, wrote_grain, wrote_log, synced_grain, synced_log, emitted}
-use Rattle.promise_runs.proofs.DepositRun.{kept}
-use Rattle.promise_spec.proofs.Opened.{has_opened}
+use Rattle.promise_runs.proofs.DepositRun.{kept, shown}
+use Rattle.promise_runs.proofs.AccountText.{account_is_checked}
 
 asks : IsLineCall accounts (lines written) 1 deposit_call
 unfolding serde_json_on_literals
@@ -65,12 +67,12 @@ sound_at_entry = sound_world world_before (λ image left. left)
 pub written_keeps : Keeps account_program written (deposit_course opened sealing written)
 written_keeps = kept written opened sealing is_deposit_run
 
+-- it shows what has to be shown
+pub written_shows : Shows account_program written (deposit_course opened sealing written)
+written_shows = shown written opened sealing is_deposit_run sound_at_entry new_folder (seen_possible new_manager [])
+
 pub written_promises : Promises plain_manner written
-written_promises = record {
-  manner = refl;
-  answers = inr (has_opened account_program written (deposit_course opened sealing written) written_keeps [] new_reads);
-  over_sound = λ p checked sound. inr (deposit_course opened sealing written, subst (λ (q : Program). Keeps q written (deposit_course opened sealing written)) (only_program p checked sound.sound) written_keeps);
-}
+written_promises = promised account_program written (deposit_course opened sealing written) account_is_checked written_shows plain_manner refl program_spelled
 
 -- ---- the host's calls
 

@@ -1,5 +1,5 @@
 -- The run that is written out, of a deposit whose version can't be written, meets all that is asked of such a run.
-use Rattle.std.proofs.Common.{◌≡◌, ◌≢◌, inl, inr, ℕ, zero, suc, Bool, true, false, if◌then◌else◌, List, [], ◌∷◌, ◌++◌, refl, ap, subst, arith}
+use Rattle.std.proofs.Common.{◌≡◌, ◌≢◌, inl, ℕ, zero, suc, Bool, true, false, if◌then◌else◌, List, [], ◌∷◌, ◌++◌, refl, ap, subst, arith}
 use Rattle.std.specs.List.{AllByRecursion}
 use Rattle.std.specs.Fmt.{digits}
 use Rattle.serde_json.proofs.OnLiterals.{serde_json_on_literals}
@@ -12,21 +12,23 @@ use Rattle.host_trait.specs.Disk.{MayLeave, Wrote, settled}
 use Rattle.host_trait.specs.Faults.{FailedOn}
 use Rattle.host_trait.specs.World.{Image}
 use Rattle.cell_model.specs.Units.{same_grain}
-use Rattle.promise_spec.specs.Programs.{Program, shape_in}
+use Rattle.promise_spec.specs.Programs.{shape_in}
 use Rattle.promise_spec.specs.Outputs.{reply_lines}
 use Rattle.promise_spec.specs.Courses.{lines}
 use Rattle.promise_spec.specs.Promise.{IsSoundFolder, Keeps, Promises}
+use Rattle.explained_runs.specs.Obligations.{Shows}
+use Rattle.explained_runs.proofs.ShownPromise.{promised}
 use Rattle.promise_runs.specs.Examples.{account_program, account_1, program_bytes, voted_entry, vote_entries, AskBoth}
 use Rattle.promise_runs.specs.DepositRuns.{HasNone, IsBetween}
 use Rattle.promise_runs.specs.VoteRuns.{IsVoteRun, vote_course}
 use Rattle.promise_runs.specs.HostCalls.{IsHosted}
 use Rattle.promise_runs.specs.WrittenRun.{new_manager, new_disk, request_line, opened}
 use Rattle.promise_runs.specs.WrittenVote.{reading_manner, read_line, voted_text, dependent_text, version_cut, cut_disk, failing, vote_told, reading_before, grain_fault, voted, voted_steps}
-use Rattle.promise_runs.proofs.NewSilo.{empty_images, new_images, settled_stays, seen_possible, new_folder, sound_world, new_reads, only_program, line_asks, read_asks}
+use Rattle.promise_runs.proofs.NewSilo.{empty_images, new_images, settled_stays, seen_possible, new_folder, sound_world, program_spelled, line_asks, read_asks}
 use Rattle.promise_runs.proofs.SealingDisks.{at_new}
 use Rattle.promise_runs.proofs.HostSteps.{account_same, pulled, ended, cut_grain, synced_log, emitted}
-use Rattle.promise_runs.proofs.VoteRun.{kept}
-use Rattle.promise_spec.proofs.Opened.{has_opened}
+use Rattle.promise_runs.proofs.VoteRun.{kept, shown}
+use Rattle.promise_runs.proofs.AccountText.{account_is_checked}
 
 asks : AskBoth (lines voted)
 unfolding serde_json_on_literals
@@ -109,13 +111,12 @@ sound_at_entry = sound_world reading_before (λ image left. left)
 pub voted_keeps : Keeps account_program voted (vote_course opened failing vote_told voted)
 voted_keeps = kept voted opened failing vote_told is_vote_run
 
+-- it shows what has to be shown
+pub voted_shows : Shows account_program voted (vote_course opened failing vote_told voted)
+voted_shows = shown voted opened failing vote_told is_vote_run sound_at_entry new_folder (seen_possible new_manager [])
+
 pub voted_promises : Promises reading_manner voted
-voted_promises = record {
-  manner = refl;
-  answers = inr (has_opened account_program voted (vote_course opened failing vote_told voted) voted_keeps [] new_reads);
-  over_sound = λ p checked sound.
-      inr (vote_course opened failing vote_told voted, subst (λ (q : Program). Keeps q voted (vote_course opened failing vote_told voted)) (only_program p checked sound.sound) voted_keeps);
-}
+voted_promises = promised account_program voted (vote_course opened failing vote_told voted) account_is_checked voted_shows reading_manner refl program_spelled
 
 -- ---- the host's calls
 

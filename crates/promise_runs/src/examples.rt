@@ -10,6 +10,7 @@ ghost use Rattle.promise_spec.specs.Serial.{IsSerial};
 ghost use Rattle.promise_spec.specs.Logs.{magic, IsLog, IsKept, body_of};
 ghost use Rattle.promise_spec.specs.Courses.{Observed, lines, seen_at_entry};
 ghost use Rattle.promise_spec.specs.Promise.{Keeps, IsSoundFolder, Promises};
+ghost use Rattle.explained_runs.specs.Obligations.{Shows};
 ghost use Rattle.promise_spec.specs.Openings.{NoSilo, DamagedAt, Reads, opened_as};
 ghost use Rattle.promise_spec.specs.Words.{plain_manner};
 ghost use Rattle.promise_runs.specs.HostCalls.{IsHosted};
@@ -156,6 +157,14 @@ pub fn a_vote_is_written_out()
     ensures kept { Keeps account_program voted (vote_course opened failing vote_told voted) }
     ensures promised { Promises reading_manner voted }
     ensures hosted { IsHosted voted voted_steps }
+{}
+
+/// These three show what a run has to show, and over sound folders: it can be shown, of a run with a batch in doubt and of
+/// one with a vote of no too.
+pub fn a_run_shows_enough()
+    ensures deposit { Shows account_program written (deposit_course opened sealing written) }
+    ensures doubt { Shows account_program doubted (doubt_course opened told doubting doubted) }
+    ensures vote { Shows account_program voted (vote_course opened failing vote_told voted) }
 {}
 
 /// What folders like that of the first deposit read as when they are opened: its log, or an empty one where the block's
