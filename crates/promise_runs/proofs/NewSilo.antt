@@ -1,5 +1,5 @@
 -- The disks of a new silo of the accounts, and of one whose first deposit is sealed or being sealed: what their images have.
-use Rattle.std.proofs.Common.{◌≡◌, ◌≢◌, ◌⊎◌, inl, inr, ℕ, zero, suc, ◌^◌, ◌<◌, ◌≤◌, Bool, true, false, if◌then◌else◌, List, [], ◌∷◌, ◌++◌, length, map, slice_index, Option, Some, Result, Ok, refl, sym, ◌∙◌, ap, subst, arith}
+use Rattle.std.proofs.Common.{◌≡◌, ◌≢◌, ◌⊎◌, inl, inr, ℕ, zero, suc, ◌+◌, ◌^◌, ◌<◌, ◌≤◌, Bool, true, false, if◌then◌else◌, List, [], ◌∷◌, ◌++◌, length, map, slice_index, Option, Some, Result, Ok, refl, sym, ◌∙◌, ap, subst, arith, length-append}
 use Rattle.std.specs.Prelude.{codes, nat_lt}
 use Rattle.std.specs.Option.{ok_or}
 use Rattle.std.proofs.lemmas.Bool.{cases_eq, cases_lt}
@@ -29,9 +29,9 @@ use Rattle.promise_spec.specs.Openings.{with_types, program_in_file}
 use Rattle.promise_spec.specs.Logs.{magic, body_of}
 use Rattle.promise_spec.specs.Crashes.{IsAside}
 use Rattle.promise_spec.specs.Promise.{IsSoundFolder}
-use Rattle.promise_runs.specs.Examples.{account_text, accounts, account_program, program_bytes, account_1, deposit_of, read_call, first_version, grain_bytes, block_bytes, manager_bytes}
+use Rattle.promise_runs.specs.Examples.{account_text, accounts, account_program, program_bytes, account_1, deposit_of, read_call, first_version, grain_bytes, block_bytes, manager_of, manager_bytes}
 use Rattle.promise_runs.specs.DepositRuns.{HasNone, HasDeposit}
-use Rattle.promise_runs.specs.WrittenRun.{new_manager, disk_of, new_disk, gate_pending, sealing_disk, sealed_disk}
+use Rattle.promise_runs.specs.WrittenRun.{new_manager, disk_of, new_disk, pending_gate, sealing_disk, sealed_disk}
 use Rattle.promise_runs.proofs.FirstDeposit.{logged}
 use Rattle.promise_runs.proofs.AccountText.{account_is_checked}
 
@@ -94,11 +94,14 @@ new_is_silo = record { long = omega arith; gate = refl; named = refl }
 new_has_none : LogsUpTo [] 15 new_manager
 new_has_none = record { blocks = record { small = tt; at = refl; within = omega arith; blocks = refl }; closed = λ e. cc e }
 
-pub gate_is_silo : (g : ℕ) → IsSilo magic (manager_bytes g)
-gate_is_silo g = record { long = omega arith; gate = refl; named = refl }
+pub manager_long : (block : List ℕ) (g : ℕ) → length (manager_of block g) ≡ 16 + length block
+manager_long block g = length-append (1 ∷ (magic ++ 0 ∷ 0 ∷ 0 ∷ 0 ∷ 0 ∷ 0 ∷ g ∷ [])) block
 
-pub shut_has_none : (g : ℕ) → g ≢ 1 → LogsUpTo [] 15 (manager_bytes g)
-shut_has_none g shut = record { blocks = record { small = tt; at = refl; within = omega arith; blocks = refl }; closed = shut }
+pub gate_is_silo : (block : List ℕ) (g : ℕ) → IsSilo magic (manager_of block g)
+gate_is_silo block g = record { long = omega (arith, manager_long block g); gate = refl; named = refl }
+
+pub shut_has_none : (block : List ℕ) (g : ℕ) → g ≢ 1 → LogsUpTo [] 15 (manager_of block g)
+shut_has_none block g shut = record { blocks = record { small = tt; at = refl; within = omega (arith, manager_long block g); blocks = refl }; closed = shut }
 
 -- ---- what a crash leaves of the pending gate
 
@@ -112,18 +115,18 @@ other_items (x ∷ front) back g h (suc i) other = other_items front back g h i 
 header : List ℕ
 header = 1 ∷ (magic ++ 0 ∷ 0 ∷ 0 ∷ 0 ∷ 0 ∷ 0 ∷ [])
 
-pub other_bytes : (g h i : ℕ) → i ≢ 15 → slice_index (manager_bytes g) i ≡ slice_index (manager_bytes h) i
+pub other_bytes : (block : List ℕ) (g h i : ℕ) → i ≢ 15 → slice_index (manager_of block g) i ≡ slice_index (manager_of block h) i
 unfolding header
-other_bytes g h i other = other_items header block_bytes g h i other
+other_bytes block g h i other = other_items header block g h i other
 
 -- all but the gate's byte is the base's
-pub gate_only : (c : List ℕ) → MayLeave gate_pending c → c ≡ manager_bytes (slice_index c 15)
-gate_only c left = ext_get_or 0 c (manager_bytes (slice_index c 15)) size byte where
-  size : length c ≡ 89
+pub gate_only : (block c : List ℕ) → MayLeave (pending_gate block) c → c ≡ manager_of block (slice_index c 15)
+gate_only block c left = ext_get_or 0 c (manager_of block (slice_index c 15)) (size ∙ sym (manager_long block (slice_index c 15))) byte where
+  size : length c ≡ 16 + length block
   size =
-      let low : 89 ≤ length c = left.no_shorter in
-      let high : length c ≤ 89 = left.no_longer in
-      omega arith
+      let low : length (manager_of block 0) ≤ length c = left.no_shorter in
+      let high : length c ≤ length (manager_of block 0) = left.no_longer in
+      omega (arith, low, high, manager_long block 0)
 
   outside : (i : ℕ) → i ≢ 15 → Untouched ((15, 1) ∷ []) i
   outside i other = elim (cases_lt i 15) [
@@ -131,11 +134,11 @@ gate_only c left = ext_get_or 0 c (manager_bytes (slice_index c 15)) size byte w
     | inr behind ↦ (inr (omega (arith, other)), tt)
   ]
 
-  byte : (i : ℕ) → i < length c → slice_index c i ≡ slice_index (manager_bytes (slice_index c 15)) i
+  byte : (i : ℕ) → i < length c → slice_index c i ≡ slice_index (manager_of block (slice_index c 15)) i
   byte i low = elim (cases_eq i 15) [
-    | inl is ↦ subst (λ (k : ℕ). slice_index c k ≡ slice_index (manager_bytes (slice_index c 15)) k) (sym is) refl
+    | inl is ↦ subst (λ (k : ℕ). slice_index c k ≡ slice_index (manager_of block (slice_index c 15)) k) (sym is) refl
     | inr other ↦
-        (let within : i < 89 = omega arith in left.same i within (outside i other)) ∙ other_bytes 0 (slice_index c 15) i other
+        (let within : i < length (manager_of block 0) = omega (arith, low, size, manager_long block 0) in left.same i within (outside i other)) ∙ other_bytes block 0 (slice_index c 15) i other
   ]
 
 -- ---- the disks' images
@@ -153,10 +156,10 @@ module _ (image : Image) where
       let program_is : image program_file ≡ program_bytes = settled_only program_bytes (image program_file) (left program_file) in
       let grain_is : image (Grain 0 account_1) ≡ grain_bytes = settled_only grain_bytes (image (Grain 0 account_1)) (left (Grain 0 account_1)) in
       let gate = slice_index (image manager) 15 in
-      let is : image manager ≡ manager_bytes gate = gate_only (image manager) (left manager) in
+      let is : image manager ≡ manager_bytes gate = gate_only block_bytes (image manager) (left manager) in
       elim (cases_eq gate 1) [
         | inl open_gate ↦ inr (has_deposit image program_is (is ∙ ap manager_bytes open_gate) grain_is)
-        | inr shut ↦ inl (has_none image program_is (manager_bytes gate) (gate_is_silo gate) (shut_has_none gate shut) is)
+        | inr shut ↦ inl (has_none image program_is (manager_bytes gate) (gate_is_silo block_bytes gate) (shut_has_none block_bytes gate shut) is)
       ]
 
   pub sealed_images : IsImage sealed_disk image → HasDeposit image

@@ -10,14 +10,14 @@ use Rattle.silo_spec.specs.Silos.{manager, program_file, IsSilo}
 use Rattle.promise_spec.specs.Logs.{magic}
 use Rattle.promise_spec.specs.Courses.{Observed}
 use Rattle.promise_spec.specs.Crashes.{LeavesAlone}
-use Rattle.promise_runs.specs.Examples.{program_bytes, grain_bytes, manager_bytes}
+use Rattle.promise_runs.specs.Examples.{program_bytes, grain_bytes, block_bytes, manager_of, manager_bytes}
 use Rattle.promise_runs.specs.DepositRuns.{HasNone, HasDeposit, MayHaveDeposit, IsBetween}
-use Rattle.promise_runs.specs.WrittenRun.{new_manager, disk_of, new_disk, block_pending, gate_pending, block_disk, staged_disk, sealing_disk, sealed_disk}
+use Rattle.promise_runs.specs.WrittenRun.{new_manager, disk_of, new_disk, pending_block, pending_gate, sealing_disk, sealed_disk}
 use Rattle.promise_runs.proofs.NewSilo.{gate_only, gate_is_silo, shut_has_none, has_none, same_aside, empty_images, sealing_images, sealed_images}
 
 -- ---- the block while it's pending
 
-module _ (c : List ℕ) (left : MayLeave block_pending c) where
+module _ (block c : List ℕ) (left : MayLeave (pending_block block) c) where
   long : 16 ≤ length c
   long = left.no_shorter
 
@@ -47,15 +47,15 @@ more_has_none more = record {
 
 -- ---- images
 
-pub block_images : (image : Image) → IsImage block_disk image → HasNone image
-block_images image left =
+pub block_images : (block : List ℕ) (grain : FileState) (image : Image) → IsImage (disk_of (pending_block block) grain) image → HasNone image
+block_images block grain image left =
     let more : List ℕ = drop 16 (image manager) in
-    has_none image (settled_only program_bytes (image program_file) (left program_file)) (new_manager ++ more) (more_is_silo more) (more_has_none more) (block_is (image manager) (left manager))
+    has_none image (settled_only program_bytes (image program_file) (left program_file)) (new_manager ++ more) (more_is_silo more) (more_has_none more) (block_is block (image manager) (left manager))
 
-pub staged_images : (image : Image) → IsImage staged_disk image → HasNone image
-staged_images image left =
-    has_none image (settled_only program_bytes (image program_file) (left program_file)) (manager_bytes 0) (gate_is_silo 0) (shut_has_none 0 (λ e. cc e))
-    (settled_only (manager_bytes 0) (image manager) (left manager))
+pub staged_images : (block : List ℕ) (grain : FileState) (image : Image) → IsImage (disk_of (settled (manager_of block 0)) grain) image → HasNone image
+staged_images block grain image left =
+    has_none image (settled_only program_bytes (image program_file) (left program_file)) (manager_of block 0) (gate_is_silo block 0) (shut_has_none block 0 (λ e. cc e))
+    (settled_only (manager_of block 0) (image manager) (left manager))
 
 -- ---- headers
 
@@ -66,17 +66,14 @@ KeepsFront log = (c : List ℕ) → MayLeave log c → take 15 c ≡ take 15 new
 new_front : KeepsFront (settled new_manager)
 new_front c left = ap (λ (f : List ℕ). take 15 f) (settled_only new_manager c left)
 
-block_front : KeepsFront block_pending
-block_front c left = ap (λ (f : List ℕ). take 15 f) (block_is c left)
+block_front : (block : List ℕ) → KeepsFront (pending_block block)
+block_front block c left = ap (λ (f : List ℕ). take 15 f) (block_is block c left)
 
-staged_front : KeepsFront (settled (manager_bytes 0))
-staged_front c left = ap (λ (f : List ℕ). take 15 f) (settled_only (manager_bytes 0) c left)
+pub gate_front : (block : List ℕ) → KeepsFront (pending_gate block)
+gate_front block c left = ap (λ (f : List ℕ). take 15 f) (gate_only block c left)
 
-gate_front : KeepsFront gate_pending
-gate_front c left = ap (λ (f : List ℕ). take 15 f) (gate_only c left)
-
-sealed_front : KeepsFront (settled (manager_bytes 1))
-sealed_front c left = ap (λ (f : List ℕ). take 15 f) (settled_only (manager_bytes 1) c left)
+pub sealed_front : (block : List ℕ) (gate : ℕ) → KeepsFront (settled (manager_of block gate))
+sealed_front block gate c left = ap (λ (f : List ℕ). take 15 f) (settled_only (manager_of block gate) c left)
 
 -- ---- moments of a run in a new silo
 
@@ -87,7 +84,7 @@ module _ (r : Observed) (new : r.old.disk ≡ new_disk) where
     header = λ image left. keeps (image manager) (left manager) ∙ sym (ap (λ (d : Disk). take 15 (d manager).seen) new);
   }
 
-  between_of : (output : List ℕ) (Has : Image → Type 0) (log grain : FileState) → KeepsFront log → ((image : Image) → IsImage (disk_of log grain) image → Has image) → IsBetween r output Has (record { output = output; disk = disk_of log grain })
+  pub between_of : (output : List ℕ) (Has : Image → Type 0) (log grain : FileState) → KeepsFront log → ((image : Image) → IsImage (disk_of log grain) image → Has image) → IsBetween r output Has (record { output = output; disk = disk_of log grain })
   between_of output Has log grain keeps has = record { output = refl; images = has; alone = alone_of output log grain keeps }
 
   -- the moments of one output, for what each image has at them
@@ -95,17 +92,17 @@ module _ (r : Observed) (new : r.old.disk ≡ new_disk) where
     pub at_new : (grain : FileState) → IsBetween r output HasNone (record { output = output; disk = disk_of (settled new_manager) grain })
     at_new grain = between_of output HasNone (settled new_manager) grain new_front (λ image left. empty_images image grain left)
 
-    pub at_block : IsBetween r output HasNone (record { output = output; disk = block_disk })
-    at_block = between_of output HasNone block_pending (settled grain_bytes) block_front block_images
+    pub at_block : (block : List ℕ) (grain : FileState) → IsBetween r output HasNone (record { output = output; disk = disk_of (pending_block block) grain })
+    at_block block grain = between_of output HasNone (pending_block block) grain (block_front block) (block_images block grain)
 
-    pub at_staged : IsBetween r output HasNone (record { output = output; disk = staged_disk })
-    at_staged = between_of output HasNone (settled (manager_bytes 0)) (settled grain_bytes) staged_front staged_images
+    pub at_staged : (block : List ℕ) (grain : FileState) → IsBetween r output HasNone (record { output = output; disk = disk_of (settled (manager_of block 0)) grain })
+    at_staged block grain = between_of output HasNone (settled (manager_of block 0)) grain (sealed_front block 0) (staged_images block grain)
 
     pub at_sealing : IsBetween r output MayHaveDeposit (record { output = output; disk = sealing_disk })
-    at_sealing = between_of output MayHaveDeposit gate_pending (settled grain_bytes) gate_front sealing_images
+    at_sealing = between_of output MayHaveDeposit (pending_gate block_bytes) (settled grain_bytes) (gate_front block_bytes) sealing_images
 
     pub at_sealed : IsBetween r output HasDeposit (record { output = output; disk = sealed_disk })
-    at_sealed = between_of output HasDeposit (settled (manager_bytes 1)) (settled grain_bytes) sealed_front sealed_images
+    at_sealed = between_of output HasDeposit (settled (manager_bytes 1)) (settled grain_bytes) (sealed_front block_bytes 1) sealed_images
 
 -- a moment at which there is none is one at which there may be the deposit, and so is one at which there is
 pub if_none : (r : Observed) (output : List ℕ) (m : Moment) → IsBetween r output HasNone m → IsBetween r output MayHaveDeposit m

@@ -58,7 +58,7 @@ module _ (image : Image) (left : IsImage sealing_disk image) where
 
   file_is : image manager ≡ manager_bytes gate
   unfolding gate
-  file_is = gate_only (image manager) (left manager)
+  file_is = gate_only block_bytes (image manager) (left manager)
 
   front : HasBlocks [] 15 (image manager)
   front = subst (λ (f : List ℕ). HasBlocks [] 15 f) (sym file_is) (record { small = tt; at = refl; within = omega arith; blocks = refl })
@@ -72,12 +72,12 @@ differ one other is_one is_other =
     let b : other manager ≡ manager_bytes (gate other is_other) = file_is other is_other in
     record {
       long = ap (λ (f : List ℕ). length f) a ∙ sym (ap (λ (f : List ℕ). length f) b);
-      same = λ i elsewhere. ap (λ (f : List ℕ). slice_index f i) a ∙ other_bytes (gate one is_one) (gate other is_other) i elsewhere ∙ sym (ap (λ (f : List ℕ). slice_index f i) b);
+      same = λ i elsewhere. ap (λ (f : List ℕ). slice_index f i) a ∙ other_bytes block_bytes (gate one is_one) (gate other is_other) i elsewhere ∙ sym (ap (λ (f : List ℕ). slice_index f i) b);
     }
 
 -- the gate may be open
 gate_stays : MayLeave gate_pending (manager_bytes 1)
-gate_stays = record { no_shorter = omega arith; no_longer = omega arith; same = λ i low untouched. other_bytes 1 0 i (not_there i untouched.0) } where
+gate_stays = record { no_shorter = omega arith; no_longer = omega arith; same = λ i low untouched. other_bytes block_bytes 1 0 i (not_there i untouched.0) } where
   not_there : (i : ℕ) → (i < 15) ⊎ (15 + 1 ≤ i) → i ≢ 15
   not_there i (inl before) same = omega (arith, same)
   not_there i (inr behind) same = omega (arith, same)
@@ -128,7 +128,7 @@ is_doubt_run = record {
   entry = λ image left. (left, new_images image left);
   none = all_output HasNone told (
     at_new doubted refl locked_text (settled []),
-    (at_new doubted refl locked_text version_pending, (at_new doubted refl locked_text (settled grain_bytes), (at_block doubted refl locked_text, (at_staged doubted refl locked_text, tt)))),
+    (at_new doubted refl locked_text version_pending, (at_new doubted refl locked_text (settled grain_bytes), (at_block doubted refl locked_text block_bytes (settled grain_bytes), (at_staged doubted refl locked_text block_bytes (settled grain_bytes), tt)))),
   );
   either = all_output MayHaveDeposit doubting (at_sealing doubted refl locked_text, (at_sealing doubted refl locked_text, tt));
   exit = sealing_images;

@@ -49,8 +49,8 @@ is_deposit_run = record {
     (
       if_none written [] (moment [] voted_disk) (at_new written refl [] (settled grain_bytes)),
       (
-        if_none written [] (moment [] block_disk) (at_block written refl []),
-        (if_none written [] (moment [] staged_disk) (at_staged written refl []), (at_sealing written refl [], (if_has written [] (moment [] sealed_disk) (at_sealed written refl []), tt))),
+        if_none written [] (moment [] block_disk) (at_block written refl [] block_bytes (settled grain_bytes)),
+        (if_none written [] (moment [] staged_disk) (at_staged written refl [] block_bytes (settled grain_bytes)), (at_sealing written refl [], (if_has written [] (moment [] sealed_disk) (at_sealed written refl []), tt))),
       ),
     ),
   );

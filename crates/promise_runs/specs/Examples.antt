@@ -144,9 +144,13 @@ block_bytes =
     0 ∷ 0 ∷ 1 ∷ 0 ∷ 5 ∷ 0 ∷ 0 ∷ 0 ∷ 0 ∷ 0 ∷ 0 ∷ 0 ∷
     1 ∷ 0 ∷ 0 ∷ 0 ∷ 1 ∷ 0 ∷ 0 ∷ 0 ∷ 0 ∷ 0 ∷ 0 ∷ 0 ∷ 0 ∷ 0 ∷ 0 ∷ 0 ∷ 19 ∷ 0 ∷ 0 ∷ 0 ∷ 0 ∷ []
 
--- the manager file, with this byte as the gate of the first block
+-- a manager file whose first block is this, with this byte as its gate
+abbrev pub manager_of : List ℕ → ℕ → List ℕ
+manager_of block gate = 1 ∷ (magic ++ 0 ∷ 0 ∷ 0 ∷ 0 ∷ 0 ∷ 0 ∷ gate ∷ block)
+
+-- the manager file, with this byte as the gate of the deposit's block
 abbrev pub manager_bytes : ℕ → List ℕ
-manager_bytes gate = 1 ∷ (magic ++ 0 ∷ 0 ∷ 0 ∷ 0 ∷ 0 ∷ 0 ∷ gate ∷ block_bytes)
+manager_bytes = manager_of block_bytes
 
 -- the folder: every grain's file is that one
 abbrev pub folder : ℕ → List ℕ → Image

@@ -1,5 +1,5 @@
 -- The run of one deposit in a new silo, written out, with each host call that changes what the host holds.
-use Rattle.std.specs.Prelude.{ℕ, zero, suc, List, [], ◌∷◌, ◌++◌, take, if◌then◌else◌, codes}
+use Rattle.std.specs.Prelude.{ℕ, ◌+◌, zero, suc, List, [], ◌∷◌, ◌++◌, length, take, if◌then◌else◌, codes}
 use Rattle.host_trait.specs.declared.channels.FileId.TheVariants.{Manager, Program as ProgramFile, Grain}
 use Rattle.host_trait.specs.Disk.{FileState, settled}
 use Rattle.host_trait.specs.World.{World, Moment, Disk}
@@ -9,7 +9,7 @@ use Rattle.promise_spec.specs.Logs.{magic}
 use Rattle.promise_spec.specs.Words.{plain_manner}
 use Rattle.promise_spec.specs.Endings.{Done}
 use Rattle.promise_spec.specs.Courses.{Observed}
-use Rattle.promise_runs.specs.Examples.{account_1, program_bytes, grain_bytes, block_bytes, manager_bytes}
+use Rattle.promise_runs.specs.Examples.{account_1, program_bytes, grain_bytes, block_bytes, manager_of, manager_bytes}
 use Rattle.promise_runs.specs.HostCalls.{Held, Step, Pull, Emit, Write, Sync}
 
 -- the manager file of a new silo: its 16 bytes
@@ -34,13 +34,22 @@ new_disk = disk_of (settled new_manager) (settled [])
 abbrev pub version_pending : FileState
 version_pending = record { base = []; seen = grain_bytes; ranges = (0, 19) ∷ []; longest = 19 }
 
--- the manager file is a new silo's, and a write of the block behind its closed gate is pending
-abbrev pub block_pending : FileState
-block_pending = record { base = new_manager; seen = manager_bytes 0; ranges = (16, 73) ∷ []; longest = 89 }
+-- the manager file is a new silo's, and a write of this block behind its closed gate is pending
+abbrev pub pending_block : List ℕ → FileState
+pending_block block =
+    record { base = new_manager; seen = manager_of block 0; ranges = (16, length block) ∷ []; longest = 16 + length block }
 
--- the manager file has the block behind its gate, and a write of the gate, which a read sees open, is pending
+-- the manager file has this block behind its gate, and a write of the gate, which a read sees open, is pending
+abbrev pub pending_gate : List ℕ → FileState
+pending_gate block =
+    record { base = manager_of block 0; seen = manager_of block 1; ranges = (15, 1) ∷ []; longest = length (manager_of block 0) }
+
+-- the same of the deposit's block, of 73 bytes
+abbrev pub block_pending : FileState
+block_pending = pending_block block_bytes
+
 abbrev pub gate_pending : FileState
-gate_pending = record { base = manager_bytes 0; seen = manager_bytes 1; ranges = (15, 1) ∷ []; longest = 89 }
+gate_pending = pending_gate block_bytes
 
 -- the disk once the version is written, and once it's synced
 abbrev pub version_disk : Disk
