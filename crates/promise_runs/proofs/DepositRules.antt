@@ -36,15 +36,15 @@ each_at P k (x ∷ events) (suc at) e all there = let same : suc k + at ≡ k + 
 pub each_from_0 : (P : ℕ → CoreEvent → Type 0) (events : List CoreEvent) (at : ℕ) (e : CoreEvent) → Each P 0 events → slice_get events at ≡ Some e → P at e
 each_from_0 P events at e all there = subst (λ n. P n e) (zero-add at) (each_at P 0 events at e all there)
 
-abbrev DueAt : List (List ℕ) → Run → ℕ → CoreEvent → Type 0
+abbrev pub DueAt : List (List ℕ) → Run → ℕ → CoreEvent → Type 0
 DueAt lines r at e = IsDue accounts lines (state_before r at) (got_from (begins r) (take at r.events)) e
 
-abbrev TurnAt : ℕ → ℕ → List ℕ → Run → ℕ → CoreEvent → Type 0
+abbrev pub TurnAt : ℕ → ℕ → List ℕ → Run → ℕ → CoreEvent → Type 0
 TurnAt lines width picks r at e =
     IsTurn (can_begin width lines r (state_before r at)) (picked (movers accounts r (state_before r at) (got_from (begins r) (take at r.events))) (get_or picks (picks_used r at) 0)) (state_before r at) e (mover_of e)
 
 -- a deposit is a transaction
-is_transaction : (n : ℕ) → (false ≡ false) ↔ IsTransaction accounts (record { grain = account_1; method = 0; args = Int (pos n) ∷ [] })
+pub is_transaction : (n : ℕ) → (false ≡ false) ↔ IsTransaction accounts (record { grain = account_1; method = 0; args = Int (pos n) ∷ [] })
 is_transaction n = (λ is. (_, refl, refl), λ is. refl)
 
 -- `account/1` doesn't come before itself
@@ -57,12 +57,12 @@ not_before h same =
     ap (λ (g : GrainId). is_before g account_1) is
 
 -- a unit that holds `account/1` and nothing else holds nothing before it
-lowest : (u : UnitNo) (h : GrainId) (b : Bool) (holds : List Hold) → same_grain h account_1 ≡ b → holds_lock u (if b then holds else []) ≡ true → is_before h account_1 ≡ false
+pub lowest : (u : UnitNo) (h : GrainId) (b : Bool) (holds : List Hold) → same_grain h account_1 ≡ b → holds_lock u (if b then holds else []) ≡ true → is_before h account_1 ≡ false
 lowest u h true holds same held = not_before h same
 lowest u h false holds same held = absurd (cc held)
 
 -- nor where others held it before
-lowest_later : (u : UnitNo) (h : GrainId) (b : Bool) (holds then_holds last : List Hold) → same_grain h account_1 ≡ b → holds_lock u (if b then last else (if b then then_holds else (if b then holds else []))) ≡ true → is_before h account_1 ≡ false
+pub lowest_later : (u : UnitNo) (h : GrainId) (b : Bool) (holds then_holds last : List Hold) → same_grain h account_1 ≡ b → holds_lock u (if b then last else (if b then then_holds else (if b then holds else []))) ≡ true → is_before h account_1 ≡ false
 lowest_later u h true holds then_holds last same held = not_before h same
 lowest_later u h false holds then_holds last same held = absurd (cc held)
 

@@ -17,6 +17,8 @@ pub mod DoubtRun
 pub mod WrittenDoubt
 pub mod VoteRun
 pub mod WrittenVote
+pub mod BatchRules
+pub mod WrittenBatch
 pub mod Readings
 pub mod BadTexts
 pub mod WrittenRefusal

@@ -35,7 +35,7 @@ use Rattle.promise_runs.proofs.AccountText.{account_is_checked}
 
 -- ---- the lines
 
-asks : AskDeposits (lines doubted)
+pub asks : AskDeposits (lines doubted)
 unfolding serde_json_on_literals
 asks = record {
   first = record { index = 0; text = request_line; number = refl; there = refl; reads = line_asks request_line 5 refl refl refl };

@@ -8,5 +8,6 @@ pub mod DoubtRuns
 pub mod WrittenDoubt
 pub mod VoteRuns
 pub mod WrittenVote
+pub mod WrittenBatch
 pub mod Readings
 pub mod WrittenRefusal

@@ -8,7 +8,7 @@ ghost use Rattle.promise_spec.specs.Programs.{Program, IsChecked, shape_in};
 ghost use Rattle.promise_spec.specs.Records.{Commit, new_silo, standing_of};
 ghost use Rattle.promise_spec.specs.Serial.{IsSerial};
 ghost use Rattle.promise_spec.specs.Logs.{magic, IsLog, IsKept, body_of};
-ghost use Rattle.promise_spec.specs.Courses.{Observed, lines, seen_at_entry};
+ghost use Rattle.promise_spec.specs.Courses.{Observed, lines, seen_at_entry, core_end};
 ghost use Rattle.promise_spec.specs.Promise.{Keeps, IsSoundFolder, Promises};
 ghost use Rattle.explained_runs.specs.Obligations.{Shows};
 ghost use Rattle.promise_spec.specs.Openings.{NoSilo, DamagedAt, Reads, opened_as};
@@ -17,6 +17,8 @@ ghost use Rattle.promise_runs.specs.HostCalls.{IsHosted};
 ghost use Rattle.promise_runs.specs.WrittenRun.{opened, sealing, written, written_steps};
 ghost use Rattle.promise_runs.specs.WrittenDoubt.{pair_manner, told, doubting, doubted, doubted_steps};
 ghost use Rattle.promise_runs.specs.WrittenVote.{reading_manner, failing, vote_told, voted, voted_steps};
+ghost use Rattle.promise_runs.specs.WrittenBatch.{both_commits, both_block, batched, batch_course, batched_steps};
+ghost use Rattle.promise_spec.specs.Crashes.{EndsABatch};
 ghost use Rattle.promise_runs.specs.WrittenRefusal.{refused, refused_steps};
 ghost use Rattle.promise_runs.specs.EmptyRuns.{IsEmptyRun, empty_course};
 ghost use Rattle.promise_runs.specs.DoubtRuns.{IsDoubtRun, doubt_course};
@@ -159,8 +161,20 @@ pub fn a_vote_is_written_out()
     ensures hosted { IsHosted voted voted_steps }
 {}
 
-/// These three show what a run has to show, and over sound folders: it can be shown, of a run with a batch in doubt and of
-/// one with a vote of no too.
+/// And so is a run of two deposits at once, of which the second finds what the first left: one block has the records of
+/// both. A log with the first alone doesn't end where a batch does.
+pub fn a_batch_is_written_out()
+    ensures sound { IsSoundFolder account_program batched.old }
+    ensures block { block_of (body_of both_commits) ≡ both_block }
+    ensures whole { EndsABatch (core_end account_program batch_course) [] both_commits }
+    ensures cut { EndsABatch (core_end account_program batch_course) [] (first_commit ∷ []) → ⊥ }
+    ensures shown { Shows account_program batched batch_course }
+    ensures kept { Keeps account_program batched batch_course }
+    ensures promised { Promises reading_manner batched }
+    ensures hosted { IsHosted batched batched_steps }
+{}
+
+/// The other three show what a run has to show too: a deposit, a batch in doubt and a vote of no.
 pub fn a_run_shows_enough()
     ensures deposit { Shows account_program written (deposit_course opened sealing written) }
     ensures doubt { Shows account_program doubted (doubt_course opened told doubting doubted) }
