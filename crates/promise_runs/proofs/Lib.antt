@@ -25,3 +25,4 @@ pub mod WrittenRefusal
 pub mod Transfer
 pub mod Load
 pub mod WrongAnswers
+pub mod BankText

@@ -11,3 +11,4 @@ pub mod WrittenVote
 pub mod WrittenBatch
 pub mod Readings
 pub mod WrittenRefusal
+pub mod Banks

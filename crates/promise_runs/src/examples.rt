@@ -24,7 +24,9 @@ ghost use Rattle.promise_runs.specs.EmptyRuns.{IsEmptyRun, empty_course};
 ghost use Rattle.promise_runs.specs.DoubtRuns.{IsDoubtRun, doubt_course};
 ghost use Rattle.script_meaning.specs.Worked.{bank, at, int, call};
 ghost use Rattle.promise_runs.specs.Transfers.{bank_program, paid_in, moved, balance, version_of_source, version_of_target, transfer_body, bank_folder};
-ghost use Rattle.promise_spec.specs.Loads.{load_calls, transfers_after, summary_text};
+ghost use Rattle.promise_spec.specs.Loads.{load_calls, transfers_after, summary_text, bank_text};
+ghost use Rattle.request_wire.specs.Names.{names_in};
+ghost use Rattle.promise_runs.specs.Banks.{bank_names};
 ghost use Rattle.promise_runs.specs.VoteRuns.{IsVoteRun, vote_course};
 ghost use Rattle.promise_runs.specs.DepositRuns.{IsDepositRun, deposit_course};
 ghost use Rattle.host_trait.specs.World.{Moment};
@@ -269,4 +271,11 @@ pub fn a_refusal_is_written_out()
     ensures reads { opened_as (seen_at_entry refused) ≡ DamagedAt manager 16 }
     ensures promised { Promises plain_manner refused }
     ensures hosted { IsHosted refused refused_steps }
+{}
+
+/// The bank program of a load is a checked one, and its types and methods are numbered as a load's calls have them: the type
+/// 0 is `account`, whose method 0 is `deposit`, and the type 1 is `atm`, whose method 0 is `transfer`.
+pub fn the_bank_is_a_program()
+    ensures checked { (p : Program) × IsChecked p × (p.text ≡ bank_text) }
+    ensures named { (p : Program) → IsChecked p → p.text ≡ bank_text → names_in p.types ≡ bank_names }
 {}
