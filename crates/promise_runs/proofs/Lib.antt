@@ -22,6 +22,7 @@ pub mod WrittenBatch
 pub mod Readings
 pub mod BadTexts
 pub mod WrittenRefusal
+pub mod WrittenInit
 pub mod Transfer
 pub mod Load
 pub mod WrongAnswers

@@ -206,7 +206,7 @@ sound_world w same = record {
 -- ---- the program file
 
 -- the text is read as its types
-text_is_read : program_in account_text ≡ Ok accounts
+pub text_is_read : program_in account_text ≡ Ok accounts
 text_is_read = rw (account_is_checked.parsed, account_is_checked.checked) refl
 
 -- the program file is read as the program

@@ -11,4 +11,5 @@ pub mod WrittenVote
 pub mod WrittenBatch
 pub mod Readings
 pub mod WrittenRefusal
+pub mod WrittenInit
 pub mod Banks

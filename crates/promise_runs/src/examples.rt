@@ -1,4 +1,4 @@
-ghost use Rattle.std.specs.Prelude.{◌≡◌, ◌≢◌, ℕ, List, [], ◌∷◌, ◌++◌, codes, length, None, pos, take, drop, slice_get, Some};
+ghost use Rattle.std.specs.Prelude.{◌≡◌, ◌≢◌, ℕ, true, List, [], ◌∷◌, ◌++◌, codes, length, None, pos, take, drop, slice_get, Some};
 ghost use Rattle.base_types.specs.declared.calls.Value.{Value};
 ghost use Rattle.base_types.specs.declared.calls.Value.TheVariants.{Int};
 ghost use Rattle.field_codec.specs.Spelling.{spelling_of_version};
@@ -20,6 +20,9 @@ ghost use Rattle.promise_runs.specs.WrittenVote.{reading_manner, failing, vote_t
 ghost use Rattle.promise_runs.specs.WrittenBatch.{both_commits, both_block, batched, batch_course, batched_steps};
 ghost use Rattle.promise_spec.specs.Crashes.{EndsABatch};
 ghost use Rattle.promise_runs.specs.WrittenRefusal.{refused, refused_steps};
+ghost use Rattle.promise_runs.specs.WrittenInit.{init_words, made, made_steps};
+ghost use Rattle.promise_spec.specs.Commands.{MakesSilo};
+ghost use Rattle.promise_spec.specs.Calls.{Serves};
 ghost use Rattle.promise_runs.specs.EmptyRuns.{IsEmptyRun, empty_course};
 ghost use Rattle.promise_runs.specs.DoubtRuns.{IsDoubtRun, doubt_course};
 ghost use Rattle.script_meaning.specs.Worked.{bank, at, int, call};
@@ -271,6 +274,14 @@ pub fn a_refusal_is_written_out()
     ensures reads { opened_as (seen_at_entry refused) ≡ DamagedAt manager 16 }
     ensures promised { Promises plain_manner refused }
     ensures hosted { IsHosted refused refused_steps }
+{}
+
+/// A call of `init` over an empty folder is written out: it makes a silo of the text, in which a run may follow.
+pub fn an_init_is_written_out()
+    ensures hosted { IsHosted made made_steps }
+    ensures made { MakesSilo made }
+    ensures sound { IsSoundFolder account_program made.new }
+    ensures served { Serves (λ c. true) (λ g. true) init_words made }
 {}
 
 /// The bank program of a load is a checked one, and its types and methods are numbered as a load's calls have them: the type
