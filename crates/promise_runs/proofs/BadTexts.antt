@@ -1,5 +1,5 @@
 -- What a folder reads as whose program file has a text that is no program.
-use Rattle.std.proofs.Common.{◌≡◌, ℕ, true, List, take, length, refl, ◌∙◌, ap, arith}
+use Rattle.std.proofs.Common.{◌≡◌, ℕ, true, List, take, length, Err, refl, ◌∙◌, ap, arith}
 use Rattle.std.specs.Prelude.{codes}
 use Rattle.std.specs.Str.Lossy.{utf8_valid_len}
 use Rattle.std.proofs.lemmas.List.{take_all}
@@ -18,9 +18,10 @@ use Rattle.script_scopes.specs.Expressions.{expression_fault}
 use Rattle.script_scopes.specs.Statements.{statement_fault, block_fault}
 use Rattle.script_check.specs.Programs.{each_fault, program_fault}
 use Rattle.silo_spec.specs.Silos.{program_file}
-use Rattle.promise_spec.specs.Programs.{checked_in}
+use Rattle.promise_spec.specs.Programs.{checked_in, program_in}
 use Rattle.promise_spec.specs.Openings.{Reading, DamagedAt, with_types, with_program, opened_as}
 use Rattle.promise_runs.specs.Readings.{program_folder, program_with}
+use Rattle.promise_runs.specs.WrittenInit.{cut_text, cut_fault}
 
 -- the tokens of a text of ASCII
 text_lexed : (text : List ℕ) → are_ascii text ≡ true → lexed text ≡ lex (end_of (length text) (length text)) 0 0 text
@@ -49,3 +50,8 @@ texts_read = record {
   ended = ap (λ (l : TokensAndStop). of_tokens (codes "type a {") l) (text_lexed (codes "type a {") refl);
   twice = ap (λ (l : TokensAndStop). of_tokens (codes "type a { } type a { }") l) (text_lexed (codes "type a { } type a { }") refl);
 }
+
+-- a type whose closing brace is missing ends too early
+pub cut_is_no_program : program_in cut_text ≡ Err cut_fault
+unfolding lex lexeme name_lexeme number_lexeme text_lexeme symbol_lexeme program_over repeated type_at field_at initial_at method_at option_at kind_at params_at listed block statements statement_over set_at return_at expression operand expression_over tiers chain operator_at expected name_at taken taken_word program_fault each_fault expression_fault statement_fault block_fault
+cut_is_no_program = ap (λ (found : TokensAndStop). checked_in (program_over found.1 found.0)) (text_lexed cut_text refl)

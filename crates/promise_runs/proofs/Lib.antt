@@ -22,8 +22,8 @@ pub mod WrittenBatch
 pub mod Readings
 pub mod BadTexts
 pub mod WrittenRefusal
-pub mod WrittenInit
 pub mod Transfer
 pub mod Load
 pub mod WrongAnswers
 pub mod BankText
+pub mod WrittenInit

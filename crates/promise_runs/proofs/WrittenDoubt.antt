@@ -162,7 +162,7 @@ doubted_promises = promised account_program doubted (doubt_course opened told do
 abbrev past : ℕ → List Moment
 past many = opened ∷ take many (told ++ doubting)
 
-manager_fails : FailedOn (File manager) (λ channel. 0) one_fault
+pub manager_fails : FailedOn (File manager) (λ channel. 0) one_fault
 manager_fails = record { counts = record { others = other_counts; later = omega arith }; rose = omega arith }
 
 pub is_hosted : IsHosted doubted doubted_steps

@@ -1,32 +1,34 @@
 -- The calls of `init` that are written out keep what `init` promises, by a host's calls.
-use Rattle.std.proofs.Common.{◌≡◌, ◌≢◌, inl, inr, ℕ, zero, suc, ◌+◌, ◌<◌, ◌≤◌, Bool, true, false, if◌then◌else◌, List, [], ◌∷◌, ◌++◌, length, take, drop, slice_index, Ok, Err, refl, sym, ◌∙◌, ap, subst, arith, lit≤}
+use Rattle.std.proofs.Common.{◌≡◌, ◌≢◌, inl, inr, ℕ, zero, suc, ◌+◌, ◌<◌, ◌≤◌, Bool, true, false, if◌then◌else◌, List, [], ◌∷◌, ◌++◌, length, take, slice_index, get_or, refl, sym, ◌∙◌, ap, subst, arith, lit≤}
 use Rattle.std.specs.List.{AllByRecursion}
 use Rattle.std.proofs.lemmas.List.{ext_get_or, drop_all}
-use Rattle.host_trait.specs.declared.channels.Channel.{Channel}
-use Rattle.host_trait.specs.declared.channels.Channel.TheVariants.{File}
 use Rattle.host_trait.specs.declared.channels.FileId.{FileId}
 use Rattle.host_trait.specs.declared.channels.FileId.TheVariants.{Manager, Program as ProgramFile, Grain}
-use Rattle.host_trait.specs.Disk.{FileState, MayLeave, Tears, Overwrote, settled}
+use Rattle.host_trait.specs.Disk.{FileState, Untouched, MayLeave, Tears, Overwrote, settled}
 use Rattle.host_trait.specs.World.{Moment, Image, Disk, IsImage}
 use Rattle.host_trait.proofs.Crashes.{settled_only, Tears-overlaid}
 use Rattle.cell_model.specs.Units.{same_grain}
 use Rattle.gate_block.specs.Log.{bodies_of, IsWhole}
 use Rattle.silo_spec.specs.Silos.{manager, program_file, IsSilo, IsNewSilo, HasProgram}
-use Rattle.silo_spec.specs.Making.{IsBeside, IsEarly, IsNewAt, Makes}
+use Rattle.silo_spec.specs.Moments.{IsUntouched}
+use Rattle.silo_spec.specs.Making.{IsBeside, IsEarly, IsNewAt}
 use Rattle.promise_spec.specs.Programs.{text_limit, program_in}
 use Rattle.promise_spec.specs.Logs.{magic}
-use Rattle.promise_spec.specs.Words.{Command, Init}
+use Rattle.promise_spec.specs.Words.{Command, Init, Run, Show, History, Audit, Load, Say}
 use Rattle.promise_spec.specs.Courses.{Observed}
 use Rattle.promise_spec.specs.Promise.{IsSoundFolder}
 use Rattle.promise_spec.specs.Commands.{IsProgramText, WasSilo, MakesSilo}
 use Rattle.promise_spec.specs.Calls.{Obeys, Serves}
 use Rattle.promise_spec.proofs.Words.{one_command}
 use Rattle.promise_runs.specs.Examples.{account_text, accounts, account_program, program_bytes, account_1}
-use Rattle.promise_runs.specs.HostCalls.{Held, Step, IsStep, Lead, Write, Sync, IsHosted}
+use Rattle.promise_runs.specs.HostCalls.{Step, IsStep, Lead, Write, Sync, FailedSync, IsHosted}
 use Rattle.promise_runs.specs.WrittenRun.{new_manager, new_disk, moment}
-use Rattle.promise_runs.specs.WrittenInit.{init_words, head_disk, header_bytes, length_field, length_pending, text_pending, closing_gate, header_pending, opening_gate, empty_disk, made_disk, opening_disk, unsynced, filling, init_before, init_after, made, init_at, opening_steps, made_steps}
+use Rattle.promise_runs.specs.WrittenInit.{init_words, head_disk, header_bytes, length_field, length_pending, text_pending, closing_gate, header_pending, opening_gate, empty_disk, made_disk, opening_disk, unsynced, filling, init_before, init_after, made, init_at, opening_steps, made_steps, again_before, again_after, made_again, again_steps, cut_text, cut_before, cut_after, unmade, unmade_steps, halted_after, halted, halted_steps, other_words, unused}
+use Rattle.promise_runs.specs.WrittenDoubt.{one_fault}
 use Rattle.promise_runs.proofs.AccountText.{account_is_checked}
 use Rattle.promise_runs.proofs.NewSilo.{sound_world, text_is_read, settled_stays}
+use Rattle.promise_runs.proofs.BadTexts.{cut_is_no_program}
+use Rattle.promise_runs.proofs.WrittenDoubt.{manager_fails}
 use Rattle.promise_runs.proofs.HostSteps.{held, pulled, ended}
 
 -- ---- what images have
@@ -69,7 +71,7 @@ opening_is c left = ext_get_or 0 c (slice_index c 0 ∷ header_bytes) size byte 
   byte (suc i) low = left.same (suc i) (let high : length c ≤ 16 = left.no_longer in omega (arith, low, high)) (inr (omega arith), tt)
 
 -- an image of the disk while the gate is pending is the new silo, or none
-opening_at : IsNewAt magic account_text (moment [] opening_disk)
+pub opening_at : IsNewAt magic account_text (moment [] opening_disk)
 opening_at image left silo =
     new_silo image (opening_is (image manager) (left manager) ∙ ap (λ (g : ℕ). g ∷ header_bytes) silo.gate) (settled_only program_bytes (image program_file) (left program_file))
 
@@ -115,13 +117,13 @@ early : IsEarly init_before unsynced
 early = record {
   pending = λ same. let e : [] ≡ 0 ∷ [] = ap (λ (file : FileState). file.base) same in absurd (cc e);
   near = λ image left. record {
-      from = λ f. [];
-      possible = λ f. subst (λ (file : FileState). MayLeave file []) (sym (empty_is f)) (settled_stays []);
-      others = λ f other. settled_only [] (image f) (subst (λ (file : FileState). MayLeave file (image f)) (beside_log (settled []) (settled []) closing_gate f other ∙ empty_is f) (left f));
-      changed =
-          let short : length (image manager) ≤ 1 = (left manager).no_longer in
-          record { before = refl; after = drop_all 1 (image manager) short; no_shorter = omega arith; no_longer = omega (arith, short) };
-    };
+    from = λ f. [];
+    possible = λ f. subst (λ (file : FileState). MayLeave file []) (sym (empty_is f)) (settled_stays []);
+    others = λ f other. settled_only [] (image f) (subst (λ (file : FileState). MayLeave file (image f)) (beside_log (settled []) (settled []) closing_gate f other ∙ empty_is f) (left f));
+    changed =
+        let short : length (image manager) ≤ 1 = (left manager).no_longer in
+        record { before = refl; after = drop_all 1 (image manager) short; no_shorter = omega arith; no_longer = omega (arith, short) };
+  };
   unwritten = λ some. absurd (some refl);
 }
 
@@ -314,3 +316,133 @@ serves_init r makes = record {
   obeys = λ c says. subst (λ (d : Command). Obeys d r) (one_command (λ g. true) init_words Init c refl says.0) makes;
   refuses = λ none. absurd (none Init (refl, refl));
 }
+
+-- ---- over the folder that this left
+
+-- at each moment all is as at entry
+again_untouched : IsUntouched again_before again_after
+again_untouched = record {
+  moments = record { more = moment [] made_disk ∷ []; past = refl; each = (record { quiet = refl; images = λ image left. left }, tt) };
+  now = record { quiet = refl; images = λ image left. left };
+  seen = λ file. refl;
+}
+
+again_beside : IsBeside again_before (moment [] made_disk)
+again_beside = record { output = refl; others = λ f no_log no_program. refl }
+
+pub again_makes : MakesSilo made_again
+again_makes = record {
+  beside = record { more = moment [] made_disk ∷ []; past = refl; each = (again_beside, tt) };
+  beside_now = again_beside;
+  makes = inl again_untouched;
+  ended = (account_is_text made_again refl refl, record { long = lit≤ tt; gate = refl; named = refl }, again_untouched);
+  risen = tt;
+}
+
+pub again_hosted : IsHosted made_again again_steps
+again_hosted = (
+  pulled [] made_disk 0 [] (λ channel. 0) account_text (λ none. cc none),
+  (
+    ended [] made_disk 0 [] (λ channel. 0) account_text,
+    (synced manager made_disk made_disk 0 [] (λ f other. refl) refl, refl),
+  ),
+)
+
+-- ---- of a text that is no program
+
+cut_untouched : IsUntouched cut_before cut_after
+cut_untouched = record {
+  moments = record { more = []; past = refl; each = tt };
+  now = record { quiet = refl; images = λ image left. left };
+  seen = λ file. refl;
+}
+
+pub unmade_makes : MakesSilo unmade
+unmade_makes = record {
+  beside = record { more = []; past = refl; each = tt };
+  beside_now = record { output = refl; others = λ f no_log no_program. refl };
+  makes = inl cut_untouched;
+  ended = ((refl, lit≤ tt, cut_is_no_program), cut_untouched);
+  risen = tt;
+}
+
+pub unmade_hosted : IsHosted unmade unmade_steps
+unmade_hosted = (
+  pulled [] empty_disk 0 [] (λ channel. 0) cut_text (λ none. cc none),
+  (ended [] empty_disk 0 [] (λ channel. 0) cut_text, refl),
+)
+
+-- ---- where the last sync fails
+
+pub halted_makes : MakesSilo halted
+halted_makes = record {
+  beside = record { more = unsynced ∷ (filling ++ moment [] opening_disk ∷ []); past = refl; each = beside_all (settled program_bytes) opening_gate };
+  beside_now = beside_empty (settled program_bytes) opening_gate;
+  makes = inr (inr (record {
+    moments = record {
+      turn = unsynced ∷ [];
+      early = record { more = unsynced ∷ []; past = refl; each = (early, tt) };
+      late = record { more = filling ++ moment [] opening_disk ∷ []; past = refl; each = filled_by opening_disk opening_at };
+    };
+    now = opening_at;
+  }));
+  ended = (account_is_text halted refl refl, inl refl, λ silo. absurd (none_before silo));
+  risen = manager_fails.rose;
+}
+
+pub halted_hosted : IsHosted halted halted_steps
+halted_hosted =
+    steps_then (record { call = FailedSync manager; after = record { world = halted_after; faults = one_fault } })
+    (record {
+      says = record { state = refl; others = λ f other. refl; input = refl; output = refl; counted = omega arith; once = omega arith; past = inl refl };
+      counts = manager_fails;
+    })
+
+-- a folder of the program file and a manager file with this header gate
+abbrev gated : ℕ → Image
+gated gate (ProgramFile zero) = program_bytes
+gated gate (ProgramFile (suc slot)) = []
+gated gate (Manager zero) = gate ∷ header_bytes
+gated gate (Manager (suc slot)) = []
+gated gate (Grain slot grain) = []
+
+-- a crash may leave it, whatever the gate is
+gate_left : (gate : ℕ) → MayLeave opening_gate (gate ∷ header_bytes)
+gate_left gate = record { no_shorter = omega arith; no_longer = omega arith; same = same } where
+  same : (i : ℕ) → i < 16 → Untouched ((0, 1) ∷ []) i → slice_index (gate ∷ header_bytes) i ≡ slice_index (0 ∷ header_bytes) i
+  same zero low (inl before, rest) = absurd (omega (arith, before))
+  same zero low (inr behind, rest) = absurd (omega (arith, behind))
+  same (suc i) low out = refl
+
+gated_left : (gate : ℕ) → IsImage opening_disk (gated gate)
+gated_left gate (ProgramFile zero) = settled_stays program_bytes
+gated_left gate (ProgramFile (suc slot)) = settled_stays []
+gated_left gate (Manager zero) = gate_left gate
+gated_left gate (Manager (suc slot)) = settled_stays []
+gated_left gate (Grain slot grain) = settled_stays []
+
+-- so a crash may leave the new silo, and may leave none
+pub halted_open : (image : Image) × IsImage opening_disk image × IsNewSilo magic account_text image
+halted_open = (gated 1, gated_left 1, new_silo (gated 1) refl refl)
+
+pub halted_shut : (image : Image) × IsImage opening_disk image × (IsSilo magic (image manager) → ⊥)
+halted_shut = (gated 0, gated_left 0, shut_none (0 ∷ header_bytes) refl)
+
+-- ---- words that say nothing
+
+pub other_say : (c : Command) → Say (λ g. true) other_words c → ⊥
+other_say Init says = absurd (cc says)
+other_say (Run m) says = absurd (cc says.words_are)
+other_say Show says = absurd (cc says)
+other_say History says = absurd (cc says)
+other_say Audit says = absurd (cc says)
+other_say (Load n seed m) says = let letter : ◌≡◌ {A = ℕ} 105 108 = ap (λ (l : List (List ℕ)). get_or (get_or l 0 []) 0 0) says.words_are in absurd (omega (arith, letter))
+
+pub serves_none : (words : List (List ℕ)) → ((c : Command) → Say (λ g. true) words c → ⊥) → Serves (λ c. true) (λ g. true) words unused
+serves_none words none = record {
+  obeys = λ c says. absurd (none c says.0);
+  refuses = λ never. record { ending = refl; unused = refl; calm = λ channel. refl };
+}
+
+pub serves_other : Serves (λ c. true) (λ g. true) other_words unused
+serves_other = serves_none other_words other_say

@@ -1,10 +1,10 @@
-ghost use Rattle.std.specs.Prelude.{◌≡◌, ◌≢◌, ℕ, true, List, [], ◌∷◌, ◌++◌, codes, length, None, pos, take, drop, slice_get, Some};
+ghost use Rattle.std.specs.Prelude.{◌≡◌, ◌≢◌, ℕ, true, List, [], ◌∷◌, ◌++◌, codes, length, None, pos, take, drop, slice_get, Some, Err};
 ghost use Rattle.base_types.specs.declared.calls.Value.{Value};
 ghost use Rattle.base_types.specs.declared.calls.Value.TheVariants.{Int};
 ghost use Rattle.field_codec.specs.Spelling.{spelling_of_version};
 ghost use Rattle.gate_block.specs.Blocks.{block_of};
 ghost use Rattle.request_wire.specs.Reply.{reply_line};
-ghost use Rattle.promise_spec.specs.Programs.{Program, IsChecked, shape_in};
+ghost use Rattle.promise_spec.specs.Programs.{Program, IsChecked, shape_in, program_in};
 ghost use Rattle.promise_spec.specs.Records.{Commit, new_silo, standing_of};
 ghost use Rattle.promise_spec.specs.Serial.{IsSerial};
 ghost use Rattle.promise_spec.specs.Logs.{magic, IsLog, IsKept, body_of};
@@ -12,7 +12,7 @@ ghost use Rattle.promise_spec.specs.Courses.{Observed, lines, seen_at_entry, cor
 ghost use Rattle.promise_spec.specs.Promise.{Keeps, IsSoundFolder, Promises};
 ghost use Rattle.explained_runs.specs.Obligations.{Shows};
 ghost use Rattle.promise_spec.specs.Openings.{NoSilo, DamagedAt, Reads, opened_as};
-ghost use Rattle.promise_spec.specs.Words.{plain_manner};
+ghost use Rattle.promise_spec.specs.Words.{plain_manner, Command, Say};
 ghost use Rattle.promise_runs.specs.HostCalls.{IsHosted};
 ghost use Rattle.promise_runs.specs.WrittenRun.{opened, sealing, written, written_steps};
 ghost use Rattle.promise_runs.specs.WrittenDoubt.{pair_manner, told, doubting, doubted, doubted_steps};
@@ -20,9 +20,11 @@ ghost use Rattle.promise_runs.specs.WrittenVote.{reading_manner, failing, vote_t
 ghost use Rattle.promise_runs.specs.WrittenBatch.{both_commits, both_block, batched, batch_course, batched_steps};
 ghost use Rattle.promise_spec.specs.Crashes.{EndsABatch};
 ghost use Rattle.promise_runs.specs.WrittenRefusal.{refused, refused_steps};
-ghost use Rattle.promise_runs.specs.WrittenInit.{init_words, made, made_steps};
+ghost use Rattle.promise_runs.specs.WrittenInit.{init_words, made, made_steps, made_again, again_steps, cut_text, cut_fault, unmade, unmade_steps, halted, halted_steps, other_words, unused};
 ghost use Rattle.promise_spec.specs.Commands.{MakesSilo};
 ghost use Rattle.promise_spec.specs.Calls.{Serves};
+ghost use Rattle.host_trait.specs.declared.channels.Channel.TheVariants.{File};
+ghost use Rattle.host_trait.specs.Faults.{Rose};
 ghost use Rattle.promise_runs.specs.EmptyRuns.{IsEmptyRun, empty_course};
 ghost use Rattle.promise_runs.specs.DoubtRuns.{IsDoubtRun, doubt_course};
 ghost use Rattle.script_meaning.specs.Worked.{bank, at, int, call};
@@ -32,9 +34,9 @@ ghost use Rattle.request_wire.specs.Names.{names_in};
 ghost use Rattle.promise_runs.specs.Banks.{bank_names};
 ghost use Rattle.promise_runs.specs.VoteRuns.{IsVoteRun, vote_course};
 ghost use Rattle.promise_runs.specs.DepositRuns.{IsDepositRun, deposit_course};
-ghost use Rattle.host_trait.specs.World.{Moment};
+ghost use Rattle.host_trait.specs.World.{Moment, Image, IsImage};
 ghost use Rattle.host_trait.specs.declared.channels.FileId.TheVariants.{Grain};
-ghost use Rattle.silo_spec.specs.Silos.{manager, program_file};
+ghost use Rattle.silo_spec.specs.Silos.{manager, program_file, IsSilo, IsNewSilo, IsNewIfSilo};
 ghost use Rattle.promise_runs.specs.Readings.{changed, folder_of, program_folder, log_folder, log_changed, grain_folder, program_with, two_writes, same_account, version_by, two_folder};
 ghost use Rattle.promise_spec.specs.Reports.{show_text, history_text, audit_text};
 ghost use Rattle.promise_runs.specs.Examples.{accounts, account_program, program_bytes, account_1, account_2, deposit_call, first_commit, next_commit, first_version, grain_bytes, block_bytes, manager_bytes, folder, torn_folder, deposit, first_entry, deposit_events, conflict_events, conflict_entries, account_run, AskDeposits, vote_events, vote_entries, AskBoth};
@@ -282,6 +284,43 @@ pub fn an_init_is_written_out()
     ensures made { MakesSilo made }
     ensures sound { IsSoundFolder account_program made.new }
     ensures served { Serves (λ c. true) (λ g. true) init_words made }
+{}
+
+/// And so is a second call over the folder that this left, which is called a silo already and stays as it was.
+pub fn a_second_init_is_written_out()
+    ensures follows { made_again.old.disk ≡ made.new.disk }
+    ensures hosted { IsHosted made_again again_steps }
+    ensures made { MakesSilo made_again }
+    ensures served { Serves (λ c. true) (λ g. true) init_words made_again }
+{}
+
+/// And one whose input is no program: it ends with the text's first fault, and writes nothing.
+pub fn a_refused_init_is_written_out()
+    ensures fault { program_in cut_text ≡ Err cut_fault }
+    ensures hosted { IsHosted unmade unmade_steps }
+    ensures made { MakesSilo unmade }
+    ensures served { Serves (λ c. true) (λ g. true) init_words unmade }
+{}
+
+/// And one whose last sync fails: it ends with the fault of the manager file, whose count rises. A crash then leaves the new
+/// silo, or no silo, and may leave either.
+pub fn a_failed_init_is_written_out()
+    ensures hosted { IsHosted halted halted_steps }
+    ensures made { MakesSilo halted }
+    ensures rose { Rose (halted.faults_before (File manager)) (halted.faults_after (File manager)) }
+    ensures images { (image : Image) → IsImage halted.new.disk image → IsNewIfSilo magic account_program.text image }
+    ensures opened { (image : Image) × IsImage halted.new.disk image × IsNewSilo magic account_program.text image }
+    ensures shut { (image : Image) × IsImage halted.new.disk image × (IsSilo magic (image manager) → ⊥) }
+    ensures served { Serves (λ c. true) (λ g. true) init_words halted }
+{}
+
+/// And the answer to words that say no command, as `init` with a word too many: bad use, and the host is as it was.
+pub fn bad_use_is_written_out()
+    ensures hosted { IsHosted unused [] }
+    ensures silent { (c : Command) → Say (λ g. true) other_words c → ⊥ }
+    ensures served { Serves (λ c. true) (λ g. true) other_words unused }
+    ensures any { (words : List (List ℕ)) → ((c : Command) → Say (λ g. true) words c → ⊥)
+        → Serves (λ c. true) (λ g. true) words unused }
 {}
 
 /// The bank program of a load is a checked one, and its types and methods are numbered as a load's calls have them: the type
