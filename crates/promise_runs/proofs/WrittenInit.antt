@@ -202,20 +202,20 @@ init_makes = record {
   risen = tt;
 }
 
--- the new silo's disk is that of the runs
-as_new : (image : Image) → IsImage made_disk image → IsImage new_disk image
-as_new image left (ProgramFile zero) = left (ProgramFile zero)
-as_new image left (ProgramFile (suc slot)) = left (ProgramFile (suc slot))
-as_new image left (Manager zero) = left (Manager zero)
-as_new image left (Manager (suc slot)) = left (Manager (suc slot))
-as_new image left (Grain zero grain) = either_way (same_grain grain account_1) where
-  either_way : (b : Bool) → MayLeave (if b then settled [] else settled []) (image (Grain zero grain))
-  either_way true = left (Grain zero grain)
-  either_way false = left (Grain zero grain)
-as_new image left (Grain (suc slot) grain) = left (Grain (suc slot) grain)
+-- the new silo's disk is that in which the runs begin
+pub as_written : (f : FileId) → made_disk f ≡ new_disk f
+as_written (ProgramFile zero) = refl
+as_written (ProgramFile (suc slot)) = refl
+as_written (Manager zero) = refl
+as_written (Manager (suc slot)) = refl
+as_written (Grain zero grain) = either_way (same_grain grain account_1) where
+  either_way : (b : Bool) → settled [] ≡ (if b then settled [] else settled [])
+  either_way true = refl
+  either_way false = refl
+as_written (Grain (suc slot) grain) = refl
 
 pub sound_after : IsSoundFolder account_program init_after
-sound_after = sound_world init_after as_new
+sound_after = sound_world init_after (λ image left f. subst (λ (file : FileState). MayLeave file (image f)) (as_written f) (left f))
 
 -- ---- the host's calls
 

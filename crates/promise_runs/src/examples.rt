@@ -35,6 +35,7 @@ ghost use Rattle.promise_runs.specs.Banks.{bank_names};
 ghost use Rattle.promise_runs.specs.VoteRuns.{IsVoteRun, vote_course};
 ghost use Rattle.promise_runs.specs.DepositRuns.{IsDepositRun, deposit_course};
 ghost use Rattle.host_trait.specs.World.{Moment, Image, IsImage};
+ghost use Rattle.host_trait.specs.declared.channels.FileId.{FileId};
 ghost use Rattle.host_trait.specs.declared.channels.FileId.TheVariants.{Grain};
 ghost use Rattle.silo_spec.specs.Silos.{manager, program_file, IsSilo, IsNewSilo, IsNewIfSilo};
 ghost use Rattle.promise_runs.specs.Readings.{changed, folder_of, program_folder, log_folder, log_changed, grain_folder, program_with, two_writes, same_account, version_by, two_folder};
@@ -278,11 +279,13 @@ pub fn a_refusal_is_written_out()
     ensures hosted { IsHosted refused refused_steps }
 {}
 
-/// A call of `init` over an empty folder is written out: it makes a silo of the text, in which a run may follow.
+/// A call of `init` over an empty folder is written out: it makes a silo of the text, with whose disk the run of one deposit
+/// that is written out begins.
 pub fn an_init_is_written_out()
     ensures hosted { IsHosted made made_steps }
     ensures made { MakesSilo made }
     ensures sound { IsSoundFolder account_program made.new }
+    ensures follows { (file : FileId) → made.new.disk file ≡ written.old.disk file }
     ensures served { Serves (λ c. true) (λ g. true) init_words made }
 {}
 
