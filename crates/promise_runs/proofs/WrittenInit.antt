@@ -2,6 +2,7 @@
 use Rattle.std.proofs.Common.{◌≡◌, ◌≢◌, inl, inr, ℕ, zero, suc, ◌+◌, ◌<◌, ◌≤◌, Bool, true, false, if◌then◌else◌, List, [], ◌∷◌, ◌++◌, length, take, slice_index, get_or, refl, sym, ◌∙◌, ap, subst, arith, lit≤}
 use Rattle.std.specs.List.{AllByRecursion}
 use Rattle.std.proofs.lemmas.List.{ext_get_or, drop_all}
+use Rattle.host_trait.proofs.Runs.{settled_image}
 use Rattle.host_trait.specs.declared.channels.FileId.{FileId}
 use Rattle.host_trait.specs.declared.channels.FileId.TheVariants.{Manager, Program as ProgramFile, Grain}
 use Rattle.host_trait.specs.Disk.{FileState, Untouched, MayLeave, Tears, Overwrote, settled}
@@ -17,7 +18,7 @@ use Rattle.promise_spec.specs.Logs.{magic}
 use Rattle.promise_spec.specs.Words.{Command, Init, Run, Show, History, Audit, Load, Say}
 use Rattle.promise_spec.specs.Courses.{Observed}
 use Rattle.promise_spec.specs.Promise.{IsSoundFolder}
-use Rattle.promise_spec.specs.Commands.{IsProgramText, WasSilo, MakesSilo}
+use Rattle.promise_spec.specs.Commands.{IsProgramText, WasSilo, MakesSilo, Lasts}
 use Rattle.promise_spec.specs.Calls.{Obeys, Serves}
 use Rattle.promise_spec.proofs.Words.{one_command}
 use Rattle.promise_runs.specs.Examples.{account_text, accounts, account_program, program_bytes, account_1}
@@ -330,12 +331,16 @@ again_untouched = record {
 again_beside : IsBeside again_before (moment [] made_disk)
 again_beside = record { output = refl; others = λ f no_log no_program. refl }
 
+-- nothing is pending in the manager file
+again_lasts : Lasts made_again
+again_lasts image left = settled_image made_disk manager new_manager (image manager) refl (left manager)
+
 pub again_makes : MakesSilo made_again
 again_makes = record {
   beside = record { more = moment [] made_disk ∷ []; past = refl; each = (again_beside, tt) };
   beside_now = again_beside;
   makes = inl again_untouched;
-  ended = (account_is_text made_again refl refl, record { long = lit≤ tt; gate = refl; named = refl }, again_untouched);
+  ended = (account_is_text made_again refl refl, record { long = lit≤ tt; gate = refl; named = refl }, again_untouched, again_lasts);
   risen = tt;
 }
 
@@ -441,7 +446,7 @@ other_say (Load n seed m) says = let letter : ◌≡◌ {A = ℕ} 105 108 = ap (
 pub serves_none : (words : List (List ℕ)) → ((c : Command) → Say (λ g. true) words c → ⊥) → Serves (λ c. true) (λ g. true) words unused
 serves_none words none = record {
   obeys = λ c says. absurd (none c says.0);
-  refuses = λ never. record { ending = refl; unused = refl; calm = λ channel. refl };
+  refuses = λ never. record { ending = inl refl; unused = refl; calm = λ channel. refl };
 }
 
 pub serves_other : Serves (λ c. true) (λ g. true) other_words unused

@@ -1,9 +1,10 @@
 -- Answers that don't keep the promise, over any folder and to any words.
-use Rattle.std.proofs.Common.{◌≡◌, ◌≢◌, inl, inr, ℕ, ◌-◌, ◌^◌, ◌<◌, ◌≤◌, Bool, List, [], ◌∷◌, ◌++◌, length, Ok, Err, refl, sym, ap, subst, ◌∙◌, arith}
+use Rattle.std.proofs.Common.{false, ◌≡◌, ◌≢◌, inl, inr, ℕ, ◌-◌, ◌^◌, ◌<◌, ◌≤◌, Bool, List, [], ◌∷◌, ◌++◌, length, Ok, Err, refl, sym, ap, subst, ◌∙◌, arith, true}
 use Rattle.std.proofs.lemmas.List.{append-nil, append_cancel_left}
 use Rattle.base_types.specs.declared.calls.GrainId.{GrainId}
 use Rattle.base_types.specs.declared.entries.Entry.{Entry}
 use Rattle.base_types.specs.declared.shapes.Shape.{Shape}
+use Rattle.core_model.specs.Tests.{is_before}
 use Rattle.core_model.specs.World.{Member}
 use Rattle.host_trait.specs.Faults.{Rose}
 use Rattle.host_trait.specs.declared.channels.Channel.{Channel}
@@ -126,7 +127,10 @@ module _ (m : Manner) (r : Observed) where
   named_of_reading image NoSilo slot grain must = absurd (cc must)
   named_of_reading image (DamagedAt (file.Program other) place) slot grain must = absurd (no_head slot grain must)
   named_of_reading image (DamagedAt (file.Manager other) place) slot grain must = absurd (no_head slot grain must)
-  named_of_reading image (DamagedAt (file.Grain other last) place) slot grain must = named_of_file image slot grain must
+  named_of_reading image (DamagedAt (file.Grain other last) place) slot grain must = elim must [
+    | inl head ↦ absurd (no_head slot grain head)
+    | inr g ↦ named_of_file image slot grain (inr (g.0, g.1, g.2))
+  ]
   named_of_reading image (Reads p log) slot grain must = named_of_file image slot grain must
 
   pub unnamed_blamed : (slot : ℕ) (grain : GrainId) → Promises m r → (IsNamedIn (seen_at_entry r) grain → ⊥) → r.ending ≡ ending.DiskFault (file.Grain slot grain) → ⊥
@@ -134,6 +138,25 @@ module _ (m : Manner) (r : Observed) where
     | inl unopened ↦
         unnamed (named_of_reading (seen_at_entry r) (opened_as (seen_at_entry r)) slot grain (subst (IsRefusedBy (seen_at_entry r) (opened_as (seen_at_entry r))) is unopened.refused))
     | inr opened ↦ not_manager slot grain (opened.file (file.Grain slot grain) is)
+  ]
+
+  -- a grain behind the first damaged one has not to be read
+  not_behind : (last grain : GrainId) (place slot : ℕ) → is_before last grain ≡ true → MustBeRead (seen_at_entry r) (DamagedAt (file.Grain 0 last) place) (file.Grain slot grain) → ⊥
+  not_behind last grain place slot later must = elim must [
+    | inl head ↦ no_head slot grain head
+    | inr g ↦
+        let same : g.0 ≡ grain = same_file slot grain g.0 g.1 in
+        let early : is_before last grain ≡ false = subst (λ (k : GrainId). is_before last k ≡ false) same g.3 in
+        let wrong : true ≡ false = sym later ∙ early in
+        absurd (cc wrong)
+  ]
+
+  pub blamed_behind : (last grain : GrainId) (place slot : ℕ) → Promises m r → opened_as (seen_at_entry r) ≡ DamagedAt (file.Grain 0 last) place → is_before last grain ≡ true → r.ending ≡ ending.DiskFault (file.Grain slot grain) → ⊥
+  blamed_behind last grain place slot keeps damaged later is = elim keeps.answers [
+    | inl unopened ↦
+        let must : MustBeRead (seen_at_entry r) (opened_as (seen_at_entry r)) (file.Grain slot grain) = subst (IsRefusedBy (seen_at_entry r) (opened_as (seen_at_entry r))) is unopened.refused in
+        not_behind last grain place slot later (subst (λ (reading : Reading). MustBeRead (seen_at_entry r) reading (file.Grain slot grain)) damaged must)
+    | inr opened ↦ not_two (opened_as (seen_at_entry r)) opened.openable.program opened.openable.log (file.Grain 0 last) place opened.openable.reads damaged
   ]
 
   pub done_unread : Promises m r → r.ending ≡ ending.Done → r.new.input ≢ [] → ⊥
@@ -179,7 +202,11 @@ another_text text r p log (inr reported) done checked program is differ =
 
 pub changed_by_report : (text : Program → List Commit → List ℕ) (r : Observed) (image : Image) → Reports text r → IsImage r.new.disk image → (IsImage r.old.disk image → ⊥) → ⊥
 changed_by_report text r image (inl unopened) left new = new (unopened.untouched.now.images image left)
-changed_by_report text r image (inr reported) left new = new (reported.now image left)
+changed_by_report text r image (inr reported) left new = new (reported.now image left).0
+
+pub told_and_taken : (text : Program → List Commit → List ℕ) (r : Observed) (image : Image) → Reports text r → IsImage r.new.disk image → r.new.output ≢ r.old.output → image manager ≢ seen_at_entry r manager → ⊥
+told_and_taken text r image (inl unopened) left told other = told unopened.untouched.now.quiet
+told_and_taken text r image (inr reported) left told other = other ((reported.now image left).1 told)
 
 -- ---- init
 
@@ -215,6 +242,9 @@ module _ (r : Observed) (makes : MakesSilo r) where
 
   pub no_silo_already : r.ending ≡ ending.AlreadyASilo → (IsSilo magic (seen_at_entry r manager) → ⊥) → ⊥
   no_silo_already is none = none (ended_as ending.AlreadyASilo is).1
+
+  pub taken_back : (image : Image) → r.ending ≡ ending.AlreadyASilo → IsImage r.new.disk image → image manager ≢ seen_at_entry r manager → ⊥
+  taken_back image is left other = other ((ended_as ending.AlreadyASilo is).3 image left)
 
 -- ---- words
 
@@ -254,8 +284,8 @@ never_bad_use Audit r audits is = unaudited r audits is
 never_bad_use (Load n seed m) r loads is = unloaded n seed m r loads is
 
 module _ (built : Command → Bool) (takes : Given → Bool) (words : List (List ℕ)) (r : Observed) (serves : Serves built takes words r) where
-  pub other_answer : ((c : Command) → Understands built takes words c → ⊥) → r.ending ≢ ending.BadUse → ⊥
-  other_answer none other = other (serves.refuses none).ending
+  pub other_answer : ((c : Command) → Understands built takes words c → ⊥) → r.ending ≢ ending.BadUse → r.ending ≢ ending.Memory → ⊥
+  other_answer none other some = elim (serves.refuses none).ending [ inl bad ↦ other bad | inr want ↦ some want ]
 
   pub changed_by_none : ((c : Command) → Understands built takes words c → ⊥) → r.new ≢ r.old → ⊥
   changed_by_none none changed = changed (serves.refuses none).unused
@@ -269,8 +299,8 @@ module _ (built : Command → Bool) (takes : Given → Bool) (words : List (List
   pub understood_bad : (c : Command) → AnswersAs built takes words e old new → Understands built takes words c → e ≡ ending.BadUse → ⊥
   understood_bad c answers says is = answers.said c says is
 
-  pub answered_otherwise : AnswersAs built takes words e old new → ((c : Command) → Understands built takes words c → ⊥) → e ≢ ending.BadUse → ⊥
-  answered_otherwise answers none differ = differ (answers.other none).0
+  pub answered_otherwise : AnswersAs built takes words e old new → ((c : Command) → Understands built takes words c → ⊥) → e ≢ ending.BadUse → e ≢ ending.Memory → ⊥
+  answered_otherwise answers none differ some = elim (answers.other none).0 [ inl bad ↦ differ bad | inr want ↦ some want ]
 
   pub risen_for_none : (channel : Channel) → AnswersAs built takes words e old new → ((c : Command) → Understands built takes words c → ⊥) → new channel ≢ old channel → ⊥
   risen_for_none channel answers none rose = rose ((answers.other none).1 channel)

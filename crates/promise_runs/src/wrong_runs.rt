@@ -1,4 +1,4 @@
-ghost use Rattle.std.specs.Prelude.{◌≡◌, ◌≢◌, ◌+◌, ◌-◌, ◌^◌, ◌<◌, ◌≤◌, ◌++◌, ◌∷◌, [], ℕ, Bool, false, List, length, Err, map, take};
+ghost use Rattle.std.specs.Prelude.{◌≡◌, ◌≢◌, ◌+◌, ◌-◌, ◌^◌, ◌<◌, ◌≤◌, ◌++◌, ◌∷◌, [], ℕ, Bool, true, false, List, length, Err, map, take};
 ghost use Rattle.base_types.specs.declared.calls.Call.{Call};
 ghost use Rattle.base_types.specs.declared.calls.GrainId.{GrainId};
 ghost use Rattle.base_types.specs.declared.calls.Origin.TheVariants.{Line, Child};
@@ -15,6 +15,7 @@ ghost use Rattle.core_model.specs.declared.events.CoreEvent.TheVariants as event
 ghost use Rattle.core_model.specs.Events.{run};
 ghost use Rattle.core_model.specs.Legal.{begins};
 ghost use Rattle.core_model.specs.Serial.{committed, chosen};
+ghost use Rattle.core_model.specs.Tests.{is_before};
 ghost use Rattle.core_model.specs.World.{Member, Mode};
 ghost use Rattle.gate_block.specs.Log.{HasBlocks, LogsUpTo};
 ghost use Rattle.host_trait.specs.declared.channels.Channel.{Channel};
@@ -206,6 +207,9 @@ pub fn refusals_are_true()
         → r.ending ≡ ending.DiskFault (file.Grain slot grain) → ⊥ }
     ensures unnamed { (m : Manner) (r : Observed) (slot : ℕ) (grain : GrainId) → Promises m r → (IsNamedIn (seen_at_entry r) grain → ⊥)
         → r.ending ≡ ending.DiskFault (file.Grain slot grain) → ⊥ }
+    ensures behind { (m : Manner) (r : Observed) (last grain : GrainId) (place slot : ℕ) → Promises m r
+        → opened_as (seen_at_entry r) ≡ DamagedAt (file.Grain 0 last) place → is_before last grain ≡ true
+        → r.ending ≡ ending.DiskFault (file.Grain slot grain) → ⊥ }
     ensures unread { (m : Manner) (r : Observed) → Promises m r → r.ending ≡ ending.Done → r.new.input ≢ [] → ⊥ }
     ensures unanswered { (m : Manner) (r : Observed) → Promises m r → r.ending ≡ ending.Done → 1 ≤ length (lines_of r.old.input)
         → r.new.output ≡ r.old.output → ⊥ }
@@ -214,11 +218,11 @@ pub fn refusals_are_true()
     ensures said { (m : Manner) (r : Observed) → Promises m r → (ending.IsBegun r.ending → ⊥) → r.new.output ≢ r.old.output → ⊥ }
 {}
 
-/// No call keeps what the program promises that answers words that say nothing otherwise than as bad use, or that changes
-/// the host then; or that answers bad use to words that say a command.
+/// No call keeps what the program promises that answers words that say nothing otherwise than as bad use, but for want of
+/// memory, or that changes the host then; or that answers bad use to words that say a command.
 pub fn words_are_answered()
     ensures other { (built : Command → Bool) (takes : Given → Bool) (words : List (List ℕ)) (r : Observed) → Serves built takes words r
-        → ((c : Command) → Understands built takes words c → ⊥) → r.ending ≢ ending.BadUse → ⊥ }
+        → ((c : Command) → Understands built takes words c → ⊥) → r.ending ≢ ending.BadUse → r.ending ≢ ending.Memory → ⊥ }
     ensures changed { (built : Command → Bool) (takes : Given → Bool) (words : List (List ℕ)) (r : Observed) → Serves built takes words r
         → ((c : Command) → Understands built takes words c → ⊥) → r.new ≢ r.old → ⊥ }
     ensures said { (built : Command → Bool) (takes : Given → Bool) (words : List (List ℕ)) (r : Observed) (c : Command) → Serves built takes words r
@@ -226,13 +230,13 @@ pub fn words_are_answered()
 {}
 
 /// Over any host, one that tells nothing of what it holds too: no answer is right that calls words bad use that say a command,
-/// that answers other words otherwise or lets a count of faults rise for them, or that ends with a file's fault though its count,
+/// that answers other words otherwise, but for want of memory, or lets a count of faults rise for them, or that ends with a file's fault though its count,
 /// below its last value, is what it was.
 pub fn bad_use_is_said_by_words()
     ensures said { (built : Command → Bool) (takes : Given → Bool) (words : List (List ℕ)) (e : ending.Ending) (old new : Channel → ℕ) (c : Command)
         → AnswersAs built takes words e old new → Understands built takes words c → e ≡ ending.BadUse → ⊥ }
     ensures other { (built : Command → Bool) (takes : Given → Bool) (words : List (List ℕ)) (e : ending.Ending) (old new : Channel → ℕ)
-        → AnswersAs built takes words e old new → ((c : Command) → Understands built takes words c → ⊥) → e ≢ ending.BadUse → ⊥ }
+        → AnswersAs built takes words e old new → ((c : Command) → Understands built takes words c → ⊥) → e ≢ ending.BadUse → e ≢ ending.Memory → ⊥ }
     ensures used { (built : Command → Bool) (takes : Given → Bool) (words : List (List ℕ)) (e : ending.Ending) (old new : Channel → ℕ) (channel : Channel)
         → AnswersAs built takes words e old new → ((c : Command) → Understands built takes words c → ⊥) → new channel ≢ old channel → ⊥ }
     ensures fault { (built : Command → Bool) (takes : Given → Bool) (words : List (List ℕ)) (e : ending.Ending) (old new : Channel → ℕ) (f : FileId)
@@ -253,17 +257,20 @@ pub fn lines_begin_after_the_input()
 {}
 
 /// No report of a folder prints the text of another log than the one that it reads as, or may leave what couldn't stand there
-/// before.
+/// before, or prints while a crash may take back what it tells.
 pub fn reports_tell_the_folder()
     ensures text { (text : Program → List Commit → List ℕ) (r : Observed) (p : Program) (log : List Commit) → Reports text r → r.ending ≡ ending.Done
         → IsChecked p → HasProgram p.text (seen_at_entry r program_file) → IsLog (shape_in p) (seen_at_entry r) log
         → r.new.output ≢ r.old.output ++ text p log → ⊥ }
     ensures changed { (text : Program → List Commit → List ℕ) (r : Observed) (image : Image) → Reports text r
         → IsImage r.new.disk image → (IsImage r.old.disk image → ⊥) → ⊥ }
+    ensures taken { (text : Program → List Commit → List ℕ) (r : Observed) (image : Image) → Reports text r → IsImage r.new.disk image
+        → r.new.output ≢ r.old.output → image manager ≢ seen_at_entry r manager → ⊥ }
 {}
 
 /// No `init` makes a silo of another program than its input, or of a text that is no program, or in place of a silo; refuses a
-/// checked program, or names another fault than the first; or may leave a silo of another program at a moment after its first sync.
+/// checked program, or names another fault than the first; or calls a folder a silo already that reads as none, or that a crash may
+/// yet take back.
 pub fn inits_make_their_input()
     ensures program { (r : Observed) (image : Image) → MakesSilo r → r.ending ≡ ending.Done → IsImage r.new.disk image
         → (HasProgram r.old.input (image program_file) → ⊥) → ⊥ }
@@ -274,6 +281,8 @@ pub fn inits_make_their_input()
     ensures fault { (r : Observed) (fault other : ProgramFault) → MakesSilo r → program_in r.old.input ≡ Err fault
         → r.ending ≡ ending.BadProgram other → fault ≢ other → ⊥ }
     ensures empty { (r : Observed) → MakesSilo r → r.ending ≡ ending.AlreadyASilo → (IsSilo magic (seen_at_entry r manager) → ⊥) → ⊥ }
+    ensures taken { (r : Observed) (image : Image) → MakesSilo r → r.ending ≡ ending.AlreadyASilo → IsImage r.new.disk image
+        → image manager ≢ seen_at_entry r manager → ⊥ }
 {}
 
 /// No load keeps what is promised of it that is done and prints anything but its summary, that prints where memory was

@@ -1,9 +1,9 @@
 -- What a call of the whole program promises, by its words.
-use Rattle.std.specs.Prelude.{◌≡◌, ◌≢◌, ℕ, Bool, true, List}
+use Rattle.std.specs.Prelude.{◌≡◌, ◌≢◌, ◌⊎◌, ℕ, Bool, true, List}
 use Rattle.host_trait.specs.declared.channels.Channel.{Channel}
 use Rattle.host_trait.specs.Faults.{NoneFailed}
 use Rattle.promise_spec.specs.Words.{Given, Command, Init, Run, Show, History, Audit, Load, Say}
-use Rattle.promise_spec.specs.Endings.{Ending, BadUse, HasRisen}
+use Rattle.promise_spec.specs.Endings.{Ending, BadUse, Memory, HasRisen}
 use Rattle.promise_spec.specs.Courses.{Observed}
 use Rattle.promise_spec.specs.Promise.{Promises}
 use Rattle.promise_spec.specs.Reports.{show_text, history_text}
@@ -19,9 +19,9 @@ Obeys History r = Reports history_text r
 Obeys Audit r = Audits r
 Obeys (Load n seed m) r = Loads n seed m r
 
--- nothing was done: the host is as it was
+-- nothing was done: the host is as it was. Only want of memory may come in place of bad use, where the words are read.
 pub record IsBadUse (r : Observed) : Type 0 where
-  pub ending : r.ending ≡ BadUse
+  pub ending : (r.ending ≡ BadUse) ⊎ (r.ending ≡ Memory)
   pub unused : r.new ≡ r.old
   pub calm : NoneFailed r.faults_before r.faults_after
 
@@ -35,9 +35,9 @@ pub record Serves (built : Command → Bool) (takes : Given → Bool) (words : L
   pub obeys : (c : Command) → Understands built takes words c → Obeys c r
   pub refuses : ((c : Command) → Understands built takes words c → ⊥) → IsBadUse r
 
--- What holds over any host, one that tells nothing of what it holds too: the words alone say what is bad use, and a fault is
--- shown by its count.
+-- What holds over any host, one that tells nothing of what it holds too: the words alone say what is bad use, but for want of
+-- memory, and a fault is shown by its count.
 pub record AnswersAs (built : Command → Bool) (takes : Given → Bool) (words : List (List ℕ)) (e : Ending) (old new : Channel → ℕ) : Type 0 where
   pub said : (c : Command) → Understands built takes words c → e ≢ BadUse
-  pub other : ((c : Command) → Understands built takes words c → ⊥) → (e ≡ BadUse) × NoneFailed old new
+  pub other : ((c : Command) → Understands built takes words c → ⊥) → ((e ≡ BadUse) ⊎ (e ≡ Memory)) × NoneFailed old new
   pub risen : HasRisen e old new

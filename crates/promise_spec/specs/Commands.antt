@@ -1,5 +1,5 @@
 -- What the commands promise that carry no lines.
-use Rattle.std.specs.Prelude.{◌≡◌, ◌⊎◌, ℕ, ◌<◌, ◌≤◌, List, [], ◌∷◌, ◌++◌, length, Option, Some, None, Ok, Err, ⊤}
+use Rattle.std.specs.Prelude.{◌≡◌, ◌≢◌, ◌⊎◌, ℕ, ◌<◌, ◌≤◌, List, [], ◌∷◌, ◌++◌, length, Option, Some, None, Ok, Err, ⊤}
 use Rattle.host_trait.specs.declared.channels.FileId.{FileId}
 use Rattle.host_trait.specs.World.{World, Moment, Image, IsImage, Passes, moment_of}
 use Rattle.silo_spec.specs.Silos.{manager, IsSilo, IsNewSilo}
@@ -38,6 +38,10 @@ StaysSilo r file = WasSilo r → (file ≡ manager) × IsUntouched r.old r.new
 abbrev pub HasFault : Observed → ProgramFault → Type 0
 HasFault r fault = (r.new.input ≡ []) × (length r.old.input ≤ text_limit) × (program_in r.old.input ≡ Err fault)
 
+-- what the manager file reads lasts
+abbrev pub Lasts : Observed → Type 0
+Lasts r = (image : Image) → IsImage r.new.disk image → image manager ≡ seen_at_entry r manager
+
 -- How `init` ends. The input comes before the program in it, and that before the folder; want of memory is free, and
 -- comes before the folder.
 abbrev pub MakesAs : Ending → Observed → Type 0
@@ -48,7 +52,7 @@ MakesAs ReadFault r = IsUntouched r.old r.new
 MakesAs WriteFault r = ⊥
 MakesAs (DiskFault file) r = IsProgramText r × IsHead file × StaysSilo r file
 MakesAs NotASilo r = ⊥
-MakesAs AlreadyASilo r = IsProgramText r × WasSilo r × IsUntouched r.old r.new
+MakesAs AlreadyASilo r = IsProgramText r × WasSilo r × IsUntouched r.old r.new × Lasts r
 MakesAs (Damaged file place) r = ⊥
 MakesAs (BadProgram fault) r = HasFault r fault × IsUntouched r.old r.new
 MakesAs (InputTooLong line) r = (line ≡ 0) × (text_limit < length r.old.input) × IsUntouched r.old r.new
@@ -81,9 +85,11 @@ pub record Prints (text : List ℕ) (r : Observed) : Type 0 where
   pub whole : r.ending ≡ Done → added ≡ text
   pub none : (added ≡ []) ⊎ ((r.ending ≡ Done) ⊎ MayCut r.ending)
 
--- each outcome of a crash at this moment is one of those at entry
+-- Each outcome of a crash at this moment is one of those at entry; once anything was written, it has the manager file as it
+-- reads, so that what a report tells lasts.
 abbrev pub LeavesAsBefore : World → Moment → Type 0
-LeavesAsBefore old m = (image : Image) → IsImage m.disk image → IsImage old.disk image
+LeavesAsBefore old m = (image : Image) → IsImage m.disk image →
+    IsImage old.disk image × (m.output ≢ old.output → image manager ≡ (old.disk manager).seen)
 
 -- A report of the folder: it prints the text of the log as the folder reads at entry, and nothing of the folder
 -- changes, nor is any input read. It is done, or there was no memory, or the output or a file failed, which the count

@@ -1,5 +1,5 @@
 -- What `load` promises: to make a silo of the bank program, and to carry generated lines in it.
-use Rattle.std.specs.Prelude.{◌≡◌, ◌≢◌, ℕ, zero, suc, ◌+◌, ◌*◌, ◌/◌, ◌%◌, ◌^◌, Bool, true, false, List, [], ◌∷◌, ◌++◌, length, map, slice_get, count_by, codes, ℤ, pos, ◌+ℤ◌, Some, ◌⊎◌}
+use Rattle.std.specs.Prelude.{◌≡◌, ◌≢◌, ℕ, zero, suc, ◌+◌, ◌*◌, ◌/◌, ◌%◌, ◌^◌, ◌≤◌, Bool, true, false, List, [], ◌∷◌, ◌++◌, length, map, slice_get, count_by, codes, ℤ, pos, ◌+ℤ◌, Some, ◌⊎◌}
 use Rattle.base_types.specs.declared.calls.Call.{Call}
 use Rattle.base_types.specs.declared.calls.Outcome.TheVariants as outcome
 use Rattle.base_types.specs.declared.calls.Value.{Value}
@@ -31,7 +31,7 @@ use Rattle.promise_spec.specs.Promise.{IsAnswered, GoesThrough, HasNoChild, IsNo
 use Rattle.promise_spec.specs.Reports.{line_of}
 use Rattle.promise_spec.specs.Words.{Manner}
 use Rattle.promise_spec.specs.Refusals.{IsHead, IsUnopened}
-use Rattle.promise_spec.specs.Commands.{Prints, WasSilo, StaysSilo}
+use Rattle.promise_spec.specs.Commands.{Prints, WasSilo, StaysSilo, Lasts}
 
 -- ---- what is asked
 
@@ -161,7 +161,7 @@ IsUnmadeBy ending.ReadFault r = ⊥
 IsUnmadeBy ending.WriteFault r = ⊥
 IsUnmadeBy (ending.DiskFault file) r = IsHead file × StaysSilo r file
 IsUnmadeBy ending.NotASilo r = ⊥
-IsUnmadeBy ending.AlreadyASilo r = WasSilo r × IsUntouched r.old r.new
+IsUnmadeBy ending.AlreadyASilo r = WasSilo r × IsUntouched r.old r.new × Lasts r
 IsUnmadeBy (ending.Damaged file place) r = ⊥
 IsUnmadeBy (ending.BadProgram fault) r = ⊥
 IsUnmadeBy (ending.InputTooLong line) r = ⊥
@@ -173,12 +173,14 @@ pub record IsUnmade (r : Observed) : Type 0 where
   pub ended : IsUnmadeBy r.ending r
   pub risen : ending.HasRisen r.ending r.faults_before r.faults_after
 
--- The load made a silo of the bank program with an empty log, where there was none: the host was then so.
+-- The load made a silo of the bank program with an empty log, where there was none: the host was then so. Making one asks for
+-- four syncs, and for one more where the header of a file with bytes is closed first.
 pub record HasMade (r : Observed) (made : World) : Type 0 where
   pub absent : WasSilo r → ⊥
   pub beside : StaysBeside r.old made
   pub makes : FromFirstSync (IsNewAt magic bank_text) r.old made
   pub new : (image : Image) → IsImage made.disk image → IsNewSilo magic bank_text image
+  pub syncs : (r.old.syncs + 4 ≤ made.syncs) × (made.syncs ≤ r.old.syncs + 5)
 
 -- what is left of a load from where its silo is made
 abbrev pub from_there : Observed → World → Observed

@@ -1,5 +1,5 @@
 -- What a command answers that doesn't open the folder, and when it may open it.
-use Rattle.std.specs.Prelude.{◌≡◌, ◌⊎◌, ℕ, ◌≤◌, List, [], length, map, Ok, ⊤}
+use Rattle.std.specs.Prelude.{◌≡◌, ◌⊎◌, ℕ, ◌≤◌, false, List, [], length, map, Ok, ⊤}
 use Rattle.base_types.specs.declared.calls.GrainId.{GrainId}
 use Rattle.base_types.specs.declared.entries.Entry.{Entry}
 use Rattle.host_trait.specs.declared.channels.FileId.{FileId}
@@ -7,6 +7,7 @@ use Rattle.host_trait.specs.declared.channels.FileId.TheVariants.{Program as Pro
 use Rattle.host_trait.specs.World.{Image}
 use Rattle.commit_log.specs.declared.records.CommitRecord.{CommitRecord}
 use Rattle.core_model.specs.World.{Member}
+use Rattle.core_model.specs.Tests.{is_before}
 use Rattle.core_model.specs.Lines.{DifferInLine}
 use Rattle.silo_spec.specs.Silos.{manager, program_file}
 use Rattle.silo_spec.specs.Moments.{IsUntouched}
@@ -34,11 +35,12 @@ pub record IsNamedIn (image : Image) (grain : GrainId) : Type 0 where
 abbrev pub IsReadFor : Image → FileId → Type 0
 IsReadFor image file = IsHead file ⊎ ((grain : GrainId) × (file ≡ Grain 0 grain) × IsNamedIn image grain)
 
--- such files have to be read where the first damage is in this one
+-- such files have to be read where the first damage is in this one: of the grains' files those of grains that aren't behind
 abbrev pub IsReadBefore : Image → FileId → FileId → Type 0
 IsReadBefore image (ProgramFile slot) file = IsHead file
 IsReadBefore image (Manager slot) file = IsHead file
-IsReadBefore image (Grain slot last) file = IsReadFor image file
+IsReadBefore image (Grain slot last) file =
+    IsHead file ⊎ ((grain : GrainId) × (file ≡ Grain 0 grain) × IsNamedIn image grain × (is_before last grain ≡ false))
 
 -- the file has to be read to see that the folder reads so
 abbrev pub MustBeRead : Image → Reading → FileId → Type 0

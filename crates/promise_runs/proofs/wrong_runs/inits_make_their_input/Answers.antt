@@ -1,4 +1,4 @@
-use Rattle.promise_runs.proofs.WrongAnswers.{another_program, no_program, made_again, checked_refused, another_fault, no_silo_already}
+use Rattle.promise_runs.proofs.WrongAnswers.{another_program, no_program, made_again, checked_refused, another_fault, no_silo_already, taken_back}
 use Rattle.promise_runs.proofs.wrong_runs.inits_make_their_input.Goals as goal
 
 pub returns-clause-program : goal.returns-clause-program
@@ -18,3 +18,6 @@ returns-clause-fault c = λ r fault other makes. another_fault r makes fault oth
 
 pub returns-clause-empty : goal.returns-clause-empty
 returns-clause-empty c = no_silo_already
+
+pub returns-clause-taken : goal.returns-clause-taken
+returns-clause-taken c = λ r image makes. taken_back r makes image

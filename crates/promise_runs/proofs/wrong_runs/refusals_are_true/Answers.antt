@@ -1,4 +1,4 @@
-use Rattle.promise_runs.proofs.WrongAnswers.{another_place, sound_damaged, silo_called_none, none_opened, damaged_carried, no_bad_use, grain_blamed, unnamed_blamed, done_unread, done_unanswered, grain_fault_opened, said_unbegun}
+use Rattle.promise_runs.proofs.WrongAnswers.{another_place, sound_damaged, silo_called_none, none_opened, damaged_carried, no_bad_use, grain_blamed, unnamed_blamed, done_unread, done_unanswered, grain_fault_opened, said_unbegun, blamed_behind}
 use Rattle.promise_runs.proofs.wrong_runs.refusals_are_true.Goals as goal
 
 pub returns-clause-place : goal.returns-clause-place
@@ -36,3 +36,6 @@ returns-clause-grain c = grain_fault_opened
 
 pub returns-clause-said : goal.returns-clause-said
 returns-clause-said c = said_unbegun
+
+pub returns-clause-behind : goal.returns-clause-behind
+returns-clause-behind c = blamed_behind

@@ -1,4 +1,4 @@
-use Rattle.promise_runs.proofs.WrongAnswers.{another_text, changed_by_report}
+use Rattle.promise_runs.proofs.WrongAnswers.{another_text, changed_by_report, told_and_taken}
 use Rattle.promise_runs.proofs.wrong_runs.reports_tell_the_folder.Goals as goal
 
 pub returns-clause-text : goal.returns-clause-text
@@ -6,3 +6,6 @@ returns-clause-text c = another_text
 
 pub returns-clause-changed : goal.returns-clause-changed
 returns-clause-changed c = changed_by_report
+
+pub returns-clause-taken : goal.returns-clause-taken
+returns-clause-taken c = told_and_taken
