@@ -34,72 +34,7 @@ use Rattle.explained_runs.proofs.Applied.{none-applies}
 use Rattle.explained_runs.proofs.Tellings.{Tells}
 use Rattle.explained_runs.proofs.TrueReplies.{Known}
 
--- ---- where a batch is in doubt, an event left it so
-
--- an event that leaves a doubt found it, or is it
-doubt-change : (w : World) (e : CoreEvent) (w' : World) → Change w e w' → (k : ℕ) → w'.manager.doubt ≡ Some k → (w.manager.doubt ≡ Some k) ⊎ ((n : ℕ) × (e ≡ Doubt n))
-doubt-change w e w' (bad line why q) k d = inl d
-doubt-change w e w' (begin origin call plain c) k d = inl d
-doubt-change w e w' (lock u g mode running free first here) k d = inl d
-doubt-change w e w' (raise u g mode running free held here uncovered) k d = inl d
-doubt-change w e w' (refuse u g mode why running q) k d = inl d
-doubt-change w e w' (finish u effect running plain of_call reads alone) k d = inl d
-doubt-change w e w' (end_plain u effect running plain of_call bare) k d = inl d
-doubt-change w e w' (end_snapshot u at outcome running plain kids answer) k d = inl d
-doubt-change w e w' (release u g over held) k d = inl d
-doubt-change w e w' (take_batch none some) k d = inl d
-doubt-change w e w' (vote n g kept b q number f planned fresh) k d = inl d
-doubt-change w e w' (decide_some n b q number f voted some) k d = inl d
-doubt-change w e w' (decide_none n b q number f voted none) k d = inl d
-doubt-change w e w' (seal_batch n b ds q number f) k d = inl d
-doubt-change w e w' (spoil_batch n b ds q number f) k d = inl d
-doubt-change w e w' (doubt_batch n b ds q number f) k d = inr (n, refl)
-doubt-change w e w' (learn u g wrote final fresh) k d = inl d
-doubt-change w e w' (emit q) k d = inl d
-doubt-change w e w' (halt_run q) k d = inl d
-doubt-change w e w' (want u g running free fresh) k d = inl d
-doubt-change w e w' (load g u state gone wanted) k d = inl d
-
-swept-doubt : (w : World) (k : ℕ) → (swept w).manager.doubt ≡ Some k → w.manager.doubt ≡ Some k
-swept-doubt w k = go w.cells.capacity
-  where
-    go : (c : Option ℕ) → (swept_by w c).manager.doubt ≡ Some k → w.manager.doubt ≡ Some k
-    go None d = d
-    go (Some m) d = d
-
--- what a step leaves in doubt
-abbrev LeftBy : World → CoreEvent → ℕ → Type 0
-LeftBy w e k = (w.manager.doubt ≡ Some k) ⊎ ((n : ℕ) × (e ≡ Doubt n) × (applies w e ≡ true))
-
-doubt-step : (w : World) (e : CoreEvent) (k : ℕ) → (step w e).manager.doubt ≡ Some k → LeftBy w e k
-doubt-step w e k = cond_both (applies w e) (swept (does w e)) w (λ v. v.manager.doubt ≡ Some k → LeftBy w e k)
-    (λ a d. elim (doubt-change w e (does w e) (decode w e (and_parts (is_allowed w e) (can w e) a).1) k (swept-doubt (does w e) k d)) [
-      | inl h ↦ inl h
-      | inr h ↦ inr (h.0, h.1, a)
-    ])
-    (λ a d. inl d)
-
--- a doubt that the list left
-abbrev DoubtIn : World → List CoreEvent → Type 0
-DoubtIn w events = (at : ℕ) × (number : ℕ) × (slice_get events at ≡ Some (Doubt number)) × (applies (run w (take at events)) (Doubt number) ≡ true)
-
-doubt-run : (events : List CoreEvent) (w : World) (k : ℕ) → (run w events).manager.doubt ≡ Some k → (w.manager.doubt ≡ Some k) ⊎ DoubtIn w events
-doubt-run [] w k d = inl d
-doubt-run (e ∷ events) w k d = elim (doubt-run events (step w e) k d) [
-  | inl h ↦ elim (doubt-step w e k h) [
-    | inl o ↦ inl o
-    | inr o ↦ inr (0, o.0, ap Some o.1, subst (λ x. applies w x ≡ true) o.1 o.2)
-  ]
-  | inr h ↦ inr (suc h.0, h.1, h.2, h.3)
-]
-
-pub doubt-left : (r : Run) (k : ℕ) → (ends r).manager.doubt ≡ Some k → HasDoubt r
-doubt-left r k d = elim (doubt-run r.events (begins r) k d) [
-  | inl h ↦ (let z : None ≡ Some k = h in absurd cc)
-  | inr h ↦ record { at = h.0; number = h.1; doubt = record { there = h.2; applied = h.3 } }
-]
-
--- and the manager file's count of faults rose
+-- where a batch is in doubt, the manager file's count of faults rose
 rose-by : (n old new : ℕ) → (n ≡ 0 → ⊥) → RoseBy n old new → Rose old new
 rose-by n old new some rose = omega (arith, some, rose)
 

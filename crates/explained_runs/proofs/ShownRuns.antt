@@ -34,7 +34,8 @@ use Rattle.explained_runs.proofs.OneFamily.{explained_family}
 use Rattle.explained_runs.proofs.TrueReplies.{known_of, in_settled, replies_within, replies_once, replies_ordered, replies_true}
 use Rattle.explained_runs.proofs.Undisturbed.{calm_undisturbed}
 use Rattle.explained_runs.proofs.Unlocked.{single_unlocked}
-use Rattle.explained_runs.proofs.Doubted.{doubt-left, doubt-rose, doubt-told}
+use Rattle.promise_spec.proofs.Doubts.{doubt_left}
+use Rattle.explained_runs.proofs.Doubted.{doubt-rose, doubt-told}
 use Rattle.explained_runs.proofs.ShownOrder.{order_serial, order_numbered}
 
 -- ---- causes
@@ -174,7 +175,7 @@ module _ (p : Program) (r : Observed) (c : Course) (s : Shows p r c) where
   -- so the manager file failed, and who is in the batch was told of the doubt
   doubted : (begins : ℕ) → (core_end p c).manager.doubt ≡ Some begins → IsDoubt r c (core_end p c)
   doubted begins d =
-      let left : HasDoubt (core_run p c) = doubt-left (core_run p c) begins d in
+      let left : HasDoubt (core_run p c) = doubt_left (core_run p c) begins d in
       record {
         rose = doubt-rose (core_run p c) _ _ left is.faults.seals;
         ending = is.ended left;
