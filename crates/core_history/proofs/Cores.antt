@@ -104,14 +104,6 @@ member-judged opening w b ds c q d x m =
     let t = in_part opening (w.manager.closed + b.size) w i w.manager.closed b.size x m in
     (i.early x p.0 p.1, c.batched.1 x p.0 t.1)
 
--- what becomes of verdicts where a batch ends
-pub seal-final : (v : Verdict) → (v ≡ Open → ⊥) → is_final (seal v) ≡ true
-seal-final Open n = absurd (n refl)
-seal-final Chosen n = refl
-seal-final Condemned n = refl
-seal-final Committed n = refl
-seal-final Aborted n = refl
-
 pub spoil-aborted : (v : Verdict) → (v ≡ Open → ⊥) → is_final v ≡ false → spoil v ≡ Aborted
 spoil-aborted Open n f = absurd (n refl)
 spoil-aborted Chosen n f = refl
@@ -153,13 +145,6 @@ spoil-committed Chosen e = cc
 spoil-committed Condemned e = cc
 spoil-committed Committed e = refl
 spoil-committed Aborted e = cc
-
-pub leave-committed : (v : Verdict) → leave v ≡ Committed → v ≡ Committed
-leave-committed Open e = cc
-leave-committed Chosen e = cc
-leave-committed Condemned e = cc
-leave-committed Committed e = refl
-leave-committed Aborted e = cc
 
 -- a unit's decision and its reason
 pub reasons-at : (votes : List (GrainId × Bool)) (writes : UnitNo → List Write) (deps : UnitNo → List UnitNo) (verdict : UnitNo → Verdict) (us : List UnitNo) (ds : List Decision) (x : UnitNo) → Reasons votes writes deps verdict us ds → Member x us →

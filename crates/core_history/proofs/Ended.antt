@@ -31,7 +31,8 @@ use Rattle.core_history.proofs.Along.{answered}
 use Rattle.core_history.proofs.Tells.{Tells}
 use Rattle.core_history.proofs.Placed.{batch-before, open-batch, open-member}
 use Rattle.core_history.proofs.Cores.{Core, chosen-undecided, member-judged}
-use Rattle.core_history.proofs.Fated.{Step, FatesOf, dead-more, dead-by, decided-dead, decided-reason, old-batch, member-or-not}
+use Rattle.core_history.proofs.Fated.{Step, FatesOf, dead-more, dead-by, decided-dead, decided-reason, old-batch}
+use Rattle.core_model.proofs.Verdicts.{member-or-not}
 
 -- What the history tells of decided batches: who is aborted after its finish had a batch that has ended; in a batch in
 -- doubt nobody is to abort any more; and in a decided one somebody is to abort only where somebody is to commit.

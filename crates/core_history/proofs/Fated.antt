@@ -6,29 +6,29 @@ use Rattle.std.proofs.lemmas.List.Folds.{list_any-append}
 use Rattle.cell_model.specs.declared.outcomes.Decision.{Decision}
 use Rattle.cell_model.specs.declared.outcomes.Decision.TheVariants as decision
 use Rattle.cell_model.specs.Decisions.{is_commit}
-use Rattle.cell_model.proofs.Units.{cases_unit, any-false, same_grain-true, same_grain-is, Member-left}
+use Rattle.cell_model.proofs.Units.{any-false, same_grain-true, same_grain-is, Member-left}
 use Rattle.core_model.specs.declared.events.CoreEvent.{CoreEvent}
 use Rattle.core_model.specs.declared.events.CoreEvent.TheVariants.{Refuse, Take, Vote, Decide, Sealed, NotSealed, Doubt}
 use Rattle.core_model.specs.declared.effects.Read.{Read}
 use Rattle.core_model.specs.declared.phases.Phase.TheVariants.{Running, Finished}
 use Rattle.core_model.specs.declared.phases.Verdict.{Verdict}
-use Rattle.core_model.specs.declared.phases.Verdict.TheVariants.{Open, Chosen, Condemned, Committed, Aborted}
+use Rattle.core_model.specs.declared.phases.Verdict.TheVariants.{Chosen, Committed, Aborted}
 use Rattle.core_model.specs.World.{UnitNo, GrainId, Mode, Value, Batch, World, Member}
 use Rattle.core_model.specs.Tests.{is_bad, is_good, is_final, written, members, has_failed, is_vote_on}
 use Rattle.core_model.specs.Chains.{Wrote}
 use Rattle.core_model.specs.Dead.{IsDead, itself, by_source as dead_source}
-use Rattle.core_model.specs.Changes.{decisions_of, judged, verdict_of, seal}
+use Rattle.core_model.specs.Changes.{decisions_of, judged, verdict_of}
 use Rattle.core_model.specs.Events.{applies, reply_with}
 use Rattle.core_model.proofs.Decoded.{Change, refuse, finish, take_batch, vote, decide_some, decide_none, seal_batch, spoil_batch, doubt_batch}
 use Rattle.core_model.proofs.Puts.{put-from, put-is, put-other}
 use Rattle.core_model.proofs.Basics.{is_final-cases}
-use Rattle.core_model.proofs.Growth.{Grows}
+use Rattle.core_model.proofs.Growth.{Grows, seal-bad as seal-bads}
 use Rattle.core_model.proofs.Alive.{good-alive}
 use Rattle.core_model.proofs.Failures.{failed-some, failed-none}
 use Rattle.core_model.proofs.Consistency.{depends-earlier}
 use Rattle.core_model.proofs.Reasons.{Reason, argued-decided, member-finished}
 use Rattle.core_model.proofs.Orders.{judged-other}
-use Rattle.core_model.proofs.Split.{no_doubt}
+use Rattle.core_model.proofs.Split.{no_doubt, seal-final, leave-committed}
 use Rattle.core_history.specs.Histories.{Applied, Happened}
 use Rattle.core_history.specs.Units.{with_read, has_read, shown, reads_in, WroteIn}
 use Rattle.core_history.specs.Batches.{InBatch}
@@ -39,7 +39,8 @@ use Rattle.core_history.specs.States.{open_sizes}
 use Rattle.core_history.proofs.Taken.{Parted}
 use Rattle.core_history.proofs.Tells.{Tells}
 use Rattle.core_history.proofs.Placed.{batch-finished, batch-count, batch-before, batch-cases, open-batch, open-member}
-use Rattle.core_history.proofs.Cores.{Core, chosen-member, chosen-undecided, member-judged, seal-final, spoil-aborted, seal-bad, leave-bad, spoil-bad, seal-committed, spoil-committed, leave-committed, reasons-at}
+use Rattle.core_history.proofs.Cores.{Core, chosen-member, chosen-undecided, member-judged, spoil-aborted, seal-bad, leave-bad, spoil-bad, seal-committed, spoil-committed, reasons-at}
+use Rattle.core_model.proofs.Verdicts.{member-or-not}
 
 -- the batch that an event speaks of, 0 where it speaks of none
 abbrev pub number_of : CoreEvent → ℕ
@@ -276,13 +277,6 @@ down-now opening h w e w' (decide_some m b q number d voted some) s n u g z i wr
 down-now opening h w e w' (decide_none m b q number d voted none) s n u g z i wr v =
     (let is : n ≡ b.number = (let y : n ≡ m = cc in y ∙ sym number) in
     seal-bads (judged (members w b) (decisions_of w b) w.manager.verdict u) (decided-down opening h w (Decide m) w' s b q d u g (subst (λ k. InBatch h k u) is i) wr (subst (λ k. Happened h (Vote k g false)) is v)))
-  where
-    seal-bads : (v : Verdict) → is_bad v ≡ true → is_bad (seal v) ≡ true
-    seal-bads Open e = cc
-    seal-bads Chosen e = cc
-    seal-bads Condemned e = refl
-    seal-bads Committed e = cc
-    seal-bads Aborted e = refl
 down-now opening h w e w' c s n u g z i wr v = cc
 
 -- no vote comes after the decision
@@ -339,14 +333,6 @@ spoils-after opening h w e w' c s n u i m =
       | inl old ↦ (let f = s.fates.spoils n u b old in s.grows.1 u (ap is_final f) ∙ f)
       | inr q ↦ spoiled-now opening h w e w' c s n u q b
     ]
-
--- a unit is in a list or not
-pub member-or-not : (u : UnitNo) (us : List UnitNo) → Member u us ⊎ (Member u us → ⊥)
-member-or-not u [] = inr (λ m. m)
-member-or-not u (x ∷ xs) = elim (cases_unit u x) [
-  | inl e ↦ inl (inl e)
-  | inr n ↦ elim (member-or-not u xs) [ inl m ↦ inl (inr m) | inr k ↦ inr (λ o. elim o [ inl e ↦ n e | inr m ↦ k m ]) ]
-]
 
 -- Who is to abort by a decision is dead. The history goes on with that decision; the units are taken by their places.
 decided-dies : (opening : GrainId → List Value) (h : List Applied) (w : World) (m : ℕ) (w' : World) → Change w (Decide m) w' → Step opening h w (Decide m) w' → (b : Batch) → w.manager.batch ≡ Some b → b.number ≡ m → b.decisions ≡ None →

@@ -16,15 +16,11 @@ use Rattle.core_history.specs.States.{parts, open_sizes, sizes_of}
 use Rattle.core_history.proofs.Words.{more, batches-more}
 use Rattle.core_history.proofs.Tells.{Tells}
 use Rattle.core_history.proofs.Taken.{parts-more, sizes-open}
+use Rattle.core_model.proofs.Voted.{Member-drop}
 
 parts-length : (ns : List ℕ) (us : List UnitNo) → length (parts ns us) ≡ length ns
 parts-length [] us = refl
 parts-length (n ∷ ns) us = ap suc (parts-length ns (drop n us))
-
-Member-drop : (m : ℕ) (x : UnitNo) (xs : List UnitNo) → Member x (drop m xs) → Member x xs
-Member-drop zero x xs h = h
-Member-drop (suc m) x [] h = h
-Member-drop (suc m) x (y ∷ xs) h = inr (Member-drop m x xs h)
 
 -- who stands in a part stands in the list
 parts-member : (ns : List ℕ) (us : List UnitNo) (i : ℕ) (u : UnitNo) → Member u (get_or (parts ns us) i []) → Member u us

@@ -4,7 +4,6 @@ use Rattle.std.proofs.lemmas.Bool.{and_parts, cond-true, cond-false, cases_lt}
 use Rattle.base_types.specs.declared.entries.Settled.{Settled}
 use Rattle.base_types.specs.declared.entries.Settled.TheVariants as settled
 use Rattle.cell_model.specs.declared.outcomes.Decision.TheVariants as decision
-use Rattle.cell_model.proofs.Units.{cases_unit}
 use Rattle.core_model.specs.World.{UnitNo, GrainId, nobody, put, Member, Value, Mode, Write, Batch, Decision, World}
 use Rattle.core_model.specs.declared.effects.Effect.{Effect}
 use Rattle.core_model.specs.declared.phases.Phase.TheVariants.{Running, Finished}
@@ -26,7 +25,7 @@ use Rattle.core_model.proofs.Kept.{Kept, kept-step, inv-open, inv-judged, inv-de
 use Rattle.core_model.proofs.Split.{Split, begin_of, no_doubt, split-step}
 use Rattle.core_model.proofs.Dependencies.{Depends, depends-step}
 use Rattle.core_model.proofs.Reasons.{Reason, Reasons, Argued, argued-decided, argued-step}
-use Rattle.core_model.proofs.Verdicts.{Turned, turned-step}
+use Rattle.core_model.proofs.Verdicts.{Turned, turned-step, member-or-not}
 use Rattle.core_model.proofs.Caused.{voted-down, depends-on, can-commit, refused-cause}
 use Rattle.core_model.proofs.Ends.{kept-begins}
 
@@ -42,13 +41,6 @@ reason-of votes writes deps verdict (x ∷ us) [] u r m = absurd r
 reason-of votes writes deps verdict (x ∷ us) (d ∷ ds) u r (inl q) =
     (d, ap verdict q ∙ r.0, subst (λ z. Reason votes (writes z) (deps z) verdict d) (sym q) r.1)
 reason-of votes writes deps verdict (x ∷ us) (d ∷ ds) u r (inr m) = reason-of votes writes deps verdict us ds u r.2 m
-
-member-or-not : (u : UnitNo) (us : List UnitNo) → Member u us ⊎ (Member u us → ⊥)
-member-or-not u [] = inr (λ m. m)
-member-or-not u (x ∷ xs) = elim (cases_unit u x) [
-  | inl e ↦ inl (inl e)
-  | inr n ↦ elim (member-or-not u xs) [ inl m ↦ inl (inr m) | inr k ↦ inr (λ o. elim o [ inl e ↦ n e | inr m ↦ k m ]) ]
-]
 
 -- a decision aborts nobody yet
 pub judged-aborted : (us : List UnitNo) (ds : List Decision) (v : UnitNo → Verdict) (x : UnitNo) → judged us ds v x ≡ Aborted → v x ≡ Aborted

@@ -49,7 +49,7 @@ pub data Change (w : World) : CoreEvent → World → Type 0 where
   want : (u : UnitNo) (g : GrainId) → w.units.phase u ≡ Running → holds_lock u (w.cells.holds g) ≡ false → any (λ t. same_unit t.0 u && same_grain t.1 g) w.units.wants ≡ false → Change w (Want u g) (does w (Want u g))
   load : (g : GrainId) (u : UnitNo) (state : List Value) → w.cells.here g ≡ false → is_wanted w.units.wants g ≡ true → Change w (Load g u state) (loaded w g u state)
 
-none-true : {A : Type 0} (o : Option A) → is_none o ≡ true → o ≡ None
+pub none-true : {A : Type 0} (o : Option A) → is_none o ≡ true → o ≡ None
 none-true None e = refl
 none-true (Some x) e = cc
 

@@ -63,7 +63,7 @@ grows-mapped w f bad' final' w' v u r a = (
   (λ x o. (ap (λ (z : Units). z.phase x) u, ap (λ g. g x) r, ap (λ g. g x) a, ap (λ (z : Units). z.kids x) u)),
 )
 
-seal-bad : (v : Verdict) → is_bad v ≡ true → is_bad (seal v) ≡ true
+pub seal-bad : (v : Verdict) → is_bad v ≡ true → is_bad (seal v) ≡ true
 seal-bad Open e = cc
 seal-bad Chosen e = cc
 seal-bad Condemned e = refl

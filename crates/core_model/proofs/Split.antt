@@ -53,7 +53,7 @@ judged-committed (u ∷ us) (d ∷ ds) v x e =
     (λ q h. absurd (verdict_of-committed d h)) (λ q h. h)
     (judged-committed us ds (put v u (verdict_of d)) x e)
 
-seal-final : (v : Verdict) → (v ≡ Open → ⊥) → is_final (seal v) ≡ true
+pub seal-final : (v : Verdict) → (v ≡ Open → ⊥) → is_final (seal v) ≡ true
 seal-final Open n = absurd (n refl)
 seal-final Chosen n = refl
 seal-final Condemned n = refl
@@ -74,7 +74,7 @@ leave-final Condemned e = refl
 leave-final Committed e = refl
 leave-final Aborted e = refl
 
-leave-committed : (v : Verdict) → leave v ≡ Committed → v ≡ Committed
+pub leave-committed : (v : Verdict) → leave v ≡ Committed → v ≡ Committed
 leave-committed Open e = cc
 leave-committed Chosen e = cc
 leave-committed Condemned e = cc

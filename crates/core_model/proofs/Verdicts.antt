@@ -31,7 +31,7 @@ turned-phase w u end open_u n s = (
   (λ x. put-from w.units.phase u end (λ p. p ≡ Refused) (w.manager.verdict x ≡ Aborted) x (λ q h. absurd (n h)) (λ q h. s.1 x h)),
 )
 
-member-or-not : (u : UnitNo) (us : List UnitNo) → Member u us ⊎ (Member u us → ⊥)
+pub member-or-not : (u : UnitNo) (us : List UnitNo) → Member u us ⊎ (Member u us → ⊥)
 member-or-not u [] = inr (λ m. m)
 member-or-not u (x ∷ xs) = elim (cases_unit u x) [
   | inl e ↦ inl (inl e)

@@ -102,7 +102,7 @@ drop-push zero xs x h = refl
 drop-push (suc m) [] x h = absurd (omega arith)
 drop-push (suc m) (y ∷ xs) x h = drop-push m xs x (omega arith)
 
-Member-drop : (m : ℕ) (x : UnitNo) (xs : List UnitNo) → Member x (drop m xs) → Member x xs
+pub Member-drop : (m : ℕ) (x : UnitNo) (xs : List UnitNo) → Member x (drop m xs) → Member x xs
 Member-drop zero x xs h = h
 Member-drop (suc m) x [] h = h
 Member-drop (suc m) x (y ∷ xs) h = inr (Member-drop m x xs h)

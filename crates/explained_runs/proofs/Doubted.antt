@@ -1,24 +1,19 @@
 -- What a batch in doubt says of the run.
-use Rattle.std.proofs.Common.{◌≡◌, ℕ, suc, ◌<◌, List, [], ◌∷◌, map, filter, drop, true, false, ◌⊎◌, inl, inr, refl, sym, ap, ◌∙◌, subst, arith, Option, Some, None}
-use Rattle.std.specs.Prelude.{take, slice_get, Ok, Err}
-use Rattle.std.proofs.lemmas.Bool.{and_parts, cond_both}
+use Rattle.std.proofs.Common.{◌≡◌, ℕ, ◌<◌, List, [], ◌∷◌, map, filter, drop, true, false, inl, inr, refl, sym, ap, ◌∙◌, arith}
+use Rattle.std.specs.Prelude.{slice_get, Ok, Err}
 use Rattle.base_types.specs.declared.entries.BadRequest.{BadRequest}
 use Rattle.base_types.specs.declared.entries.Entry.{Entry}
 use Rattle.base_types.specs.declared.entries.Settled.{Settled}
 use Rattle.base_types.specs.declared.entries.Settled.TheVariants as settled
 use Rattle.cell_model.proofs.Units.{filter-member}
 use Rattle.host_trait.specs.Faults.{Rose}
-use Rattle.core_model.specs.declared.events.CoreEvent.{CoreEvent}
 use Rattle.core_model.specs.declared.events.CoreEvent.TheVariants.{Doubt}
 use Rattle.core_model.specs.declared.phases.Phase.TheVariants.{Unborn, Finished, Ended}
 use Rattle.core_model.specs.declared.phases.Verdict.TheVariants.{Aborted}
 use Rattle.core_model.specs.World.{UnitNo, GrainId, Call, Member, Value, World}
 use Rattle.core_model.specs.Tests.{is_good}
 use Rattle.core_model.specs.Answers.{effect_of}
-use Rattle.core_model.specs.Changes.{swept, swept_by}
-use Rattle.core_model.specs.Events.{applies, can, does, step, run, is_allowed}
-use Rattle.core_model.specs.Legal.{Run, begins, ends}
-use Rattle.core_model.proofs.Decoded.{Change, bad, begin, lock, raise, refuse, finish, end_plain, end_snapshot, release, take_batch, vote, decide_some, decide_none, seal_batch, spoil_batch, doubt_batch, learn, emit, halt_run, want, load, decode}
+use Rattle.core_model.specs.Legal.{Run}
 use Rattle.core_model.proofs.Orders.{in_drop}
 use Rattle.core_model.proofs.Kept.{Kept}
 use Rattle.core_model.proofs.Split.{begin_of}

@@ -28,7 +28,7 @@ use Rattle.script_holding.specs.Holding.{same_grain}
 use Rattle.script_meaning.proofs.Grains.{is_same_grain, same_grain_is}
 use Rattle.script_meaning.specs.Trails.{answers_of, reads_of, Has, states_of}
 use Rattle.promise_spec.specs.Programs.{Program}
-use Rattle.promise_spec.specs.Records.{Commit, States, Standing, new_silo, after_record, after_records, IsRecordOf}
+use Rattle.promise_spec.specs.Records.{Commit, States, new_silo, IsRecordOf}
 use Rattle.promise_spec.specs.Serial.{depth_of, played}
 use Rattle.promise_spec.specs.Lines.{IsLineCall}
 use Rattle.promise_spec.specs.Images.{IsAboveParent, AreNumbered}
@@ -45,6 +45,7 @@ use Rattle.explained_runs.proofs.Handed.{outcome-at}
 use Rattle.explained_runs.proofs.Told.{found, HasOutcome, Led, Known}
 use Rattle.explained_runs.proofs.ToldRuns.{known-ends}
 use Rattle.explained_runs.proofs.Added.{AreSerialOf, added-of, record-unit, unit-record, one-record, StandsAfter, stands-after, reads-stand}
+use Rattle.explained_runs.proofs.TrueReplies.{below-next}
 
 -- What is known at the end of a run: why its units began, the core's laws of children, lines and reads, the units whose
 -- records it added, and that no record of before is of a child of one of these units.
@@ -341,17 +342,6 @@ family types asked w states early added g = record {
   reached = λ c m. reached types asked w states early added g (c.logged.unit.0 + 1) c.logged.unit (omega arith)
       (finished-begun w c.logged.unit (is-added types asked w states early added g c m).finished);
 }
-
--- the next number is above those of the records
-next-grows : (before : Standing) (log : List Commit) → before.next ≤ (after_records before log).next
-next-grows before [] = omega arith
-next-grows before (l ∷ log) = (let t = next-grows (after_record before l) log in omega (arith, t))
-
--- each record's unit is below the next number
-below-next : (before : Standing) (log : List Commit) (c : Commit) → Member c log → c.logged.unit.0 < (after_records before log).next
-below-next before [] c m = absurd m
-below-next before (l ∷ log) c (inl e) = (let t = next-grows (after_record before l) log in let q : c.logged.unit.0 ≡ l.logged.unit.0 = ap (λ (x : Commit). x.logged.unit.0) e in omega (arith, t, q))
-below-next before (l ∷ log) c (inr m) = below-next (after_record before l) log c m
 
 -- a numbered record is above its parent
 above-parent : (first : ℕ) (log : List Commit) (c : Commit) (parent : UnitNo) (index depth : ℕ) → AreNumbered first log → Member c log → c.logged.origin ≡ Child parent index depth → parent.0 < c.logged.unit.0

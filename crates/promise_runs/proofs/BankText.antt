@@ -1,5 +1,5 @@
 -- The bank program of a load is a checked one: its text read as tokens, the tokens as types, and the types checked.
-use Rattle.std.proofs.Common.{◌≡◌, ℕ, List, [], take, Ok, Err, Some, None, Result, Option, true, refl, ◌∙◌, ap, sym, lit<}
+use Rattle.std.proofs.Common.{◌≡◌, ℕ, List, [], take, Ok, Err, None, Result, true, refl, ◌∙◌, ap, sym, lit<}
 use Rattle.std.specs.Prelude.{Bool, false, is_none, length}
 use Rattle.std.specs.Str.Lossy.{utf8_valid_len}
 use Rattle.std.proofs.lemmas.Str.{utf8_valid_len-IsUtf8}
@@ -24,6 +24,7 @@ use Rattle.script_parser.specs.Programs.{program_of}
 use Rattle.promise_spec.specs.Programs.{Program, IsChecked}
 use Rattle.promise_spec.specs.Loads.{bank_text}
 use Rattle.promise_runs.specs.Banks.{bank_names}
+use Rattle.core_model.proofs.Decoded.{none-true}
 
 size_is : length bank_text ≡ 1130
 size_is = refl
@@ -61,10 +62,7 @@ all_names = refl
 -- what was read without a fault is a program
 read_types : (x : Result ProgramTree ParseFault) → is_good x ≡ true → (types : ProgramTree) × (x ≡ Ok types) × (program_fault types ≡ None)
 unfolding is_good
-read_types (Ok types) good = (types, refl, none_is (program_fault types) good) where
-  none_is : {A : Type 0} (o : Option A) → is_none o ≡ true → o ≡ None
-  none_is None e = refl
-  none_is (Some a) e = absurd (cc e)
+read_types (Ok types) good = (types, refl, none-true (program_fault types) good)
 read_types (Err fault) good = absurd (cc good)
 
 text_read : program_of bank_text ≡ program_over lexed_so.1 lexed_so.0

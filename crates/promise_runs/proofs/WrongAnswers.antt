@@ -33,7 +33,7 @@ use Rattle.promise_spec.specs.Commands.{MakesAs, MakesSilo, MayCut, IsReported, 
 use Rattle.promise_spec.specs.Loads.{IsUnmadeBy, from_there, Loads}
 use Rattle.promise_spec.specs.Calls.{Understands, Obeys, Serves, AnswersAs}
 use Rattle.promise_spec.proofs.Lists.{in_append}
-use Rattle.promise_spec.proofs.Openings.{log_is_read, no_silo_is_read, sound_is_read}
+use Rattle.promise_spec.proofs.Openings.{log_is_read, no_silo_is_read, sound_is_read, reads_is}
 
 -- ---- a folder reads in one way
 
@@ -42,9 +42,6 @@ not_two reading p log f place a b = let e : Reads p log ≡ DamagedAt f place = 
 
 not_none : (reading : Reading) (p : Program) (log : List Commit) → reading ≡ Reads p log → reading ≡ NoSilo → ⊥
 not_none reading p log a b = let e : Reads p log ≡ NoSilo = sym a ∙ b in absurd (cc e)
-
-one_log : (p q : Program) (a b : List Commit) → Reads p a ≡ Reads q b → (p ≡ q) × (a ≡ b)
-one_log p q a b e = (cc e, cc e)
 
 -- ---- refusals
 
@@ -197,7 +194,7 @@ pub another_text : (text : Program → List Commit → List ℕ) (r : Observed) 
     → IsChecked p → HasProgram p.text (seen_at_entry r program_file) → IsLog (shape_in p) (seen_at_entry r) log → r.new.output ≢ r.old.output ++ text p log → ⊥
 another_text text r p log (inl unopened) done checked program is differ = not_opened r unopened done
 another_text text r p log (inr reported) done checked program is differ =
-    let e = one_log reported.program p reported.log log (sym reported.reads ∙ log_is_read (seen_at_entry r) p log checked program is) in
+    let e = reads_is reported.program p reported.log log (sym reported.reads ∙ log_is_read (seen_at_entry r) p log checked program is) in
     differ (reported.prints.output ∙ ap (λ (l : List ℕ). r.old.output ++ l) (reported.prints.whole done ∙ same_text text reported.program p reported.log log e.0 e.1))
 
 pub changed_by_report : (text : Program → List Commit → List ℕ) (r : Observed) (image : Image) → Reports text r → IsImage r.new.disk image → (IsImage r.old.disk image → ⊥) → ⊥

@@ -4,7 +4,7 @@ use Rattle.host_trait.specs.declared.channels.FileId.TheVariants.{Manager, Progr
 use Rattle.host_trait.specs.Disk.{FileState, settled}
 use Rattle.host_trait.specs.World.{World, Moment, Disk}
 use Rattle.cell_model.specs.Units.{same_grain}
-use Rattle.silo_spec.specs.Silos.{manager}
+use Rattle.silo_spec.specs.Silos.{manager, new_header}
 use Rattle.promise_spec.specs.Logs.{magic}
 use Rattle.promise_spec.specs.Words.{plain_manner}
 use Rattle.promise_spec.specs.Endings.{Done}
@@ -14,7 +14,7 @@ use Rattle.promise_runs.specs.HostCalls.{Held, Step, Pull, Emit, Write, Sync}
 
 -- the manager file of a new silo: its 16 bytes
 abbrev pub new_manager : List ℕ
-new_manager = 1 ∷ (magic ++ 0 ∷ 0 ∷ 0 ∷ 0 ∷ 0 ∷ 0 ∷ 0 ∷ [])
+new_manager = new_header magic
 
 -- A disk of the accounts' silo, with this manager file and this file of `account/1`. The program file is settled; all
 -- other files are settled and empty.

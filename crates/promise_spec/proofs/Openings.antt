@@ -197,7 +197,7 @@ module _ (shape : Shape) (image : Image) where
 
 -- ---- the folder
 
-reads_is : (p q : Program) (a b : List Commit) → Reads p a ≡ Reads q b → (p ≡ q) × (a ≡ b)
+pub reads_is : (p q : Program) (a b : List Commit) → Reads p a ≡ Reads q b → (p ≡ q) × (a ≡ b)
 reads_is p q a b e = (cc, cc)
 
 module _ (image : Image) (p : Program) (log : List Commit) where
