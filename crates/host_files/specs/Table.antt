@@ -1,4 +1,4 @@
--- The paths of the files that are ready, and how often calls on each have failed.
+-- The paths of the files that are ready, how often calls on each have failed, and whether a sync of it has.
 use Rattle.std.specs.Prelude.{◌≡◌, ℕ, nat_le, Bool, true, false, IsTrue, Option, Some, None, List, string_bytes}
 use Rattle.std.specs.declared.cmp.Ordering.{Ordering}
 use Rattle.std.specs.BTreeMap.{BTreeMap, get}
@@ -22,6 +22,10 @@ abbrev pub faults_in_entry : Option Named → ℕ
 faults_in_entry None = 0
 faults_in_entry (Some named) = named.faults
 
+abbrev pub is_lost_entry : Option Named → Bool
+is_lost_entry None = false
+is_lost_entry (Some named) = named.is_lost
+
 abbrev pub is_path : Option (List ℕ) → Bool
 is_path None = false
 is_path (Some path) = true
@@ -37,6 +41,10 @@ is_named files file = is_path (path_in files file)
 -- how often calls on a file have failed
 abbrev pub faults_in : BTreeMap FileId Named → FileId → ℕ
 faults_in files file = faults_in_entry (get file_cmp files file)
+
+-- whether a sync of a file has failed
+abbrev pub is_lost : BTreeMap FileId Named → FileId → Bool
+is_lost files file = is_lost_entry (get file_cmp files file)
 
 -- each file that is ready has its own path in this folder
 abbrev pub AreNamed : List ℕ → BTreeMap FileId Named → Type 0
@@ -60,3 +68,7 @@ abbrev pub counts_of : ℕ → ℕ → BTreeMap FileId Named → Channel → ℕ
 counts_of input output files Input = input
 counts_of input output files Output = output
 counts_of input output files (File file) = faults_in files file
+
+-- each file of which a sync has failed is known as such still
+abbrev pub StayLost : BTreeMap FileId Named → BTreeMap FileId Named → Type 0
+StayLost old new = (file : FileId) → IsTrue (is_lost old file) → IsTrue (is_lost new file)

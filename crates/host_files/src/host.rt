@@ -1,7 +1,11 @@
-ghost use Rattle.std.specs.Prelude.{◌≡◌, IfOk};
-ghost use Rattle.host_files.specs.Table.{counts_of};
+ghost use Rattle.std.specs.Prelude.{◌≡◌, ◌+◌, ◌^◌, ◌<◌, ◌≤◌, length, IsTrue, IsErr, IfOk, OnOk, OnErr};
+ghost use Rattle.host_files.specs.Table.{is_named, is_lost, counts_of, StayLost};
+ghost use Rattle.host_trait.specs.Faults.{Counted};
+ghost use Rattle.host_trait.specs.Files.{MayAsk, StaysReady};
 ghost use Rattle.host_trait.specs.declared.channels.Channel.{Channel};
+ghost use Rattle.host_trait.specs.declared.channels.Channel.TheVariants.{File};
 
+use crate::disk_file::DiskFile;
 use crate::folder::Folder;
 use crate::table::Table;
 use host_trait::{Channel, Failed, FileId, Host};
@@ -13,9 +17,13 @@ use std::rt::Files;
 ///
 /// It tells nothing of what they hold, and counts the faults of each channel: what the system refuses, a length or the end
 /// of a written range that isn't below 2 to the 63, and anything but a regular file at a file's path, are faults. A file
-/// that isn't there has no bytes. Each file has one path: the folder, a slash and `program-S.otx`, `manager-S.otx` or
-/// `grain-S-K-Y.otx`, with slot, type and key in decimal. The paths of the program and manager files are made by
-/// [`new`](FolderHost::new), and that of a grain file by [`ready`](Host::ready), so that no other call takes memory.
+/// that isn't there has no bytes. Once a sync of a file has failed, each later call on that file fails, since the system may
+/// have dropped what was pending. The first call on a file takes the folder, which no other process has from then on until
+/// this host is dropped; where another one has it, each call on a file fails.
+///
+/// Each file has one path: the folder, a slash and `program-S.otx`, `manager-S.otx` or `grain-S-K-Y.otx`, with slot, type and
+/// key in decimal. The paths of the program and manager files are made by [`new`](FolderHost::new), and that of a grain file
+/// by [`ready`](Host::ready), so that no other call takes memory.
 #[derive(Drop)]
 pub struct FolderHost<F: Files, R, W> {
     reader: R,
@@ -26,7 +34,10 @@ pub struct FolderHost<F: Files, R, W> {
     output_faults: u64,
 }
 
-impl<F: Files + Drop, R: Read + Drop, W: Write + Drop> FolderHost<F, R, W> {
+impl<F: Files + Drop, R: Read + Drop, W: Write + Drop> FolderHost<F, R, W>
+where
+    F::File: DiskFile,
+{
     /// A host whose input is what the reader gives, whose output goes to the writer, and whose files stand in the folder. The
     /// empty text is the folder in which the program runs. Nothing is read or made, and no call has failed.
     pub fn new(
@@ -41,11 +52,12 @@ impl<F: Files + Drop, R: Read + Drop, W: Write + Drop> FolderHost<F, R, W> {
     {
         let path = if folder.is_empty() { "." } else { folder };
         let table = Table::new(alloc, path)?;
-        let kept = String::from_str(alloc, path)?;
+        // Only a folder can be opened by this path, so that no pipe is waited for.
+        let itself = format!(in alloc; "{path}/.")?;
         Ok(FolderHost {
             reader,
             writer,
-            folder: Folder::new(files, kept),
+            folder: Folder::new(files, itself),
             table,
             input_faults: 0,
             output_faults: 0,
@@ -64,7 +76,10 @@ impl<F: Files + Drop, R: Read + Drop, W: Write + Drop> FolderHost<F, R, W> {
     }
 }
 
-impl<F: Files + Drop, R: Read, W: Write> Host for FolderHost<F, R, W> {
+impl<F: Files + Drop, R: Read, W: Write> Host for FolderHost<F, R, W>
+where
+    F::File: DiskFile,
+{
     ghost use Rattle.std.specs.Prelude.{false};
     ghost use Rattle.host_files.specs.Table.{is_named, counts_of};
     ghost use Rattle.host_trait.specs.World.{empty_world, untold};
@@ -98,20 +113,47 @@ impl<F: Files + Drop, R: Read, W: Write> Host for FolderHost<F, R, W> {
         Ok(())
     }
 
-    fn length(&mut self, file: FileId) -> Result<u64, Failed> {
-        let answer = self.folder.length(self.table.path(file));
+    fn length(&mut self, file: FileId) -> Result<u64, Failed>
+        requires { MayAsk (is_named self.old.table.files) file }
+        ensures bound { IfOk result (λ n. n < 2 ^ 63) }
+        ensures faults { Counted (File file) result
+            (counts_of self.old.input_faults self.old.output_faults self.old.table.files)
+            (counts_of self.new.input_faults self.new.output_faults self.new.table.files) }
+        ensures ready { StaysReady (is_named self.old.table.files) (is_named self.new.table.files) }
+        ensures refused { IsTrue (is_lost self.old.table.files file) → IsErr result }
+        ensures stay { StayLost self.old.table.files self.new.table.files }
+    {
+        let answer = self.folder.length(self.table.asked(file));
         let count = self.table.count(file, answer)?;
         Ok(count)
     }
 
-    fn read_at(&mut self, file: FileId, at: u64, into: &mut [u8]) -> Result<usize, Failed> {
-        let answer = self.folder.read_at(self.table.path(file), at, into);
+    fn read_at(&mut self, file: FileId, at: u64, into: &mut [u8]) -> Result<usize, Failed>
+        requires { MayAsk (is_named self.old.table.files) file }
+        ensures bound { IfOk result (λ n. n ≤ length into.old) }
+        ensures faults { Counted (File file) result
+            (counts_of self.old.input_faults self.old.output_faults self.old.table.files)
+            (counts_of self.new.input_faults self.new.output_faults self.new.table.files) }
+        ensures ready { StaysReady (is_named self.old.table.files) (is_named self.new.table.files) }
+        ensures refused { IsTrue (is_lost self.old.table.files file) → IsErr result }
+        ensures stay { StayLost self.old.table.files self.new.table.files }
+    {
+        let answer = self.folder.read_at(self.table.asked(file), at, into);
         let count = self.table.count(file, answer)?;
         Ok(count)
     }
 
-    fn write_at(&mut self, file: FileId, at: u64, bytes: &[u8]) -> Result<(), Failed> {
-        let answer = self.folder.write_at(file, self.table.path(file), at, bytes);
+    fn write_at(&mut self, file: FileId, at: u64, bytes: &[u8]) -> Result<(), Failed>
+        requires { MayAsk (is_named self.old.table.files) file }
+        ensures bound { OnOk result (at + length bytes.now < 2 ^ 63) }
+        ensures faults { Counted (File file) result
+            (counts_of self.old.input_faults self.old.output_faults self.old.table.files)
+            (counts_of self.new.input_faults self.new.output_faults self.new.table.files) }
+        ensures ready { StaysReady (is_named self.old.table.files) (is_named self.new.table.files) }
+        ensures refused { IsTrue (is_lost self.old.table.files file) → IsErr result }
+        ensures stay { StayLost self.old.table.files self.new.table.files }
+    {
+        let answer = self.folder.write_at(self.table.asked(file), at, bytes);
         self.table.count(file, answer)?;
         Ok(())
     }
@@ -121,9 +163,18 @@ impl<F: Files + Drop, R: Read, W: Write> Host for FolderHost<F, R, W> {
         Ok(())
     }
 
-    fn sync(&mut self, file: FileId) -> Result<(), Failed> {
-        let answer = self.folder.sync(file, self.table.path(file));
-        self.table.count(file, answer)?;
+    fn sync(&mut self, file: FileId) -> Result<(), Failed>
+        requires { MayAsk (is_named self.old.table.files) file }
+        ensures faults { Counted (File file) result
+            (counts_of self.old.input_faults self.old.output_faults self.old.table.files)
+            (counts_of self.new.input_faults self.new.output_faults self.new.table.files) }
+        ensures ready { StaysReady (is_named self.old.table.files) (is_named self.new.table.files) }
+        ensures refused { IsTrue (is_lost self.old.table.files file) → IsErr result }
+        ensures stay { StayLost self.old.table.files self.new.table.files }
+        ensures lost { OnErr result (IsTrue (is_lost self.new.table.files file)) }
+    {
+        let answer = self.folder.sync(self.table.asked(file));
+        self.table.count_sync(file, answer)?;
         Ok(())
     }
 }

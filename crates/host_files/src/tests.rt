@@ -52,6 +52,7 @@ fn a_second_host_reads_what_the_first_wrote(rt: HostRuntime) -> Result<(), Fail>
     host.write_at(MANAGER, 0, b"abcdef")?;
     host.write_at(MANAGER, 2, b"CD")?;
     host.sync(MANAGER)?;
+    drop(host);
     let mut other = broken_over(&rt, "kept/")?;
     let mut bytes = [0; 8];
     assert_eq!(rt; other.read_at(MANAGER, 1, &mut bytes)?, 5, "the file ends");

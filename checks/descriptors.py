@@ -1,0 +1,31 @@
+"""Each combination of standard descriptors that are closed at the start: no file of the folder gets the number of one, and the
+folder opens afterwards with all that was answered."""
+import itertools
+import os
+import tempfile
+
+from harness import Ended, Rows, add, reply, run
+
+rows = Rows("descriptors")
+
+for closed in itertools.chain.from_iterable(itertools.combinations((0, 1, 2), count) for count in range(4)):
+    with tempfile.TemporaryDirectory() as folder:
+
+        def text(line):
+            return b"" if 2 in closed else line
+
+        rows.row(f"init without {closed}", run(folder, "init", closed=closed), Ended(0, b"", b""))
+        if 0 in closed:
+            wanted, logged = Ended(4, b"", text(b"silo: read fault\n")), 0
+        elif 1 in closed:
+            wanted, logged = Ended(5, b"", text(b"silo: write fault\n")), 1
+        else:
+            wanted, logged = Ended(0, reply(1, 5, 1) + reply(2, 11, 2), b""), 2
+        rows.row(f"run without {closed}", run(folder, "run", given=add(5) + add(6), closed=closed), wanted)
+        total = (0, 5, 11)[logged]
+        rows.row(f"afterwards, without {closed}", run(folder, "run", given=add(0)), Ended(0, reply(1, total, logged + 1), b""))
+        names = sorted(os.listdir(folder))
+        rows.row(f"the files, without {closed}", names, ["manager-0.otx", "program-0.otx"])
+        rows.row(f"bad use without {closed}", run(folder, closed=closed), Ended(2, b"", text(b"silo: bad use\n")))
+
+rows.end()

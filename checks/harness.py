@@ -1,0 +1,66 @@
+"""What the checks of the shipped program share."""
+import collections
+import json
+import os
+import resource
+import subprocess
+import sys
+import tempfile
+
+TOP = os.path.dirname(os.path.dirname(os.path.abspath(__file__)))
+PROGRAM = os.environ.get("SILO", os.path.join(TOP, "crates", "silo", "out", "silo"))
+
+# How a run of the program ended: its number, what it wrote, and what it said on standard error.
+Ended = collections.namedtuple("Ended", "number output errors")
+
+
+def add(amount, grain=1):
+    """A request line that adds to a counter."""
+    return json.dumps({"args": [amount], "call": f"counter/{grain}.add"}).encode() + b"\n"
+
+
+def reply(n, total, unit):
+    """The reply line that such a request gets."""
+    return b'{"n":%d,"reply":%d,"unit":%d}\n' % (n, total, unit)
+
+
+def run(*words, given=b"", closed=(), streams=None, memory=None):
+    """Runs the program over this input, with these descriptors closed, and at most so many bytes of memory."""
+
+    def prepare():
+        if memory is not None:
+            resource.setrlimit(resource.RLIMIT_AS, (memory, memory))
+        for number in closed:
+            os.close(number)
+
+    with tempfile.TemporaryFile() as given_to, tempfile.TemporaryFile() as output, tempfile.TemporaryFile() as errors:
+        given_to.write(given)
+        given_to.seek(0)
+        at = {"stdin": given_to, "stdout": output, "stderr": errors, **(streams or {})}
+        done = subprocess.run([PROGRAM, *words], preexec_fn=prepare, timeout=100, **at)
+        output.seek(0)
+        errors.seek(0)
+        return Ended(done.returncode, output.read(), errors.read())
+
+
+def start(*words):
+    """Starts the program, whose input is a pipe that stays open."""
+    return subprocess.Popen([PROGRAM, *words], stdin=subprocess.PIPE, stdout=subprocess.PIPE, stderr=subprocess.PIPE)
+
+
+class Rows:
+    """Compares what was found with what was wanted, row by row."""
+
+    def __init__(self, name):
+        self.name, self.count, self.wrong = name, 0, 0
+
+    def row(self, what, found, wanted):
+        self.count += 1
+        if found != wanted:
+            self.wrong += 1
+            print(f"{self.name}: {what}:\n  found  {found}\n  wanted {wanted}", file=sys.stderr)
+
+    def end(self):
+        """Says how many rows there were, and ends the check."""
+        print(f"{self.name}: {self.count - self.wrong} rows passed, {self.wrong} failed")
+        sys.exit(1 if self.wrong else 0)
