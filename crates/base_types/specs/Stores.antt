@@ -1,5 +1,6 @@
 -- What is kept of each grain.
-use Rattle.std.specs.Prelude.{◌≡◌, ◌≢◌, ℕ, List, Option, Some}
+use Rattle.std.specs.Prelude.{◌≡◌, ◌≢◌, ℕ, List, Bool, true, Option, Some, None, is_some, max}
+use Rattle.std.specs.Option.{option_flatten}
 use Rattle.std.specs.declared.cmp.Ordering.{Ordering}
 use Rattle.std.specs.Ordering.{nat_cmp, then_cmp, on}
 use Rattle.std.specs.BTreeMap.{get}
@@ -18,7 +19,16 @@ state_in store grain = get grain_cmp store.states grain
 
 -- the end in a grain's file, none where no place in it is named
 abbrev pub end_in : Ends → GrainId → Option ℕ
-end_in ends grain = get grain_cmp ends.ends grain
+end_in ends grain = option_flatten (get grain_cmp ends.ends grain)
+
+-- the grain has room for an end
+abbrev pub has_room : Ends → GrainId → Bool
+has_room ends grain = is_some (get grain_cmp ends.ends grain)
+
+-- the greater of an end, which may be missing, and this one
+abbrev pub later_end : Option ℕ → ℕ → ℕ
+later_end None end = end
+later_end (Some kept) end = max kept end
 
 -- this grain has this state now, and every other grain what it had
 pub record PutsState (old new : Store) (grain : GrainId) (state : List Value) : Type 0 where
@@ -29,3 +39,11 @@ pub record PutsState (old new : Store) (grain : GrainId) (state : List Value) : 
 pub record PutsEnd (old new : Ends) (grain : GrainId) (end : ℕ) : Type 0 where
   pub put : end_in new grain ≡ Some end
   pub others : (other : GrainId) → other ≢ grain → end_in new other ≡ end_in old other
+
+-- this grain's file ends at the greater of where it did and here, and every other where it did
+abbrev pub RaisesEnd : Ends → Ends → GrainId → ℕ → Type 0
+RaisesEnd old new grain end = PutsEnd old new grain (later_end (end_in old grain) end)
+
+-- no grain has lost its room
+abbrev pub KeepsRoom : Ends → Ends → Type 0
+KeepsRoom old new = (grain : GrainId) → has_room old grain ≡ true → has_room new grain ≡ true

@@ -9,11 +9,23 @@ use std::alloc::AllocError;
 #[derive(Clone, Copy, Debug, PartialEq, Eq, PartialOrd, Ord)]
 pub struct UnitNo(pub u64);
 
+impl TryCopy for UnitNo {
+    fn try_copy(&self) -> Result<UnitNo, AllocError> {
+        Ok(*self)
+    }
+}
+
 /// A grain: the number of its type in the program, from 0, and its key. Grains are ordered by type, then key.
 #[derive(Clone, Copy, Debug, PartialEq, Eq, PartialOrd, Ord)]
 pub struct GrainId {
     pub kind: u16,
     pub key: u32,
+}
+
+impl TryCopy for GrainId {
+    fn try_copy(&self) -> Result<GrainId, AllocError> {
+        Ok(*self)
+    }
 }
 
 /// A value of the grain language.

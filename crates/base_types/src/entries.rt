@@ -1,4 +1,8 @@
+ghost use Rattle.std.specs.Prelude.{◌≡◌, IfOk};
+
 use crate::calls::{GrainId, Outcome, UnitNo};
+use crate::list::TryCopy;
+use std::alloc::AllocError;
 
 /// Why a request line isn't carried: the first of the tests, in this order, that it fails.
 #[derive(Clone, Copy, Debug, PartialEq, Eq)]
@@ -37,10 +41,49 @@ pub enum Settled {
     Bad(BadRequest),
 }
 
+impl Settled {
+    /// A copy, equal to its source.
+    pub fn copy(&self) -> Result<Settled, AllocError>
+        ensures { IfOk result (λ made. made ≡ self.now) }
+    {
+        match self {
+            Settled::Done(outcome) => Ok(Settled::Done(outcome.copy()?)),
+            Settled::Lock { by, grain } => Ok(Settled::Lock {
+                by: *by,
+                grain: *grain,
+            }),
+            Settled::Vote { grain } => Ok(Settled::Vote { grain: *grain }),
+            Settled::Dependency { on } => Ok(Settled::Dependency { on: *on }),
+            Settled::Disk => Ok(Settled::Disk),
+            Settled::InDoubt => Ok(Settled::InDoubt),
+            Settled::Bad(cause) => Ok(Settled::Bad(*cause)),
+        }
+    }
+}
+
 /// The answer to one request line: its number from 1, its unit (0 for a bad line), and what became of it.
 #[derive(Drop)]
 pub struct Entry {
     pub line: u32,
     pub unit: UnitNo,
     pub what: Settled,
+}
+
+impl Entry {
+    /// A copy, equal to its source.
+    pub fn copy(&self) -> Result<Entry, AllocError>
+        ensures { IfOk result (λ made. made ≡ self.now) }
+    {
+        Ok(Entry {
+            line: self.line,
+            unit: self.unit,
+            what: self.what.copy()?,
+        })
+    }
+}
+
+impl TryCopy for Entry {
+    fn try_copy(&self) -> Result<Entry, AllocError> {
+        self.copy()
+    }
 }

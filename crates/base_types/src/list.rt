@@ -1,5 +1,5 @@
 ghost use Rattle.std.specs.Prelude as std;
-ghost use Rattle.std.specs.Prelude.{◌≡◌, ◌==◌, ◌<◌, [], ◌∷◌, ◌++◌, length, is_ok, if◌then◌else◌, slice_get, slice_set, IfOk};
+ghost use Rattle.std.specs.Prelude.{◌≡◌, ◌==◌, ◌<◌, [], ◌∷◌, ◌++◌, length, is_ok, if◌then◌else◌, slice_get, slice_set, IfOk, IfErr};
 ghost use Rattle.std.specs.Option.{option_copied};
 
 use std::alloc::{AllocError, AllocFailed, Global};
@@ -22,6 +22,23 @@ pub trait TryCopy: Drop {
     /// A copy, equal to its source.
     fn try_copy(&self) -> Result<Self, AllocError>
         ensures { IfOk result (λ made. made ≡ self.now) };
+}
+
+/// Two values, each with a copy of its own.
+impl<A: TryCopy, B: TryCopy> TryCopy for (A, B) {
+    fn try_copy(&self) -> Result<(A, B), AllocError> {
+        Ok((self.0.try_copy()?, self.1.try_copy()?))
+    }
+}
+
+impl<T: Copy> List<T> {
+    /// A copy of a list of plain items, equal to its source.
+    pub fn copied(&self) -> Result<List<T>, AllocError>
+        ensures { IfOk result (λ made. made ≡ self.now) }
+    {
+        let items = Vec::from_slice(*self.items.allocator(), self.items.as_slice())?;
+        Ok(List { items })
+    }
 }
 
 impl<T: TryCopy> List<T> {
@@ -99,9 +116,10 @@ impl<T> List<T> {
         self.items[index] = item;
     }
 
-    /// Appends one item. Without memory the list stays as it was and the item is handed back.
+    /// Appends one item. Without memory the list stays as it was, and that very item is handed back.
     pub fn push(&mut self, item: T) -> Result<(), AllocFailed<T>>
-        ensures { self.new ≡ (if is_ok result then self.old ++ item ∷ [] else self.old) }
+        ensures pushed { self.new ≡ (if is_ok result then self.old ++ item ∷ [] else self.old) }
+        ensures handed_back { IfErr result (λ refused. refused.value ≡ item) }
     {
         self.items.push(item)
     }

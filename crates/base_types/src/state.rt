@@ -1,8 +1,8 @@
-ghost use Rattle.std.specs.Prelude.{◌≡◌, ◌≤◌, ◌<◌, ◌+◌, [], ◌∷◌, ◌++◌, length, is_ok, if◌then◌else◌, slice_get, slice_set, IfOk};
+ghost use Rattle.std.specs.Prelude.{◌≡◌, ◌≤◌, ◌<◌, ◌+◌, [], ◌∷◌, ◌++◌, length, is_ok, if◌then◌else◌, slice_get, slice_set, IfOk, IfErr};
 ghost use Rattle.std.specs.Option.{option_copied};
 
 use crate::calls::Value;
-use crate::list::List;
+use crate::list::{List, TryCopy};
 use std::alloc::{AllocError, AllocFailed, Global};
 use std::marker::Model;
 
@@ -67,10 +67,11 @@ impl State {
         self.values.get(field)
     }
 
-    /// Appends a value. Without memory the state stays as it was and the value is handed back.
+    /// Appends a value. Without memory the state stays as it was, and that very value is handed back.
     pub fn push(&mut self, value: Value) -> Result<(), AllocFailed<Value>>
         requires { length self.old < STATE_LIMIT }
-        ensures { self.new ≡ (if is_ok result then self.old ++ value ∷ [] else self.old) }
+        ensures pushed { self.new ≡ (if is_ok result then self.old ++ value ∷ [] else self.old) }
+        ensures handed_back { IfErr result (λ refused. refused.value ≡ value) }
     {
         self.values.push(value)
     }
@@ -89,5 +90,11 @@ impl State {
     {
         let values = self.values.copy()?;
         Ok(State { values })
+    }
+}
+
+impl TryCopy for State {
+    fn try_copy(&self) -> Result<State, AllocError> {
+        self.copy()
     }
 }

@@ -1,9 +1,10 @@
-ghost use Rattle.std.specs.Prelude.{◌≡◌, [], Some, None, OnOk, OnErr};
+ghost use Rattle.std.specs.Prelude.{◌≡◌, [], true, Some, None, IfOk, OnOk, OnErr};
 ghost use Rattle.std.specs.Option.{option_copied};
-ghost use Rattle.base_types.specs.Stores.{state_in, end_in, PutsState, PutsEnd};
+ghost use Rattle.base_types.specs.Stores.{state_in, end_in, has_room, later_end, PutsState, PutsEnd, RaisesEnd, KeepsRoom};
 ghost use Rattle.base_types.specs.declared.calls.GrainId.{GrainId};
 
 use crate::calls::{GrainId, UnitNo};
+use crate::list::TryCopy;
 use crate::state::State;
 use std::alloc::{AllocError, Global};
 use std::collections::BTreeMap;
@@ -20,6 +21,24 @@ pub struct Place {
 pub struct Version {
     pub unit: UnitNo,
     pub state: State,
+}
+
+impl Version {
+    /// A copy, equal to its source.
+    pub fn copy(&self) -> Result<Version, AllocError>
+        ensures { IfOk result (λ made. made ≡ self.now) }
+    {
+        Ok(Version {
+            unit: self.unit,
+            state: self.state.copy()?,
+        })
+    }
+}
+
+impl TryCopy for Version {
+    fn try_copy(&self) -> Result<Version, AllocError> {
+        self.copy()
+    }
 }
 
 /// The grains' states. A grain that isn't there has its type's initial fields.
@@ -56,9 +75,11 @@ impl Store {
 }
 
 /// Where the places that a log names end, per grain file, in bytes. A file in which none is named isn't there.
+/// A grain may have room made for its end before it has one.
 #[derive(Drop)]
 pub struct Ends {
-    ends: BTreeMap<GrainId, u64>,
+    // A grain that is there without an end has room for one.
+    ends: BTreeMap<GrainId, Option<u64>>,
 }
 
 impl Ends {
@@ -75,15 +96,52 @@ impl Ends {
     pub fn get(&self, grain: GrainId) -> Option<u64>
         ensures { result ≡ end_in self.now grain }
     {
-        self.ends.get(&grain).copied()
+        self.ends.get(&grain).copied().flatten()
     }
 
     /// Gives a grain's file an end. Without memory the ends stay as they were.
     pub fn put(&mut self, grain: GrainId, end: u64) -> Result<(), AllocError>
         ensures ok { OnOk result (PutsEnd self.old self.new grain end) }
         ensures kept { OnErr result ((other : GrainId) → end_in self.new other ≡ end_in self.old other) }
+        ensures room { KeepsRoom self.old self.new }
     {
-        self.ends.insert(grain, end)?;
+        self.ends.insert(grain, Some(end))?;
         Ok(())
+    }
+
+    /// Makes room for a grain's end, so that `raise` takes no memory. Changes no end, and takes no room away,
+    /// whether there was memory or not.
+    pub fn room(&mut self, grain: GrainId) -> Result<(), AllocError>
+        ensures made { OnOk result (has_room self.new grain ≡ true) }
+        ensures same { (other : GrainId) → end_in self.new other ≡ end_in self.old other }
+        ensures room { KeepsRoom self.old self.new }
+    {
+        if self.ends.contains_key(&grain) {
+            return Ok(());
+        }
+        self.ends.insert(grain, None)?;
+        Ok(())
+    }
+
+    /// Lets a grain's file end at the greater of the end that it has, if it has one, and this one. Takes no
+    /// memory.
+    pub fn raise(&mut self, grain: GrainId, end: u64)
+        requires { has_room self.old grain ≡ true }
+        ensures raised { RaisesEnd self.old self.new grain end }
+        ensures room { KeepsRoom self.old self.new }
+    {
+        if let Some(kept) = self.ends.get_mut(&grain) {
+            *kept = Some(later_end(*kept, end));
+        }
+    }
+}
+
+// The greater of an end that may be missing and this one.
+fn later_end(kept: Option<u64>, end: u64) -> u64
+    ensures { result ≡ later_end kept end }
+{
+    match kept {
+        Some(kept) => kept.max(end),
+        None => end,
     }
 }

@@ -1,4 +1,7 @@
-use crate::{Call, Ends, GrainId, List, Outcome, State, Store, TEXT_LIMIT, Text, Value};
+use crate::{
+    Call, Ends, Entry, GrainId, List, Outcome, Settled, State, Store, TEXT_LIMIT, Text, UnitNo,
+    Value,
+};
 use std::alloc::Global;
 use std::test::Fail;
 
@@ -65,5 +68,65 @@ fn a_store_gives_back_what_was_put_last(rt: HostRuntime) -> Result<(), Fail> {
     ends.put(grain, 19)?;
     assert_eq!(rt; ends.get(grain), Some(19));
     assert_eq!(rt; ends.get(GrainId { kind: 0, key: 2 }), None);
+    Ok(())
+}
+
+#[test]
+fn an_end_is_raised_and_never_lowered(rt: HostRuntime) -> Result<(), Fail> {
+    let grain = GrainId { kind: 2, key: 9 };
+    let mut ends = Ends::new(rt.alloc());
+    ends.room(grain)?;
+    assert_eq!(rt; ends.get(grain), None);
+    ends.raise(grain, 40);
+    assert_eq!(rt; ends.get(grain), Some(40));
+    ends.room(grain)?;
+    ends.raise(grain, 15);
+    assert_eq!(rt; ends.get(grain), Some(40));
+    ends.raise(grain, 59);
+    assert_eq!(rt; ends.get(grain), Some(59));
+    Ok(())
+}
+
+#[test]
+fn a_copied_entry_says_what_its_source_says(rt: HostRuntime) -> Result<(), Fail> {
+    let alloc = rt.alloc();
+    let by = UnitNo(3);
+    let grain = GrainId { kind: 0, key: 7 };
+    let entry = Entry {
+        line: 5,
+        unit: UnitNo(8),
+        what: Settled::Lock { by, grain },
+    };
+    let copy = entry.copy()?;
+    assert_eq!(rt; copy.line, 5);
+    assert_eq!(rt; copy.unit, UnitNo(8));
+    let Settled::Lock {
+        by: older,
+        grain: held,
+    } = copy.what
+    else {
+        return Err("no lock".into());
+    };
+    assert_eq!(rt; older, by);
+    assert_eq!(rt; held, grain);
+    Ok(())
+}
+
+#[test]
+fn a_copied_list_has_the_items_of_its_source(rt: HostRuntime) -> Result<(), Fail> {
+    let alloc = rt.alloc();
+    let grain = GrainId { kind: 1, key: 4 };
+    let mut state = State::new(alloc);
+    state.push(Value::Int(6))?;
+    let mut writes = List::new(alloc);
+    writes.push((grain, state))?;
+    let copy = writes.copy()?;
+    let written = copy.get(0).ok_or("no write")?;
+    assert_eq!(rt; copy.len(), 1);
+    assert_eq!(rt; written.0, grain);
+    assert!(rt; matches!(written.1.get(0), Some(Value::Int(6))));
+    let units = List::from_vec(vec![in alloc; UnitNo(4), UnitNo(2)]?);
+    let want = [UnitNo(4), UnitNo(2)];
+    assert!(rt; units.copied()?.as_slice() == want.as_slice());
     Ok(())
 }

@@ -19,8 +19,28 @@ AnswersExactly holds unit mode Free = (any (covers unit mode) holds ≡ false) �
 AnswersExactly holds unit mode (MustWait holder) = (any (covers unit mode) holds ≡ false) × IsOldestRival holds unit mode holder × (unit.0 < holder.0)
 AnswersExactly holds unit mode (MustDie holder) = (any (covers unit mode) holds ≡ false) × IsOldestRival holds unit mode holder × (holder.0 < unit.0)
 
+-- The newest version of the unit is the new bottom; all above it is kept, and nothing below it.
+pub record KeepsDownTo (unit : UnitNo) (stack kept : List Version) : Type 0 where
+  pub above : List Version
+  pub own : Version
+  pub below : List Version
+  pub split : stack ≡ above ++ own ∷ below
+  pub its : own.unit ≡ unit
+  pub newest : has_version unit above ≡ false
+  pub rest : kept ≡ above ++ own ∷ []
+
+-- The oldest version of the unit is taken off, and all above it; all below it is kept.
+pub record TakesOffFrom (unit : UnitNo) (stack kept : List Version) : Type 0 where
+  pub above : List Version
+  pub own : Version
+  pub split : stack ≡ above ++ own ∷ kept
+  pub its : own.unit ≡ unit
+  pub oldest : has_version unit kept ≡ false
+
 -- a stack where a unit's decision is learnt
 pub record StackFollows (unit : UnitNo) (stack : List Version) : Type 0 where
+  pub bottom : has_version unit stack ≡ true → KeepsDownTo unit stack (committed unit stack)
+  pub taken_off : has_version unit stack ≡ true → TakesOffFrom unit stack (removed unit stack)
   pub same_top : top (committed unit stack) ≡ top stack
   pub gone : has_version unit (removed unit stack) ≡ false
   pub strangers : has_version unit stack ≡ false → (committed unit stack ≡ stack) × (removed unit stack ≡ stack)

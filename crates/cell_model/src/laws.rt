@@ -8,7 +8,7 @@ ghost use Rattle.cell_model.specs.Decisions.{Prepared, decided};
 ghost use Rattle.cell_model.specs.Cells.{Cell, learned};
 ghost use Rattle.cell_model.specs.Laws.{AnswersExactly, StackFollows, LocksFollow, SourcesFollow, CommitsExactly, DecidesInOrder};
 
-/// What a commit keeps, what an abort takes off, and that strangers change nothing.
+/// What a commit keeps and which version is the bottom then, what an abort takes off, and that strangers change nothing.
 pub fn stacks_follow()
     ensures { (unit : UnitNo) (stack : List Version) → StackFollows unit stack }
 {}

@@ -1,5 +1,5 @@
 -- What the images are while a block is sealed, and after it.
-use Rattle.std.specs.Prelude.{◌≡◌, ℕ, ◌+◌, ◌^◌, ◌<◌, List, [], ◌∷◌, ◌++◌, length}
+use Rattle.std.specs.Prelude.{◌≡◌, ◌⊎◌, ℕ, ◌+◌, ◌^◌, ◌<◌, List, [], ◌∷◌, ◌++◌, length}
 use Rattle.host_trait.specs.declared.channels.FileId.{FileId}
 use Rattle.host_trait.specs.declared.channels.FileId.TheVariants.{Manager}
 use Rattle.host_trait.specs.Disk.{MayLeave, Tears, settled, overlaid}
@@ -9,7 +9,7 @@ use Rattle.host_trait.specs.Faults.{NoneFailed, FailedOn}
 use Rattle.host_trait.specs.World.{World, Passes}
 use Rattle.host_trait.specs.Runs.{RunsOnFile}
 use Rattle.gate_block.specs.Blocks.{block_of}
-use Rattle.gate_block.specs.Log.{EachLogs, EachLogsOrMore}
+use Rattle.gate_block.specs.Log.{EachLogs, SomeLogs, EachLogsOrMore}
 use Rattle.commit_log.specs.declared.gate.Sealing.{Sealing}
 use Rattle.commit_log.specs.declared.gate.Sealing.TheVariants.{Sealed, NotSealed, InDoubt}
 
@@ -40,6 +40,18 @@ abbrev pub LogsAs : Sealing → List (List ℕ) → List ℕ → ℕ → World �
 LogsAs (Sealed next) bodies body gate old new = EachLogs (bodies ++ body ∷ []) next manager new.disk
 LogsAs NotSealed bodies body gate old new = Passes (λ m. EachLogs bodies gate manager m.disk) old.past new.past × EachLogs bodies gate manager new.disk
 LogsAs InDoubt bodies body gate old new = EachLogsOrMore bodies body gate manager new.disk
+
+-- the gate was never written: at no moment has an image the body, and the block lasts behind the closed gate
+pub record StaysClosed (bodies : List (List ℕ)) (gate : ℕ) (block : List ℕ) (old new : World) : Type 0 where
+  pub moments : Passes (λ m. EachLogs bodies gate manager m.disk) old.past new.past
+  pub now : EachLogs bodies gate manager new.disk
+  pub lasts : new.disk manager ≡ settled (staged gate block old)
+
+-- In doubt, which of two it is: the gate was never written, or it may be open, and some image's log has the body.
+abbrev pub DoubtAs : Sealing → List (List ℕ) → List ℕ → ℕ → List ℕ → World → World → Type 0
+DoubtAs (Sealed next) bodies body gate block old new = Unit {0}
+DoubtAs NotSealed bodies body gate block old new = Unit {0}
+DoubtAs InDoubt bodies body gate block old new = StaysClosed bodies gate block old new ⊎ SomeLogs (bodies ++ body ∷ []) (gate + length block) manager new.disk
 
 -- Over every host. Sealed: the next gate is the block's last byte, and no call failed. Otherwise a call on the manager file did.
 abbrev pub HasCause : Sealing → ℕ → ℕ → (Channel → ℕ) → (Channel → ℕ) → Type 0

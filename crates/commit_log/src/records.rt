@@ -7,6 +7,13 @@ pub struct Written {
     pub place: Place,
 }
 
+/// A version that a record names: whose it is, the grain that it is of, and its place in the grain's file.
+#[derive(Clone, Copy, Debug, PartialEq, Eq)]
+pub struct Named {
+    pub unit: UnitNo,
+    pub written: Written,
+}
+
 /// A committed unit, as the log keeps it: its call, the answers to its nested calls, how it ended, which is no abort, and its
 /// writes in ascending grain order. There are at most 64 answers and 64 writes.
 #[derive(Drop)]

@@ -1,16 +1,16 @@
 -- The logs of the images of a moment, while a block is put behind a gate and the gate is opened.
-use Rattle.std.proofs.Common.{◌≡◌, ℕ, ◌+◌, ◌^◌, ◌<◌, List, [], ◌∷◌, ◌++◌, length, slice_index, take, drop, sym, ◌∙◌, ap, subst, arith, append_assoc, length-take, ◌≤◌}
+use Rattle.std.proofs.Common.{◌≡◌, ◌⊎◌, inl, inr, ℕ, ◌+◌, ◌^◌, ◌<◌, List, [], ◌∷◌, ◌++◌, length, slice_index, take, drop, sym, ◌∙◌, ap, subst, arith, append_assoc, length-take, ◌≤◌}
 use Rattle.host_trait.specs.declared.channels.FileId.{FileId}
-use Rattle.host_trait.specs.Disk.{FileState, MayLeave, Tears, settled, overlaid}
+use Rattle.host_trait.specs.Disk.{FileState, MayLeave, Tears, Pends, settled, overlaid}
 use Rattle.std.proofs.lemmas.Bool.{eq-eqb}
 use Rattle.std.proofs.lemmas.List.{get_or_at}
 use Rattle.host_trait.specs.World.{World, Moment, Passes}
-use Rattle.host_trait.specs.Runs.{ChangesFile, RunsOnFile}
+use Rattle.host_trait.specs.Runs.{ChangesFile, RunsOnFile, OnlyAsked, HasFailedWrite}
 use Rattle.host_trait.proofs.Moments.{weaker}
-use Rattle.host_trait.proofs.Crashes.{settled_only}
+use Rattle.host_trait.proofs.Crashes.{settled_only, Tears-overlaid, torn_may_stay}
 use Rattle.gate_block.specs.Gates.{IsClosedAt}
 use Rattle.gate_block.specs.Blocks.{block_of}
-use Rattle.gate_block.specs.Log.{LogsUpTo, EachClosed, EachOpen, EachLogs, EachLogsOrMore, IsStaged}
+use Rattle.gate_block.specs.Log.{LogsUpTo, EachClosed, EachOpen, EachLogs, SomeLogs, EachLogsOrMore, IsStaged}
 use Rattle.gate_block.proofs.Logs.{front_counts, still_closed, torn_gate, opened_gate}
 
 -- a gate that is closed in every image stays so while a block goes behind it
@@ -64,3 +64,23 @@ each_open file gate d new within opened c left =
     let size : length (take gate d) ≡ gate = omega (arith, length-take gate d, within) in
     let byte : slice_index whole gate ≡ 1 = ap (λ (l : List ℕ). slice_index l gate) (append_assoc (take gate d) (1 ∷ []) (drop (gate + 1) d)) ∙ get_or_at (take gate d) 1 (drop (gate + 1) d) 0 gate size in
     eq-eqb (slice_index c gate) 1 (ap (λ (l : List ℕ). slice_index l gate) is ∙ byte)
+
+-- what may be left of a staged file once the gate's byte is pending: the gate open, and so the body more
+pub some_more : (bodies : List (List ℕ)) (body front : List ℕ) (file : FileId) (gate : ℕ) (old new : World) → IsStaged bodies body gate front (old.disk file) → MayLeave (old.disk file) (old.disk file).seen
+    → Pends gate 1 (old.disk file) (new.disk file) → SomeLogs (bodies ++ body ∷ []) (gate + length (block_of body)) file new.disk
+some_more bodies body front file gate old new is here pends =
+    let staged : List ℕ = overlaid front (gate + 1) (block_of body) in
+    let seen : (old.disk file).seen ≡ staged = ap (λ (s : FileState). s.seen) is.there in
+    let torn : Tears (gate + 1) (length (block_of body)) front staged = Tears-overlaid (gate + 1) (block_of body) front (omega (arith, is.log.blocks.within)) in
+    let within : gate ≤ length staged = omega (arith, is.log.blocks.within, torn.no_shorter) in
+    record {
+      image = overlaid staged gate (1 ∷ []);
+      left = torn_may_stay gate 1 (old.disk file) (new.disk file) pends staged (overlaid staged gate (1 ∷ [])) (subst (MayLeave (old.disk file)) seen here) (Tears-overlaid gate (1 ∷ []) staged within);
+      logs = opened_gate bodies gate front body is.log is.small;
+    }
+
+-- the same of a gate write that failed
+pub doubted_run : (bodies : List (List ℕ)) (body front : List ℕ) (file : FileId) (gate : ℕ) (old new : World) → HasFailedWrite file gate 1 old new → MayLeave (old.disk file) (old.disk file).seen
+    → IsStaged bodies body gate front (old.disk file) → OnlyAsked old new ⊎ SomeLogs (bodies ++ body ∷ []) (gate + length (block_of body)) file new.disk
+doubted_run bodies body front file gate old new (inl unbegun) here is = inl unbegun
+doubted_run bodies body front file gate old new (inr pends) here is = inr (some_more bodies body front file gate old new is here pends)

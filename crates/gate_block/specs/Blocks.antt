@@ -1,5 +1,5 @@
 -- What stands behind a gate.
-use Rattle.std.specs.Prelude.{ℕ, ◌+◌, nat_lt, if◌then◌else◌, List, [], ◌∷◌, ◌++◌, length, take, drop}
+use Rattle.std.specs.Prelude.{◌≡◌, ℕ, ◌+◌, ◌^◌, ◌<◌, nat_lt, if◌then◌else◌, List, [], ◌∷◌, ◌++◌, length, take, drop}
 use Rattle.std.specs.Int.{w32, to_le_bytes, from_le_bytes}
 use Rattle.gate_block.specs.Gates.{is_open_at}
 
@@ -22,6 +22,12 @@ found_at gate file = if is_open_at gate file
 -- the bytes that go behind a closed gate: the body's length, the body, and the closed gate of the next block
 abbrev pub block_of : List ℕ → List ℕ
 block_of body = to_le_bytes w32 (length body) ++ (body ++ 0 ∷ [])
+
+-- these bytes are the block of a body
+pub record IsBlockOfBody (bytes : List ℕ) : Type 0 where
+  pub body : List ℕ
+  pub small : length body < 2 ^ 32
+  pub is : bytes ≡ block_of body
 
 -- an open gate and the block behind it, up to the next gate
 abbrev pub block_at : List ℕ → List ℕ

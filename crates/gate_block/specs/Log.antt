@@ -77,6 +77,12 @@ EachOpen gate file disk = (c : List ℕ) → MayLeave (disk file) c → IsTrue (
 abbrev pub EachLogs : List (List ℕ) → ℕ → FileId → Disk → Type 0
 EachLogs bodies gate file disk = (c : List ℕ) → MayLeave (disk file) c → LogsUpTo bodies gate c
 
+-- some image of this file has this log, which ends at this gate
+pub record SomeLogs (bodies : List (List ℕ)) (gate : ℕ) (file : FileId) (disk : Disk) : Type 0 where
+  pub image : List ℕ
+  pub left : MayLeave (disk file) image
+  pub logs : LogsUpTo bodies gate image
+
 -- each image of this file has this log, or it with one body more
 abbrev pub EachLogsOrMore : List (List ℕ) → List ℕ → ℕ → FileId → Disk → Type 0
 EachLogsOrMore bodies body gate file disk =

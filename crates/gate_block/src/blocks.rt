@@ -1,15 +1,15 @@
-ghost use Rattle.std.specs.Prelude.{◌≡◌, ◌≢◌, ◌+◌, ◌-◌, ◌^◌, ◌<◌, ◌≤◌, ◌==◌, ◌∷◌, ◌++◌, [], ℕ, List, Bool, true, false, IsTrue, IsOk, length, take, drop, slice_index, IfOk, OnOk, IfErr, IfSome, IfNone, MatchOption, IsErrOf};
+ghost use Rattle.std.specs.Prelude.{◌≡◌, ◌≢◌, ◌⊎◌, ◌+◌, ◌-◌, ◌^◌, ◌<◌, ◌≤◌, ◌==◌, ◌∷◌, ◌++◌, [], ℕ, List, Bool, true, false, IsTrue, IsOk, length, take, drop, slice_index, IfOk, OnOk, OnErr, IfErr, IfSome, IfNone, MatchOption, IsErrOf};
 ghost use Rattle.std.specs.Int.{w32, to_le_bytes};
 ghost use Rattle.host_trait.specs.Disk.{Tears, overlaid, settled};
 ghost use Rattle.host_trait.specs.Files.{MayAsk, StaysReady, IsManager};
 ghost use Rattle.host_trait.specs.World.{Passes};
-ghost use Rattle.host_trait.specs.Runs.{RunsOnFile, OnlyAsked};
+ghost use Rattle.host_trait.specs.Runs.{RunsOnFile, OnlyAsked, HasFailedWrite};
 ghost use Rattle.host_trait.specs.Faults.{Counted, NoneFailed};
 ghost use Rattle.host_trait.specs.declared.channels.Channel.TheVariants.{File};
 ghost use Rattle.gate_block.specs.Gates.{IsClosedAt, is_open_at};
 ghost use Rattle.gate_block.specs.Blocks.{found_at, shut, bad, whole, block_of, block_at};
 ghost use Rattle.gate_block.specs.Counts.{BlockFaulted};
-ghost use Rattle.gate_block.specs.Log.{EachClosed, EachOpen, EachLogs, EachLogsOrMore, IsStaged};
+ghost use Rattle.gate_block.specs.Log.{EachClosed, EachOpen, EachLogs, SomeLogs, EachLogsOrMore, IsStaged};
 ghost use Rattle.gate_block.specs.declared.faults.BlockFault.{BlockFault};
 
 use crate::faults::BlockFault;
@@ -56,7 +56,8 @@ pub fn append_closed<H: Host>(
 }
 
 /// Opens the gate at `gate_at`, by one write of that byte alone and one sync. What is behind it counts from then on, so it has
-/// to last by then. Before the sync, and after a failure, the gate's byte may be any byte in an image.
+/// to last by then. Before the sync, and after a failure, the gate's byte may be any byte in an image. After a failure the write
+/// never began, and all is as it was; or the byte is pending still, and a crash may leave the gate open.
 pub fn open_gate<H: Host>(host: &mut H, file: FileId, gate_at: u64) -> Result<(), Failed>
     requires file { MayAsk (H.is_ready host.old) file }
     requires manager { IsManager file }
@@ -81,6 +82,11 @@ pub fn open_gate<H: Host>(host: &mut H, file: FileId, gate_at: u64) -> Result<()
         → Passes (λ m. EachLogsOrMore bodies body gate_at file m.disk) (H.world host.old).past (H.world host.new).past }
     ensures logged { OnOk result (IsTrue H.tells → (bodies : List (List ℕ)) (body front : List ℕ) → IsStaged bodies body gate_at front ((H.world host.old).disk file)
         → EachLogs (bodies ++ body ∷ []) (gate_at + length (block_of body)) file (H.world host.new).disk) }
+
+    // After a failure the write never began, or some image has the body more.
+    ensures left { OnErr result (IsTrue H.tells → HasFailedWrite file gate_at 1 (H.world host.old) (H.world host.new)) }
+    ensures doubted { OnErr result (IsTrue H.tells → (bodies : List (List ℕ)) (body front : List ℕ) → IsStaged bodies body gate_at front ((H.world host.old).disk file)
+        → OnlyAsked (H.world host.old) (H.world host.new) ⊎ SomeLogs (bodies ++ body ∷ []) (gate_at + length (block_of body)) file (H.world host.new).disk) }
 
     ensures faults { Counted (File file) result (H.faults host.old) (H.faults host.new) }
     ensures ready { StaysReady (H.is_ready host.old) (H.is_ready host.new) }
@@ -153,6 +159,9 @@ fn read_body<H: Host>(
 
 /// Reads the body of the block behind the gate at `gate_at`, and changes no file. `None` exactly where the gate isn't open.
 /// `BadLength` names the place of the length field. After a body the next gate stands 5 bytes and the body's length on.
+///
+/// It takes as much memory as the length field says, once the file is seen to be that long: up to 4 GiB, in a file with a hole
+/// too.
 pub fn read_block<H: Host>(
     alloc: Global,
     host: &mut H,

@@ -12,7 +12,7 @@ pub enum BlockFault {
     /// doesn't fit in the file.
     #[error("the block at {place} isn't whole")]
     BadLength { place: u64 },
-    /// There was no memory for the body.
+    /// Out of memory: no call on the file had failed. That an allocation failed, no contract can say.
     #[error("out of memory")]
     Memory,
 }

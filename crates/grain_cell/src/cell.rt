@@ -1,11 +1,12 @@
-ghost use Rattle.std.specs.Prelude.{◌≡◌, ◌<◌, ◌≤◌, ◌+◌, Bool, true, reverse, IsSome, IfOk, OnOk, OnErr, vec_len, vec_capacity};
+ghost use Rattle.std.specs.Prelude.{◌≡◌, ◌<◌, ◌≤◌, ◌+◌, ◌-◌, Bool, true, reverse, IsSome, IfOk, OnOk, OnErr, vec_len, vec_capacity};
 ghost use Rattle.std.specs.List.{list_any};
 ghost use Rattle.cell_model.specs.declared.locks.Ask.TheVariants.{Free};
 ghost use Rattle.base_types.specs.declared.calls.Mode.TheVariants.{Update};
 ghost use Rattle.cell_model.specs.Stacks.{top};
 ghost use Rattle.cell_model.specs.Locks.{ask, covers, holds_lock};
 ghost use Rattle.cell_model.specs.Cells.{opened, granted, released, learned, learnt, stacked, is_reading_of, with_reading, without_reading};
-ghost use Rattle.grain_cell.specs.Room.{needs, was_read};
+ghost use Rattle.rw_locks.specs.Locked.{holds_alone};
+ghost use Rattle.grain_cell.specs.Room.{needs, was_read, without_aborted};
 
 use base_types::{Mode, State, UnitNo, Version};
 use cell_model::{Ask, Reading};
@@ -14,7 +15,8 @@ use std::alloc::{AllocError, Global};
 use std::marker::Model;
 use version_stack::Stack;
 
-/// What stands of one grain in memory: its versions, its locks, and what each holder read.
+/// What stands of one grain in memory: its versions, its locks, and what each holder read. Contracts see the
+/// model's cell, with the spare: how many more locks fit without memory.
 #[derive(Drop)]
 pub struct Cell {
     stack: Stack,
@@ -23,13 +25,12 @@ pub struct Cell {
 }
 
 impl Model for Cell {
-    ghost use Rattle.std.specs.Prelude.{◌≤◌};
-    ghost use Rattle.cell_model.specs.Cells.{Cell as ModelCell};
-    ghost use Rattle.grain_cell.specs.Room.{updates};
+    ghost use Rattle.std.specs.Prelude.{◌≤◌, ◌-◌, min, vec_len, vec_capacity};
+    ghost use Rattle.grain_cell.specs.Room.{CellInRoom, updates};
 
-    ghost Value = { ModelCell };
+    ghost Value = { CellInRoom };
 
-    ghost view = { λ c. record { stack = c.stack.versions; holds = c.locks.holds; readings = c.readings.items } };
+    ghost view = { λ c. record { cell = record { stack = c.stack.versions; holds = c.locks.holds; readings = c.readings.items }; spare = min c.stack.spare (min c.locks.spare (vec_capacity c.readings - vec_len c.readings)) } };
 
     // Each unit that may write has room for its version.
     ghost invariant = { λ c. updates c.locks.holds ≤ c.stack.spare };
@@ -45,7 +46,7 @@ pub struct Granted {
 impl Cell {
     /// The cell of a grain that nobody has written.
     pub fn new(alloc: Global, opening: State) -> Result<Cell, AllocError>
-        ensures { IfOk result (λ made. made ≡ opened opening) }
+        ensures { IfOk result (λ made. made.cell ≡ opened opening) }
     {
         let stack = Stack::new(alloc, opening)?;
         let locks = LockTable::new(alloc)?;
@@ -58,43 +59,105 @@ impl Cell {
 
     /// The answer to a unit that asks for the grain's lock in that mode.
     pub fn ask(&self, unit: UnitNo, mode: Mode) -> Ask
-        ensures { result ≡ ask self.now.holds unit mode }
+        ensures { result ≡ ask self.now.cell.holds unit mode }
     {
         self.locks.ask(unit, mode)
+    }
+
+    /// Whether the unit has a lock of the grain, in any mode.
+    pub fn is_held_by(&self, unit: UnitNo) -> bool
+        ensures { result ≡ holds_lock unit self.now.cell.holds }
+    {
+        self.locks.is_held_by(unit)
+    }
+
+    /// Whether the unit has the grain alone.
+    pub fn is_held_alone_by(&self, unit: UnitNo) -> bool
+        ensures { result ≡ holds_alone unit self.now.cell.holds }
+    {
+        self.locks.is_held_alone_by(unit)
+    }
+
+    /// The unit that wrote the newest version, 0 where that is the opening state.
+    pub fn top_unit(&self) -> UnitNo
+        ensures { result ≡ (top self.now.cell.stack).unit }
+    {
+        self.stack.top().0
     }
 
     /// The versions, oldest first. Whoever grants a lock first takes off those of decided aborted units, by
     /// `learn` of the oldest of their writers (`learning_cleans`).
     pub fn versions(&self) -> &[Version]
-        ensures { result.now ≡ reverse self.now.stack }
+        ensures { result.now ≡ reverse self.now.cell.stack }
     {
         self.stack.versions()
     }
 
-    /// Gives the unit the lock, and answers the newest version. At the unit's first lock of the grain that
-    /// is what it reads. Makes the room of its `release`. Without memory the cell stays as it was.
-    pub fn grant(&mut self, unit: UnitNo, mode: Mode) -> Result<Granted, AllocError>
-        requires { ask self.old.holds unit mode ≡ Free }
-        ensures locks { OnOk result (self.new ≡ granted self.old unit mode) }
-        ensures finds { IfOk result (λ found. record { unit = found.source; state = found.state } ≡ top self.old.stack) }
-        ensures kept { OnErr result (self.new ≡ self.old) }
+    /// What a unit would find that is granted a lock once this aborted unit's version, where one is named, is
+    /// taken off with all above it. Changes nothing.
+    pub fn top_over(&self, aborted: Option<UnitNo>) -> Result<Granted, AllocError>
+        ensures { IfOk result (λ found. record { unit = found.source; state = found.state } ≡ top (without_aborted aborted self.now.cell.stack)) }
+    {
+        match aborted {
+            None => {
+                let (source, state) = self.stack.top();
+                found_at(source, state)
+            }
+            Some(unit) => {
+                let (source, state) = self.stack.top_without(unit);
+                found_at(source, state)
+            }
+        }
+    }
+
+    /// Makes the spare at least 1, which is the room of a `lock` and of its `release`. The cell stands for the
+    /// same, whether there was memory or not.
+    pub fn reserve(&mut self) -> Result<(), AllocError>
+        ensures same { self.new.cell ≡ self.old.cell }
+        ensures ok { OnOk result (0 < self.new.spare) }
+        ensures spare { self.old.spare ≤ self.new.spare }
     {
         self.stack.reserve()?;
         self.locks.reserve()?;
-        self.readings.reserve(1)?;
-        let (source, state) = self.stack.top();
-        let state = state.copy()?;
+        self.readings.reserve(1)
+    }
+
+    /// Gives the unit the lock. At its first lock of the grain the newest version is what it reads. Takes no
+    /// memory.
+    pub fn lock(&mut self, unit: UnitNo, mode: Mode)
+        requires free { ask self.old.cell.holds unit mode ≡ Free }
+        requires room { 0 < self.old.spare }
+        ensures locks { self.new.cell ≡ granted self.old.cell unit mode }
+        ensures spare { self.old.spare ≤ self.new.spare + 1 }
+    {
+        let (source, _) = self.stack.top();
         self.locks.grant(unit, mode);
         add_reading(&mut self.readings, unit, source);
-        Ok(Granted { state, source })
+    }
+
+    /// Gives the unit the lock, and answers the newest version. At the unit's first lock of the grain that
+    /// is what it reads. Makes the room of its `release`. Without memory the cell stays as it was.
+    ///
+    /// Where versions of aborted units are to be taken off first, a grant goes step by step, so that want of
+    /// memory leaves the stack as it was: `reserve`, `top_over`, `learn`, `lock`.
+    pub fn grant(&mut self, unit: UnitNo, mode: Mode) -> Result<Granted, AllocError>
+        requires { ask self.old.cell.holds unit mode ≡ Free }
+        ensures locks { OnOk result (self.new.cell ≡ granted self.old.cell unit mode) }
+        ensures finds { IfOk result (λ found. record { unit = found.source; state = found.state } ≡ top self.old.cell.stack) }
+        ensures kept { OnErr result (self.new.cell ≡ self.old.cell) }
+    {
+        self.reserve()?;
+        let found = self.top_over(None)?;
+        self.lock(unit, mode);
+        Ok(found)
     }
 
     /// Gives the unit's new state, if it has one, and its lock back. The state goes on top, unless the
     /// version that the unit read was taken off since. Takes no memory.
     pub fn release(&mut self, unit: UnitNo, new: Option<State>)
-        requires holds { holds_lock unit self.old.holds ≡ true }
-        requires writes { IsSome new → list_any (covers unit Update) self.old.holds ≡ true }
-        ensures { self.new ≡ released self.old unit new }
+        requires holds { holds_lock unit self.old.cell.holds ≡ true }
+        requires writes { IsSome new → list_any (covers unit Update) self.old.cell.holds ≡ true }
+        ensures { self.new.cell ≡ released self.old.cell unit new }
     {
         self.locks.drop_lock(unit);
         put_new(&mut self.stack, &self.readings, unit, new);
@@ -103,12 +166,21 @@ impl Cell {
 
     /// The unit's decision is known. Where it has committed, what stands under its version goes; where it
     /// has aborted, its version goes with all above it. Learning it twice is learning it once. Takes no
-    /// memory.
+    /// memory, and leaves the room.
     pub fn learn(&mut self, unit: UnitNo, committed: bool)
-        ensures { self.new ≡ learned self.old unit committed }
+        ensures learns { self.new.cell ≡ learned self.old.cell unit committed }
+        ensures spare { self.old.spare ≤ self.new.spare }
     {
         settle(&mut self.stack, unit, committed);
     }
+}
+
+// What a unit finds where the newest version is that unit's, with that state.
+fn found_at(source: UnitNo, state: &State) -> Result<Granted, AllocError>
+    ensures { IfOk result (λ found. (found.source ≡ source) × (found.state ≡ state.now)) }
+{
+    let state = state.copy()?;
+    Ok(Granted { state, source })
 }
 
 // Drops from the stack what the decision of the unit takes off.
@@ -150,7 +222,8 @@ fn has_read(readings: &[Reading], unit: UnitNo, source: UnitNo) -> bool
 // Notes what the unit read, where it has no reading of the grain.
 fn add_reading(readings: &mut Vec<Reading>, unit: UnitNo, source: UnitNo)
     requires { vec_len readings.old < vec_capacity readings.old }
-    ensures { readings.new.items ≡ with_reading readings.old.items unit source }
+    ensures items { readings.new.items ≡ with_reading readings.old.items unit source }
+    ensures spare { vec_capacity readings.old - vec_len readings.old ≤ (vec_capacity readings.new - vec_len readings.new) + 1 }
 {
     if has_reading(readings, unit) {
         return;

@@ -1,6 +1,7 @@
 -- What is read at a place of a grain's file: the version, or the offset at which the file is damaged.
-use Rattle.std.specs.Prelude.{◌≡◌, ℕ, ◌+◌, ◌-◌, List, length, take, drop, Bool, true, Option, Some, None, Result, Ok, Err, nat_lt, ◌||◌, if◌then◌else◌, slice_get}
-use Rattle.std.specs.Int.{w64}
+use Rattle.std.specs.Prelude.{◌≡◌, ℕ, ◌+◌, ◌-◌, List, length, take, drop, Bool, true, Option, Some, None, Result, Ok, Err, nat_lt, ◌||◌, if◌then◌else◌, slice_get, bytes_eq}
+use Rattle.std.specs.Int.{w64, to_le_bytes}
+use Rattle.base_types.specs.declared.calls.UnitNo.{UnitNo}
 use Rattle.base_types.specs.declared.shapes.Shape.{Shape}
 use Rattle.base_types.specs.declared.shapes.TypeShape.{TypeShape}
 use Rattle.base_types.specs.declared.stores.Place.{Place}
@@ -55,6 +56,15 @@ text_in fields place file = if nat_lt (length file - place.offset) place.len the
 abbrev pub version_at_place : Option ℕ → Place → List ℕ → Result Version ℕ
 version_at_place None place file = Err place.offset
 version_at_place (Some fields) place file = if is_beyond place then Err place.offset else text_in fields place file
+
+-- the eight bytes at the place are the unit's number
+abbrev pub is_owned : UnitNo → Place → List ℕ → Bool
+is_owned unit place file = bytes_eq (take 8 (drop place.offset file)) (to_le_bytes w64 unit.0)
+
+-- The version of this unit at a place of a file, or where the file is damaged: at the offset, where the version is another
+-- unit's.
+abbrev pub owned_version : Option ℕ → UnitNo → Place → List ℕ → Result Version ℕ
+owned_version fields unit place file = if is_owned unit place file then version_at_place fields place file else Err place.offset
 
 -- the answer is what stands there, unless a call failed or memory ran out
 abbrev pub GivesVersion : Result Version VersionFault → Result Version ℕ → Type 0

@@ -8,5 +8,5 @@ mod reading;
 mod writing;
 
 pub use faults::{LogFault, VersionFault};
-pub use reading::read_version;
+pub use reading::{read_named, read_version};
 pub use writing::write_versions;

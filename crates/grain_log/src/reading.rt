@@ -1,11 +1,12 @@
-ghost use Rattle.std.specs.Prelude.{◌≡◌, ◌+◌, ◌-◌, ◌^◌, ◌<◌, ◌≤◌, ℕ, List, IsTrue, true, length, take, drop, Some, Ok, OnOk, IfOk, IfErr, IfSome, IfNone, IsErrOf};
+ghost use Rattle.std.specs.Prelude.{◌≡◌, ◌+◌, ◌-◌, ◌^◌, ◌<◌, ◌≤◌, ℕ, List, IsTrue, true, false, length, take, drop, Some, Ok, OnOk, IfOk, IfErr, IfSome, IfNone, IsErrOf};
+ghost use Rattle.std.specs.Int.{w64, to_le_bytes};
 ghost use Rattle.host_trait.specs.Faults.{NoneFailed};
 ghost use Rattle.host_trait.specs.Files.{HasSlot, StaysReady};
 ghost use Rattle.host_trait.specs.Runs.{OnlyAsked};
 ghost use Rattle.field_codec.specs.Results.{Gives, named_place, place_of};
 ghost use Rattle.grain_log.specs.Counts.{ReadFaulted};
 ghost use Rattle.grain_log.specs.Places.{IsVersionOf, IsVersionIn, IsVersionAt};
-ghost use Rattle.grain_log.specs.Reads.{fields_in, version_in, version_of, is_beyond, in_file, damage_at, version_at_place, GivesVersion, IsImpossible};
+ghost use Rattle.grain_log.specs.Reads.{fields_in, version_in, version_of, is_beyond, in_file, damage_at, version_at_place, owned_version, GivesVersion, IsImpossible};
 ghost use Rattle.field_codec.specs.Reading.{AreBytes};
 ghost use Rattle.grain_log.specs.declared.faults.VersionFault.{VersionFault as Fault};
 ghost use Rattle.base_types.specs.declared.stores.Version.{Version as AVersion};
@@ -35,6 +36,14 @@ fn is_beyond(place: Place) -> bool
     ensures { result ≡ is_beyond place }
 {
     place.offset > 9223372036854775807 || place.len > 4154
+}
+
+// Whether a place ends below 2 to the 63.
+fn is_near(place: Place) -> bool
+    ensures near { result ≡ true → place.offset + place.len < 2 ^ 63 }
+    ensures far { result ≡ false → 2 ^ 63 ≤ place.offset + place.len }
+{
+    place.offset < 9223372036854775808 - place.len as u64
 }
 
 // The version that stands at a place.
@@ -106,6 +115,17 @@ fn decode_at(
     }
 }
 
+// Whether a text begins with a unit's number.
+fn begins_with(text: &[u8], unit: UnitNo) -> bool
+    ensures yes { result ≡ true → take 8 text.now ≡ to_le_bytes w64 unit.0 }
+    ensures no { result ≡ false → take 8 text.now ≡ to_le_bytes w64 unit.0 → ⊥ }
+{
+    match text.split_first_chunk::<8>() {
+        Some((first, _)) => *first == unit.0.to_le_bytes(),
+        None => false,
+    }
+}
+
 // The bytes at a place, none where the file ends before them.
 fn read_text<H: Host>(
     alloc: Global,
@@ -113,10 +133,12 @@ fn read_text<H: Host>(
     file: FileId,
     place: Place,
 ) -> Result<Option<Vec<u8>>, VersionFault>
-    requires { HasSlot file }
+    requires slot { HasSlot file }
+    requires offset { place.offset < 2 ^ 63 }
     ensures some { IfOk result (λ found. IsTrue H.tells → IfSome found (λ text.
         (place.len ≤ length ((H.world host.old).disk file).seen - place.offset) × (text.items ≡ take place.len (drop place.offset ((H.world host.old).disk file).seen)))) }
     ensures len { IfOk result (λ found. IfSome found (λ text. length text.items ≡ place.len)) }
+    ensures near { IfOk result (λ found. IfSome found (λ _. place.offset + place.len < 2 ^ 63)) }
     ensures none { IfOk result (λ found. IsTrue H.tells → IfNone found (length ((H.world host.old).disk file).seen - place.offset < place.len)) }
     ensures bad { (at : ℕ) → IsErrOf result (Fault.Damaged at) → ⊥ }
     ensures asked { IsTrue H.tells → OnlyAsked (H.world host.old) (H.world host.new) }
@@ -127,6 +149,11 @@ fn read_text<H: Host>(
     ensures ready { StaysReady (H.is_ready host.old) (H.is_ready host.new) }
 {
     host.ready(file)?;
+    // No file is longer, so a place that ends beyond isn't in it: the host's own word for that is its length.
+    if !is_near(place) {
+        host.length(file)?;
+        return Ok(None);
+    }
     let mut text = vec![in alloc; 0u8; place.len as usize]?;
     if !read_full(host, file, place.offset, &mut text)? {
         return Ok(None);
@@ -151,6 +178,7 @@ fn read_there<H: Host>(
     ensures impossible { IsImpossible (fields_in shape.now file) place → host.new ≡ host.old }
     ensures refused { IsImpossible (fields_in shape.now file) place → IsErrOf result (Fault.Damaged place.offset) }
     ensures shaped { IfOk result (λ version. IsVersionIn (fields_in shape.now file) place.len version) }
+    ensures near { OnOk result (place.offset + place.len < 2 ^ 63) }
     ensures asked { IsTrue H.tells → OnlyAsked (H.world host.old) (H.world host.new) }
     ensures calm { OnOk result (NoneFailed (H.faults host.old) (H.faults host.new)) }
     ensures fault { IfErr result (λ e. ReadFaulted file e (H.faults host.old) (H.faults host.new)) }
@@ -174,7 +202,7 @@ fn read_there<H: Host>(
     Ok(version)
 }
 
-/// Reads the version at a place of a grain's file, by one read, and changes no file. `Damaged` comes exactly where no version of
+/// Reads the version at a place of a grain's file, by one read, whosever it is, and changes no file. `Damaged` comes exactly where no version of
 /// the grain's type stands there with that length: at the first field that can't be read; at the first byte behind the
 /// version; at the place's offset where the place doesn't lie in the file, or is longer than any version, or begins at 2 to
 /// the 63 or beyond, or where the program has no such type. In the last three cases no host call is made.
@@ -199,8 +227,9 @@ pub fn read_version<H: Host>(
     ensures impossible { IsImpossible (fields_in shape.now file) place → host.new ≡ host.old }
     ensures refused { IsImpossible (fields_in shape.now file) place → IsErrOf result (Fault.Damaged place.offset) }
 
-    // Over every host: the version is of the grain's type, and as long as the place.
+    // Over every host: the version is of the grain's type, and as long as the place, which ends below 2 to the 63.
     ensures shaped { IfOk result (λ version. IsVersionIn (fields_in shape.now file) place.len version) }
+    ensures near { OnOk result (place.offset + place.len < 2 ^ 63) }
     ensures asked { IsTrue H.tells → OnlyAsked (H.world host.old) (H.world host.new) }
 
     // No count changes unless the answer is `Failed`; then the file's rose, and no other changed.
@@ -213,4 +242,57 @@ pub fn read_version<H: Host>(
     ensures ready { StaysReady (H.is_ready host.old) (H.is_ready host.new) }
 {
     read_there(alloc, host, file, place, shape)
+}
+
+/// Reads the version that a unit's record names at a place of a grain's file, by one read, and changes no file. `Damaged` comes
+/// exactly where no version of that unit and of the grain's type stands there with that length: at the place's offset where the
+/// eight bytes there aren't the unit's number, and else where [`read_version`] says.
+pub fn read_named<H: Host>(
+    alloc: Global,
+    host: &mut H,
+    file: FileId,
+    unit: UnitNo,
+    place: Place,
+    shape: &Shape,
+) -> Result<Version, VersionFault>
+    requires { HasSlot file }
+
+    // It answers the unit's version exactly where one stands, and else the first place that is damaged.
+    ensures exact { IsTrue H.tells → GivesVersion result (owned_version (fields_in shape.now file) unit place ((H.world host.old).disk file).seen) }
+
+    // Where no version can stand there it is damaged at its offset, and the host is as before.
+    ensures impossible { IsImpossible (fields_in shape.now file) place → host.new ≡ host.old }
+    ensures refused { IsImpossible (fields_in shape.now file) place → IsErrOf result (Fault.Damaged place.offset) }
+
+    // Over every host: the version is of the grain's type, and as long as the place, which ends below 2 to the 63.
+    ensures shaped { IfOk result (λ version. IsVersionIn (fields_in shape.now file) place.len version) }
+    ensures near { OnOk result (place.offset + place.len < 2 ^ 63) }
+    ensures asked { IsTrue H.tells → OnlyAsked (H.world host.old) (H.world host.new) }
+
+    // No count changes unless the answer is `Failed`; then the file's rose, and no other changed.
+    ensures calm { OnOk result (NoneFailed (H.faults host.old) (H.faults host.new)) }
+    ensures fault { IfErr result (λ e. ReadFaulted file e (H.faults host.old) (H.faults host.new)) }
+
+    // The file is ready once a version was read, or a call on it failed.
+    ensures readied { OnOk result (IsTrue (H.is_ready host.new file)) }
+    ensures failed { IsErrOf result Fault.Failed → IsTrue (H.is_ready host.new file) }
+    ensures ready { StaysReady (H.is_ready host.old) (H.is_ready host.new) }
+{
+    let damaged = VersionFault::Damaged {
+        place: place.offset,
+    };
+    let Some(fields) = fields_in(shape, file) else {
+        return Err(damaged);
+    };
+    if is_beyond(place) {
+        return Err(damaged);
+    }
+    let Some(text) = read_text(alloc, host, file, place)? else {
+        return Err(damaged);
+    };
+    if !begins_with(&text, unit) {
+        return Err(damaged);
+    }
+    let version = decode_at(alloc, place.offset, &text, fields)?;
+    Ok(version)
 }

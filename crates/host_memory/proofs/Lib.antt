@@ -3,3 +3,4 @@ pub mod Counting
 pub mod Worlds
 pub mod SeenFiles
 pub mod Drawing
+pub mod Failing

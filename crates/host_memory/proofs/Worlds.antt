@@ -12,7 +12,7 @@ use Rattle.host_trait.proofs.Crashes.{Tears-refl, Tears-overlaid}
 use Rattle.host_memory.specs.declared.events.Event.{Event}
 use Rattle.host_memory.specs.declared.events.Event.TheVariants as event
 use Rattle.host_memory.specs.declared.events.Noted.{Noted}
-use Rattle.host_memory.specs.Replay.{is_on, changed, state_step, written_step, output_step, syncs_step, after_all, after_some, state_of, written_by, output_of, syncs_of, state_at, moment_at, moments_of, world_of, are_by, AreBy}
+use Rattle.host_memory.specs.Replay.{is_on, changed, state_step, written_step, output_step, syncs_step, after_all, after_some, state_of, written_by, output_of, syncs_of, state_at, moment_at, moments_of, world_of, are_by, AreBy, IsTorn}
 
 pub after_all-push : {S : Type 0} (step : Event → S → S) (s : S) (events : List Noted) (e : Noted) → after_all step s (events ++ e ∷ []) ≡ step e.event (after_all step s events)
 after_all-push step s [] e = refl
@@ -157,6 +157,11 @@ module _ (input : List ℕ) (events : List Noted) (call : ℕ) (clock : AreBy (2
         syncs = syncs_on e;
         past = inl (event_ticks e);
       }
+
+  pub torn : (file : FileId) (at len : ℕ) → IsTorn at len (state_of events file) (state_of (events ++ (record { stamp = 2 * (call + 1); event = event.Tore file at len }) ∷ []) file)
+  torn file at len =
+      subst (λ (s : FileState). IsTorn at len (state_of events file) s) (sym (on_file (event.Tore file at len) file (same_file-refl file)))
+      (record { pends = record { base = refl; ranges = refl; longest = refl }; seen = refl })
 
   pub one_torn : (file : FileId) (at len : ℕ) → Written file at len (world_of input events call) (world_of input (events ++ (record { stamp = 2 * (call + 1); event = event.Tore file at len }) ∷ []) (call + 1))
   one_torn file at len =

@@ -8,3 +8,4 @@ pub mod Drafts
 pub mod Bytes
 pub mod Drawings
 pub mod Shown
+pub mod Failures

@@ -5,13 +5,18 @@
 use Rattle.std.specs.Prelude.{◌≡◌, ℕ, zero, suc, ◌+◌, ◌*◌, nat_le, Bool, true, false, if◌then◌else◌, ◌||◌, ◌&&◌, IsTrue, List, [], ◌∷◌, ◌++◌, length, max}
 use Rattle.host_trait.specs.declared.channels.FileId.{FileId}
 use Rattle.host_trait.specs.Files.{same_file}
-use Rattle.host_trait.specs.Disk.{FileState, overlaid, settled, after_sync}
+use Rattle.host_trait.specs.Disk.{FileState, Pends, overlaid, settled, after_sync}
 use Rattle.host_trait.specs.World.{Moment, World}
 use Rattle.host_memory.specs.declared.events.Event.{Event}
 use Rattle.host_memory.specs.declared.events.Event.TheVariants.{Emitted, Wrote, Tore, Synced, Put}
 use Rattle.host_memory.specs.declared.events.Noted.{Noted}
 use Rattle.host_memory.specs.declared.files.Stored.{Stored}
 use Rattle.host_memory.specs.Table.{bytes_in, written_in}
+
+-- what a write that failed after it began makes of its file: its range is pending, and a read gives what it gave
+pub record IsTorn (at n : ℕ) (old new : FileState) : Type 0 where
+  pub pends : Pends at n old new
+  pub seen : new.seen ≡ old.seen
 
 -- whether an event is about this file
 abbrev pub is_on : FileId → Event → Bool

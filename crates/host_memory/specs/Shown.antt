@@ -39,9 +39,16 @@ planned_in h = h.plan.faults.items
 abbrev pub ready_in : MemoryHost → FileId → Bool
 ready_in h = is_kept h.files.items
 
+-- whether no call is left before the stop, and whether the next call of this kind on this channel is planned to fail
+abbrev pub is_stopped : MemoryHost → Bool
+is_stopped h = left_in h == 0
+
+abbrev pub is_planned : MemoryHost → CallKind → Channel → Bool
+is_planned h what channel = list_any (is_due what channel) (planned_in h)
+
 -- whether the next call of this kind on this channel is one that fails as planned, or comes after the stop
 abbrev pub is_named : MemoryHost → CallKind → Channel → Bool
-is_named h what channel = (left_in h == 0) || list_any (is_due what channel) (planned_in h)
+is_named h what channel = is_stopped h || is_planned h what channel
 
 -- whether a file was ever written
 abbrev pub is_written : MemoryHost → FileId → Bool

@@ -5,7 +5,7 @@ ghost use Rattle.host_trait.specs.Disk.{Overwrote, settled};
 ghost use Rattle.host_trait.specs.Files.{same_file};
 ghost use Rattle.host_trait.specs.World.{Emitted, Written, Synced};
 ghost use Rattle.host_memory.specs.Table.{is_kept, StaysKept, SameFaults};
-ghost use Rattle.host_memory.specs.Replay.{AreBy, AreSeen, state_of, written_by, output_of, syncs_of, moments_of, world_of, is_on, syncs_step};
+ghost use Rattle.host_memory.specs.Replay.{AreBy, AreSeen, IsTorn, state_of, written_by, output_of, syncs_of, moments_of, world_of, is_on, syncs_step};
 ghost use Rattle.host_memory.specs.declared.events.Noted.{Noted};
 ghost use Rattle.host_memory.specs.declared.files.Stored.{Stored};
 
@@ -143,6 +143,7 @@ pub fn tear(
     requires call { call < 2 ^ 62 }
     requires clock { AreBy (2 * call + 1) events.old.items }
     ensures told { OnOk result ((input : List ℕ) → Written file at len (world_of input events.old.items call) (world_of input events.new.items (call + 1))) }
+    ensures torn { OnOk result (IsTorn at len (state_of events.old.items file) (state_of events.new.items file)) }
     ensures err { OnErr result (events.new.items ≡ events.old.items) }
     ensures seen { (files : List Stored) → AreSeen files events.old.items → AreSeen files events.new.items }
     ensures output { output_of events.new.items ≡ output_of events.old.items }

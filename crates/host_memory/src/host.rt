@@ -182,7 +182,8 @@ impl MemoryHost {
     }
 
     /// How many calls found no memory for this host's own bytes, up to the last value of a `u64`. Such a call fails and
-    /// changes nothing else. A write that would end at 2 to the 63 or beyond is one too.
+    /// changes nothing else. A write that would end at 2 to the 63 or beyond is one too. A call that fails as planned, or after
+    /// the stop, is none, unless it found no memory to note what it left pending.
     pub fn starved(&self) -> u64
         ensures { result ≡ starved_in self.now }
     {
@@ -193,7 +194,8 @@ impl MemoryHost {
     /// chooses. It has no input, and neither faults nor a stop are planned.
     ///
     /// An odd `pick` takes what the next call has changed too. The rest of its half chooses for each file whether all that is
-    /// pending is lost, or kept, or torn, or garbage, and how, and the length.
+    /// pending is lost, or kept, or torn, or garbage, and how, and the length. That each of these comes at some `pick`, a write of
+    /// one byte inside the file's old bytes included, is shown by tests alone.
     pub fn crashed(&self, after: u64, pick: u64) -> Result<MemoryHost, AllocError>
         requires { after ≤ calls_in self.now }
         ensures image { IfOk result (λ h. IsCrashOf self.now after (image_in h)) }
@@ -243,7 +245,8 @@ impl MemoryHost {
 }
 
 impl Host for MemoryHost {
-    ghost use Rattle.host_memory.specs.Shown.{world_in, counts_in, ready_in, starved_in, is_named, TakesTurn};
+    ghost use Rattle.host_memory.specs.Shown.{world_in, counts_in, ready_in, starved_in, is_stopped, is_planned, is_named, TakesTurn};
+    ghost use Rattle.host_memory.specs.Failures.{DidNothing, HasTorn, HasNotSynced, FailedAs};
     ghost use Rattle.host_memory.specs.declared.plan.CallKind.{CallKind};
     ghost use Rattle.host_trait.specs.declared.channels.Channel.TheVariants.{Input, Output, File};
 
@@ -297,6 +300,10 @@ impl Host for MemoryHost {
         // It fails exactly where it is named, or found no memory.
         ensures named { IsTrue (is_named self.old CallKind.Emit Output) → IsErr result }
         ensures cause { OnErr result (IsTrue (is_named self.old CallKind.Emit Output) ⊎ Rose (starved_in self.old) (starved_in self.new)) }
+
+        // A call that is named does nothing; one that found no memory does nothing but count that.
+        ensures idle { IsTrue (is_named self.old CallKind.Emit Output) → DidNothing self.old self.new }
+        ensures err { OnErr result (Asked (world_in self.old) (world_in self.new)) }
         ensures starved { OnOk result (starved_in self.new ≡ starved_in self.old) }
         ensures later { starved_in self.old ≤ starved_in self.new }
         ensures turn { TakesTurn CallKind.Emit Output self.old self.new }
@@ -397,6 +404,10 @@ impl Host for MemoryHost {
         // It fails exactly where it is named, or found no memory.
         ensures named { IsTrue (is_named self.old CallKind.Write (File file)) → IsErr result }
         ensures cause { OnErr result (IsTrue (is_named self.old CallKind.Write (File file)) ⊎ Rose (starved_in self.old) (starved_in self.new)) }
+
+        // After the stop it does nothing; where it is planned to fail, its range is pending and no want of memory is counted.
+        ensures failed { OnErr result (FailedAs (is_stopped self.old) (is_planned self.old CallKind.Write (File file))
+            (HasTorn file at (length bytes.now) self.old self.new) self.old self.new) }
         ensures starved { OnOk result (starved_in self.new ≡ starved_in self.old) }
         ensures later { starved_in self.old ≤ starved_in self.new }
         ensures turn { TakesTurn CallKind.Write (File file) self.old self.new }
@@ -448,6 +459,10 @@ impl Host for MemoryHost {
         // It fails exactly where it is named, or found no memory.
         ensures named { IsTrue (is_named self.old CallKind.Sync (File file)) → IsErr result }
         ensures cause { OnErr result (IsTrue (is_named self.old CallKind.Sync (File file)) ⊎ Rose (starved_in self.old) (starved_in self.new)) }
+
+        // After the stop it does nothing; where it is planned to fail, all is pending still and no want of memory is counted.
+        ensures failed { OnErr result (FailedAs (is_stopped self.old) (is_planned self.old CallKind.Sync (File file))
+            (HasNotSynced file self.old self.new) self.old self.new) }
         ensures starved { OnOk result (starved_in self.new ≡ starved_in self.old) }
         ensures later { starved_in self.old ≤ starved_in self.new }
         ensures turn { TakesTurn CallKind.Sync (File file) self.old self.new }

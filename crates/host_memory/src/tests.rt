@@ -278,5 +278,56 @@ fn what_failed_is_pending(rt: HostRuntime) -> Result<(), Fail> {
     }
     // All but the new bytes.
     assert_eq!(rt; reached, 0b11111001);
+    assert_eq!(rt; host.starved(), 0);
+    Ok(())
+}
+
+// The byte at this place of the manager file in the outcomes of so many crashes: each that there is, once.
+fn bytes_after_crashes(host: &MemoryHost, place: usize, picks: u64) -> Result<[bool; 256], Fail> {
+    let mut reached = [false; 256];
+    let calls = host.calls();
+    for pick in 0..picks {
+        let crashed = host.crashed(calls, pick)?;
+        let bytes = crashed.file(MANAGER).ok_or("no file")?;
+        reached[byte(bytes, place) as usize] = true;
+    }
+    Ok(reached)
+}
+
+fn count(reached: &[bool; 256]) -> usize {
+    let mut count: usize = 0;
+    for is_there in reached.as_slice() {
+        if *is_there {
+            count = count.saturating_add(1);
+        }
+    }
+    count
+}
+
+#[test]
+fn a_write_of_one_byte_inside_the_file_is_torn_too(rt: HostRuntime) -> Result<(), Fail> {
+    let mut host = with_abcd(&rt)?;
+    assert!(rt; write(&mut host, 1, b"W").is_ok());
+    assert_eq!(rt;
+        count(&bytes_after_crashes(&host, 1, 2048)?),
+        256,
+        "any byte there"
+    );
+    assert_eq!(rt;
+        count(&bytes_after_crashes(&host, 0, 64)?),
+        1,
+        "none before it"
+    );
+    assert_eq!(rt;
+        count(&bytes_after_crashes(&host, 2, 64)?),
+        1,
+        "none behind it"
+    );
+    assert!(rt; host.sync(FileId::Manager { slot: 0 }).is_ok());
+    assert_eq!(rt;
+        count(&bytes_after_crashes(&host, 1, 64)?),
+        1,
+        "nor once it is synced"
+    );
     Ok(())
 }

@@ -3,10 +3,10 @@ use Rattle.std.proofs.Common.{◌≡◌, ◌≢◌, inl, inr, ℕ, ◌+◌, ◌�
 use Rattle.host_trait.specs.declared.channels.FileId.{FileId}
 use Rattle.host_trait.specs.Disk.{FileState, MayLeave, Tears, settled, after_sync}
 use Rattle.host_trait.specs.Files.{same_file}
-use Rattle.host_trait.specs.World.{World, Moment, Disk, Image, IsImage, Passes, moment_of, Asked, Written, Synced}
-use Rattle.host_trait.specs.Runs.{Follows, ChangesFile, RunsOnFile, OnlyAsked, ComesFrom}
+use Rattle.host_trait.specs.World.{World, Moment, Disk, Image, IsImage, Passes, Arrives, moment_of, with_bytes, Asked, Written, Synced}
+use Rattle.host_trait.specs.Runs.{Follows, ChangesFile, RunsOnFile, OnlyAsked, HasFailedWrite, ComesFrom}
 use Rattle.host_trait.proofs.Crashes.{wrote_follows, settled_only, seen-after_sync, Tears-refl, Tears-trans}
-use Rattle.host_trait.proofs.Moments.{started, one, both, weaker, same_moment}
+use Rattle.host_trait.proofs.Moments.{started, one, both, weaker, same_moment, arrived, arrives_once, arrives_then, arrives_still}
 use Rattle.host_trait.proofs.Names.{same_file-refl, cases_file, other_file}
 
 -- a relation between what a crash left and what one leaves
@@ -18,7 +18,7 @@ pub none_changed : (file : FileId) (R : Change) (w : World) → ((d : List ℕ) 
 none_changed file R w refl_R = record { output = refl; others = λ f other. refl; crash = λ c left. (c, left, refl_R c) }
 
 pub run_started : (file : FileId) (R : Change) (w : World) → ((d : List ℕ) → R d d) → RunsOnFile file R 0 w w
-run_started file R w refl_R = record { input = refl; counted = omega arith; syncs = omega arith; seen = refl_R (w.disk file).seen; now = none_changed file R w refl_R; moments = started _ w.past }
+run_started file R w refl_R = record { input = refl; counted = omega arith; syncs = omega arith; seen = refl_R (w.disk file).seen; now = none_changed file R w refl_R; moments = started _ w.past; clock = arrived w }
 
 -- a sync takes outcomes away, or changes nothing
 sync_follows : (R : Change) (ok : Bool) (old mid : FileState) → MayLeave mid mid.seen → Follows R old mid → Follows R old (after_sync ok mid)
@@ -45,6 +45,7 @@ module _ (file : FileId) (R : Change) (most : ℕ) (old mid new : World) (so_far
         seen = leads (old.disk file).seen (mid.disk file).seen (new.disk file).seen so_far.seen written.state.seen;
         now = now;
         moments = both _ so_far.moments (one _ mid new written.past now);
+        clock = arrives_then old mid new so_far.clock (arrives_once mid new written.past);
       }
 
   -- a sync more
@@ -62,6 +63,7 @@ module _ (file : FileId) (R : Change) (most : ℕ) (old mid new : World) (so_far
         seen = subst (R (old.disk file).seen) (sym (ap (λ (s : FileState). s.seen) synced.state ∙ seen-after_sync ok (mid.disk file))) so_far.seen;
         now = now;
         moments = both _ so_far.moments (one _ mid new synced.past now);
+        clock = arrives_then old mid new so_far.clock (arrives_once mid new synced.past);
       }
 
   -- a call more that changed nothing
@@ -75,6 +77,7 @@ module _ (file : FileId) (R : Change) (most : ℕ) (old mid new : World) (so_far
         seen = subst (R (old.disk file).seen) (sym (ap (λ (d : Disk). (d file).seen) asked.disk)) so_far.seen;
         now = now;
         moments = both _ so_far.moments (one _ mid new asked.past now);
+        clock = arrives_then old mid new so_far.clock (arrives_once mid new asked.past);
       }
 
 -- what R says, in other words
@@ -93,6 +96,7 @@ run_weaker file R S most old new leads run = record {
   seen = leads (old.disk file).seen (new.disk file).seen run.seen;
   now = changes_weaker file R S old leads (moment_of new) run.now;
   moments = weaker _ _ (changes_weaker file R S old leads) run.moments;
+  clock = run.clock;
 }
 
 -- a moment of a run behind another run on the same file, seen from the first one's start
@@ -115,6 +119,7 @@ run_then file R S a b old mid new leads first second = record {
   seen = leads (old.disk file).seen (mid.disk file).seen (new.disk file).seen first.seen second.seen;
   now = changes_then file R S R old mid leads first.now (moment_of new) second.now;
   moments = both _ first.moments (weaker _ _ (changes_then file R S R old mid leads first.now) second.moments);
+  clock = arrives_then old mid new first.clock second.clock;
 }
 
 -- one write, and one sync behind it
@@ -127,7 +132,7 @@ run_write_synced file at n old mid new ok written here within synced there = run
 
 -- as many syncs at most, or more
 pub run_more_syncs : (file : FileId) (R : Change) (most more : ℕ) (old new : World) → most ≤ more → RunsOnFile file R most old new → RunsOnFile file R more old new
-run_more_syncs file R most more old new up run = record { input = run.input; counted = run.counted; syncs = omega (arith, run.syncs); seen = run.seen; now = run.now; moments = run.moments }
+run_more_syncs file R most more old new up run = record { input = run.input; counted = run.counted; syncs = omega (arith, run.syncs); seen = run.seen; now = run.now; moments = run.moments; clock = run.clock }
 
 -- calls that only asked
 pub none_asked : (w : World) → OnlyAsked w w
@@ -159,6 +164,27 @@ asked_then old mid new first second =
 -- whatever held of the old moment holds at each moment of a run that only asked
 pub asked_keeps : (P : Moment → Type 0) (old new : World) → OnlyAsked old new → P (moment_of old) → Passes P old.past new.past
 asked_keeps P old new asked holds = weaker _ _ (λ m is. subst P (sym is) holds) asked.moments
+
+-- a write that never began only asked
+unbegun_asked : (file : FileId) (at n : ℕ) (old new : World) → Written file at n old new → new.disk file ≡ old.disk file → OnlyAsked old new
+unbegun_asked file at n old new written same = once_asked old old new (none_asked old) (record { input = written.input; output = written.output; disk = λ i f. each f i; syncs = written.syncs; past = written.past })
+  where
+    each : (f : FileId) → new.disk f ≡ old.disk f
+    each f = elim (cases_file f file) [
+      | inl this ↦ subst (λ (g : FileId). new.disk g ≡ old.disk g) (sym this) same
+      | inr other ↦ written.others f other
+    ]
+
+-- a write that failed
+pub failed_write : (file : FileId) (at n : ℕ) (old new : World) → Written file at n old new → HasFailedWrite file at n old new
+failed_write file at n old new written = elim written.state.pends [
+  | inl pends ↦ inr pends
+  | inr same ↦ inl (unbegun_asked file at n old new written same)
+]
+
+-- the clock of a run that only asked
+pub arrives_asked : (old new : World) → OnlyAsked old new → Arrives old new
+arrives_asked old new asked = arrives_still old new asked.moments (same_moment old new asked.output asked.disk)
 
 -- an image of such a moment differs in that one file from an image of before
 pub image_from : (file : FileId) (R : Change) (old : World) (now : Moment) → ChangesFile file R old now → (image : Image) → IsImage now.disk image → ComesFrom file R old.disk image
@@ -193,3 +219,18 @@ other_image file other R old now changes apart c left = subst (λ (s : FileState
 -- a settled file has one outcome
 pub settled_image : (disk : Disk) (file : FileId) (bytes c : List ℕ) → disk file ≡ settled bytes → MayLeave (disk file) c → c ≡ bytes
 settled_image disk file bytes c is left = settled_only bytes c (subst (λ (s : FileState). MayLeave s c) is left)
+
+-- an image with other bytes in one file has these bytes there
+pub with_bytes-there : (image : Image) (file : FileId) (bytes : List ℕ) → with_bytes image file bytes file ≡ bytes
+with_bytes-there image file bytes = ap (λ (b : Bool). if b then bytes else image file) (same_file-refl file)
+
+-- and its own bytes in each other file
+pub with_bytes-other : (image : Image) (file : FileId) (bytes : List ℕ) (f : FileId) → f ≢ file → with_bytes image file bytes f ≡ image f
+with_bytes-other image file bytes f other = ap (λ (b : Bool). if b then bytes else image f) (other_file file f (λ e. other (sym e)))
+
+-- where a crash may leave an image, and these bytes in one file, it may leave that image with these bytes in that file
+pub image_with : (disk : Disk) (image : Image) (file : FileId) (bytes : List ℕ) → IsImage disk image → MayLeave (disk file) bytes → IsImage disk (with_bytes image file bytes)
+image_with disk image file bytes is left f = elim (cases_file file f) [
+  | inl same ↦ subst (λ (g : FileId). MayLeave (disk g) (with_bytes image file bytes g)) same (subst (λ (l : List ℕ). MayLeave (disk file) l) (sym (with_bytes-there image file bytes)) left)
+  | inr other ↦ subst (λ (l : List ℕ). MayLeave (disk f) l) (sym (with_bytes-other image file bytes f (λ e. other (sym e)))) (is f)
+]

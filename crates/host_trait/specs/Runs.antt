@@ -1,8 +1,8 @@
 -- What a run of host calls on one file does, at each moment and at its end.
-use Rattle.std.specs.Prelude.{◌≡◌, ◌≢◌, ℕ, ◌+◌, ◌≤◌, List}
+use Rattle.std.specs.Prelude.{◌≡◌, ◌≢◌, ◌⊎◌, ℕ, ◌+◌, ◌≤◌, List}
 use Rattle.host_trait.specs.declared.channels.FileId.{FileId}
-use Rattle.host_trait.specs.Disk.{FileState, MayLeave}
-use Rattle.host_trait.specs.World.{World, Moment, Disk, Image, IsImage, Passes, moment_of}
+use Rattle.host_trait.specs.Disk.{FileState, MayLeave, Pends}
+use Rattle.host_trait.specs.World.{World, Moment, Disk, Image, IsImage, Passes, Arrives, moment_of}
 
 -- each outcome of a crash is an earlier outcome, changed as R says
 abbrev pub Follows : (List ℕ → List ℕ → Type 0) → FileState → FileState → Type 0
@@ -15,8 +15,8 @@ pub record ChangesFile (file : FileId) (R : List ℕ → List ℕ → Type 0) (o
   pub others : (f : FileId) → f ≢ file → now.disk f ≡ old.disk f
   pub crash : Follows R (old.disk file) (now.disk file)
 
--- A run of calls that changed this file alone, with at most so many syncs: each moment was such, and what a read gives
--- has changed as R says too.
+-- A run of calls that changed this file alone, with at most so many syncs: each moment was such, the last of them is now, and
+-- what a read gives has changed as R says too.
 pub record RunsOnFile (file : FileId) (R : List ℕ → List ℕ → Type 0) (most : ℕ) (old new : World) : Type 0 where
   pub input : new.input ≡ old.input
   pub counted : old.syncs ≤ new.syncs
@@ -24,6 +24,7 @@ pub record RunsOnFile (file : FileId) (R : List ℕ → List ℕ → Type 0) (mo
   pub seen : R (old.disk file).seen (new.disk file).seen
   pub now : ChangesFile file R old (moment_of new)
   pub moments : Passes (ChangesFile file R old) old.past new.past
+  pub clock : Arrives old new
 
 -- a run of calls that only asked: each moment showed what the old world showed
 pub record OnlyAsked (old new : World) : Type 0 where
@@ -32,6 +33,11 @@ pub record OnlyAsked (old new : World) : Type 0 where
   pub disk : new.disk ≡ old.disk
   pub syncs : new.syncs ≡ old.syncs
   pub moments : Passes (λ m. m ≡ moment_of old) old.past new.past
+
+-- What a write that failed, or whose sync failed, has left: it never began, and all is as it was at each moment; or its range is
+-- pending still.
+abbrev pub HasFailedWrite : FileId → ℕ → ℕ → World → World → Type 0
+HasFailedWrite file at n old new = OnlyAsked old new ⊎ Pends at n (old.disk file) (new.disk file)
 
 -- an image that differs in one file alone from one of before, and there as R says
 pub record ComesFrom (file : FileId) (R : List ℕ → List ℕ → Type 0) (old : Disk) (image : Image) : Type 0 where

@@ -1,8 +1,9 @@
 -- What a host holds, where it tells, and the moments of its clock.
-use Rattle.std.specs.Prelude.{◌≡◌, ◌≢◌, ◌⊎◌, ℕ, ◌+◌, ◌-◌, ◌<◌, ◌≤◌, min, Bool, false, IsTrue, List, [], ◌∷◌, ◌++◌, length, take, drop}
+use Rattle.std.specs.Prelude.{◌≡◌, ◌≢◌, ◌⊎◌, ℕ, ◌+◌, ◌-◌, ◌<◌, ◌≤◌, min, Bool, false, if◌then◌else◌, IsTrue, List, [], ◌∷◌, ◌++◌, length, take, drop, fold}
 use Rattle.std.specs.List.{AllByRecursion}
 use Rattle.host_trait.specs.declared.channels.FileId.{FileId}
 use Rattle.host_trait.specs.Disk.{FileState, MayLeave, Wrote, after_sync, settled}
+use Rattle.host_trait.specs.Files.{same_file}
 
 -- the state of every file
 abbrev pub Disk : Type 0
@@ -15,6 +16,10 @@ Image = FileId → List ℕ
 -- a crash may leave this image
 abbrev pub IsImage : Disk → Image → Type 0
 IsImage disk image = (file : FileId) → MayLeave (disk file) (image file)
+
+-- an image with other bytes in one file
+abbrev pub with_bytes : Image → FileId → List ℕ → Image
+with_bytes image file bytes f = if same_file file f then bytes else image f
 
 -- A moment of the clock is a host call: the output by the call's end, and the files, whose images are those that a
 -- crash within the call or just after it may leave. (Inside a sync they are those of the moment before.)
@@ -49,6 +54,16 @@ pub record PassesTwice (P Q : Moment → Type 0) (old new : List Moment) : Type 
 -- A call is one moment. One that leaves what a moment shows as it was may be none.
 abbrev pub Ticks : World → World → Type 0
 Ticks old new = (new.past ≡ old.past ++ moment_of new ∷ []) ⊎ ((new.past ≡ old.past) × (moment_of new ≡ moment_of old))
+
+-- the last of these moments, or the one before them where there is none
+abbrev pub last_of : Moment → List Moment → Moment
+last_of before moments = fold (λ earlier later. later) before moments
+
+-- The clock goes on to now: the moments of after are those of before and more, and the last of these is the one that is now.
+pub record Arrives (old new : World) : Type 0 where
+  pub more : List Moment
+  pub past : new.past ≡ old.past ++ more
+  pub last : last_of (moment_of old) more ≡ moment_of new
 
 -- a call that changed nothing
 pub record Asked (old new : World) : Type 0 where

@@ -8,9 +8,11 @@
 mod channels;
 mod file_names;
 mod host;
+mod laws;
 mod steps;
 
 pub use channels::{Channel, Failed, FileId};
 pub use file_names::file_name;
 pub use host::Host;
+pub use laws::files_crash_apart;
 pub use steps::{read_full, write_synced};

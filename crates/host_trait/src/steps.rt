@@ -1,7 +1,7 @@
 ghost use Rattle.std.specs.Prelude.{◌≡◌, ◌+◌, ◌-◌, ◌^◌, ◌<◌, ◌≤◌, ℕ, Bool, true, false, IsTrue, length, take, drop, IfOk, OnOk, OnErr};
 ghost use Rattle.host_trait.specs.Disk.{Tears, overlaid, settled};
 ghost use Rattle.host_trait.specs.Files.{MayAsk, StaysReady};
-ghost use Rattle.host_trait.specs.Runs.{RunsOnFile, OnlyAsked};
+ghost use Rattle.host_trait.specs.Runs.{RunsOnFile, OnlyAsked, HasFailedWrite};
 ghost use Rattle.host_trait.specs.Faults.{Counted};
 ghost use Rattle.host_trait.specs.declared.channels.Channel.TheVariants.{File};
 
@@ -9,7 +9,8 @@ use crate::channels::{Failed, FileId};
 use crate::host::Host;
 
 /// One write, and one sync behind it. After Ok a crash leaves the file with these bytes. At each moment each outcome of a
-/// crash is one of before but for the bytes in the range, and so it is after `Failed`.
+/// crash is one of before but for the bytes in the range, and so it is after `Failed`. Then the write never began, and all is as
+/// it was; or its range is pending still, so that a crash may leave any bytes there, those that were written too.
 pub fn write_synced<H: Host>(
     host: &mut H,
     file: FileId,
@@ -25,6 +26,8 @@ pub fn write_synced<H: Host>(
     ensures count { OnOk result (IsTrue H.tells
         → (H.world host.new).syncs ≡ (H.world host.old).syncs + 1) }
     ensures bound { OnOk result (at + length bytes.now < 2 ^ 63) }
+    ensures left { OnErr result (IsTrue H.tells
+        → HasFailedWrite file at (length bytes.now) (H.world host.old) (H.world host.new)) }
     ensures faults { Counted (File file) result (H.faults host.old) (H.faults host.new) }
     ensures ready { StaysReady (H.is_ready host.old) (H.is_ready host.new) }
 {

@@ -1,9 +1,14 @@
-use crate::folder::{GRAIN, GRAIN_BYTES, MANAGER_BYTES, folder_of, shape_of};
+use crate::folder::{BLOCK_BYTES, Folder, GRAIN, GRAIN_BYTES, MANAGER_BYTES, folder_of, shape_of};
 use base_types::UnitNo;
 use commit_log::{MANAGER, Sealing, read_records, seal};
 use gate_block::read_block;
 use grain_log::read_version;
 use std::test::Fail;
+
+// Seals the first deposit's block behind the first gate.
+fn seal_first(host: &mut Folder) -> Sealing {
+    seal(host, 15, &BLOCK_BYTES)
+}
 
 #[test]
 fn the_first_deposit_is_sealed_and_read(rt: HostRuntime) -> Result<(), Fail> {
@@ -13,7 +18,7 @@ fn the_first_deposit_is_sealed_and_read(rt: HostRuntime) -> Result<(), Fail> {
     if host.manager.len() > 15 {
         host.manager[15] = 0;
     }
-    let sealing = seal(&mut host, 15, &MANAGER_BYTES[16..]);
+    let sealing = seal_first(&mut host);
     assert_eq!(rt; sealing, Sealing::Sealed { next_gate: 88 });
     assert!(rt; host.manager.as_slice() == MANAGER_BYTES.as_slice());
     assert_eq!(rt; host.writes, 2, "the block and the gate");
@@ -42,7 +47,7 @@ fn each_failed_call_of_a_seal_has_its_answer(rt: HostRuntime) -> Result<(), Fail
         let mut host = folder_of(alloc, &[0; 16], &[])?;
         host.bad_write = bad_write;
         host.bad_sync = bad_sync;
-        let sealing = seal(&mut host, 15, &MANAGER_BYTES[16..]);
+        let sealing = seal_first(&mut host);
         assert_eq!(rt; sealing, answer, "write {bad_write}, sync {bad_sync}");
         let closed = read_block(alloc, &mut host, MANAGER, 15)?.is_none();
         assert_eq!(rt; closed, bad_sync != 2, "write {bad_write}, sync {bad_sync}");

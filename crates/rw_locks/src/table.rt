@@ -1,9 +1,9 @@
 ghost use Rattle.std.specs.Prelude.{◌≡◌, ◌<◌, ◌≤◌, ◌+◌, [], vec_len, vec_capacity, IsOk, IfOk, OnOk};
 ghost use Rattle.std.specs.List.{list_any};
-ghost use Rattle.rw_locks.specs.Locked.{joined};
+ghost use Rattle.rw_locks.specs.Locked.{holds_alone, joined};
 ghost use Rattle.cell_model.specs.declared.locks.Ask.TheVariants.{Free};
 ghost use Rattle.cell_model.specs.Units.{oldest};
-ghost use Rattle.cell_model.specs.Locks.{is_update, covers, conflicts, rivals, ask, granted, dropped};
+ghost use Rattle.cell_model.specs.Locks.{is_update, covers, conflicts, rivals, ask, granted, dropped, holds_lock};
 
 use base_types::{Mode, UnitNo};
 use cell_model::{Ask, Hold};
@@ -53,6 +53,22 @@ impl LockTable {
             Some(holder) if holder.0 < unit.0 => Ask::MustDie { holder },
             Some(holder) => Ask::MustWait { holder },
         }
+    }
+
+    /// Whether the unit has a lock, in any mode.
+    pub fn is_held_by(&self, unit: UnitNo) -> bool
+        ensures { result ≡ holds_lock unit self.now.holds }
+    {
+        self.holds.iter().any(|hold| hold.unit == unit)
+    }
+
+    /// Whether the unit has the grain alone.
+    pub fn is_held_alone_by(&self, unit: UnitNo) -> bool
+        ensures { result ≡ holds_alone unit self.now.holds }
+    {
+        self.holds
+            .iter()
+            .any(|hold| hold.unit == unit && is_for_one(hold.mode))
     }
 
     /// Makes the spare at least 1. Without memory the table stays as it was.

@@ -140,3 +140,19 @@ fn a_lock_that_is_dropped_is_nobodys(rt: HostRuntime) -> Result<(), Fail> {
     assert_eq!(rt; table.ask(UnitNo(5), Update), Ask::Free);
     Ok(())
 }
+
+#[test]
+fn a_holder_is_told_from_one_who_has_the_grain_alone(rt: HostRuntime) -> Result<(), Fail> {
+    let rows: [(&[(u64, Mode)], u64, bool, bool); 4] = [
+        (&[], 5, false, false),
+        (&[(3, Read), (5, Read)], 5, true, false),
+        (&[(5, Update)], 5, true, true),
+        (&[(5, Update)], 3, false, false),
+    ];
+    for (holds, unit, held, alone) in rows {
+        let table = table_of(rt.alloc(), holds)?;
+        assert_eq!(rt; table.is_held_by(UnitNo(unit)), held, "unit {unit}");
+        assert_eq!(rt; table.is_held_alone_by(UnitNo(unit)), alone, "unit {unit}");
+    }
+    Ok(())
+}

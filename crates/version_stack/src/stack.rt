@@ -1,4 +1,4 @@
-ghost use Rattle.std.specs.Prelude.{◌≡◌, ◌<◌, ◌≤◌, ◌+◌, [], ◌∷◌, reverse, position, IfOk, OnOk, OnErr};
+ghost use Rattle.std.specs.Prelude.{◌≡◌, ◌<◌, ◌≤◌, ◌+◌, [], ◌∷◌, length, take, reverse, position, IfOk, OnOk, OnErr};
 ghost use Rattle.cell_model.specs.Units.{nobody};
 ghost use Rattle.cell_model.specs.Stacks.{is_of, top, pushed, committed, removed, has_version};
 
@@ -48,10 +48,16 @@ impl Stack {
         ensures unit { result.0 ≡ (top self.now.versions).unit }
         ensures state { result.1.now ≡ (top self.now.versions).state }
     {
-        match self.entries.last() {
-            Some(version) => (version.unit, &version.state),
-            None => (UnitNo(0), &self.none),
-        }
+        newest(&self.entries, &self.none)
+    }
+
+    /// What `top` would show without the unit's version and all above it. Takes nothing off.
+    pub fn top_without(&self, unit: UnitNo) -> (UnitNo, &State)
+        ensures unit { result.0 ≡ (top (removed unit self.now.versions)).unit }
+        ensures state { result.1.now ≡ (top (removed unit self.now.versions)).state }
+    {
+        let left = left_without(&self.entries, unit);
+        newest(&self.entries[..left], &self.none)
     }
 
     /// The versions, oldest first.
@@ -107,6 +113,29 @@ impl Stack {
             }
             None => false,
         }
+    }
+}
+
+// The last of the entries: its unit and its state. Without entries unit 0 and the state that is given.
+fn newest<'a>(entries: &'a [Version], none: &'a State) -> (UnitNo, &'a State)
+    requires { none.now ≡ [] }
+    ensures unit { result.0 ≡ (top (reverse entries.now)).unit }
+    ensures state { result.1.now ≡ (top (reverse entries.now)).state }
+{
+    match entries.last() {
+        Some(version) => (version.unit, &version.state),
+        None => (UnitNo(0), none),
+    }
+}
+
+// How many entries, from the oldest on, are left without the unit's oldest one and all above it.
+fn left_without(entries: &[Version], unit: UnitNo) -> usize
+    ensures within { result ≤ length entries.now }
+    ensures left { reverse (take result entries.now) ≡ removed unit (reverse entries.now) }
+{
+    match oldest_of(entries, unit) {
+        Some(at) => at,
+        None => entries.len(),
     }
 }
 

@@ -81,6 +81,12 @@ fn an_abort_takes_off_the_version_and_all_above(rt: HostRuntime) -> Result<(), F
     ];
     for (above, unit, found, left) in rows {
         let mut stack = stack_of(rt.alloc(), above)?;
+        let below = left.last().copied().unwrap_or(0);
+        assert_eq!(rt;
+            stack.top_without(UnitNo(unit)).0,
+            UnitNo(below),
+            "unit {unit}"
+        );
         assert_eq!(rt; stack.remove_from(UnitNo(unit)), found, "unit {unit}");
         assert!(rt; has(&stack, left), "unit {unit}");
     }

@@ -4,7 +4,7 @@ use Rattle.field_codec.proofs.Looping.{goes_on, ends, is_done}
 use Rattle.commit_log.proofs.bodies.answers_there.Goals as goal
 
 pub loop-preserved : goal.loop-preserved
-loop-preserved c = rw c.in_ok-push.ensures (goes_on (λ s. answer_at) (λ s x. s) c.args.bytes.now tt c.loop.answers c.args.count c.loop.counter c.loop.place c.in_ok-answer.answer c.in_ok-answer.after _ c.loop-test.true c.in_ok-answer.ensures.exact c.loop.invariant)
+loop-preserved c = rw c.in_ok-push.ensures.pushed (goes_on (λ s. answer_at) (λ s x. s) c.args.bytes.now tt c.loop.answers c.args.count c.loop.counter c.loop.place c.in_ok-answer.answer c.in_ok-answer.after _ c.loop-test.true c.in_ok-answer.ensures.exact c.loop.invariant)
 
 pub returns-in_err-answer : goal.returns-in_err-answer
 returns-in_err-answer c =

@@ -4,7 +4,7 @@ use Rattle.field_codec.proofs.Looping.{goes_on, ends, is_done}
 use Rattle.commit_log.proofs.bodies.records_there.Goals as goal
 
 pub loop-preserved : goal.loop-preserved
-loop-preserved c = rw c.in_ok-push.ensures (goes_on (λ s. (record_in c.args.numbers c.args.shape.now)) (λ s x. s) c.args.bytes.now tt c.loop.records c.args.count c.loop.counter c.loop.place c.in_ok-record.record c.in_ok-record.after _ c.loop-test.true c.in_ok-record.ensures c.loop.invariant)
+loop-preserved c = rw c.in_ok-push.ensures.pushed (goes_on (λ s. (record_in c.args.numbers c.args.shape.now)) (λ s x. s) c.args.bytes.now tt c.loop.records c.args.count c.loop.counter c.loop.place c.in_ok-record.record c.in_ok-record.after _ c.loop-test.true c.in_ok-record.ensures c.loop.invariant)
 
 pub returns-in_err-record : goal.returns-in_err-record
 returns-in_err-record c =

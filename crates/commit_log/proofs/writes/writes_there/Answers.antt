@@ -5,7 +5,7 @@ use Rattle.commit_log.specs.Fields.{write_in}
 use Rattle.commit_log.proofs.writes.writes_there.Goals as goal
 
 pub loop-preserved : goal.loop-preserved
-loop-preserved c = rw c.in_ok-push.ensures (goes_on (write_in c.args.shape.now) grain_after c.args.bytes.now c.loop.last c.loop.writes c.args.count c.loop.counter c.loop.place c.in_ok-write.write c.in_ok-write.after _ c.loop-test.true c.in_ok-write.ensures c.loop.invariant)
+loop-preserved c = rw c.in_ok-push.ensures.pushed (goes_on (write_in c.args.shape.now) grain_after c.args.bytes.now c.loop.last c.loop.writes c.args.count c.loop.counter c.loop.place c.in_ok-write.write c.in_ok-write.after _ c.loop-test.true c.in_ok-write.ensures c.loop.invariant)
 
 pub returns-in_err-write : goal.returns-in_err-write
 returns-in_err-write c =

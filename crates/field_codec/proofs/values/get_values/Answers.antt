@@ -5,7 +5,7 @@ use Rattle.field_codec.proofs.Looping.{goes_on, ends, is_done}
 use Rattle.field_codec.proofs.values.get_values.Goals as goal
 
 pub loop-preserved : goal.loop-preserved
-loop-preserved c = rw c.in_ok-push.ensures (omega (arith, length-append c.loop.values (c.in_ok-value.value ∷ [])), goes_on (λ s. value_at) (λ s x. s) c.args.bytes.now tt c.loop.values c.args.count c.loop.counter c.loop.place c.in_ok-value.value c.in_ok-value.after _ c.loop-test.true c.in_ok-value.ensures c.loop.invariant.1)
+loop-preserved c = rw c.in_ok-push.ensures.pushed (omega (arith, length-append c.loop.values (c.in_ok-value.value ∷ [])), goes_on (λ s. value_at) (λ s x. s) c.args.bytes.now tt c.loop.values c.args.count c.loop.counter c.loop.place c.in_ok-value.value c.in_ok-value.after _ c.loop-test.true c.in_ok-value.ensures c.loop.invariant.1)
 
 pub returns-in_err-value-clause-exact : goal.returns-in_err-value-clause-exact
 returns-in_err-value-clause-exact c =

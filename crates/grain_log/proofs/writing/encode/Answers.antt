@@ -21,6 +21,6 @@ loop-version-preserved c =
     let offset : c.args.at + c.len-start.result ≡ c.args.at + length (spelling_of_versions _) = ap (λ (n : ℕ). c.args.at + n) (c.len-start.ensures ∙ c.loop-version.bytes.ok.0 ∙ ap length c.loop-version.invariant.spelled) in
     record {
       spelled = flat_more spelling_of_version c.args.versions.now i v [] _ _ c.loop-version-test.true c.version-item.is c.in_ok-append.ensures.ok c.loop-version.invariant.spelled;
-      placed = places_more c.args.at c.args.versions.now i v _ _ _ _ c.loop-version-test.true c.version-item.is offset size c.in_ok-push.ensures c.loop-version.invariant.placed;
+      placed = places_more c.args.at c.args.versions.now i v _ _ _ _ c.loop-version-test.true c.version-item.is offset size c.in_ok-push.ensures.pushed c.loop-version.invariant.placed;
       fitting = all_more VersionFits c.args.versions.now i v c.loop-version-test.true c.version-item.is c.in_ok-append.ensures.fits c.loop-version.invariant.fitting;
     }

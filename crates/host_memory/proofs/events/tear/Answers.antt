@@ -2,8 +2,8 @@ use Rattle.std.proofs.Common.{[], ◌+◌, ◌*◌, List, sym, ◌∙◌, ap, su
 use Rattle.host_trait.specs.World.{Written}
 use Rattle.host_memory.specs.declared.events.Event.TheVariants as event
 use Rattle.host_memory.specs.declared.events.Noted.{Noted}
-use Rattle.host_memory.specs.Replay.{AreBy, AreSeen, output_of, world_of}
-use Rattle.host_memory.proofs.Worlds.{one_torn, output_on, clock_on}
+use Rattle.host_memory.specs.Replay.{AreBy, AreSeen, IsTorn, state_of, output_of, world_of}
+use Rattle.host_memory.proofs.Worlds.{one_torn, torn, output_on, clock_on}
 use Rattle.host_memory.proofs.SeenFiles.{seen_torn}
 use Rattle.host_memory.proofs.events.tear.Goals as goal
 
@@ -11,6 +11,11 @@ pub returns-clause-told : goal.returns-clause-told
 returns-clause-told c input =
     subst (λ (l : List Noted). Written c.args.file c.args.at c.args.len (world_of input c.args.events.now.items c.args.call) (world_of input l (c.args.call + 1))) (sym c.in_ok-note.ensures.ok)
     (one_torn input c.args.events.now.items c.args.call c.requires.clock c.args.file c.args.at c.args.len)
+
+pub returns-clause-torn : goal.returns-clause-torn
+returns-clause-torn c =
+    subst (λ (l : List Noted). IsTorn c.args.at c.args.len (state_of c.args.events.now.items c.args.file) (state_of l c.args.file)) (sym c.in_ok-note.ensures.ok)
+    (torn [] c.args.events.now.items c.args.call c.requires.clock c.args.file c.args.at c.args.len)
 
 pub returns-clause-seen : goal.returns-clause-seen
 returns-clause-seen c files seen =

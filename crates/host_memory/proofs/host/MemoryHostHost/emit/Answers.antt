@@ -1,5 +1,5 @@
-use Rattle.std.proofs.Common.{◌+◌, ◌*◌, inl, inr, ℕ, List, length, drop, sym, subst, rules}
-use Rattle.host_trait.specs.World.{Emitted}
+use Rattle.std.proofs.Common.{◌+◌, ◌*◌, inl, inr, ℕ, List, length, drop, refl, sym, subst, rules}
+use Rattle.host_trait.specs.World.{Asked, Emitted}
 use Rattle.host_memory.specs.declared.events.Noted.{Noted}
 use Rattle.host_memory.specs.Replay.{AreBy, world_of}
 use Rattle.host_memory.proofs.Worlds.{none_emitted}
@@ -34,3 +34,12 @@ returns-in-Fails-clause-part c told = (0, none_emitted (drop c.args.self.now.tak
 
 pub returns-in-Stopped-clause-part : goal.returns-in-Stopped-clause-part
 returns-in-Stopped-clause-part c told = (0, none_emitted (drop c.args.self.now.taken c.args.self.now.input.items) c.args.self.now.events.items c.args.self.now.plan.calls c.args.self.now.clock c.turn.new.self.calls c.args.bytes.now (inr c.in-Stopped.ensures.ticks))
+
+pub returns-in-Err-clause-err : goal.returns-in-Err-clause-err
+returns-in-Err-clause-err c = subst (λ (l : List Noted). Asked (world_of (drop c.args.self.now.taken c.args.self.now.input.items) c.args.self.now.events.items c.args.self.now.plan.calls) (world_of (drop c.args.self.now.taken c.args.self.now.input.items) l c.turn.new.self.calls)) (sym c.in-Err.ensures.err) (c.turn.ensures.told (drop c.args.self.now.taken c.args.self.now.input.items) c.args.self.now.events.items c.args.self.now.clock)
+
+pub returns-in-Fails-clause-idle : goal.returns-in-Fails-clause-idle
+returns-in-Fails-clause-idle c named = record { world = c.turn.ensures.told (drop c.args.self.now.taken c.args.self.now.input.items) c.args.self.now.events.items c.args.self.now.clock; starved = refl }
+
+pub returns-in-Fails-clause-err : goal.returns-in-Fails-clause-err
+returns-in-Fails-clause-err c = c.turn.ensures.told (drop c.args.self.now.taken c.args.self.now.input.items) c.args.self.now.events.items c.args.self.now.clock
