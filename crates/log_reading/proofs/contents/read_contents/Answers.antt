@@ -1,0 +1,55 @@
+use Rattle.std.proofs.Common.{rules, ◌≡◌, ℕ, List, Option, Some, None, Ok, Err, sym, ◌∙◌, ap, subst}
+use Rattle.host_trait.specs.declared.channels.FileId.{FileId}
+use Rattle.host_trait.specs.World.{Image}
+use Rattle.host_trait.proofs.Runs.{asked_then}
+use Rattle.log_reading.specs.declared.faults.FolderFault.{FolderFault}
+use Rattle.commit_log.specs.declared.records.Named.{Named}
+use Rattle.log_reading.specs.Steps.{manager, seen_in}
+use Rattle.log_reading.specs.Blocks.{records_in_file}
+use Rattle.log_reading.specs.Versions.{named_by, by_grain, first_missing}
+use Rattle.log_reading.specs.Sums.{state_after, end_after, StopsAt}
+use Rattle.log_reading.proofs.Unread.{read_refused, versions_refused}
+use Rattle.log_reading.proofs.contents.read_contents.Goals as goal
+
+pub returns-in-Ok-read_versions-clause-opened : goal.returns-in-Ok-read_versions-clause-opened
+returns-in-Ok-read_versions-clause-opened g c told =
+    let shape = c.args.shape.now in
+    let image = seen_in (g.H.Host.world c.args.host.now).disk in
+    let l = c.in-Ok.ensures.log in
+    let same : seen_in (g.H.Host.world c.read_log.new.host).disk ≡ image = ap seen_in (c.read_log.ensures.asked told).disk in
+    let order : c.as_slice.result.now ≡ by_grain (named_by l.records) = c.as_slice.ensures.value ∙ c.in-Ok-sort_by_grain.ensures ∙ ap by_grain (c.into_vec-named.ensures ∙ l.named) in
+    let v = c.in-Ok-read_versions.ensures in
+    record {
+      records = l.records;
+      read = l.read told;
+      whole = sym (λ i. first_missing shape (same i) (order i)) ∙ v.found told;
+      count = l.count;
+      next = l.next;
+      states = λ grain. v.states told grain ∙ (λ i. state_after shape (same i) (c.new-store.ensures grain i) (order i) grain);
+      ends = λ grain. v.ends grain ∙ (λ i. end_after (c.new-ends.ensures grain i) (order i) grain);
+      gate = l.gate told;
+    }
+
+pub returns-in-Ok-read_versions-clause-asked : goal.returns-in-Ok-read_versions-clause-asked
+returns-in-Ok-read_versions-clause-asked g c told = asked_then _ _ _ (c.read_log.ensures.asked told) (c.read_versions.ensures.asked told)
+
+pub returns-clause-asked : goal.returns-clause-asked
+returns-clause-asked g c told = asked_then _ _ _ (c.read_log.ensures.asked told) (c.read_versions.ensures.asked told)
+
+pub returns-in-Err-clause-refused : goal.returns-in-Err-clause-refused
+returns-in-Err-clause-refused g c told =
+    read_refused c.args.shape.now (seen_in (g.H.Host.world c.args.host.now).disk) c.in-Err.fault
+    (λ file place is. (c.in-Err.ensures.file file place is, c.in-Err.ensures.damaged file place is told))
+    (λ file is. c.in-Err.ensures.failed file is)
+
+pub returns-clause-refused : goal.returns-clause-refused
+returns-clause-refused g c told =
+    let shape = c.args.shape.now in
+    let image = seen_in (g.H.Host.world c.args.host.now).disk in
+    let l = c.in-Ok.ensures.log in
+    let same : seen_in (g.H.Host.world c.read_log.new.host).disk ≡ image = ap seen_in (c.read_log.ensures.asked told).disk in
+    let order : c.as_slice.result.now ≡ by_grain (named_by l.records) = c.as_slice.ensures.value ∙ c.in-Ok-sort_by_grain.ensures ∙ ap by_grain (c.into_vec-named.ensures ∙ l.named) in
+    let v = c.in-Err-read_versions.ensures in
+    versions_refused shape image l.records (l.read told) c.in-Err-read_versions.fault
+    (λ file place is. sym (λ i. first_missing shape (same i) (order i)) ∙ v.damaged file place is told)
+    (λ file is. subst (λ (im : Image). StopsAt shape im (by_grain (named_by l.records)) file) same (subst (λ (ns : List Named). StopsAt shape (seen_in (g.H.Host.world c.read_log.new.host).disk) ns file) order (v.failed file is told)))

@@ -1,0 +1,12 @@
+use Rattle.std.proofs.Common.{◌≡◌, ◌++◌, ◌^◌, ◌<◌, List, drop}
+use Rattle.std.specs.List.{AllByRecursion}
+use Rattle.log_reading.specs.Versions.{named_by}
+use Rattle.log_reading.specs.Sums.{next_after}
+use Rattle.log_reading.proofs.log.add_records.Given as goal
+
+abbrev pub invariant-loop-entry : goal.invariant-loop-entry
+invariant-loop-entry l = record {
+  named : l.named ++ named_by (drop l.entry-index l.records) ≡ l.fn.named ++ named_by l.records;
+  next : next_after l.after (drop l.entry-index l.records) ≡ next_after l.next l.records;
+  low : AllByRecursion (λ r. r.unit.0 < 2 ^ 63) (drop l.entry-index l.records);
+}

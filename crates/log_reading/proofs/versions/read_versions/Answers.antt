@@ -1,0 +1,98 @@
+use Rattle.std.proofs.Common.{rules, ◌≡◌, ◌+◌, ◌∷◌, ℕ, IsTrue, if◌then◌else◌, List, drop, get_or, Option, Some, Ok, Err, refl, sym, ◌∙◌, ap, subst}
+use Rattle.std.proofs.lemmas.Result.{err_from_is_err_and}
+use Rattle.base_types.specs.declared.calls.GrainId.{GrainId}
+use Rattle.base_types.specs.declared.stores.Version.{Version}
+use Rattle.base_types.specs.Stores.{state_in, end_in}
+use Rattle.host_trait.specs.declared.channels.FileId.{FileId}
+use Rattle.host_trait.specs.declared.channels.FileId.TheVariants.{Grain}
+use Rattle.host_trait.specs.World.{Disk}
+use Rattle.host_trait.proofs.Runs.{asked_then}
+use Rattle.host_trait.proofs.Counts.{none_then}
+use Rattle.log_reading.specs.declared.faults.FolderFault.{FolderFault}
+use Rattle.commit_log.specs.declared.records.Named.{Named}
+use Rattle.log_reading.specs.Steps.{seen_in}
+use Rattle.host_trait.specs.Files.{same_grain}
+use Rattle.log_reading.specs.Versions.{version_named}
+use Rattle.log_reading.specs.Sums.{later_end}
+use Rattle.log_reading.proofs.Errors.{other_value}
+use Rattle.log_reading.proofs.Summing.{next_default, no_item}
+use Rattle.log_reading.proofs.Naming.{passed_none, passed_more, passed_all, passed_here, stops_here, state_more, state_all, end_more, end_all}
+use Rattle.log_reading.proofs.versions.read_versions.Goals as goal
+
+abbrev no_name : Named
+no_name = record { unit = record { 0 = 0 }; written = record { grain = record { kind = 0; key = 0 }; place = record { offset = 0; len = 0 } } }
+
+pub loop-one-init : goal.loop-one-init
+loop-one-init g c = record {
+  passed = λ told. passed_none _ _ c.args.named.now;
+  states = λ told grain. refl;
+  ends = λ grain. refl;
+  asked = search rules;
+  calm = λ channel. refl;
+  ready = λ file was. was;
+}
+
+pub returns-in_err-version-clause-damaged : goal.returns-in_err-version-clause-damaged
+returns-in_err-version-clause-damaged g c =
+    let p = err_from_is_err_and c.from_residual.result c.from_residual.ensures.1 in
+    let inv = c.loop-one.invariant in
+    let shape = c.args.shape.now in
+    let i = c.loop-one.one-index in
+    let xs = c.args.named.now in
+    let x : Named = get_or xs i no_name in
+    rw (p.1, p.2) λ file place is told.
+    let err = other_value _ (FolderFault.Damaged file place) is in
+    let here : version_named shape (seen_in (g.H.Host.world c.loop-one.host).disk) x ≡ Err place = c.in_err-version.ensures.damaged file place err told in
+    let there : version_named shape (seen_in (g.H.Host.world c.args.host.now).disk) x ≡ Err place = subst (λ (d : Disk). version_named shape (seen_in d) x ≡ Err place) (inv.asked told).disk here in
+    let at : file ≡ Grain 0 x.written.grain = c.in_err-version.ensures.file file place err in
+    passed_here shape _ xs (drop i xs) (inv.passed told) x (drop (i + 1) xs) (next_default i xs no_name c.loop-one-test.true) place there
+    ∙ ap (λ (f : FileId). Some (f, place)) (sym at)
+
+pub returns-in_err-version-clause-failed : goal.returns-in_err-version-clause-failed
+returns-in_err-version-clause-failed g c =
+    let p = err_from_is_err_and c.from_residual.result c.from_residual.ensures.1 in
+    let inv = c.loop-one.invariant in
+    let shape = c.args.shape.now in
+    let i = c.loop-one.one-index in
+    let xs = c.args.named.now in
+    let x : Named = get_or xs i no_name in
+    rw (p.1, p.2) λ file is told.
+    let at : file ≡ Grain 0 x.written.grain = c.in_err-version.ensures.failed file (other_value _ (FolderFault.Failed file) is) in
+    stops_here shape _ xs (drop i xs) (inv.passed told) x (drop (i + 1) xs) (next_default i xs no_name c.loop-one-test.true) file at
+
+pub returns-in_err-version-clause-asked : goal.returns-in_err-version-clause-asked
+returns-in_err-version-clause-asked g c told = asked_then _ _ _ (c.loop-one.invariant.asked told) (c.named_version.ensures.asked told)
+
+pub returns-in_err-keep-clause-asked : goal.returns-in_err-keep-clause-asked
+returns-in_err-keep-clause-asked g c told = asked_then _ _ _ (c.loop-one.invariant.asked told) (c.named_version.ensures.asked told)
+
+pub loop-one-preserved : goal.loop-one-preserved
+loop-one-preserved g c =
+    let inv = c.loop-one.invariant in
+    let shape = c.args.shape.now in
+    let i = c.loop-one.one-index in
+    let xs = c.args.named.now in
+    let x : Named = get_or xs i no_name in
+    let v = c.in_ok-version.version in
+    let next = next_default i xs no_name c.loop-one-test.true in
+    let image = seen_in (g.H.Host.world c.args.host.now).disk in
+    let found : (told : IsTrue g.H.Host.tells) → version_named shape image x ≡ Ok v = λ told.
+    let here : version_named shape (seen_in (g.H.Host.world c.loop-one.host).disk) x ≡ Ok v = c.in_ok-version.ensures.found told in
+    subst (λ (d : Disk). version_named shape (seen_in d) x ≡ Ok v) (inv.asked told).disk here in
+    record {
+      passed = λ told. passed_more shape image xs (drop i xs) (inv.passed told) x (drop (i + 1) xs) next v (found told);
+      states = λ told grain. state_more shape image x (drop (i + 1) xs) (drop i xs) grain v _ _ _ next (found told) (c.in_ok-keep.ensures.states grain) (inv.states told grain);
+      ends = λ grain. end_more x (drop (i + 1) xs) (drop i xs) grain _ _ _ next (c.in_ok-keep.ensures.ends grain) (inv.ends grain);
+      asked = λ told. asked_then _ _ _ (inv.asked told) (c.named_version.ensures.asked told);
+      calm = none_then _ _ _ inv.calm c.in_ok-version.ensures.calm;
+      ready = λ file was. c.named_version.ensures.ready file (inv.ready file was);
+    }
+
+pub returns-clause-found : goal.returns-clause-found
+returns-clause-found g c told = passed_all c.args.shape.now _ c.args.named.now (drop c.loop-one.one-index c.args.named.now) (c.loop-one.invariant.passed told) (no_item c.loop-one.one-index c.args.named.now c.loop-one-test.false)
+
+pub returns-clause-states : goal.returns-clause-states
+returns-clause-states g c told grain = state_all c.args.shape.now (seen_in (g.H.Host.world c.args.host.now).disk) (drop c.loop-one.one-index c.args.named.now) grain _ _ (no_item c.loop-one.one-index c.args.named.now c.loop-one-test.false) (c.loop-one.invariant.states told grain)
+
+pub returns-clause-ends : goal.returns-clause-ends
+returns-clause-ends g c grain = end_all (drop c.loop-one.one-index c.args.named.now) grain _ _ (no_item c.loop-one.one-index c.args.named.now c.loop-one-test.false) (c.loop-one.invariant.ends grain)

@@ -1,0 +1,32 @@
+-- The records of a manager file, block by block, or the first place that is damaged.
+use Rattle.std.specs.Prelude.{ℕ, ◌+◌, List, [], ◌∷◌, ◌++◌, length, Result, Ok, Err}
+use Rattle.base_types.specs.declared.shapes.Shape.{Shape}
+use Rattle.field_codec.specs.declared.faults.CodecFault.{CodecFault}
+use Rattle.field_codec.specs.declared.units.Numbers.TheVariants.{Logged}
+use Rattle.field_codec.specs.Results.{place_of}
+use Rattle.gate_block.specs.Blocks.{Found, shut, bad, whole, found_at}
+use Rattle.gate_block.specs.Log.{first_gate, bodies_of, gate_of}
+use Rattle.commit_log.specs.declared.records.CommitRecord.{CommitRecord}
+use Rattle.commit_log.specs.Fields.{body_in}
+
+-- the records of a body that stands at an offset, and then the others, or the first place that is damaged
+abbrev pub and_records : ℕ → Result (List CommitRecord) CodecFault → Result (List CommitRecord) ℕ → Result (List CommitRecord) ℕ
+and_records at (Err fault) more = Err (at + place_of fault)
+and_records at (Ok records) (Err place) = Err place
+and_records at (Ok records) (Ok more) = Ok (records ++ more)
+
+-- behind the bodies the log ends at a closed gate, or is damaged at the length field of a block that isn't whole
+abbrev pub no_more : ℕ → Found → Result (List CommitRecord) ℕ
+no_more gate shut = Ok []
+no_more gate bad = Err (gate + 1)
+no_more gate (whole body) = Ok []
+
+-- the records of these bodies, of which the first stands behind this gate, and then of what ends them
+abbrev pub records_behind : Shape → ℕ → List (List ℕ) → Result (List CommitRecord) ℕ → Result (List CommitRecord) ℕ
+records_behind shape gate [] end = end
+records_behind shape gate (body ∷ bodies) end =
+    and_records (gate + 5) (body_in Logged shape body) (records_behind shape (gate + 5 + length body) bodies end)
+
+-- the records of a manager file, or the first place that is damaged
+abbrev pub records_in_file : Shape → List ℕ → Result (List CommitRecord) ℕ
+records_in_file shape file = records_behind shape first_gate (bodies_of file) (no_more (gate_of file) (found_at (gate_of file) file))

@@ -1,0 +1,6 @@
+pub mod Blocks
+pub mod Versions
+pub mod Sums
+pub mod Steps
+pub mod Counts
+pub mod Contents

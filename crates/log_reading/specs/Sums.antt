@@ -1,0 +1,59 @@
+-- What is kept of the records and versions that are read.
+use Rattle.std.specs.Prelude.{◌≡◌, ℕ, ◌+◌, ◌<◌, ◌^◌, max, Bool, IsTrue, if◌then◌else◌, List, [], ◌∷◌, ◌++◌, length, fold, Option, Some, None, Ok}
+use Rattle.std.specs.List.{AllByRecursion}
+use Rattle.base_types.specs.declared.calls.GrainId.{GrainId}
+use Rattle.base_types.specs.declared.calls.Value.{Value}
+use Rattle.base_types.specs.declared.shapes.Shape.{Shape}
+use Rattle.host_trait.specs.World.{Image}
+use Rattle.host_trait.specs.declared.channels.FileId.{FileId}
+use Rattle.host_trait.specs.declared.channels.FileId.TheVariants.{Grain}
+use Rattle.field_codec.specs.declared.units.Numbers.TheVariants.{Logged}
+use Rattle.gate_block.specs.Log.{gate_of}
+use Rattle.commit_log.specs.declared.records.CommitRecord.{CommitRecord}
+use Rattle.commit_log.specs.Bodies.{IsRecordIn}
+use Rattle.commit_log.specs.declared.records.Named.{Named}
+use Rattle.log_reading.specs.declared.log.ReadLog.{ReadLog}
+use Rattle.host_trait.specs.Files.{same_grain}
+use Rattle.log_reading.specs.Blocks.{records_in_file}
+use Rattle.log_reading.specs.Versions.{named_by, by_grain, is_before, version_named, state_of, first_missing}
+
+-- the number of the next unit after these records
+abbrev pub next_after : ℕ → List CommitRecord → ℕ
+next_after next records = fold (λ n r. max n (r.unit.0 + 1)) next records
+
+-- What is kept of a log is that of records within the program, and where the file is told they are the file's and end at
+-- the log's gate.
+pub record IsReadAs (tells : Bool) (shape : Shape) (file : List ℕ) (l : ReadLog) : Type 0 where
+  pub records : List CommitRecord
+  pub count : l.count ≡ length records
+  pub next : l.next_unit.0 ≡ next_after 1 records
+  pub named : l.named ≡ named_by records
+  pub fit : AllByRecursion (IsRecordIn Logged shape) records
+  pub read : IsTrue tells → records_in_file shape file ≡ Ok records
+  pub gate : IsTrue tells → gate_of file ≡ l.gate_at
+
+-- a grain's state after these versions, from one of before
+abbrev pub state_after : Shape → Image → Option (List Value) → List Named → GrainId → Option (List Value)
+state_after shape image state [] grain = state
+state_after shape image state (n ∷ named) grain =
+    state_after shape image (if same_grain n.written.grain grain then Some (state_of (version_named shape image n)) else state) named grain
+
+-- the greater of an end and one that may be missing
+abbrev pub later_end : Option ℕ → ℕ → Option ℕ
+later_end None end = Some end
+later_end (Some last) end = Some (max last end)
+
+-- the greatest end among the places that are named in a grain's file, from one of before
+abbrev pub end_after : Option ℕ → List Named → GrainId → Option ℕ
+end_after end [] grain = end
+end_after end (n ∷ named) grain =
+    end_after (if same_grain n.written.grain grain then later_end end (n.written.place.offset + n.written.place.len) else end) named grain
+
+-- A version couldn't be read for a fault of its grain's file, and all before it are there.
+pub record StopsAt (shape : Shape) (image : Image) (named : List Named) (file : FileId) : Type 0 where
+  pub front : List Named
+  pub here : Named
+  pub back : List Named
+  pub are : named ≡ front ++ (here ∷ back)
+  pub whole : first_missing shape image front ≡ None
+  pub is : file ≡ Grain 0 here.written.grain

@@ -1,0 +1,18 @@
+//! What a log and the grains' files hold, as opening reads them: block by block, and then version by version, by grains.
+//!
+//! Each block and each version is read once. The definitions say what the bytes stand for, and where they are damaged first.
+#![tactic(auto)]
+
+mod blocks;
+mod contents;
+mod faults;
+mod laws;
+mod log;
+mod versions;
+
+pub use blocks::next_block;
+pub use contents::{Contents, read_contents};
+pub use faults::FolderFault;
+pub use laws::faults_in_order;
+pub use log::{ReadLog, read_log};
+pub use versions::{named_version, read_versions};

@@ -1,0 +1,116 @@
+ghost use Rattle.std.specs.Prelude.{◌≡◌, ◌+◌, ◌^◌, ◌<◌, ◌≤◌, max, ℕ, List, ◌++◌, map, IsTrue, length, OnOk, IfOk, IfErr, IsErrOf, Err};
+ghost use Rattle.std.specs.List.{AllByRecursion};
+ghost use Rattle.host_trait.specs.Files.{StaysReady};
+ghost use Rattle.host_trait.specs.Faults.{NoneFailed};
+ghost use Rattle.host_trait.specs.Runs.{OnlyAsked};
+ghost use Rattle.host_trait.specs.declared.channels.FileId.{FileId};
+ghost use Rattle.field_codec.specs.declared.units.Numbers.TheVariants.{Logged};
+ghost use Rattle.commit_log.specs.Bodies.{IsRecordIn};
+ghost use Rattle.log_reading.specs.declared.faults.FolderFault.{FolderFault};
+ghost use Rattle.log_reading.specs.Counts.{ReadFaulted};
+ghost use Rattle.log_reading.specs.Steps.{manager};
+ghost use Rattle.log_reading.specs.Blocks.{records_in_file};
+ghost use Rattle.log_reading.specs.Versions.{named_by, by_grain};
+ghost use Rattle.log_reading.specs.Sums.{next_after, IsReadAs};
+
+use crate::blocks::next_block;
+use crate::faults::FolderFault;
+use base_types::{List, Shape, UnitNo};
+use commit_log::{CommitRecord, Named, Written};
+use host_trait::Host;
+use std::alloc::{AllocError, Global};
+
+/// What opening keeps of a log: how many records it has, the number of the next unit, each version that a record names, in the
+/// log's order, and the gate at which it ends.
+#[derive(Drop)]
+pub struct ReadLog {
+    pub count: u64,
+    pub next_unit: UnitNo,
+    pub named: List<Named>,
+    pub gate_at: u64,
+}
+
+// A version that a unit's record names.
+fn named_of(unit: UnitNo, written: &Written) -> Named
+    ensures { result ≡ record { unit = unit; written = written.now } }
+{
+    Named {
+        unit,
+        written: *written,
+    }
+}
+
+// Appends the versions that a unit's record names.
+fn add_named(named: &mut List<Named>, unit: UnitNo, writes: &[Written]) -> Result<(), AllocError>
+    ensures { OnOk result (named.new ≡ named.old ++ map (λ w. record { unit = unit; written = w }) writes.now) }
+{
+    for written in writes {
+        named.push(named_of(unit, written))?;
+    }
+    Ok(())
+}
+
+// The greater of the next unit's number and that behind a unit.
+fn next_behind(next: u64, unit: u64) -> u64
+    requires { unit < 2 ^ 63 }
+    ensures { result ≡ max next (unit + 1) }
+{
+    if next < unit + 1 { unit + 1 } else { next }
+}
+
+// Appends the versions that records name, and answers the number of the unit after them.
+fn add_records(
+    named: &mut List<Named>,
+    next: u64,
+    records: &[CommitRecord],
+) -> Result<u64, AllocError>
+    requires { AllByRecursion (λ r. r.unit.0 < 2 ^ 63) records.now }
+    ensures named { OnOk result (named.new ≡ named.old ++ named_by records.now) }
+    ensures next { IfOk result (λ after. after ≡ next_after next records.now) }
+{
+    let mut after = next;
+    for entry in records {
+        add_named(named, entry.unit, entry.writes.as_slice())?;
+        after = next_behind(after, entry.unit.0);
+    }
+    Ok(after)
+}
+
+/// Reads the log of the manager file, block by block, and keeps what opening needs of it. `Damaged` names the first place that
+/// is damaged, and `Failed` the manager file, a call on which failed.
+pub fn read_log<H: Host>(alloc: Global, host: &mut H, shape: &Shape) -> Result<ReadLog, FolderFault>
+    ensures log { IfOk result (λ l. IsReadAs H.tells shape.now ((H.world host.old).disk manager).seen l) }
+    ensures bound { IfOk result (λ l. (l.gate_at < 2 ^ 63) × ((0 < l.next_unit.0) × (l.next_unit.0 ≤ 2 ^ 63))) }
+    ensures damaged { (file : FileId) (place : ℕ) → IsErrOf result (FolderFault.Damaged file place) → IsTrue H.tells
+        → records_in_file shape.now ((H.world host.old).disk manager).seen ≡ Err place }
+    ensures file { (file : FileId) (place : ℕ) → IsErrOf result (FolderFault.Damaged file place) → file ≡ manager }
+    ensures failed { (file : FileId) → IsErrOf result (FolderFault.Failed file) → file ≡ manager }
+    ensures asked { IsTrue H.tells → OnlyAsked (H.world host.old) (H.world host.new) }
+    ensures calm { OnOk result (NoneFailed (H.faults host.old) (H.faults host.new)) }
+    ensures fault { IfErr result (λ e. ReadFaulted e (H.faults host.old) (H.faults host.new)) }
+    ensures ready { StaysReady (H.is_ready host.old) (H.is_ready host.new) }
+{
+    let mut named = List::new(alloc);
+    let mut count = 0;
+    let mut next = 1;
+    let mut gate_at = 15;
+    while let Some((records, behind)) = next_block(alloc, host, shape, gate_at)? {
+        next = add_records(&mut named, next, records.as_slice())?;
+        count += records.len() as u64;
+        gate_at = behind;
+    }
+    Ok(ReadLog {
+        count,
+        next_unit: UnitNo(next),
+        named,
+        gate_at,
+    })
+}
+
+/// Sorts named versions by their grains, those of one grain in the order that they had.
+pub fn sort_by_grain(named: &mut Vec<Named>) -> Result<(), AllocError>
+    ensures { OnOk result (named.new.items ≡ by_grain named.old.items) }
+{
+    named.sort_by_key(|n| n.written.grain)?;
+    Ok(())
+}

@@ -1,0 +1,110 @@
+ghost use Rattle.std.specs.Prelude.{◌≡◌, ◌+◌, ◌^◌, ◌<◌, ◌≤◌, ℕ, List, IsTrue, true, false, if◌then◌else◌, length, take, drop, Ok, Err, Some, None, OnOk, IfOk, IfErr, IsErrOf};
+ghost use Rattle.std.specs.Int.{w64, to_le_bytes};
+ghost use Rattle.base_types.specs.declared.calls.GrainId.{GrainId};
+ghost use Rattle.base_types.specs.Stores.{state_in, end_in};
+ghost use Rattle.host_trait.specs.Files.{MayAsk, StaysReady};
+ghost use Rattle.host_trait.specs.Faults.{Counted, NoneFailed};
+ghost use Rattle.host_trait.specs.Runs.{OnlyAsked};
+ghost use Rattle.host_trait.specs.declared.channels.FileId.{FileId};
+ghost use Rattle.host_trait.specs.declared.channels.FileId.TheVariants.{Grain};
+ghost use Rattle.host_trait.specs.declared.channels.Channel.TheVariants.{File};
+ghost use Rattle.log_reading.specs.declared.faults.FolderFault.{FolderFault};
+ghost use Rattle.log_reading.specs.Counts.{ReadFaulted};
+ghost use Rattle.log_reading.specs.Steps.{seen_in};
+ghost use Rattle.host_trait.specs.Files.{same_grain};
+ghost use Rattle.log_reading.specs.Versions.{version_named, first_missing};
+ghost use Rattle.log_reading.specs.Sums.{state_after, end_after, later_end, StopsAt};
+
+use crate::faults::FolderFault;
+use base_types::{Ends, Shape, Store, Version};
+use commit_log::Named;
+use grain_log::{VersionFault, read_named};
+use host_trait::{FileId, Host};
+use std::alloc::Global;
+
+/// The version that is named, or the first place at which its file is damaged: it is the unit's, and has its type's fields.
+pub fn named_version<H: Host>(
+    alloc: Global,
+    host: &mut H,
+    shape: &Shape,
+    named: Named,
+) -> Result<Version, FolderFault>
+    ensures found { IfOk result (λ version. IsTrue H.tells → version_named shape.now (seen_in (H.world host.old).disk) named ≡ Ok version) }
+    ensures near { OnOk result (named.written.place.offset + named.written.place.len < 2 ^ 63) }
+    ensures damaged { (file : FileId) (place : ℕ) → IsErrOf result (FolderFault.Damaged file place) → IsTrue H.tells
+        → version_named shape.now (seen_in (H.world host.old).disk) named ≡ Err place }
+    ensures file { (file : FileId) (place : ℕ) → IsErrOf result (FolderFault.Damaged file place) → file ≡ Grain 0 named.written.grain }
+    ensures failed { (file : FileId) → IsErrOf result (FolderFault.Failed file) → file ≡ Grain 0 named.written.grain }
+    ensures asked { IsTrue H.tells → OnlyAsked (H.world host.old) (H.world host.new) }
+    ensures calm { OnOk result (NoneFailed (H.faults host.old) (H.faults host.new)) }
+    ensures fault { IfErr result (λ e. ReadFaulted e (H.faults host.old) (H.faults host.new)) }
+    ensures ready { StaysReady (H.is_ready host.old) (H.is_ready host.new) }
+{
+    let grain = named.written.grain;
+    let file = FileId::Grain { slot: 0, grain };
+    match read_named(alloc, host, file, named.unit, named.written.place, shape) {
+        Ok(version) => Ok(version),
+        Err(VersionFault::Damaged { place }) => Err(FolderFault::Damaged { file, place }),
+        Err(VersionFault::Failed) => Err(FolderFault::Failed { file }),
+        Err(VersionFault::Memory) => Err(FolderFault::Memory),
+    }
+}
+
+// The greater of an end and one that may be missing.
+fn later_end(last: Option<u64>, end: u64) -> u64
+    ensures { later_end last end ≡ Some result }
+{
+    match last {
+        Some(last) => { if last < end { end } else { last } }
+        None => end,
+    }
+}
+
+// Gives a grain a version's state, and its file the later end.
+fn keep(
+    store: &mut Store,
+    ends: &mut Ends,
+    named: Named,
+    version: Version,
+) -> Result<(), FolderFault>
+    requires { named.written.place.offset + named.written.place.len < 2 ^ 63 }
+    ensures states { OnOk result ((grain : GrainId) → state_in store.new grain ≡ (if same_grain named.written.grain grain then Some version.state else state_in store.old grain)) }
+    ensures ends { OnOk result ((grain : GrainId) → end_in ends.new grain ≡ (if same_grain named.written.grain grain then later_end (end_in ends.old grain) (named.written.place.offset + named.written.place.len) else end_in ends.old grain)) }
+    ensures memory { IfErr result (λ e. e ≡ FolderFault.Memory) }
+{
+    let grain = named.written.grain;
+    let place = named.written.place;
+    store.put(grain, version.state)?;
+    let end = later_end(ends.get(grain), place.offset + place.len as u64);
+    ends.put(grain, end)?;
+    Ok(())
+}
+
+/// Reads these versions one by one, and keeps the last state of each grain and the greatest end in its file. `Damaged` names the
+/// first that isn't there.
+pub fn read_versions<H: Host>(
+    alloc: Global,
+    host: &mut H,
+    shape: &Shape,
+    named: &[Named],
+    store: &mut Store,
+    ends: &mut Ends,
+) -> Result<(), FolderFault>
+    ensures found { OnOk result (IsTrue H.tells → first_missing shape.now (seen_in (H.world host.old).disk) named.now ≡ None) }
+    ensures states { OnOk result (IsTrue H.tells → (grain : GrainId) → state_in store.new grain ≡ state_after shape.now (seen_in (H.world host.old).disk) (state_in store.old grain) named.now grain) }
+    ensures ends { OnOk result ((grain : GrainId) → end_in ends.new grain ≡ end_after (end_in ends.old grain) named.now grain) }
+    ensures damaged { (file : FileId) (place : ℕ) → IsErrOf result (FolderFault.Damaged file place) → IsTrue H.tells
+        → first_missing shape.now (seen_in (H.world host.old).disk) named.now ≡ Some (file, place) }
+    ensures failed { (file : FileId) → IsErrOf result (FolderFault.Failed file) → IsTrue H.tells
+        → StopsAt shape.now (seen_in (H.world host.old).disk) named.now file }
+    ensures asked { IsTrue H.tells → OnlyAsked (H.world host.old) (H.world host.new) }
+    ensures calm { OnOk result (NoneFailed (H.faults host.old) (H.faults host.new)) }
+    ensures fault { IfErr result (λ e. ReadFaulted e (H.faults host.old) (H.faults host.new)) }
+    ensures ready { StaysReady (H.is_ready host.old) (H.is_ready host.new) }
+{
+    for one in named {
+        let version = named_version(alloc, host, shape, *one)?;
+        keep(store, ends, *one, version)?;
+    }
+    Ok(())
+}

@@ -1,0 +1,117 @@
+ghost use Rattle.std.specs.Prelude.{◌≡◌, ◌≤◌, ℕ, List, IsTrue, length, Ok, Err, OnOk, IfOk, IfErr, IsErrOf};
+ghost use Rattle.host_trait.specs.Files.{StaysReady};
+ghost use Rattle.host_trait.specs.Faults.{NoneFailed};
+ghost use Rattle.host_trait.specs.Runs.{OnlyAsked};
+ghost use Rattle.script_tree.specs.Programs.{program_tree};
+ghost use Rattle.program_file.specs.declared.faults.ProgramFileFault.{ProgramFileFault as Fault};
+ghost use Rattle.program_file.specs.Programs.{program_in};
+ghost use Rattle.program_file.specs.Files.{program_file, program_in_file, with_types};
+ghost use Rattle.program_file.specs.Answers.{parse_named, check_named, named_place, damage, Accepts, FileFaulted};
+
+use crate::faults::{ProgramFault, ProgramFileFault};
+use crate::text::read_text;
+use host_trait::Host;
+use script_check::{CheckFault, Checked, check};
+use script_parser::{ParseFault, parse};
+use std::alloc::Global;
+
+fn parse_place(fault: ParseFault) -> Option<u32>
+    ensures { result ≡ parse_named fault }
+{
+    match fault {
+        ParseFault::BadToken { at } => Some(at),
+        ParseFault::Unexpected { at } => Some(at),
+        ParseFault::TooDeep { at } => Some(at),
+        ParseFault::Memory => None,
+    }
+}
+
+fn check_place(fault: CheckFault) -> Option<u32>
+    ensures { result ≡ check_named fault }
+{
+    match fault {
+        CheckFault::UnknownName { at } => Some(at),
+        CheckFault::TwiceNamed { at } => Some(at),
+        CheckFault::Arity { at } => Some(at),
+        CheckFault::FieldInPlain { at } => Some(at),
+        CheckFault::SetInRead { at } => Some(at),
+        CheckFault::TooMany { at } => Some(at),
+        CheckFault::NeedsTransaction { at } => Some(at),
+        CheckFault::Memory => None,
+    }
+}
+
+impl ProgramFault {
+    /// The place in the text, none where memory ran out.
+    pub fn place(self) -> Option<u32>
+        ensures { result ≡ named_place self }
+    {
+        match self {
+            ProgramFault::Unparsed(fault) => parse_place(fault),
+            ProgramFault::Unchecked(fault) => check_place(fault),
+        }
+    }
+}
+
+/// The program that a text is, or why it is none: the first fault in the order of the text, that of the grammar before that of
+/// a name.
+pub fn accept(alloc: Global, text: &[u8]) -> Result<Checked, ProgramFault>
+    requires { length text.now ≤ 262144 }
+    ensures { Accepts result text.now }
+{
+    let program = match parse(alloc, text) {
+        Ok(program) => program,
+        Err(fault) => return Err(ProgramFault::Unparsed(fault)),
+    };
+    match check(alloc, program) {
+        Ok(checked) => Ok(checked),
+        Err(fault) => Err(ProgramFault::Unchecked(fault)),
+    }
+}
+
+// The fault of a program file whose text has this fault.
+fn in_file(fault: ProgramFault) -> ProgramFileFault
+    ensures { result ≡ damage (named_place fault) }
+{
+    match fault.place() {
+        Some(at) => ProgramFileFault::Damaged {
+            place: 4 + at as u64,
+        },
+        None => ProgramFileFault::Memory,
+    }
+}
+
+// The program of a text that stands in the program file.
+fn accept_text(alloc: Global, text: &[u8]) -> Result<Checked, ProgramFileFault>
+    requires { length text.now ≤ 262144 }
+    ensures found { IfOk result (λ checked. program_in text.now ≡ Ok (program_tree checked)) }
+    ensures damaged { (place : ℕ) → IsErrOf result (Fault.Damaged place) → with_types text.now (program_in text.now) ≡ Err place }
+    ensures quiet { IsErrOf result Fault.Failed → ⊥ }
+{
+    match accept(alloc, text) {
+        Ok(checked) => Ok(checked),
+        Err(fault) => Err(in_file(fault)),
+    }
+}
+
+/// Reads the program file, and changes no file. `Damaged` names the first place that is damaged.
+pub fn read_program<H: Host>(alloc: Global, host: &mut H) -> Result<Checked, ProgramFileFault>
+    // The program is the file's, and else the first damage is named.
+    ensures found { IfOk result (λ checked. IsTrue H.tells
+        → (text : List ℕ) × (program_in_file ((H.world host.old).disk program_file).seen ≡ Ok (record { text = text; types = program_tree checked }))) }
+    ensures damaged { (place : ℕ) → IsErrOf result (Fault.Damaged place) → IsTrue H.tells
+        → program_in_file ((H.world host.old).disk program_file).seen ≡ Err place }
+
+    ensures asked { IsTrue H.tells → OnlyAsked (H.world host.old) (H.world host.new) }
+
+    // No count changes unless the answer is `Failed`; then the program file's rose, and no other changed.
+    ensures calm { OnOk result (NoneFailed (H.faults host.old) (H.faults host.new)) }
+    ensures fault { IfErr result (λ e. FileFaulted e (H.faults host.old) (H.faults host.new)) }
+    ensures ready { StaysReady (H.is_ready host.old) (H.is_ready host.new) }
+{
+    let text = read_text(alloc, host)?;
+    match accept_text(alloc, &text) {
+        Ok(checked) => Ok(checked),
+        Err(fault) => Err(fault),
+    }
+}

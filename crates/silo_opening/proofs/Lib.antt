@@ -1,0 +1,14 @@
+pub mod Fronts
+pub mod Looking
+pub mod Closing
+pub mod Filling
+pub mod Outcomes
+pub mod Runs
+pub mod Standing
+pub mod Assembly
+pub mod Within
+pub mod Opening
+pub mod Refused
+pub mod Behind
+pub mod Still
+pub mod Inits

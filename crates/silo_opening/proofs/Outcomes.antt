@@ -1,0 +1,54 @@
+-- What a call of `create` comes to: a silo, and how far it came.
+use Rattle.std.proofs.Common.{◌≡◌, ◌⊎◌, inl, inr, ℕ, ◌≤◌, List, [], length, take, slice_index, sym, ◌∙◌, ap, subst, arith, length-take, get_or-take}
+use Rattle.host_trait.proofs.Runs.{settled_image}
+use Rattle.host_trait.specs.World.{World, Moment, Image, Disk, IsImage, Passes, moment_of}
+use Rattle.gate_block.specs.Log.{first_gate}
+use Rattle.silo_spec.specs.Silos.{manager, program_file, IsSilo, HasProgram, IsNewSilo, new_header}
+use Rattle.promise_spec.specs.Logs.{magic}
+use Rattle.silo_spec.specs.Moments.{IsUntouched}
+use Rattle.silo_spec.specs.Making.{IsMade, IsNewAt, IsUnsynced, FromFirstSync, Makes}
+use Rattle.silo_opening.specs.Steps.{HasNoSilo}
+use Rattle.silo_opening.proofs.Closing.{first_then, first_weaker}
+use Rattle.silo_opening.proofs.Filling.{new_log, new_silo}
+use Rattle.silo_opening.proofs.Fronts.{first_in, name_in}
+
+module _ (text : List ℕ) (disk : Disk) (made : IsMade magic text disk) (image : Image) (is : IsImage disk image) where
+  log_is : image manager ≡ (disk manager).seen
+  log_is = settled_image disk manager (disk manager).seen (image manager) made.log_lasts (is manager)
+
+  header_is : new_header magic ≡ take 16 (image manager)
+  header_is = sym (ap (λ (l : List ℕ). take 16 l) log_is ∙ made.header)
+
+  long : 16 ≤ length (image manager)
+  long = omega (arith, ap length header_is, length-take 16 (image manager))
+
+  silo : IsSilo magic (image manager)
+  silo = record {
+    long = long;
+    gate = sym (first_in (image manager) (new_header magic) header_is);
+    named = sym (name_in (image manager) (new_header magic) header_is);
+  }
+
+  closed : slice_index (image manager) 15 ≡ 0
+  closed = sym (get_or-take 16 (image manager) 15 0 (omega arith)) ∙ ap (λ (l : List ℕ). slice_index l 15) (sym header_is)
+
+  text_is : HasProgram text (image program_file)
+  text_is = subst (λ (l : List ℕ). HasProgram text l) (sym (settled_image disk program_file (disk program_file).seen (image program_file) made.program_lasts (is program_file))) made.program
+
+  -- each image of what was made is a new silo
+  pub made_silo : IsNewSilo magic text image
+  made_silo = new_silo text image silo (sym header_is) text_is closed
+
+no_silo_new : (text : List ℕ) (m : Moment) → HasNoSilo magic m → IsNewAt magic text m
+no_silo_new text m none image is silo = absurd (none image is silo)
+
+-- the first two steps came so far
+pub so_far : (text : List ℕ) (old new : World) → IsUntouched old new ⊎ (IsUnsynced old new ⊎ FromFirstSync (HasNoSilo magic) old new) → Makes magic text old new
+so_far text old new (inl untouched) = inl untouched
+so_far text old new (inr (inl unsynced)) = inr (inl unsynced)
+so_far text old new (inr (inr first)) = inr (inr (first_weaker (HasNoSilo magic) (IsNewAt magic text) old new (no_silo_new text) first))
+
+-- and the later ones behind them
+pub came_on : (text : List ℕ) (old mid new : World) → FromFirstSync (HasNoSilo magic) old mid → Passes (IsNewAt magic text) mid.past new.past → IsNewAt magic text (moment_of new) → Makes magic text old new
+came_on text old mid new first moments now =
+    inr (inr (first_then (IsNewAt magic text) old mid new (first_weaker (HasNoSilo magic) (IsNewAt magic text) old mid (no_silo_new text) first) moments now))

@@ -1,0 +1,4 @@
+pub mod Steps
+pub mod Counts
+pub mod Opened
+pub mod Inits

@@ -1,0 +1,60 @@
+-- What an opened silo is, and what its refusals say.
+use Rattle.std.specs.Prelude.{◌≡◌, ℕ, ◌≤◌, Bool, ◌&&◌, ◌==◌, List, length, map, take, drop, slice_index, bytes_eq, unwrap_or, Some, None}
+use Rattle.base_types.specs.declared.calls.GrainId.{GrainId}
+use Rattle.base_types.specs.Stores.{state_in, end_in}
+use Rattle.host_trait.specs.declared.channels.FileId.TheVariants.{Grain}
+use Rattle.host_trait.specs.World.{Image}
+use Rattle.gate_block.specs.Log.{gate_of}
+use Rattle.log_reading.specs.declared.faults.FolderFault.{FolderFault}
+use Rattle.log_reading.specs.Versions.{named_by, by_grain}
+use Rattle.log_reading.specs.Sums.{end_after}
+use Rattle.program_file.specs.declared.faults.ProgramFileFault.{ProgramFileFault}
+use Rattle.script_tree.specs.Programs.{program_tree}
+use Rattle.silo_spec.specs.Silos.{manager, program_file}
+use Rattle.promise_spec.specs.Records.{Commit, new_silo, standing_of}
+use Rattle.promise_spec.specs.Logs.{magic}
+use Rattle.promise_spec.specs.Openings.{Reads, opened_as}
+use Rattle.promise_spec.specs.Endings as ending
+use Rattle.silo_opening.specs.declared.faults.OpenFault.{OpenFault}
+use Rattle.silo_opening.specs.declared.open.Opened.{Opened}
+
+-- the bytes are as they were
+abbrev pub Stays : List ℕ → List ℕ → Type 0
+Stays old new = new ≡ old
+
+-- the first byte is 1, and the next eight are the magic
+abbrev pub is_header : List ℕ → Bool
+is_header file = (slice_index file 0 == 1) && bytes_eq (take 8 (drop 1 file)) magic
+
+-- The folder reads as a silo with this program and a log. The log's standing is kept: how many records there are, the number of
+-- the next unit, and each grain's state, which is its type's initial fields where it isn't kept. The ends are the greatest of
+-- the places that the log names in each grain's file, and lie in the file. The gate is that at which the log ends.
+pub record IsOpened (image : Image) (o : Opened) : Type 0 where
+  pub text : List ℕ
+  pub log : List Commit
+  pub reads : opened_as image ≡ Reads (record { text = text; types = program_tree o.checked }) log
+  pub count : o.count ≡ (standing_of (program_tree o.checked) log).count
+  pub next : o.next_unit.0 ≡ (standing_of (program_tree o.checked) log).next
+  pub states : (grain : GrainId) → unwrap_or (state_in o.store grain) ((new_silo (program_tree o.checked)).states grain) ≡ (standing_of (program_tree o.checked) log).states grain
+  pub ends : (grain : GrainId) → end_in o.ends grain ≡ end_after None (by_grain (named_by (map (λ c. c.logged) log))) grain
+  pub within : (grain : GrainId) (end : ℕ) → end_in o.ends grain ≡ Some end → end ≤ length (image (Grain 0 grain))
+  pub gate : gate_of (image manager) ≡ o.gate_at
+
+-- the fault of a program file that gave no program
+abbrev pub in_program_file : ProgramFileFault → OpenFault
+in_program_file (ProgramFileFault.Damaged place) = OpenFault.Damaged program_file place
+in_program_file ProgramFileFault.Failed = OpenFault.DiskFault program_file
+in_program_file ProgramFileFault.Memory = OpenFault.Memory
+
+-- the fault of a log, or of a version that it names
+abbrev pub in_folder : FolderFault → OpenFault
+in_folder (FolderFault.Damaged file place) = OpenFault.Damaged file place
+in_folder (FolderFault.Failed file) = OpenFault.DiskFault file
+in_folder FolderFault.Memory = OpenFault.Memory
+
+-- how a command ends that meets this fault
+abbrev pub ending_of : OpenFault → ending.Ending
+ending_of OpenFault.NotASilo = ending.NotASilo
+ending_of (OpenFault.Damaged file place) = ending.Damaged file place
+ending_of (OpenFault.DiskFault file) = ending.DiskFault file
+ending_of OpenFault.Memory = ending.Memory

@@ -1,0 +1,31 @@
+use host_trait::FileId;
+use thiserror::Error;
+
+/// Why no silo was made.
+#[derive(Debug, Clone, Copy, PartialEq, Eq, Error)]
+pub enum CreateFault {
+    /// The folder is a silo. Nothing was written.
+    #[error("the folder is a silo")]
+    AlreadyASilo,
+    /// A call on this file failed. A crash may leave a silo: a new one, or one that a crash could have left before the
+    /// call.
+    #[error("a call on {file:?} failed")]
+    DiskFault { file: FileId },
+}
+
+/// Why a silo wasn't opened.
+#[derive(Debug, Clone, Copy, PartialEq, Eq, Error)]
+pub enum OpenFault {
+    /// The manager file is shorter than 16 bytes, or its first byte isn't 1, or the next eight aren't the magic.
+    #[error("the folder is no silo")]
+    NotASilo,
+    /// The file is damaged at this offset.
+    #[error("{file:?} is damaged at {place}")]
+    Damaged { file: FileId, place: u64 },
+    /// A call on this file failed.
+    #[error("a call on {file:?} failed")]
+    DiskFault { file: FileId },
+    /// There was no memory.
+    #[error("no memory")]
+    Memory,
+}

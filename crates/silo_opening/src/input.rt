@@ -1,0 +1,80 @@
+ghost use Rattle.std.specs.Prelude.{◌≡◌, ◌≤◌, ◌<◌, [], length, IsTrue, IfOk, OnOk, IfErr, vec_len};
+ghost use Rattle.host_trait.specs.Faults.{NoneFailed};
+ghost use Rattle.host_trait.specs.Files.{StaysReady};
+ghost use Rattle.host_trait.specs.World.{Passes, moment_of};
+ghost use Rattle.silo_opening.specs.Counts.{InputFaulted};
+
+use host_trait::{Failed, Host};
+use std::alloc::{AllocError, Global};
+use thiserror::Error;
+
+/// The most bytes that a program's text may have.
+pub const TEXT_LIMIT: usize = 262_144;
+
+// The most bytes that are pulled at once.
+const PIECE: usize = 4096;
+
+/// Why a program's text wasn't read.
+#[derive(Debug, Drop, Error)]
+pub enum InputFault {
+    /// There was no memory.
+    #[error("no memory for the input")]
+    Memory,
+    /// A call on the input failed, and its count has risen.
+    #[error("the input couldn't be read")]
+    Failed,
+    /// More than [`TEXT_LIMIT`] bytes stand before the input's end.
+    #[error("the input is too long")]
+    TooLong,
+}
+
+impl From<Failed> for InputFault {
+    ghost use Rattle.std.specs.Prelude.{◌≡◌};
+    ghost use Rattle.silo_opening.specs.declared.input.InputFault.TheVariants.{Failed};
+
+    ghost from_gives = { λ _ e. e ≡ Failed };
+
+    fn from(_: Failed) -> InputFault {
+        InputFault::Failed
+    }
+}
+
+impl From<AllocError> for InputFault {
+    ghost use Rattle.std.specs.Prelude.{◌≡◌};
+    ghost use Rattle.silo_opening.specs.declared.input.InputFault.TheVariants.{Memory};
+
+    ghost from_gives = { λ _ e. e ≡ Memory };
+
+    fn from(_: AllocError) -> InputFault {
+        InputFault::Memory
+    }
+}
+
+/// Reads the input to its end. It is too long where more than [`TEXT_LIMIT`] bytes stand before the end. No file is touched.
+pub fn read_input<H: Host>(alloc: Global, host: &mut H) -> Result<Vec<u8>, InputFault>
+    ensures whole { IfOk result (λ bytes. IsTrue H.tells → (H.world host.old).input ≡ bytes.items) }
+    ensures end { OnOk result (IsTrue H.tells → (H.world host.new).input ≡ []) }
+    ensures within { IfOk result (λ bytes. vec_len bytes ≤ TEXT_LIMIT) }
+    ensures too_long { IfErr result (λ e. e ≡ InputFault.TooLong
+        → IsTrue H.tells → TEXT_LIMIT < length (H.world host.old).input) }
+    ensures calm { OnOk result (NoneFailed (H.faults host.old) (H.faults host.new)) }
+    ensures counts { IfErr result (λ e. InputFaulted e (H.faults host.old) (H.faults host.new)) }
+    ensures output { IsTrue H.tells → (H.world host.new).output ≡ (H.world host.old).output }
+    ensures disk { IsTrue H.tells → (H.world host.new).disk ≡ (H.world host.old).disk }
+    ensures moments { IsTrue H.tells → Passes (λ m. m ≡ moment_of (H.world host.old))
+        (H.world host.old).past (H.world host.new).past }
+    ensures ready { StaysReady (H.is_ready host.old) (H.is_ready host.new) }
+{
+    let mut input = Vec::new(alloc);
+    let mut piece = [0u8; PIECE];
+    loop {
+        let count = host.pull(&mut piece)?;
+        if count == 0 {
+            return Ok(input);
+        }
+        if count > TEXT_LIMIT - input.len() {
+            return Err(InputFault::TooLong);
+        }
+        input.extend_from_slice(&piece[..count])?;
+    }
+}
