@@ -17,8 +17,8 @@ use Rattle.core_model.specs.World.{UnitNo, GrainId, Mode, Value, Batch, World, M
 use Rattle.core_model.specs.Tests.{is_bad, is_good, is_final, written, members, has_failed, is_vote_on}
 use Rattle.core_model.specs.Chains.{Wrote}
 use Rattle.core_model.specs.Dead.{IsDead, itself, by_source as dead_source}
-use Rattle.core_model.specs.Changes.{decisions_of, judged, verdict_of}
-use Rattle.core_model.specs.Events.{applies, reply_with}
+use Rattle.core_model.specs.Changes.{new_batch, decisions_of, judged, verdict_of}
+use Rattle.core_model.specs.Events.{applies, batch_size, reply_with}
 use Rattle.core_model.proofs.Decoded.{Change, refuse, finish, take_batch, vote, decide_some, decide_none, seal_batch, spoil_batch, doubt_batch}
 use Rattle.core_model.proofs.Puts.{put-from, put-is, put-other}
 use Rattle.core_model.proofs.Basics.{is_final-cases}
@@ -183,7 +183,7 @@ failed-before votes k kept g e = list_any-append (λ (v : GrainId × Bool). is_v
 -- a file that failed has its vote of no
 failed-after : (opening : GrainId → List Value) (h : List Applied) (w : World) (e : CoreEvent) (w' : World) → Change w e w' → Step opening h w e w' → (c : Batch) (k : GrainId) → w'.manager.batch ≡ Some c → has_failed c.votes k ≡ true →
     Happened (more h (answered w e)) (Vote c.number k false)
-failed-after opening h w e w' (take_batch none some) s c k z f = (let y : false ≡ true = ap (λ (t : Batch). has_failed t.votes k) (some-is (record { number = w.manager.batches + 1; size = _; votes = []; decisions = None }) c z) ∙ f in cc)
+failed-after opening h w e w' (take_batch none some) s c k z f = (let y : false ≡ true = ap (λ (t : Batch). has_failed t.votes k) (some-is (new_batch w (batch_size w)) c z) ∙ f in cc)
 failed-after opening h w e w' (vote m g kept b q number d planned fresh) s c k z f =
     (let is : record b { votes = b.votes ++ (g, kept) ∷ [] } ≡ c = some-is (record b { votes = b.votes ++ (g, kept) ∷ [] }) c z in
     subst (λ (t : Batch). Happened (more h (answered w (Vote m g kept))) (Vote t.number k false)) is

@@ -8,7 +8,7 @@ use Rattle.core_model.specs.declared.events.CoreEvent.{CoreEvent}
 use Rattle.core_model.specs.declared.effects.Read.{Read}
 use Rattle.core_model.specs.World.{UnitNo, GrainId, Batch, World}
 use Rattle.core_model.specs.Tests.{free_prefix, is_free, waiting}
-use Rattle.core_model.specs.Changes.{decisions_of}
+use Rattle.core_model.specs.Changes.{new_batch, decisions_of}
 use Rattle.core_model.specs.Events.{batch_size}
 use Rattle.core_model.specs.Consistent.{size_of}
 use Rattle.core_model.proofs.Orders.{free_prefix-length}
@@ -118,7 +118,7 @@ parted-after w e w' (take_batch none some) p = (
   p.0,
   omega (arith, free_prefix-length w (take 64 (waiting w)), length-take 64 (waiting w), length-drop w.manager.closed w.manager.order, p.1, ap size_of none),
   (let t = p.2 ∙ ap (λ o. length w.manager.past + length (open_sizes o)) none in omega (arith, t)),
-  λ d e. ap (λ (t : Batch). t.number) (sym (some-is (record { number = w.manager.batches + 1; size = batch_size w; votes = []; decisions = None }) d e)) ∙ (let t = p.2 ∙ ap (λ o. length w.manager.past + length (open_sizes o)) none in omega (arith, t)),
+  λ d e. ap (λ (t : Batch). t.number) (sym (some-is (new_batch w (batch_size w)) d e)) ∙ (let t = p.2 ∙ ap (λ o. length w.manager.past + length (open_sizes o)) none in omega (arith, t)),
 )
 parted-after w e w' (vote n g kept b q number d planned fresh) p = parted-same w b (record b { votes = b.votes ++ (g, kept) ∷ [] }) q refl refl p
 parted-after w e w' (decide_some n b q number d voted some) p = parted-same w b (record b { decisions = Some (decisions_of w b) }) q refl refl p

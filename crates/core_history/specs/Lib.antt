@@ -6,3 +6,4 @@ pub mod Dependencies
 pub mod Gone
 pub mod Causes
 pub mod States
+pub mod ComputedHistories

@@ -16,6 +16,7 @@ ghost use Rattle.core_history.specs.Dependencies.{IsDependency};
 ghost use Rattle.core_history.specs.Gone.{IsDecidedDead, IsGone};
 ghost use Rattle.core_history.specs.Causes.{IsCausedIn, IsAbortedIn};
 ghost use Rattle.core_history.specs.States.{mode_of, batches_of};
+ghost use Rattle.core_history.specs.ComputedHistories.{HistoriesAreRead};
 
 /// A unit holds what it was granted last and hasn't released. The finish order is that of the finishes, a unit runs
 /// exactly where it has begun and hasn't ended, and began for the line that its begin names.
@@ -60,4 +61,9 @@ pub fn versions_are_taken_off()
 pub fn causes_are_in_the_history()
     ensures entries { (plays : Effect → Bool) (r : Run) → IsLegal plays r → (x : Entry) → Member x (ends r).manager.settled → IsCausedIn (history_of r) x }
     ensures units { (plays : Effect → Bool) (r : Run) → IsLegal plays r → (u : UnitNo) → (ends r).manager.verdict u ≡ Aborted → (why : Settled) × IsAbortedIn (history_of r) u why }
+{}
+
+/// The histories of the core model's computed runs tell what is said of them.
+pub fn histories_are_computed()
+    ensures { HistoriesAreRead }
 {}

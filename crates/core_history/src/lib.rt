@@ -9,6 +9,6 @@
 mod laws;
 
 pub use laws::{
-    batches_are_taken, causes_are_in_the_history, holders_are_granted, reads_are_granted,
-    the_dead_are_dead, versions_are_taken_off,
+    batches_are_taken, causes_are_in_the_history, histories_are_computed, holders_are_granted,
+    reads_are_granted, the_dead_are_dead, versions_are_taken_off,
 };

@@ -10,7 +10,7 @@ use Rattle.base_types.specs.declared.entries.Settled.TheVariants as settled
 use Rattle.cell_model.specs.declared.outcomes.Decision.TheVariants as decision
 use Rattle.core_model.specs.Tests.{members, waiting}
 use Rattle.core_model.specs.Serial.{batch_begin}
-use Rattle.core_model.specs.Changes.{new_unit, verdict_of, judged, decisions_of, with_decisions, closed, result_told, seal, spoil, leave, swept, swept_by}
+use Rattle.core_model.specs.Changes.{new_batch, new_unit, verdict_of, judged, decisions_of, with_decisions, closed, result_told, seal, spoil, leave, swept, swept_by}
 use Rattle.core_model.specs.Events.{batch_size}
 use Rattle.core_model.specs.Events.{CoreEvent, Decide, Sealed, NotSealed, applies, can, does, step, run, is_allowed}
 use Rattle.core_model.specs.Serial.{IsTrueLoad, AllLoadsTrue}
@@ -108,7 +108,7 @@ batched-change opening w e w' (end_plain u effect running plain of_call bare) a 
 batched-change opening w e w' (end_snapshot u at outcome running plain kids answer) a k s = batched-phase w u Ended (λ z. cc) s
 batched-change opening w e w' (release u g over held) a k s = s
 batched-change opening w e w' (take_batch none some) a k s = (
-  (λ c z. (let y : record { number = w.manager.batches + 1; size = batch_size w; votes = []; decisions = None } ≡ c = cc in
+  (λ c z. (let y : new_batch w (batch_size w) ≡ c = cc in
       subst (λ (t : Batch). (0 < t.size) × (t.size ≤ 64)) y (some, omega (arith, free_prefix-length w (take 64 (waiting w)), length-take 64 (waiting w))))),
   s.1,
   s.2,

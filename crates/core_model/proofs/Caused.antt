@@ -1,10 +1,11 @@
 -- Each settled entry has its cause.
 use Rattle.std.proofs.Common.{◌≡◌, ℕ, ◌+◌, ◌≤◌, List, [], ◌∷◌, ◌++◌, get_or, Bool, true, false, ◌⊎◌, inl, inr, refl, sym, ap, ◌∙◌, subst, arith, Option, Some, None}
-use Rattle.std.proofs.lemmas.Bool.{and_parts, cases_Bool, cond-true, cond-false, not-true}
+use Rattle.std.proofs.lemmas.Bool.{and_parts, cases_Bool, cond-true, cond-false, not-true, or_parts}
 use Rattle.cell_model.specs.Locks.{is_update, is_hold_of, holds_lock, conflicts, covers, dropped}
 use Rattle.cell_model.proofs.Units.{same_unit-false, Member-append, filter-member, filter-stays}
-use Rattle.core_model.specs.World.{UnitNo, GrainId, nobody, Member, Value, Origin, Running, Finished, Ended, Verdict, Chosen, Read, Mode, Effect, Settled, Batch, Decision, World}
-use Rattle.core_model.specs.Tests.{is_bad}
+use Rattle.core_model.specs.World.{UnitNo, GrainId, nobody, Member, Value, Origin, Running, Finished, Ended, Verdict, Chosen, Read, Write, Mode, Effect, Settled, Batch, Decision, World}
+use Rattle.core_model.specs.Tests.{any, is_bad}
+use Rattle.cell_model.specs.Decisions.{is_commit}
 use Rattle.core_model.specs.Dead.{Dead, itself}
 use Rattle.core_model.proofs.Puts.{put-same}
 use Rattle.core_model.proofs.Basics.{good_from}
@@ -20,7 +21,7 @@ use Rattle.cell_model.specs.Locks as locks
 use Rattle.cell_model.specs.declared.locks.Ask.TheVariants.{MustDie}
 use Rattle.core_model.specs.Tests.{doomed_by, members, waiting, outcome_of, outcome_in, is_gone, ask}
 use Rattle.core_model.specs.Changes.{entry_for, told, entries_in, result_told, refusal, ended, verdict_of, decisions_of, with_decisions, seal, swept, swept_by}
-use Rattle.core_model.specs.Causes.{IsVotedDown, DependsOnDead, CanCommit, IsRefusedFor, IsRefusedBy, AtDecision, HasCause, HasLine, IsCaused}
+use Rattle.core_model.specs.Causes.{IsVotedDown, DependsOnDead, CanCommit, EndsWith, IsRefusedFor, IsRefusedBy, AtDecision, HasCause, HasLine, IsCaused}
 use Rattle.core_model.specs.Legal.{Run, IsLegal, begins, ends}
 use Rattle.core_model.specs.Events.{CoreEvent, Bad, Refuse, EndPlain, EndSnapshot, Decide, Sealed, NotSealed, Doubt, applies, can, does, step, run, is_allowed}
 use Rattle.core_model.specs.Serial.{AllLoadsTrue}
@@ -183,13 +184,26 @@ refused-cause opening w u g mode why next k running q = elim (ask-refused w u g 
           oldest = λ r m h. t.1 r.source (source-of (filter (is_gone w) (w.units.reads u)) r (filter-stays (is_gone w) (w.units.reads u) r m h));
         }
 
-ended-cause : (w : World) (e : CoreEvent) (next : World) (u : UnitNo) (answers : List Outcome) (result : Outcome) (at : Option ℕ) → ((x : UnitNo) → outcome_of next x ≡ outcome_of (ended w u answers result at) x) →
+-- where none is decided to commit, none is to commit
+no-commit : (votes : List (GrainId × Bool)) (writes : UnitNo → List Write) (deps : UnitNo → List UnitNo) (verdict : UnitNo → Verdict) (us : List UnitNo) (ds : List Decision) →
+    Reasons votes writes deps verdict us ds → any is_commit ds ≡ false → (u : UnitNo) → Member u us → verdict u ≡ Chosen → ⊥
+no-commit votes writes deps verdict [] ds r none u m c = m
+no-commit votes writes deps verdict (y ∷ us) [] r none u m c = r
+no-commit votes writes deps verdict (y ∷ us) (d ∷ ds) r none u (inl q) c = judged_so d (or_parts (is_commit d) (any is_commit ds) none).0 (sym r.0 ∙ ap verdict (sym q) ∙ c)
+  where
+    judged_so : (d : Decision) → is_commit d ≡ false → verdict_of d ≡ Chosen → ⊥
+    judged_so decision.Commit n e = cc
+    judged_so (decision.Vote g) n e = cc
+    judged_so (decision.Dependency on) n e = cc
+no-commit votes writes deps verdict (y ∷ us) (d ∷ ds) r none u (inr m) c = no-commit votes writes deps verdict us ds r.2 (or_parts (is_commit d) (any is_commit ds) none).1 u m c
+
+ended-cause : (w : World) (e : CoreEvent) (next : World) (u : UnitNo) (answers : List Outcome) (result : Outcome) (at : Option ℕ) → EndsWith w e u result → ((x : UnitNo) → outcome_of next x ≡ outcome_of (ended w u answers result at) x) →
     (x : Entry) → Member x (w.manager.settled ++ entry_for (w.units.origin u) u (settled.Done result)) → Member x w.manager.settled ⊎ Told w e next x
-ended-cause w e next u answers result at same x m = elim (Member-append x w.manager.settled (entry_for (w.units.origin u) u (settled.Done result)) m) [
+ended-cause w e next u answers result at end same x m = elim (Member-append x w.manager.settled (entry_for (w.units.origin u) u (settled.Done result)) m) [
   | inl h ↦ inl h
   | inr h ↦ (let t = entry-parts w u (settled.Done result) x h in
       inr (told-from w e next x u (settled.Done result) t.0 t.1
-      (same u ∙ (λ i. outcome_in (put-same w.units.phase u Ended i) (w.manager.verdict u) (put-same w.manager.result u result i)))
+      (same u ∙ (λ i. outcome_in (put-same w.units.phase u Ended i) (w.manager.verdict u) (put-same w.manager.result u result i)), end)
       (ap w.units.origin t.0 ∙ t.2)))
 ]
 
@@ -214,8 +228,8 @@ caused-change opening w e w' (refuse u g mode why running q) k dep s next same x
           inr (told-from w (Refuse u g mode) next x u why t.0 t.1 c.0 (c.1 x (ap w.units.origin t.0 ∙ t.2))))
     ]
 caused-change opening w e w' (finish u effect running plain of_call reads alone) k dep s next same x m = inl m
-caused-change opening w e w' (end_plain u effect running plain of_call bare) k dep s next same x m = ended-cause w (EndPlain u effect) next u effect.answers effect.result None same x m
-caused-change opening w e w' (end_snapshot u at outcome running plain kids answer) k dep s next same x m = ended-cause w (EndSnapshot u at outcome) next u [] outcome (Some at) same x m
+caused-change opening w e w' (end_plain u effect running plain of_call bare) k dep s next same x m = ended-cause w (EndPlain u effect) next u effect.answers effect.result None (refl, refl) same x m
+caused-change opening w e w' (end_snapshot u at outcome running plain kids answer) k dep s next same x m = ended-cause w (EndSnapshot u at outcome) next u [] outcome (Some at) (refl, refl) same x m
 caused-change opening w e w' (release u g over held) k dep s next same x m = inl m
 caused-change opening w e w' (take_batch none some) k dep s next same x m = inl m
 caused-change opening w e w' (vote n g kept b q number d planned fresh) k dep s next same x m = inl m
@@ -226,14 +240,14 @@ caused-change opening w e w' (decide_none n b q number d voted none) k dep s nex
       | inl h ↦ inl h
       | inr h ↦ inr (batch-told opening w v (Decide n) next (result_told v) b (decisions_of w b) (inv-decided opening w b k q d) dep q refl refl
           (λ u Holds mem h. (b, q, sym number, mem, h)) (argued-decided opening w b k dep q d)
-          (λ u mem f c can. (same u ∙ sealed-outcome v u f c, λ y l. l)) x h)
+          (λ u mem f c can. absurd (no-commit b.votes v.manager.writes v.units.deps v.manager.verdict (members w b) (decisions_of w b) (argued-decided opening w b k dep q d) none u mem c)) x h)
     ])
 caused-change opening w e w' (seal_batch n b ds q number d) k dep s next same x m =
     elim (Member-append x w.manager.settled (entries_in w (result_told w) (members w b) ds) m) [
       | inl h ↦ inl h
       | inr h ↦ inr (batch-told opening w w (Sealed n) next (result_told w) b ds (inv-judged opening w b ds k q d) dep q refl refl
           (λ u Holds mem h. (b, q, sym number, mem, h)) (s b ds q d)
-          (λ u mem f c can. (same u ∙ sealed-outcome w u f c, λ y l. l)) x h)
+          (λ u mem f c can. ((same u ∙ sealed-outcome w u f c, (refl, (b, q, sym number, mem, can))), λ y l. l)) x h)
     ]
 caused-change opening w e w' (spoil_batch n b ds q number d) k dep s next same x m =
     elim (Member-append x w.manager.settled (entries_in w (λ u. settled.Disk) (members w b) ds) m) [

@@ -16,7 +16,7 @@ use Rattle.core_model.specs.Events.{CoreEvent, applies, can, does, step, run, is
 use Rattle.core_model.specs.Serial.{IsTrueLoad, AllLoadsTrue}
 use Rattle.core_model.proofs.Decoded.{Change, bad, begin, lock, raise, refuse, finish, end_plain, end_snapshot, release, take_batch, vote, decide_some, decide_none, seal_batch, spoil_batch, doubt_batch, learn, emit, halt_run, want, load, decode}
 use Rattle.core_model.proofs.Basics.{is_running-true, same_outcome-true}
-use Rattle.core_model.proofs.KeptFinish.{get_or-before, get_or-end, length-push}
+use Rattle.core_model.proofs.LoadlessEvents.{get_or-before, get_or-end, length-push}
 use Rattle.core_model.proofs.Played.{parts-of}
 use Rattle.core_model.proofs.Growth.{Grows, grows-change, grows-outcome}
 use Rattle.core_model.proofs.Kept.{Kept, kept-step}

@@ -34,11 +34,11 @@ pub data Change (w : World) : CoreEvent → World → Type 0 where
       Change w (EndSnapshot u at outcome) (ended w u [] outcome (Some at))
   release : (u : UnitNo) (g : GrainId) → is_over (w.units.phase u) ≡ true → holds_lock u (w.cells.holds g) ≡ true → Change w (Release u g) (released w u g)
   take_batch : w.manager.batch ≡ None → 0 < batch_size w → Change w Take (taken w (batch_size w))
-  vote : (n : ℕ) (g : GrainId) (kept : Bool) (b : Batch) → w.manager.batch ≡ Some b → b.number ≡ n → b.decisions ≡ None → is_planned w b g ≡ true → any (is_vote_on g) b.votes ≡ false →
+  vote : (n : ℕ) (g : GrainId) (kept : Bool) (b : Batch) → w.manager.batch ≡ Some b → b.number ≡ n → b.decisions ≡ None → is_planned b g ≡ true → any (is_vote_on g) b.votes ≡ false →
       Change w (Vote n g kept) (voted w b g kept)
-  decide_some : (n : ℕ) (b : Batch) → w.manager.batch ≡ Some b → b.number ≡ n → b.decisions ≡ None → is_voted w b ≡ true → any is_commit (decisions_of w b) ≡ true →
+  decide_some : (n : ℕ) (b : Batch) → w.manager.batch ≡ Some b → b.number ≡ n → b.decisions ≡ None → is_voted b ≡ true → any is_commit (decisions_of w b) ≡ true →
       Change w (Decide n) (with_decisions w b (decisions_of w b))
-  decide_none : (n : ℕ) (b : Batch) → w.manager.batch ≡ Some b → b.number ≡ n → b.decisions ≡ None → is_voted w b ≡ true → any is_commit (decisions_of w b) ≡ false →
+  decide_none : (n : ℕ) (b : Batch) → w.manager.batch ≡ Some b → b.number ≡ n → b.decisions ≡ None → is_voted b ≡ true → any is_commit (decisions_of w b) ≡ false →
       Change w (Decide n) (sealed (with_decisions w b (decisions_of w b)) b (decisions_of w b))
   seal_batch : (n : ℕ) (b : Batch) (ds : List Decision) → w.manager.batch ≡ Some b → b.number ≡ n → b.decisions ≡ Some ds → Change w (Sealed n) (sealed w b ds)
   spoil_batch : (n : ℕ) (b : Batch) (ds : List Decision) → w.manager.batch ≡ Some b → b.number ≡ n → b.decisions ≡ Some ds → Change w (NotSealed n) (spoiled w b ds)
@@ -159,7 +159,7 @@ decode w (Release u g) c = (let p = and_parts (is_over (w.units.phase u)) _ c in
 decode w Take c = (let p = and_parts (is_none w.manager.batch) _ c in take_batch (none-true _ p.0) (ltb-true _ _ p.1))
 decode w (Vote n g kept) c =
     let t = is_open-true n _ w.manager.batch c in
-    let p = and_parts (is_planned w t.0 g) _ t.4 in
+    let p = and_parts (is_planned t.0 g) _ t.4 in
     subst (Change w (Vote n g kept)) (sym (ap (on_batch w (λ b. voted w b g kept)) t.1))
     (vote n g kept t.0 t.1 t.2 t.3 p.0 (not-true _ p.1))
 decode w (Decide n) c =

@@ -6,13 +6,13 @@ use Rattle.cell_model.proofs.Units.{same_grain-true, same_grain-is, filter-membe
 use Rattle.core_model.specs.World.{GrainId, Member, Value, Write, same_grain}
 use Rattle.core_model.specs.Tests.{written, is_before, first_of_two, first_grain, has_failed, failed_in}
 
-before-true : (a b : GrainId) → is_before a b ≡ true → (a.kind < b.kind) ⊎ ((a.kind ≡ b.kind) × (a.key < b.key))
+pub before-true : (a b : GrainId) → is_before a b ≡ true → (a.kind < b.kind) ⊎ ((a.kind ≡ b.kind) × (a.key < b.key))
 before-true a b e = elim (or_cases (nat_lt a.kind b.kind) _ e) [
   | inl l ↦ inl (ltb-true _ _ l)
   | inr l ↦ (let p = and_parts (a.kind == b.kind) _ l in inr (eqb-true _ _ p.0, ltb-true _ _ p.1))
 ]
 
-before-false : (a b : GrainId) → is_before a b ≡ false → (b.kind < a.kind) ⊎ ((a.kind ≡ b.kind) × (b.key ≤ a.key))
+pub before-false : (a b : GrainId) → is_before a b ≡ false → (b.kind < a.kind) ⊎ ((a.kind ≡ b.kind) × (b.key ≤ a.key))
 before-false a b e =
     let p = or_parts (nat_lt a.kind b.kind) ((a.kind == b.kind) && nat_lt a.key b.key) e in
     let le = ltb-false a.kind b.kind p.0 in
@@ -95,7 +95,7 @@ first_grain-some (x ∷ xs) g e = go (λ y q. first_grain-some xs y q) (first_gr
         ]
 
 -- the grains that are named are those that are written
-named-written : (g : GrainId) (xs : List Write) → Member g (map (λ x. x.0) xs) → (v : List Value) × (written g xs ≡ Some v)
+pub named-written : (g : GrainId) (xs : List Write) → Member g (map (λ x. x.0) xs) → (v : List Value) × (written g xs ≡ Some v)
 named-written g [] m = absurd m
 named-written g (x ∷ xs) m = elim (cases_Bool (same_grain x.0 g)) [
   | inl e ↦ (x.1, cond-true (same_grain x.0 g) (Some x.1) (written g xs) e)
@@ -105,7 +105,7 @@ named-written g (x ∷ xs) m = elim (cases_Bool (same_grain x.0 g)) [
   ]
 ]
 
-written-named : (g : GrainId) (v : List Value) (xs : List Write) → written g xs ≡ Some v → Member g (map (λ x. x.0) xs)
+pub written-named : (g : GrainId) (v : List Value) (xs : List Write) → written g xs ≡ Some v → Member g (map (λ x. x.0) xs)
 written-named g v [] e = cc
 written-named g v (x ∷ xs) e = elim (cases_Bool (same_grain x.0 g)) [
   | inl s ↦ inl (sym (same_grain-true _ _ s))

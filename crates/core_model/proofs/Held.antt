@@ -1,5 +1,5 @@
 -- Holders and what they read.
-use Rattle.std.proofs.Common.{◌≡◌, ℕ, List, [], ◌∷◌, ◌++◌, Bool, true, false, ◌&&◌, not, ◌⊎◌, inl, inr, refl, sym, ap, ◌∙◌, subst, Option, Some, None}
+use Rattle.std.proofs.Common.{◌≡◌, ℕ, ◌+◌, ◌<◌, List, [], ◌∷◌, ◌++◌, Bool, true, false, ◌&&◌, not, ◌⊎◌, inl, inr, refl, sym, ap, ◌∙◌, subst, Option, Some, None}
 use Rattle.std.proofs.lemmas.Bool.{and_parts, cond_both}
 use Rattle.cell_model.specs.Locks.{is_update, is_hold_of, holds_lock, dropped}
 use Rattle.cell_model.proofs.Units.{same_unit-true, same_unit-false, cases_unit, any-true, any-false, all-true, Member-append, Member-left, filter-member}
@@ -8,7 +8,6 @@ use Rattle.core_model.specs.Tests.{any, all, is_final, written}
 use Rattle.core_model.specs.Chains.{Wrote}
 use Rattle.core_model.proofs.Puts.{put-at, put-is, put-other, grain-at, grain-other}
 use Rattle.core_model.proofs.Basics.{written-member}
-use Rattle.core_model.proofs.Invariant.{Inv}
 use Rattle.std.proofs.Common.{filter, is_some}
 use Rattle.cell_model.specs.Locks.{granted}
 use Rattle.cell_model.specs.Cells.{with_reading, without_reading, is_reading_of}
@@ -21,10 +20,13 @@ use Rattle.core_model.specs.Legal.{Run, IsLegal, begins, ends}
 use Rattle.core_model.specs.Events.{CoreEvent, Refuse, Decide, Sealed, NotSealed, Doubt, applies, can, does, step, run, is_allowed}
 use Rattle.core_model.specs.Serial.{IsTrueLoad, AllLoadsTrue}
 use Rattle.core_model.proofs.Decoded.{Change, bad, begin, lock, raise, refuse, finish, end_plain, end_snapshot, release, take_batch, vote, decide_some, decide_none, seal_batch, spoil_batch, doubt_batch, learn, emit, halt_run, want, load, decode}
-use Rattle.core_model.proofs.KeptStack.{kept-cleaned}
 use Rattle.core_model.proofs.Growth.{grows-change}
 use Rattle.core_model.proofs.Ends.{kept-begins, kept-ends}
-use Rattle.core_model.proofs.Kept.{Kept, kept-step}
+use Rattle.core_model.proofs.Kept.{Kept, decided_size, kept-step}
+use Rattle.core_model.proofs.Invariant.{loadless-of}
+use Rattle.core_model.proofs.Loadless.{LoadlessAt}
+use Rattle.core_model.proofs.LoadlessRuns.{LoadlessKept, loadless-change, loadless-begins}
+use Rattle.core_model.proofs.Everywhere.{run-keeps}
 
 abbrev pub Tidy : World → Type 0
 Tidy w =
@@ -66,8 +68,8 @@ tidy-held w u g mode s = (
   (λ k. grain-at w.cells.readings g (with_reading (w.cells.readings g) u (top (w.cells.stack g)).unit) (DifferInUnit (λ (s : Reading). s.unit)) k (λ e. differ-reading (w.cells.readings g) u (top (w.cells.stack g)).unit (s.1 g)) (λ e. s.1 k)),
 )
 
-tidy-locked : (opening : GrainId → List Value) (n : ℕ) (w : World) (u : UnitNo) (g : GrainId) (mode : Mode) → Inv opening n w → w.units.phase u ≡ Running → holds_lock u (w.cells.holds g) ≡ false → Tidy w → Tidy (locked w u g mode)
-tidy-locked opening n w u g mode i running first s = (
+tidy-locked : (n : ℕ) (w : World) (u : UnitNo) (g : GrainId) (mode : Mode) → LoadlessAt n w → w.units.phase u ≡ Running → holds_lock u (w.cells.holds g) ≡ false → Tidy w → Tidy (locked w u g mode)
+tidy-locked n w u g mode i running first s = (
   (tidy-held w u g mode s).0,
   (tidy-held w u g mode s).1,
   (λ x r t m k q. elim (cases_unit x u) [
@@ -109,8 +111,8 @@ tidy-released w u g s = (
   s.3,
 )
 
-tidy-finished : (opening : GrainId → List Value) (n : ℕ) (w : World) (u : UnitNo) (effect : Effect) → Inv opening n w → all (λ x. holds_alone w u x.0) effect.writes ≡ true → Tidy w → Tidy (finished w u effect)
-tidy-finished opening n w u effect i alone s = (
+tidy-finished : (n : ℕ) (w : World) (u : UnitNo) (effect : Effect) → LoadlessAt n w → all (λ x. holds_alone w u x.0) effect.writes ≡ true → Tidy w → Tidy (finished w u effect)
+tidy-finished n w u effect i alone s = (
   s.0,
   s.1,
   s.2,
@@ -125,28 +127,28 @@ tidy-finished opening n w u effect i alone s = (
   ]),
 )
 
-pub tidy-change : (opening : GrainId → List Value) (w : World) (e : CoreEvent) (w' : World) → Change w e w' → applies w e ≡ true → Kept opening w → Tidy w → Tidy w'
-tidy-change opening w e w' (bad line why q) a k s = s
-tidy-change opening w e w' (begin origin call plain c) a k s = s
-tidy-change opening w e w' (lock u g mode running free first here) a k s = tidy-locked opening _ (restacked w g (cleaned w g)) u g mode (kept-cleaned opening _ w g k.0) running first s
-tidy-change opening w e w' (raise u g mode running free held here uncovered) a k s = ((tidy-held (restacked w g (cleaned w g)) u g mode s).0, (tidy-held (restacked w g (cleaned w g)) u g mode s).1, s.2, s.3)
-tidy-change opening w e w' (refuse u g mode why running q) a k s = s
-tidy-change opening w e w' (finish u effect running plain of_call reads alone) a k s = tidy-finished opening _ w u effect k.0 alone s
-tidy-change opening w e w' (end_plain u effect running plain of_call bare) a k s = s
-tidy-change opening w e w' (end_snapshot u at outcome running plain kids answer) a k s = s
-tidy-change opening w e w' (release u g over held) a k s = tidy-released w u g s
-tidy-change opening w e w' (take_batch none some) a k s = s
-tidy-change opening w e w' (vote n g kept b q number d planned fresh) a k s = s
-tidy-change opening w e w' (decide_some n b q number d voted some) a k s = s
-tidy-change opening w e w' (decide_none n b q number d voted none) a k s = s
-tidy-change opening w e w' (seal_batch n b ds q number d) a k s = s
-tidy-change opening w e w' (spoil_batch n b ds q number d) a k s = s
-tidy-change opening w e w' (doubt_batch n b ds q number d) a k s = s
-tidy-change opening w e w' (learn u g wrote final fresh) a k s = s
-tidy-change opening w e w' (emit q) a k s = s
-tidy-change opening w e w' (halt_run q) a k s = s
-tidy-change opening w e w' (want u g running free fresh) a k s = s
-tidy-change opening w e w' (load g u state gone wanted) a k s = s
+pub tidy-change : (w : World) (e : CoreEvent) (w' : World) → Change w e w' → applies w e ≡ true → LoadlessAt (w.manager.closed + decided_size w.manager.batch) w → Tidy w → Tidy w'
+tidy-change w e w' (bad line why q) a k s = s
+tidy-change w e w' (begin origin call plain c) a k s = s
+tidy-change w e w' (lock u g mode running free first here) a k s = tidy-locked _ (restacked w g (cleaned w g)) u g mode k running first s
+tidy-change w e w' (raise u g mode running free held here uncovered) a k s = ((tidy-held (restacked w g (cleaned w g)) u g mode s).0, (tidy-held (restacked w g (cleaned w g)) u g mode s).1, s.2, s.3)
+tidy-change w e w' (refuse u g mode why running q) a k s = s
+tidy-change w e w' (finish u effect running plain of_call reads alone) a k s = tidy-finished _ w u effect k alone s
+tidy-change w e w' (end_plain u effect running plain of_call bare) a k s = s
+tidy-change w e w' (end_snapshot u at outcome running plain kids answer) a k s = s
+tidy-change w e w' (release u g over held) a k s = tidy-released w u g s
+tidy-change w e w' (take_batch none some) a k s = s
+tidy-change w e w' (vote n g kept b q number d planned fresh) a k s = s
+tidy-change w e w' (decide_some n b q number d voted some) a k s = s
+tidy-change w e w' (decide_none n b q number d voted none) a k s = s
+tidy-change w e w' (seal_batch n b ds q number d) a k s = s
+tidy-change w e w' (spoil_batch n b ds q number d) a k s = s
+tidy-change w e w' (doubt_batch n b ds q number d) a k s = s
+tidy-change w e w' (learn u g wrote final fresh) a k s = s
+tidy-change w e w' (emit q) a k s = s
+tidy-change w e w' (halt_run q) a k s = s
+tidy-change w e w' (want u g running free fresh) a k s = s
+tidy-change w e w' (load g u state gone wanted) a k s = s
 
 swept-tidy : (w : World) → Tidy w → Tidy (swept w)
 swept-tidy w s = go w.cells.capacity
@@ -158,12 +160,13 @@ swept-tidy w s = go w.cells.capacity
 pub tidy-step : (opening : GrainId → List Value) (w : World) (e : CoreEvent) → IsTrueLoad opening w e → Kept opening w → Tidy w → Tidy (step w e)
 tidy-step opening w e t k s = cond_both (applies w e) (swept (does w e)) w Tidy
     (λ a. (let c = decode w e (and_parts (is_allowed w e) (can w e) a).1 in
-    swept-tidy (does w e) (tidy-change opening w e (does w e) c a k s)))
+    swept-tidy (does w e) (tidy-change w e (does w e) c a (loadless-of opening _ w k.0) s)))
     (λ a. s)
 
-pub tidy-run : (opening : GrainId → List Value) (es : List CoreEvent) (w : World) → AllLoadsTrue opening w es → Kept opening w → Tidy w → Tidy (run w es)
-tidy-run opening [] w l k s = s
-tidy-run opening (e ∷ es) w l k s = tidy-run opening es (step w e) l.1 (kept-step opening w e l.0 k) (tidy-step opening w e l.0 k s)
+-- that along with what needs no loads
+pub tidy-ends : (r : Run) → 0 < r.base → Tidy (ends r)
+tidy-ends r above = (run-keeps (λ w. LoadlessKept w × Tidy w) (λ w e w' c a t. (loadless-change w e w' c a t.0, tidy-change w e w' c a t.0.0 t.1)) (λ w here t. t) r.events (begins r)
+    (loadless-begins r above, ((λ g. tt), (λ g. tt), (λ u r s m. absurd m), (λ u g wr. (let z = wr.1 in cc))))).1
 
 -- what a grain has learnt
 abbrev pub Knows : World → Type 0
@@ -231,6 +234,6 @@ knows-run opening (e ∷ es) w l k s = knows-run opening es (step w e) l.1 (kept
 pub holders-ends : (plays : Effect → Bool) (r : Run) → IsLegal plays r → HoldersHaveRead (ends r)
 holders-ends plays r l =
     let i = (kept-ends plays r l).0 in
-    let t = tidy-run r.opening r.events (begins r) l.loads (kept-begins plays r l) ((λ g. tt), (λ g. tt), (λ u r s m. absurd m), (λ u g wr. (let z = wr.1 in cc))) in
+    let t = tidy-ends r l.above in
     let n = knows-run r.opening r.events (begins r) l.loads (kept-begins plays r l) (λ u g e. cc) in
     record { one_lock = t.0; one_reading = t.1; reading = i.told; lock = i.kept; source = i.seen; once = t.2; overwrites = t.3; learnt = n }

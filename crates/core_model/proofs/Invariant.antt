@@ -6,6 +6,7 @@ use Rattle.core_model.specs.World.{UnitNo, GrainId, nobody, Member, Value, Phase
 use Rattle.core_model.specs.Tests.{is_good, written}
 use Rattle.core_model.specs.Dead.{Dead}
 use Rattle.core_model.specs.Chains.{Chain, Wrote, IsBottom, IsLink}
+use Rattle.core_model.proofs.Loadless.{LoadlessAt}
 
 -- The first n units of the finish order are decided, or judged in the open batch. Each part of the state is an
 -- argument, so that an event that leaves those parts alone keeps all of this.
@@ -49,6 +50,28 @@ abbrev pub Inv : (GrainId → List Value) → ℕ → World → Type 0
 Inv opening n w =
     Facts opening n w.units.next w.units.phase w.units.reads w.manager.place w.manager.order w.manager.writes w.manager.verdict
     w.cells.holds w.cells.readings w.cells.stack w.cells.here
+
+-- what of it needs no true loads
+pub loadless-of : (opening : GrainId → List Value) (n : ℕ) (w : World) → Inv opening n w → LoadlessAt n w
+loadless-of opening n w i = record {
+  fresh = i.fresh;
+  unborn = i.unborn;
+  outside = i.outside;
+  blank = i.blank;
+  unwritten = i.unwritten;
+  undecided = i.undecided;
+  listed = i.listed;
+  placed = i.placed;
+  within = i.within;
+  early = i.early;
+  late = i.late;
+  alone = i.alone;
+  keeps = i.keeps;
+  strong = i.strong;
+  told = i.told;
+  seen = i.seen;
+  kept = i.kept;
+}
 
 -- two finished units have different places
 pub same_place : (opening : GrainId → List Value) (n : ℕ) (w : World) → Inv opening n w →

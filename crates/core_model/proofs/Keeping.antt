@@ -30,11 +30,11 @@ holder-born opening n w i g h m p =
     let s = i.seen g t.0 t.1 in
     subst (Member s.0) (i.blank h.unit p) (subst (λ z. Member s.0 (w.units.reads z)) t.2 s.1)
 
-born-put : (w : World) (u : UnitNo) (end : Phase) → (end ≡ Unborn → ⊥) → (x : UnitNo) → (w.units.phase x ≡ Unborn → ⊥) → put w.units.phase u end x ≡ Unborn → ⊥
+pub born-put : (w : World) (u : UnitNo) (end : Phase) → (end ≡ Unborn → ⊥) → (x : UnitNo) → (w.units.phase x ≡ Unborn → ⊥) → put w.units.phase u end x ≡ Unborn → ⊥
 born-put w u end n x b = put-at w.units.phase u end (λ p. p ≡ Unborn → ⊥) x (λ q. n) (λ q. b)
 
 -- who has begun has begun
-born-change : (w : World) (e : CoreEvent) (w' : World) → Change w e w' → (x : UnitNo) → (w.units.phase x ≡ Unborn → ⊥) → w'.units.phase x ≡ Unborn → ⊥
+pub born-change : (w : World) (e : CoreEvent) (w' : World) → Change w e w' → (x : UnitNo) → (w.units.phase x ≡ Unborn → ⊥) → w'.units.phase x ≡ Unborn → ⊥
 born-change w e w' (bad line why q) x born = born
 born-change w e w' (begin origin call plain c) x born = born-put w (new_unit w) Running (λ z. cc) x born
 born-change w e w' (lock u g mode running free first here) x born = born

@@ -25,7 +25,8 @@ use Rattle.core_model.proofs.KeptBegin.{kept-begun}
 use Rattle.core_model.proofs.KeptStack.{kept-cleaned, kept-learnt}
 use Rattle.core_model.proofs.KeptGrant.{kept-locked, kept-raised}
 use Rattle.core_model.proofs.KeptOver.{kept-over, kept-refused}
-use Rattle.core_model.proofs.KeptFinish.{kept-finished, length-push}
+use Rattle.core_model.proofs.KeptFinish.{kept-finished}
+use Rattle.core_model.proofs.LoadlessEvents.{length-push}
 use Rattle.core_model.proofs.KeptRelease.{kept-released}
 use Rattle.core_model.proofs.KeptMemory.{kept-swept, kept-loaded}
 use Rattle.core_model.proofs.KeptBatch.{Covers, Ends, ends-seal, ends-spoil, ends-leave, kept-decide, kept-mapped}

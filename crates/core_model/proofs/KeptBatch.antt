@@ -3,7 +3,7 @@ use Rattle.std.proofs.Common.{◌≡◌, ℕ, suc, ◌+◌, ◌<◌, List, [], �
 use Rattle.std.proofs.lemmas.Bool.{cases_Bool}
 use Rattle.cell_model.specs.Locks.{covers}
 use Rattle.cell_model.proofs.Units.{same_unit-true, same_unit-false, cases_unit}
-use Rattle.core_model.specs.World.{UnitNo, GrainId, nobody, same_unit, put, Member, Value, Unborn, Running, Finished, Verdict, Open, Chosen, Condemned, Committed, Aborted, Read, Decision, World}
+use Rattle.core_model.specs.World.{UnitNo, GrainId, nobody, same_unit, put, Member, Value, Finished, Verdict, Open, Chosen, Condemned, Committed, Aborted, Read, Decision, World}
 use Rattle.core_model.specs.Tests.{is_bad, is_good}
 use Rattle.core_model.specs.Dead.{Dead}
 use Rattle.core_model.specs.Chains.{IsBottom, IsLink}
@@ -17,34 +17,35 @@ use Rattle.cell_model.specs.Decisions.{is_commit, decision, decided, and_itself}
 use Rattle.cell_model.proofs.Decisions.{commits-exactly}
 use Rattle.core_model.specs.World.{Prepared}
 use Rattle.core_model.specs.Changes.{verdict_of, judged, seal, spoil, leave}
-
--- one unit's verdict
-abbrev pub with_verdict : World → UnitNo → Verdict → World
-with_verdict w u v = record w { manager = record w.manager { verdict = put w.manager.verdict u v } }
+use Rattle.core_model.proofs.Invariant.{loadless-of}
+use Rattle.core_model.proofs.LoadlessEvents.{with_verdict, mapped, loadless-judged}
+use Rattle.core_model.proofs.Invariant.{loadless-of}
+use Rattle.core_model.proofs.LoadlessEvents.{loadless-mapped}
 
 pub kept-judged : (opening : GrainId → List Value) (n : ℕ) (w : World) (u : UnitNo) (d : Verdict) → Inv opening n w →
     n < length w.manager.order → u ≡ get_or w.manager.order n nobody → (d ≡ Open → ⊥) → (d ≡ Committed → ⊥) →
     (is_good d ≡ true → (r : Read) → Member r (w.units.reads u) → (r.source ≡ nobody) ⊎ (is_good (w.manager.verdict r.source) ≡ true)) → Inv opening (n + 1) (with_verdict w u d)
 kept-judged opening n w u d i lt is d_not_open d_not_committed alive =
+    let p = loadless-judged n w u d (loadless-of opening n w i) lt is d_not_open in
     record {
-      fresh = i.fresh;
-      unborn = i.unborn;
-      outside = i.outside;
+      fresh = p.fresh;
+      unborn = p.unborn;
+      outside = p.outside;
+      blank = p.blank;
+      unwritten = p.unwritten;
+      undecided = p.undecided;
+      listed = p.listed;
+      placed = p.placed;
+      within = p.within;
+      early = p.early;
+      late = p.late;
+      alone = p.alone;
+      keeps = p.keeps;
+      strong = p.strong;
+      told = p.told;
+      seen = p.seen;
+      kept = p.kept;
       origin = i.origin;
-      blank = i.blank;
-      unwritten = i.unwritten;
-      undecided = λ x o. put-other w.manager.verdict u d x (λ e. unfinished x e o) ∙ i.undecided x o;
-      listed = i.listed;
-      placed = i.placed;
-      within = omega arith;
-      early = λ x f le. put-at w.manager.verdict u d (λ v. v ≡ Open → ⊥) x (λ e q. d_not_open q) (λ e. i.early x f (omega (arith, apart x f e)));
-      late = λ x f m. put-other w.manager.verdict u d x (λ e. absurd (omega (arith, ap w.manager.place e, here.1))) ∙ i.late x f (omega arith);
-      alone = i.alone;
-      keeps = i.keeps;
-      strong = i.strong;
-      told = i.told;
-      seen = i.seen;
-      kept = i.kept;
       view = λ g s m. elim (i.view g s m) [ inl a ↦ inl a | inr a ↦ inr (more _ a) ];
       source = i.source;
       gap = λ x r y m o f wr l. more y (i.gap x r y m o f wr l);
@@ -66,13 +67,6 @@ kept-judged opening n w u d i lt is d_not_open d_not_committed alive =
 
     open_u : w.manager.verdict u ≡ Open
     open_u = i.late u here.0 (omega (arith, here.1))
-
-    unfinished : (x : UnitNo) → x ≡ u → (w.units.phase x ≡ Unborn) ⊎ (w.units.phase x ≡ Running) → ⊥
-    unfinished x e (inl q) = (let t : Unborn ≡ Finished = sym q ∙ ap w.units.phase e ∙ here.0 in cc)
-    unfinished x e (inr q) = (let t : Running ≡ Finished = sym q ∙ ap w.units.phase e ∙ here.0 in cc)
-
-    apart : (x : UnitNo) → w.units.phase x ≡ Finished → (x ≡ u → ⊥) → w.manager.place x ≡ n + 1 → ⊥
-    apart x f e q = (let t = i.placed x f in let k : t.0 ≡ n = omega (arith, t.2, q) in e (sym t.3 ∙ ap (λ j. get_or w.manager.order j nobody) k ∙ sym is))
 
     more : (x : UnitNo) → Dead w.manager.verdict w.units.reads x → Dead (put w.manager.verdict u d) w.units.reads x
     more = Dead-more w.manager.verdict (put w.manager.verdict u d) w.units.reads w.units.reads
@@ -100,7 +94,7 @@ verdict_of-chosen decision.Commit e = refl
 verdict_of-chosen (decision.Vote g) e = cc
 verdict_of-chosen (decision.Dependency u) e = cc
 
-verdict_of-open : (d : Decision) → verdict_of d ≡ Open → ⊥
+pub verdict_of-open : (d : Decision) → verdict_of d ≡ Open → ⊥
 verdict_of-open decision.Commit e = cc
 verdict_of-open (decision.Vote g) e = cc
 verdict_of-open (decision.Dependency u) e = cc
@@ -192,31 +186,28 @@ pub record Ends (f : Verdict → Verdict) : Type 0 where
   pub good : (v : Verdict) → is_good (f v) ≡ true → (v ≡ Committed) ⊎ ((is_good v ≡ true) × ((x : Verdict) → is_good x ≡ true → is_good (f x) ≡ true))
   pub from : (v : Verdict) → f v ≡ Committed → (v ≡ Committed) ⊎ ((is_good v ≡ true) × ((x : Verdict) → is_good x ≡ true → f x ≡ Committed))
 
--- every verdict is changed in one way
-abbrev pub mapped : (Verdict → Verdict) → World → World
-mapped f w = record w { manager = record w.manager { verdict = λ u. f (w.manager.verdict u) } }
-
 pub kept-mapped : (opening : GrainId → List Value) (n : ℕ) (w : World) (f : Verdict → Verdict) → Ends f → Inv opening n w → Inv opening n (mapped f w)
 kept-mapped opening n w f ends i =
+    let p = loadless-mapped n w f ends.still ends.opens (loadless-of opening n w i) in
     record {
-      fresh = i.fresh;
-      unborn = i.unborn;
-      outside = i.outside;
+      fresh = p.fresh;
+      unborn = p.unborn;
+      outside = p.outside;
+      blank = p.blank;
+      unwritten = p.unwritten;
+      undecided = p.undecided;
+      listed = p.listed;
+      placed = p.placed;
+      within = p.within;
+      early = p.early;
+      late = p.late;
+      alone = p.alone;
+      keeps = p.keeps;
+      strong = p.strong;
+      told = p.told;
+      seen = p.seen;
+      kept = p.kept;
       origin = i.origin;
-      blank = i.blank;
-      unwritten = i.unwritten;
-      undecided = λ x o. ap f (i.undecided x o) ∙ ends.still;
-      listed = i.listed;
-      placed = i.placed;
-      within = i.within;
-      early = λ x p le q. i.early x p le (ends.opens _ q);
-      late = λ x p lt. ap f (i.late x p lt) ∙ ends.still;
-      alone = i.alone;
-      keeps = i.keeps;
-      strong = i.strong;
-      told = i.told;
-      seen = i.seen;
-      kept = i.kept;
       view = λ g s m. elim (i.view g s m) [ inl a ↦ inl a | inr a ↦ inr (more _ a) ];
       source = i.source;
       gap = λ x r y m o p wr l. more y (i.gap x r y m o p wr l);

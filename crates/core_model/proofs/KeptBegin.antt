@@ -1,33 +1,36 @@
 -- A unit that begins keeps the invariant.
-use Rattle.std.proofs.Common.{◌≡◌, ℕ, List, [], Bool, ◌⊎◌, inl, inr, sym, ap, ◌∙◌, subst, arith, le_refl}
-use Rattle.core_model.specs.World.{UnitNo, GrainId, nobody, put, Member, Value, Call, Origin, Unborn, Running, Finished, Open, Read, World}
+use Rattle.std.proofs.Common.{◌≡◌, ℕ, List, Bool, inl, inr, sym, ap, ◌∙◌, subst, le_refl}
+use Rattle.core_model.specs.World.{UnitNo, GrainId, put, Member, Value, Call, Origin, Unborn, Running, Finished, Read, World}
 use Rattle.core_model.specs.Changes.{begun, new_unit}
 use Rattle.core_model.specs.Chains.{IsBottom, IsLink}
 use Rattle.core_model.proofs.Puts.{put-at}
 use Rattle.core_model.proofs.Chained.{Chain-more}
 use Rattle.core_model.proofs.Invariant.{Inv}
+use Rattle.core_model.proofs.Invariant.{loadless-of}
+use Rattle.core_model.proofs.LoadlessEvents.{loadless-begun}
 
 pub kept-begun : (opening : GrainId → List Value) (n : ℕ) (w : World) (origin : Origin) (call : Call) (plain : Bool) → Inv opening n w → Inv opening n (begun w origin call plain)
 kept-begun opening n w origin call plain i =
+    let p = loadless-begun n w origin call plain (loadless-of opening n w i) in
     record {
-      fresh = omega (arith, i.fresh);
-      unborn = λ u h. put-at w.units.phase (new_unit w) Running (λ p. p ≡ Unborn) u (λ e. absurd (omega (arith, ap (λ (z : UnitNo). z.0) e, h))) (λ m. i.unborn u (omega (arith, h)));
-      outside = put-at w.units.phase (new_unit w) Running (λ p. p ≡ Unborn) nobody (λ e. absurd (omega (arith, ap (λ (z : UnitNo). z.0) e, i.fresh))) (λ m. i.outside);
+      fresh = p.fresh;
+      unborn = p.unborn;
+      outside = p.outside;
+      blank = p.blank;
+      unwritten = p.unwritten;
+      undecided = p.undecided;
+      listed = p.listed;
+      placed = p.placed;
+      within = p.within;
+      early = p.early;
+      late = p.late;
+      alone = p.alone;
+      keeps = p.keeps;
+      strong = p.strong;
+      told = p.told;
+      seen = p.seen;
+      kept = p.kept;
       origin = i.origin;
-      blank = λ u. put-at w.units.phase (new_unit w) Running (λ p. p ≡ Unborn → w.units.reads u ≡ []) u (λ e h. cc) (λ m. i.blank u);
-      unwritten = λ u h. i.unwritten u (λ f. h (back u f));
-      undecided = λ u. put-at w.units.phase (new_unit w) Running (λ p. (p ≡ Unborn) ⊎ (p ≡ Running) → w.manager.verdict u ≡ Open) u (λ e h. i.undecided u (inl (ap w.units.phase e ∙ new))) (λ m. i.undecided u);
-      listed = λ k h. (let t = i.listed k h in (back _ t.0, t.1));
-      placed = λ u f. i.placed u (fin u f);
-      within = i.within;
-      early = λ u f. i.early u (fin u f);
-      late = λ u f. i.late u (fin u f);
-      alone = i.alone;
-      keeps = λ u r p m. i.keeps u r (run u r m p) m;
-      strong = λ u g h f. i.strong u g h (fin u f);
-      told = i.told;
-      seen = i.seen;
-      kept = i.kept;
       view = i.view;
       source = λ u r m. elim (i.source u r m) [ inl a ↦ inl a | inr a ↦ inr (back _ a.0, a.1, λ f. a.2 (fin u f)) ];
       gap = λ u r x m o f. i.gap u r x m

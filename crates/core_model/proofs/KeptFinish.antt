@@ -1,73 +1,43 @@
 -- A unit that finishes keeps the invariant.
-use Rattle.std.proofs.Common.{◌≡◌, ℕ, zero, suc, ◌+◌, ◌<◌, ◌≤◌, List, [], ◌∷◌, ◌++◌, length, get_or, Bool, true, ◌&&◌, ◌⊎◌, inl, inr, refl, sym, ap, ◌∙◌, subst, arith, Some}
-use Rattle.std.proofs.lemmas.Bool.{and_parts, cases_lt}
+use Rattle.std.proofs.Common.{◌≡◌, ℕ, ◌+◌, ◌<◌, ◌≤◌, List, length, true, ◌⊎◌, inl, inr, refl, sym, ap, ◌∙◌, subst, arith, Some}
+use Rattle.std.proofs.lemmas.Bool.{and_parts}
 use Rattle.cell_model.specs.Locks.{is_update, is_hold_of}
 use Rattle.cell_model.proofs.Units.{same_unit-true, cases_unit, any-true, all-true}
 use Rattle.core_model.specs.World.{UnitNo, GrainId, nobody, put, Member, Value, Unborn, Running, Finished, Read, Write, Version, top, Hold, Effect, World}
 use Rattle.core_model.specs.Tests.{any, all, written}
 use Rattle.core_model.specs.Chains.{Wrote, IsVersion, IsBottom, IsLink}
-use Rattle.core_model.proofs.Puts.{put-at, put-from, put-same, put-other}
+use Rattle.core_model.proofs.Puts.{put-at, put-from, put-other}
 use Rattle.core_model.proofs.Basics.{written-member}
 use Rattle.core_model.proofs.Chained.{Chain-more, Chain-top}
 use Rattle.core_model.proofs.Invariant.{Inv}
 use Rattle.core_model.specs.Changes.{finished}
 use Rattle.core_model.specs.Events.{holds_alone}
-
--- the lock is the unit's, and it holds the grain alone
-abbrev is_alone : UnitNo → Hold → Bool
-is_alone u h = is_hold_of u h && is_update h.mode
-
-pub get_or-before : (xs : List UnitNo) (x : UnitNo) (i : ℕ) → i < length xs → get_or (xs ++ x ∷ []) i nobody ≡ get_or xs i nobody
-get_or-before [] x i h = absurd (omega arith)
-get_or-before (y ∷ xs) x zero h = refl
-get_or-before (y ∷ xs) x (suc i) h = get_or-before xs x i (omega arith)
-
-pub get_or-end : (xs : List UnitNo) (x : UnitNo) → get_or (xs ++ x ∷ []) (length xs) nobody ≡ x
-get_or-end [] x = refl
-get_or-end (y ∷ xs) x = get_or-end xs x
-
-pub length-push : (xs : List UnitNo) (x : UnitNo) → length (xs ++ x ∷ []) ≡ length xs + 1
-length-push [] x = refl
-length-push (y ∷ xs) x = omega (arith, length-push xs x)
+use Rattle.core_model.proofs.Invariant.{loadless-of}
+use Rattle.core_model.proofs.LoadlessEvents.{is_alone, loadless-finished}
 
 pub kept-finished : (opening : GrainId → List Value) (n : ℕ) (w : World) (u : UnitNo) (effect : Effect) → Inv opening n w →
     w.units.phase u ≡ Running → all (λ x. holds_alone w u x.0) effect.writes ≡ true → Inv opening n (finished w u effect)
 kept-finished opening n w u effect i running holds =
+    let p = loadless-finished n w u effect (loadless-of opening n w i) running holds in
     record {
-      fresh = i.fresh;
-      unborn = λ x h. (let e = i.unborn x h in put-at w.units.phase u Finished (λ p. p ≡ Unborn) x (λ q. absurd (not_unborn x q e)) (λ q. e));
-      outside = put-at w.units.phase u Finished (λ p. p ≡ Unborn) nobody (λ q. absurd (not_unborn nobody q i.outside)) (λ q. i.outside);
+      fresh = p.fresh;
+      unborn = p.unborn;
+      outside = p.outside;
+      blank = p.blank;
+      unwritten = p.unwritten;
+      undecided = p.undecided;
+      listed = p.listed;
+      placed = p.placed;
+      within = p.within;
+      early = p.early;
+      late = p.late;
+      alone = p.alone;
+      keeps = p.keeps;
+      strong = p.strong;
+      told = p.told;
+      seen = p.seen;
+      kept = p.kept;
       origin = put-other w.manager.place u last nobody (λ e. not_unborn nobody e i.outside) ∙ i.origin;
-      blank = λ x. put-at w.units.phase u Finished (λ p. p ≡ Unborn → w.units.reads x ≡ []) x (λ e h. cc) (λ m. i.blank x);
-      unwritten = λ x h. put-at w.manager.writes u ws (λ t. t ≡ []) x (λ e. absurd (h (put-at w.units.phase u Finished (λ p. p ≡ Finished) x (λ q. refl) (λ q. absurd (q e))))) (λ e. i.unwritten x (λ f. h (back x f)));
-      undecided = λ x. put-from w.units.phase u Finished (λ p. (p ≡ Unborn) ⊎ (p ≡ Running)) _ x
-          (λ e o. elim o [ inl q ↦ cc | inr q ↦ cc ])
-          (λ e o. i.undecided x o);
-      listed = λ k h. elim (cases_lt k (length w.manager.order)) [
-        | inl lt ↦ (let t = i.listed k lt in subst (λ z. (put w.units.phase u Finished z ≡ Finished) × (put w.manager.place u last z ≡ k + 1)) (sym (get_or-before w.manager.order u k lt))
-            (back _ t.0, put-other w.manager.place u last _ (λ e. not_finished _ e t.0) ∙ t.1))
-        | inr le ↦ (let e : k ≡ length w.manager.order = omega (arith, length-push w.manager.order u) in
-            subst (λ z. (put w.units.phase u Finished z ≡ Finished) × (put w.manager.place u last z ≡ k + 1)) (sym (ap (λ j. get_or (w.manager.order ++ u ∷ []) j nobody) e ∙ get_or-end w.manager.order u))
-            (put-same w.units.phase u Finished, put-same w.manager.place u last ∙ ap (λ j. j + 1) (sym e)))
-      ];
-      placed = λ x. put-from w.units.phase u Finished (λ p. p ≡ Finished) _ x
-          (λ e f. (length w.manager.order, omega (arith, length-push w.manager.order u), put-at w.manager.place u last (λ z. z ≡ length w.manager.order + 1) x (λ q. refl) (λ q. absurd (q e)), get_or-end w.manager.order u ∙ sym e))
-          (λ e f. (let t = i.placed x f in (t.0, omega (arith, length-push w.manager.order u, t.1), put-other w.manager.place u last x e ∙ t.2, get_or-before w.manager.order u t.0 t.1 ∙ t.3)));
-      within = omega (arith, length-push w.manager.order u, i.within);
-      early = λ x. put-from w.units.phase u Finished (λ p. p ≡ Finished) _ x
-          (λ e f le. absurd (omega (arith, put-at w.manager.place u last (λ z. z ≡ last) x (λ q. refl) (λ q. absurd (q e)), i.within)))
-          (λ e f le. i.early x f (subst (λ z. z ≤ n) (put-other w.manager.place u last x e) le));
-      late = λ x. put-from w.units.phase u Finished (λ p. p ≡ Finished) _ x
-          (λ e f lt. ap w.manager.verdict e ∙ i.undecided u (inr running))
-          (λ e f lt. i.late x f (subst (λ z. n < z) (put-other w.manager.place u last x e) lt));
-      alone = i.alone;
-      keeps = λ x r p m. i.keeps x r (run x p) m;
-      strong = λ x g h. put-from w.units.phase u Finished (λ p. p ≡ Finished) _ x
-          (λ e f wr m q. (let t = holder g (put-from w.manager.writes u ws (λ t. (v : List Value) × (written g t ≡ Some v)) _ x (λ k z. z) (λ k z. absurd (k e)) wr) in (t.0, t.1, t.2 ∙ sym e, t.3)))
-          (λ e f wr m q. i.strong x g h f (old_wrote x g e wr) m q);
-      told = i.told;
-      seen = i.seen;
-      kept = i.kept;
       view = i.view;
       source = λ x r m. elim (i.source x r m) [
         | inl a ↦ inl a

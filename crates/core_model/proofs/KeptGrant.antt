@@ -1,20 +1,24 @@
 -- A grant keeps the invariant.
 use Rattle.std.proofs.Common.{◌≡◌, ℕ, ◌<◌, List, [], ◌∷◌, ◌++◌, true, false, ◌⊎◌, inl, inr, refl, sym, ap, ◌∙◌, subst, arith, Some}
-use Rattle.cell_model.specs.Locks.{is_update, is_hold_of, holds_lock, conflicts}
-use Rattle.cell_model.proofs.Units.{same_unit-true, same_unit-false, cases_unit, any-true, any-false, Member-append, Member-left, Member-last}
-use Rattle.core_model.specs.World.{UnitNo, GrainId, nobody, put, put_grain, Member, Value, Unborn, Running, Finished, Read, top, Hold, Mode, Reading, World}
+use Rattle.cell_model.specs.Locks.{is_hold_of, holds_lock, conflicts}
+use Rattle.cell_model.proofs.Units.{same_unit-true, same_unit-false, any-true, any-false, Member-append, Member-left}
+use Rattle.core_model.specs.World.{UnitNo, GrainId, nobody, put, put_grain, Member, Value, Running, Finished, Read, top, Hold, Mode, Reading, World}
 use Rattle.core_model.specs.Tests.{is_good, written}
 use Rattle.core_model.specs.Dead.{Dead}
 use Rattle.core_model.specs.Chains.{Wrote, IsBottom, IsLink}
-use Rattle.core_model.proofs.Puts.{put-at, put-from, put-same, grain-at, grain-from, grain-is, grain-other}
+use Rattle.core_model.proofs.Puts.{put-at, put-from, grain-at, grain-from, grain-other}
 use Rattle.core_model.proofs.Basics.{Dead-more}
 use Rattle.core_model.proofs.Chained.{Chain-more, Chain-top}
 use Rattle.core_model.proofs.Invariant.{Inv}
 use Rattle.cell_model.specs.Locks.{granted}
 use Rattle.cell_model.specs.Cells.{with_reading}
-use Rattle.cell_model.proofs.Asking.{no_conflict, granted-member, granted-new, granted-stays}
+use Rattle.cell_model.proofs.Asking.{no_conflict, granted-stays}
 use Rattle.core_model.specs.Changes.{locked, raised, read_of}
-use Rattle.core_model.proofs.Readings.{with_reading-member, with_reading-stays, with_reading-has, with_reading-same}
+use Rattle.core_model.proofs.Readings.{with_reading-member, with_reading-same}
+use Rattle.core_model.proofs.Invariant.{loadless-of}
+use Rattle.core_model.proofs.LoadlessEvents.{loadless-locked}
+use Rattle.core_model.proofs.Invariant.{loadless-of}
+use Rattle.core_model.proofs.LoadlessEvents.{loadless-raised}
 
 -- where a read came from
 abbrev Src : (GrainId → List Value) → World → UnitNo → Read → Type 0
@@ -24,54 +28,26 @@ Src opening w x r = ((r.source ≡ nobody) × (r.state ≡ opening r.grain))
 pub kept-locked : (opening : GrainId → List Value) (n : ℕ) (w : World) (u : UnitNo) (g : GrainId) (mode : Mode) → Inv opening n w →
     w.units.phase u ≡ Running → ((h : Hold) → Member h (w.cells.holds g) → conflicts u mode h ≡ false) → holds_lock u (w.cells.holds g) ≡ false → w.cells.here g ≡ true → Inv opening n (locked w u g mode)
 kept-locked opening n w u g mode i running free first here_g =
+    let p = loadless-locked n w u g mode (loadless-of opening n w i) running free first here_g in
     record {
-      fresh = i.fresh;
-      unborn = i.unborn;
-      outside = i.outside;
+      fresh = p.fresh;
+      unborn = p.unborn;
+      outside = p.outside;
+      blank = p.blank;
+      unwritten = p.unwritten;
+      undecided = p.undecided;
+      listed = p.listed;
+      placed = p.placed;
+      within = p.within;
+      early = p.early;
+      late = p.late;
+      alone = p.alone;
+      keeps = p.keeps;
+      strong = p.strong;
+      told = p.told;
+      seen = p.seen;
+      kept = p.kept;
       origin = i.origin;
-      blank = λ x p. put-at w.units.reads u reads_u (λ t. t ≡ []) x (λ e. (let t : Unborn ≡ Running = sym p ∙ ap w.units.phase e ∙ running in cc)) (λ e. i.blank x p);
-      unwritten = i.unwritten;
-      undecided = i.undecided;
-      listed = i.listed;
-      placed = i.placed;
-      within = i.within;
-      early = i.early;
-      late = i.late;
-      alone = λ k h l. grain-at w.cells.holds g holds_g (λ hs. Member h hs → Member l hs → is_update h.mode ≡ true → l.unit ≡ h.unit) k (λ e. alone_at h l) (λ e. i.alone k h l);
-      keeps = λ x r p. put-from w.units.reads u reads_u (Member r) _ x
-          (λ e m. elim (Member-append r (w.units.reads u) (new ∷ []) m) [
-            | inl o ↦ more_holds x r (i.keeps x r p (subst (λ z. Member r (w.units.reads z)) (sym e) o))
-            | inr o ↦ elim o [
-              | inl q ↦ (hold, grain-at w.cells.holds g holds_g (Member hold) r.grain (λ z. granted-new (w.cells.holds g) u mode) (λ z. absurd (z (ap (λ (y : Read). y.grain) q))), sym e)
-              | inr q ↦ absurd q
-            ]
-          ])
-          (λ e m. more_holds x r (i.keeps x r p m));
-      strong = λ x k h f wr. grain-at w.cells.holds g holds_g (λ hs. Member h hs → h.unit ≡ x → (l : Hold) × Member l hs × (l.unit ≡ x) × (is_update l.mode ≡ true)) k
-          (λ e m q. elim (granted-member (w.cells.holds g) u mode h m) [
-            | inr a ↦ (let t : Running ≡ Finished = sym running ∙ ap w.units.phase (sym (ap (λ (z : Hold). z.unit) a) ∙ q) ∙ f in cc)
-            | inl a ↦ (let t = i.strong x k h f wr (subst (λ j. Member h (w.cells.holds j)) (sym e) a.0) q in (t.0, old_stays t.0 (subst (λ j. Member t.0 (w.cells.holds j)) e t.1), t.2, t.3))
-          ])
-          (λ e. i.strong x k h f wr);
-      told = λ k h. grain-from w.cells.holds g holds_g (Member h) ((s : Reading) × Member s (put_grain w.cells.readings g readings_g k) × (s.unit ≡ h.unit)) k
-          (λ e m. elim (granted-member (w.cells.holds g) u mode h m) [
-            | inr q ↦ (let t = with_reading-has (w.cells.readings g) u (top (w.cells.stack g)).unit in
-                (t.0, subst (Member t.0) (sym (grain-is w.cells.readings g readings_g k e)) t.1, t.2 ∙ sym (ap (λ (z : Hold). z.unit) q)))
-            | inl q ↦ (let t = i.told k h (subst (λ j. Member h (w.cells.holds j)) (sym e) q.0) in (t.0, more_reading k t.0 t.1, t.2))
-          ])
-          (λ e m. (let t = i.told k h m in (t.0, more_reading k t.0 t.1, t.2)));
-      seen = λ k s. grain-from w.cells.readings g readings_g (Member s) ((r : Read) × Member r (put w.units.reads u reads_u s.unit) × (r.grain ≡ k) × (r.source ≡ s.source)) k
-          (λ e m. elim (with_reading-member (w.cells.readings g) u (top (w.cells.stack g)).unit s m) [
-            | inl a ↦ more_seen k s (i.seen k s (subst (λ j. Member s (w.cells.readings j)) (sym e) a))
-            | inr q ↦ (new, subst (λ j. Member new (put w.units.reads u reads_u j)) (sym (ap (λ (z : Reading). z.unit) q)) mine, sym e, ap (λ (z : Reading). z.source) (sym q))
-          ])
-          (λ e m. more_seen k s (i.seen k s m));
-      kept = λ k s. grain-from w.cells.readings g readings_g (Member s) ((h : Hold) × Member h (put_grain w.cells.holds g holds_g k) × (h.unit ≡ s.unit)) k
-          (λ e m. elim (with_reading-member (w.cells.readings g) u (top (w.cells.stack g)).unit s m) [
-            | inl a ↦ (let t = i.kept k s (subst (λ j. Member s (w.cells.readings j)) (sym e) a) in (t.0, more_hold k t.0 t.1, t.2))
-            | inr q ↦ (hold, subst (Member hold) (sym (grain-is w.cells.holds g holds_g k e)) (granted-new (w.cells.holds g) u mode), sym (ap (λ (z : Reading). z.unit) q))
-          ])
-          (λ e m. (let t = i.kept k s m in (t.0, more_hold k t.0 t.1, t.2)));
       view = λ k s. grain-from w.cells.readings g readings_g (Member s) ((s.source ≡ (top (w.cells.stack k)).unit) ⊎ Dead w.manager.verdict (put w.units.reads u reads_u) s.source) k
           (λ e m. elim (with_reading-member (w.cells.readings g) u (top (w.cells.stack g)).unit s m) [
             | inl a ↦ more_view s.source k (i.view k s (subst (λ j. Member s (w.cells.readings j)) (sym e) a))
@@ -114,9 +90,6 @@ kept-locked opening n w u g mode i running free first here_g =
     reads_u : List Read
     reads_u = w.units.reads u ++ new ∷ []
 
-    hold : Hold
-    hold = record { unit = u; mode = mode }
-
     holds_g : List Hold
     holds_g = granted (w.cells.holds g) u mode
 
@@ -125,12 +98,6 @@ kept-locked opening n w u g mode i running free first here_g =
 
     old_stays : (h : Hold) → Member h (w.cells.holds g) → Member h holds_g
     old_stays h m = granted-stays (w.cells.holds g) u mode h m (same_unit-false h.unit u (any-false (is_hold_of u) (w.cells.holds g) first h m))
-
-    more_reading : (k : GrainId) (s : Reading) → Member s (w.cells.readings k) → Member s (put_grain w.cells.readings g readings_g k)
-    more_reading k s m = grain-at w.cells.readings g readings_g (Member s) k (λ e. with_reading-stays (w.cells.readings g) u (top (w.cells.stack g)).unit s (subst (λ j. Member s (w.cells.readings j)) e m)) (λ e. m)
-
-    mine : Member new (put w.units.reads u reads_u u)
-    mine = subst (Member new) (sym (put-same w.units.reads u reads_u)) (Member-last new (w.units.reads u))
 
     more_reads : (x : UnitNo) (r : Read) → Member r (w.units.reads x) → Member r (put w.units.reads u reads_u x)
     more_reads x r m = put-at w.units.reads u reads_u (Member r) x (λ e. Member-left r (w.units.reads u) (new ∷ []) (subst (λ z. Member r (w.units.reads z)) e m)) (λ e. m)
@@ -145,27 +112,9 @@ kept-locked opening n w u g mode i running free first here_g =
     more_hold : (k : GrainId) (h : Hold) → Member h (w.cells.holds k) → Member h (put_grain w.cells.holds g holds_g k)
     more_hold k h m = grain-at w.cells.holds g holds_g (Member h) k (λ e. old_stays h (subst (λ j. Member h (w.cells.holds j)) e m)) (λ e. m)
 
-    more_holds : (x : UnitNo) (r : Read) → (h : Hold) × Member h (w.cells.holds r.grain) × (h.unit ≡ x) → (h : Hold) × Member h (put_grain w.cells.holds g holds_g r.grain) × (h.unit ≡ x)
-    more_holds x r t = (t.0, more_hold r.grain t.0 t.1, t.2)
-
     more_view : (source : UnitNo) (k : GrainId) → (source ≡ (top (w.cells.stack k)).unit) ⊎ Dead w.manager.verdict w.units.reads source → (source ≡ (top (w.cells.stack k)).unit) ⊎ Dead w.manager.verdict (put w.units.reads u reads_u) source
     more_view source k (inl a) = inl a
     more_view source k (inr a) = inr (more _ a)
-
-    more_seen : (k : GrainId) (s : Reading) → (r : Read) × Member r (w.units.reads s.unit) × (r.grain ≡ k) × (r.source ≡ s.source) → (r : Read) × Member r (put w.units.reads u reads_u s.unit) × (r.grain ≡ k) × (r.source ≡ s.source)
-    more_seen k s t = (t.0, more_reads s.unit t.0 t.1, t.2, t.3)
-
-    alone_at : (h l : Hold) → Member h holds_g → Member l holds_g → is_update h.mode ≡ true → l.unit ≡ h.unit
-    alone_at h l a b q = elim (granted-member (w.cells.holds g) u mode h a) [
-      | inr x ↦ elim (granted-member (w.cells.holds g) u mode l b) [
-        | inr y ↦ ap (λ (z : Hold). z.unit) y ∙ ap (λ (z : Hold). z.unit) (sym x)
-        | inl y ↦ no_conflict u mode l (free l y.0) (inl (ap (λ (z : Hold). is_update z.mode) (sym x) ∙ q)) ∙ ap (λ (z : Hold). z.unit) (sym x)
-      ]
-      | inl x ↦ elim (granted-member (w.cells.holds g) u mode l b) [
-        | inr y ↦ absurd (x.1 (no_conflict u mode h (free h x.0) (inr q)))
-        | inl y ↦ i.alone g h l x.0 y.0 q
-      ]
-    ]
 
     not_finished : (x : UnitNo) → x ≡ u → w.units.phase x ≡ Finished → ⊥
     not_finished x e f = (let t : Running ≡ Finished = sym running ∙ ap w.units.phase (sym e) ∙ f in cc)
@@ -191,26 +140,26 @@ kept-locked opening n w u g mode i running free first here_g =
 pub kept-raised : (opening : GrainId → List Value) (n : ℕ) (w : World) (u : UnitNo) (g : GrainId) (mode : Mode) → Inv opening n w →
     w.units.phase u ≡ Running → ((h : Hold) → Member h (w.cells.holds g) → conflicts u mode h ≡ false) → holds_lock u (w.cells.holds g) ≡ true → w.cells.here g ≡ true → Inv opening n (raised w u g mode)
 kept-raised opening n w u g mode i running free held here_g =
+    let p = loadless-raised n w u g mode (loadless-of opening n w i) running free held here_g in
     record {
-      fresh = i.fresh;
-      unborn = i.unborn;
-      outside = i.outside;
+      fresh = p.fresh;
+      unborn = p.unborn;
+      outside = p.outside;
+      blank = p.blank;
+      unwritten = p.unwritten;
+      undecided = p.undecided;
+      listed = p.listed;
+      placed = p.placed;
+      within = p.within;
+      early = p.early;
+      late = p.late;
+      alone = p.alone;
+      keeps = p.keeps;
+      strong = p.strong;
+      told = p.told;
+      seen = p.seen;
+      kept = p.kept;
       origin = i.origin;
-      blank = i.blank;
-      unwritten = i.unwritten;
-      undecided = i.undecided;
-      listed = i.listed;
-      placed = i.placed;
-      within = i.within;
-      early = i.early;
-      late = i.late;
-      alone = λ k h l. grain-at w.cells.holds g holders_g (λ hs. Member h hs → Member l hs → is_update h.mode ≡ true → l.unit ≡ h.unit) k (λ e. alone_at h l) (λ e. i.alone k h l);
-      keeps = λ x r p m. (let t = i.keeps x r p m in keep x r.grain t.0 t.1 t.2);
-      strong = λ x k h f wr m q. (let t = i.strong x k (old_hold k h m).0 f wr (old_hold k h m).1 ((old_hold k h m).2 ∙ q) in
-          (t.0, stays k t.0 t.1 (λ e. not_finished x (sym t.2 ∙ e) f), t.2, t.3));
-      told = λ k h m. (let o = old_hold k h m in let t = i.told k o.0 o.1 in (t.0, subst (Member t.0) (sym (same_readings k)) t.1, t.2 ∙ o.2));
-      seen = λ k s m. i.seen k s (subst (Member s) (same_readings k) m);
-      kept = λ k s m. (let t = i.kept k s (subst (Member s) (same_readings k) m) in keep s.unit k t.0 t.1 t.2);
       view = λ k s m. i.view k s (subst (Member s) (same_readings k) m);
       source = i.source;
       gap = i.gap;
@@ -222,9 +171,6 @@ kept-raised opening n w u g mode i running free held here_g =
       sure = i.sure;
     }
   where
-    hold : Hold
-    hold = record { unit = u; mode = mode }
-
     holders_g : List Hold
     holders_g = granted (w.cells.holds g) u mode
 
@@ -240,32 +186,5 @@ kept-raised opening n w u g mode i running free held here_g =
     not_finished : (x : UnitNo) → x ≡ u → w.units.phase x ≡ Finished → ⊥
     not_finished x e f = (let t : Running ≡ Finished = sym running ∙ ap w.units.phase (sym e) ∙ f in cc)
 
-    alone_at : (h l : Hold) → Member h holders_g → Member l holders_g → is_update h.mode ≡ true → l.unit ≡ h.unit
-    alone_at h l a b q = elim (granted-member (w.cells.holds g) u mode h a) [
-      | inr x ↦ elim (granted-member (w.cells.holds g) u mode l b) [
-        | inr y ↦ ap (λ (z : Hold). z.unit) y ∙ ap (λ (z : Hold). z.unit) (sym x)
-        | inl y ↦ no_conflict u mode l (free l y.0) (inl (ap (λ (z : Hold). is_update z.mode) (sym x) ∙ q)) ∙ ap (λ (z : Hold). z.unit) (sym x)
-      ]
-      | inl x ↦ elim (granted-member (w.cells.holds g) u mode l b) [
-        | inr y ↦ absurd (x.1 (no_conflict u mode h (free h x.0) (inr q)))
-        | inl y ↦ i.alone g h l x.0 y.0 q
-      ]
-    ]
-
     stays : (k : GrainId) (h : Hold) → Member h (w.cells.holds k) → (h.unit ≡ u → ⊥) → Member h (put_grain w.cells.holds g holders_g k)
     stays k h m apart = grain-at w.cells.holds g holders_g (Member h) k (λ e. granted-stays (w.cells.holds g) u mode h (subst (λ j. Member h (w.cells.holds j)) e m) apart) (λ e. m)
-
-    keep : (x : UnitNo) (k : GrainId) (h : Hold) → Member h (w.cells.holds k) → h.unit ≡ x → (l : Hold) × Member l (put_grain w.cells.holds g holders_g k) × (l.unit ≡ x)
-    keep x k h m q = elim (cases_unit h.unit u) [
-      | inl e ↦ grain-at w.cells.holds g holders_g (λ hs. (l : Hold) × Member l hs × (l.unit ≡ x)) k
-          (λ z. (hold, granted-new (w.cells.holds g) u mode, sym e ∙ q)) (λ z. (h, m, q))
-      | inr n ↦ (h, stays k h m n, q)
-    ]
-
-    old_hold : (k : GrainId) (h : Hold) → Member h (put_grain w.cells.holds g holders_g k) → (l : Hold) × Member l (w.cells.holds k) × (l.unit ≡ h.unit)
-    old_hold k h = grain-from w.cells.holds g holders_g (Member h) ((l : Hold) × Member l (w.cells.holds k) × (l.unit ≡ h.unit)) k
-        (λ e m. elim (granted-member (w.cells.holds g) u mode h m) [
-          | inr q ↦ (own_hold.0, subst (λ j. Member own_hold.0 (w.cells.holds j)) (sym e) own_hold.1, same_unit-true _ _ own_hold.2 ∙ ap (λ (z : Hold). z.unit) (sym q))
-          | inl q ↦ (h, subst (λ j. Member h (w.cells.holds j)) (sym e) q.0, refl)
-        ])
-        (λ e m. (h, m, refl))

@@ -1,5 +1,5 @@
 -- A unit that is over keeps the invariant.
-use Rattle.std.proofs.Common.{◌≡◌, ℕ, List, [], true, false, ◌⊎◌, inl, inr, refl, sym, ap, ◌∙◌}
+use Rattle.std.proofs.Common.{◌≡◌, ℕ, List, true, false, ◌⊎◌, inl, inr, refl, sym, ap, ◌∙◌}
 use Rattle.core_model.specs.World.{UnitNo, GrainId, nobody, put, Member, Value, Phase, Unborn, Running, Finished, Refused, Open, Committed, Aborted, Settled, World}
 use Rattle.core_model.specs.Tests.{is_bad, is_good}
 use Rattle.core_model.specs.Dead.{Dead}
@@ -9,32 +9,35 @@ use Rattle.core_model.proofs.Basics.{Dead-more}
 use Rattle.core_model.proofs.Chained.{Chain-more}
 use Rattle.core_model.proofs.Invariant.{Inv}
 use Rattle.core_model.specs.Changes.{refused}
+use Rattle.core_model.proofs.Invariant.{loadless-of}
+use Rattle.core_model.proofs.LoadlessEvents.{loadless-over}
+use Rattle.core_model.proofs.Invariant.{loadless-of}
+use Rattle.core_model.proofs.LoadlessEvents.{loadless-aborted}
 
 -- a running unit that ends without an effect
 pub kept-over : (opening : GrainId → List Value) (n : ℕ) (w : World) (u : UnitNo) (end : Phase) → Inv opening n w → w.units.phase u ≡ Running →
     (end ≡ Unborn → ⊥) → (end ≡ Running → ⊥) → (end ≡ Finished → ⊥) → Inv opening n (record w { units = record w.units { phase = put w.units.phase u end } })
 kept-over opening n w u end i running n0 n1 n2 =
+    let p = loadless-over n w u end (loadless-of opening n w i) running n0 n1 n2 in
     record {
-      fresh = i.fresh;
-      unborn = λ x h. (let e = i.unborn x h in put-at w.units.phase u end (λ p. p ≡ Unborn) x (λ q. absurd (not_unborn x q e)) (λ q. e));
-      outside = put-at w.units.phase u end (λ p. p ≡ Unborn) nobody (λ q. absurd (not_unborn nobody q i.outside)) (λ q. i.outside);
+      fresh = p.fresh;
+      unborn = p.unborn;
+      outside = p.outside;
+      blank = p.blank;
+      unwritten = p.unwritten;
+      undecided = p.undecided;
+      listed = p.listed;
+      placed = p.placed;
+      within = p.within;
+      early = p.early;
+      late = p.late;
+      alone = p.alone;
+      keeps = p.keeps;
+      strong = p.strong;
+      told = p.told;
+      seen = p.seen;
+      kept = p.kept;
       origin = i.origin;
-      blank = λ x. put-at w.units.phase u end (λ p. p ≡ Unborn → w.units.reads x ≡ []) x (λ e h. absurd (n0 h)) (λ m. i.blank x);
-      unwritten = λ x h. i.unwritten x (λ f. h (back x f));
-      undecided = λ x. put-from w.units.phase u end (λ p. (p ≡ Unborn) ⊎ (p ≡ Running)) (w.manager.verdict x ≡ Open) x
-          (λ e o. elim o [ inl q ↦ absurd (n0 q) | inr q ↦ absurd (n1 q) ])
-          (λ e o. i.undecided x o);
-      listed = λ k h. (let t = i.listed k h in (back _ t.0, t.1));
-      placed = λ x f. i.placed x (fin x f);
-      within = i.within;
-      early = λ x f. i.early x (fin x f);
-      late = λ x f. i.late x (fin x f);
-      alone = i.alone;
-      keeps = λ x r p m. i.keeps x r (run x p) m;
-      strong = λ x g h f. i.strong x g h (fin x f);
-      told = i.told;
-      seen = i.seen;
-      kept = i.kept;
       view = i.view;
       source = λ x r m. elim (i.source x r m) [ inl a ↦ inl a | inr a ↦ inr (back _ a.0, a.1, λ f. a.2 (fin x f)) ];
       gap = λ x r y m o f. i.gap x r y m (elim o [ inl a ↦ inl (run x a) | inr a ↦ inr (fin x a.0, a.1) ]) (fin y f);
@@ -48,9 +51,6 @@ kept-over opening n w u end i running n0 n1 n2 =
       away = i.away;
     }
   where
-    not_unborn : (x : UnitNo) → x ≡ u → w.units.phase x ≡ Unborn → ⊥
-    not_unborn x q e = (let t : Unborn ≡ Running = sym e ∙ ap w.units.phase q ∙ running in cc)
-
     not_finished : (x : UnitNo) → x ≡ u → w.units.phase x ≡ Finished → ⊥
     not_finished x q e = (let t : Finished ≡ Running = sym e ∙ ap w.units.phase q ∙ running in cc)
 
@@ -67,28 +67,26 @@ kept-over opening n w u end i running n0 n1 n2 =
 pub kept-aborted : (opening : GrainId → List Value) (n : ℕ) (w : World) (u : UnitNo) → Inv opening n w → w.units.phase u ≡ Refused → w.manager.verdict u ≡ Open →
     Inv opening n (record w { manager = record w.manager { verdict = put w.manager.verdict u Aborted } })
 kept-aborted opening n w u i refused_u open_u =
+    let p = loadless-aborted n w u (loadless-of opening n w i) refused_u open_u in
     record {
-      fresh = i.fresh;
-      unborn = i.unborn;
-      outside = i.outside;
+      fresh = p.fresh;
+      unborn = p.unborn;
+      outside = p.outside;
+      blank = p.blank;
+      unwritten = p.unwritten;
+      undecided = p.undecided;
+      listed = p.listed;
+      placed = p.placed;
+      within = p.within;
+      early = p.early;
+      late = p.late;
+      alone = p.alone;
+      keeps = p.keeps;
+      strong = p.strong;
+      told = p.told;
+      seen = p.seen;
+      kept = p.kept;
       origin = i.origin;
-      blank = i.blank;
-      unwritten = i.unwritten;
-      undecided = λ x o. put-other w.manager.verdict u Aborted x (λ e. elim o [
-        | inl q ↦ (let t : Unborn ≡ Refused = sym q ∙ ap w.units.phase e ∙ refused_u in cc)
-        | inr q ↦ (let t : Running ≡ Refused = sym q ∙ ap w.units.phase e ∙ refused_u in cc)
-      ]) ∙ i.undecided x o;
-      listed = i.listed;
-      placed = i.placed;
-      within = i.within;
-      early = λ x f le. put-at w.manager.verdict u Aborted (λ v. v ≡ Open → ⊥) x (λ e q. cc) (λ e. i.early x f le);
-      late = λ x f lt. put-other w.manager.verdict u Aborted x (λ e. not_finished x e f) ∙ i.late x f lt;
-      alone = i.alone;
-      keeps = i.keeps;
-      strong = i.strong;
-      told = i.told;
-      seen = i.seen;
-      kept = i.kept;
       view = λ g s m. elim (i.view g s m) [ inl a ↦ inl a | inr a ↦ inr (more _ a) ];
       source = i.source;
       gap = λ x r y m o f wr lt. more y (i.gap x r y m o f wr lt);

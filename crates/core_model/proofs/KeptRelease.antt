@@ -7,58 +7,40 @@ use Rattle.core_model.specs.World.{UnitNo, GrainId, put_grain, Member, Value, Ru
 use Rattle.core_model.specs.Tests.{written}
 use Rattle.core_model.specs.Dead.{Dead, by_source}
 use Rattle.core_model.specs.Chains.{Chain, Wrote, IsBottom, IsLink}
-use Rattle.core_model.proofs.Puts.{grain-at, grain-from, grain-is, grain-other}
+use Rattle.core_model.proofs.Puts.{grain-at, grain-from, grain-other}
 use Rattle.core_model.proofs.Chained.{Chain-push}
 use Rattle.core_model.proofs.Invariant.{Inv, wrote-finished}
 use Rattle.cell_model.specs.Stacks.{pushed}
 use Rattle.cell_model.specs.Cells.{stacked, reads_top, without_reading}
 use Rattle.cell_model.proofs.Asking.{dropped-member, dropped-stays}
 use Rattle.core_model.specs.Changes.{released}
-use Rattle.core_model.proofs.Readings.{without_reading-member, without_reading-stays, reads_top-true, reads_top-has}
+use Rattle.core_model.proofs.Readings.{without_reading-member, reads_top-true, reads_top-has}
+use Rattle.core_model.proofs.Invariant.{loadless-of}
+use Rattle.core_model.proofs.LoadlessEvents.{loadless-released}
 
 pub kept-released : (opening : GrainId → List Value) (n : ℕ) (w : World) (u : UnitNo) (g : GrainId) → Inv opening n w →
     (w.units.phase u ≡ Running → ⊥) → holds_lock u (w.cells.holds g) ≡ true → Inv opening n (released w u g)
 kept-released opening n w u g i stopped held =
+    let p = loadless-released n w u g (loadless-of opening n w i) stopped held in
     record {
-      fresh = i.fresh;
-      unborn = i.unborn;
-      outside = i.outside;
+      fresh = p.fresh;
+      unborn = p.unborn;
+      outside = p.outside;
+      blank = p.blank;
+      unwritten = p.unwritten;
+      undecided = p.undecided;
+      listed = p.listed;
+      placed = p.placed;
+      within = p.within;
+      early = p.early;
+      late = p.late;
+      alone = p.alone;
+      keeps = p.keeps;
+      strong = p.strong;
+      told = p.told;
+      seen = p.seen;
+      kept = p.kept;
       origin = i.origin;
-      blank = i.blank;
-      unwritten = i.unwritten;
-      undecided = i.undecided;
-      listed = i.listed;
-      placed = i.placed;
-      within = i.within;
-      early = i.early;
-      late = i.late;
-      alone = λ k h l a b. i.alone k h l (old k h a) (old k l b);
-      keeps = λ x r p m. (let t = i.keeps x r p m in
-          (t.0, stays r.grain t.0 t.1 (λ e. stopped (ap w.units.phase (sym e ∙ t.2) ∙ p)), t.2));
-      strong = λ x k h f wr m q. (let t = i.strong x k h f wr (old k h m) q in (
-        t.0,
-        grain-from w.cells.holds g holds_g (Member h) (Member t.0 (put_grain w.cells.holds g holds_g k)) k
-            (λ e m'. stays k t.0 t.1 (λ z. (dropped-member u (w.cells.holds g) h m').1 (q ∙ sym t.2 ∙ z)))
-            (λ e m'. grain-at w.cells.holds g holds_g (Member t.0) k (λ z. absurd (e z)) (λ z. t.1)) m,
-        t.2,
-        t.3,
-      ));
-      told = λ k h m. (let t = i.told k h (old k h m) in (
-        t.0,
-        grain-at w.cells.readings g readings_g (Member t.0) k
-            (λ e. without_reading-stays (w.cells.readings g) u t.0 (subst (λ j. Member t.0 (w.cells.readings j)) e t.1)
-            (λ q. apart_u k h e m (sym t.2 ∙ q)))
-            (λ e. t.1),
-        t.2,
-      ));
-      seen = λ k s m. i.seen k s (old_reading k s m);
-      kept = λ k s m. (let t = i.kept k s (old_reading k s m) in (
-        t.0,
-        grain-from w.cells.readings g readings_g (Member s) (Member t.0 (put_grain w.cells.holds g holds_g k)) k
-            (λ e m'. stays k t.0 t.1 (λ z. (without_reading-member (w.cells.readings g) u s m').1 (sym t.2 ∙ z)))
-            (λ e m'. grain-at w.cells.holds g holds_g (Member t.0) k (λ z. absurd (e z)) (λ z. t.1)) m,
-        t.2,
-      ));
       view = λ k s m. grain-at w.cells.stack g stack_g (λ t. (s.source ≡ (top t).unit) ⊎ Dead w.manager.verdict w.units.reads s.source) k
           (λ e. elim (i.view k s (old_reading k s m)) [
             | inl a ↦ (let t = i.kept k s (old_reading k s m) in
@@ -102,20 +84,9 @@ kept-released opening n w u g i stopped held =
     own : (h : Hold) × Member h (w.cells.holds g) × (is_hold_of u h ≡ true)
     own = any-true (is_hold_of u) (w.cells.holds g) held
 
-    old : (k : GrainId) (h : Hold) → Member h (put_grain w.cells.holds g holds_g k) → Member h (w.cells.holds k)
-    old k h = grain-from w.cells.holds g holds_g (Member h) (Member h (w.cells.holds k)) k
-        (λ e m. subst (λ j. Member h (w.cells.holds j)) (sym e) (dropped-member u (w.cells.holds g) h m).0) (λ e m. m)
-
-    stays : (k : GrainId) (h : Hold) → Member h (w.cells.holds k) → (h.unit ≡ u → ⊥) → Member h (put_grain w.cells.holds g holds_g k)
-    stays k h m apart = grain-at w.cells.holds g holds_g (Member h) k (λ e. dropped-stays u (w.cells.holds g) h (subst (λ j. Member h (w.cells.holds j)) e m) apart) (λ e. m)
-
     old_reading : (k : GrainId) (s : Reading) → Member s (put_grain w.cells.readings g readings_g k) → Member s (w.cells.readings k)
     old_reading k s = grain-from w.cells.readings g readings_g (Member s) (Member s (w.cells.readings k)) k
         (λ e m. subst (λ j. Member s (w.cells.readings j)) (sym e) (without_reading-member (w.cells.readings g) u s m).0) (λ e m. m)
-
-    -- who still holds the grain isn't the unit
-    apart_u : (k : GrainId) (h : Hold) → k ≡ g → Member h (put_grain w.cells.holds g holds_g k) → h.unit ≡ u → ⊥
-    apart_u k h e m = (dropped-member u (w.cells.holds g) h (subst (Member h) (grain-is w.cells.holds g holds_g k e) m)).1
 
     -- a version is pushed where the unit wrote the grain and what it read is on top
     Pushes : Type 0

@@ -11,7 +11,8 @@ use Rattle.base_types.specs.declared.calls.Origin.TheVariants.{Line, Child}
 use Rattle.base_types.specs.declared.entries.Settled.TheVariants as settled
 use Rattle.core_model.specs.World.{Entry, Outcome, Call}
 use Rattle.core_model.specs.Tests.{members, waiting}
-use Rattle.core_model.specs.Lines.{HasBegun, IsSettled, DifferInLine, StandInOrder, EntriesAreOnce}
+use Rattle.core_model.specs.Lines.{HasBegun, IsSettled, DifferInLine, StandInOrder, LinesAreTaken, EntriesAreOnce}
+use Rattle.core_model.proofs.TakenLines.{taken-change}
 use Rattle.core_model.specs.Changes.{begun, new_unit, lines_with, entry_for, told, entries_in, refused, finished, ended, decisions_of, with_decisions, closed, result_told, seal, spoil, leave, swept, swept_by}
 use Rattle.core_model.specs.Events.{can_begin}
 use Rattle.core_model.specs.Legal.{Run, IsLegal, begins, ends}
@@ -499,8 +500,25 @@ once-run opening [] w l k dep arg s = s
 once-run opening (e ∷ es) w l k dep arg s =
     once-run opening es (step w e) l.1 (kept-step opening w e l.0 k) (depends-step opening w e l.0 k dep) (argued-step opening w e k dep arg) (once-step opening w e k dep arg s)
 
+-- and each line has its unit or its entry
+taken-step : (opening : GrainId → List Value) (w : World) (e : CoreEvent) → Kept opening w → LinesAreTaken w → LinesAreTaken (step w e)
+taken-step opening w e k s = cond_both (applies w e) (swept (does w e)) w LinesAreTaken
+    (λ a. swept-taken (does w e) (taken-change opening w e (does w e) (decode w e (and_parts (is_allowed w e) (can w e) a).1) k s))
+    (λ a. s)
+  where
+    swept-taken : (w : World) → LinesAreTaken w → LinesAreTaken (swept w)
+    swept-taken w s = go w.cells.capacity
+      where
+        go : (c : Option ℕ) → LinesAreTaken (swept_by w c)
+        go None = s
+        go (Some m) = s
+
+taken-run : (opening : GrainId → List Value) (es : List CoreEvent) (w : World) → AllLoadsTrue opening w es → Kept opening w → LinesAreTaken w → LinesAreTaken (run w es)
+taken-run opening [] w l k s = s
+taken-run opening (e ∷ es) w l k s = taken-run opening es (step w e) l.1 (kept-step opening w e l.0 k) (taken-step opening w e k s)
+
 pub once-ends : (plays : Effect → Bool) (r : Run) → IsLegal plays r → EntriesAreOnce (ends r)
 once-ends plays r l =
     let t = once-run r.opening r.events (begins r) l.loads (kept-begins plays r l) ((λ u. tt), (λ u d n. absurd n)) (λ b ds q. cc)
     ((λ u n b. absurd (b.0 refl)), (λ u v n a b. absurd (a.0 refl)), tt, (λ x m. absurd m), (λ u n b. absurd (b.0 refl)), tt, omega arith) in
-    record { within = t.0; one_unit = t.1; differ = t.2; entry = t.3; complete = t.4; order = t.5; written = t.6 }
+    record { within = t.0; one_unit = t.1; differ = t.2; entry = t.3; complete = t.4; order = t.5; written = t.6; taken = taken-run r.opening r.events (begins r) l.loads (kept-begins plays r l) (λ n low high. absurd (omega (arith, low, high))) }

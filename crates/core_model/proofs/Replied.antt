@@ -68,7 +68,7 @@ with-yes w Emitted c = refl
 with-yes w Halt c = refl
 with-yes w (Decide n) c = go w.manager.batch c
   where
-    go : (o : Option Batch) → is_open n (is_voted w) o ≡ true → says_no (decided_reply w o) ≡ false
+    go : (o : Option Batch) → is_open n is_voted o ≡ true → says_no (decided_reply w o) ≡ false
     go None e = cc
     go (Some b) e = refl
 

@@ -60,7 +60,7 @@ seal-final Condemned n = refl
 seal-final Committed n = refl
 seal-final Aborted n = refl
 
-spoil-final : (v : Verdict) → (v ≡ Open → ⊥) → is_final (spoil v) ≡ true
+pub spoil-final : (v : Verdict) → (v ≡ Open → ⊥) → is_final (spoil v) ≡ true
 spoil-final Open n = absurd (n refl)
 spoil-final Chosen n = refl
 spoil-final Condemned n = refl

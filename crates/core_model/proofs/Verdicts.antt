@@ -11,7 +11,7 @@ use Rattle.std.proofs.Common.{le_refl, map}
 use Rattle.core_model.specs.Tests.{members, outcome_of, outcome_in, is_running}
 use Rattle.core_model.specs.Laws.{AnswersAreOutcomes}
 use Rattle.core_model.specs.Events.{can_begin}
-use Rattle.core_model.specs.Changes.{begun, new_unit, kids_with, decisions_of, with_decisions, closed, result_told, seal, spoil, leave, swept, swept_by}
+use Rattle.core_model.specs.Changes.{begun, refused, new_unit, kids_with, decisions_of, with_decisions, closed, result_told, seal, spoil, leave, swept, swept_by}
 use Rattle.core_model.specs.Events.{CoreEvent, applies, can, does, step, run, is_allowed}
 use Rattle.core_model.specs.Serial.{IsTrueLoad, AllLoadsTrue}
 use Rattle.core_model.proofs.Decoded.{Change, bad, begin, lock, raise, refuse, finish, end_plain, end_snapshot, release, take_batch, vote, decide_some, decide_none, seal_batch, spoil_batch, doubt_batch, learn, emit, halt_run, want, load, decode}
@@ -25,7 +25,7 @@ Turned w =
     ((u : UnitNo) → (w.manager.verdict u ≡ Open → ⊥) → (w.units.phase u ≡ Finished) ⊎ (w.units.phase u ≡ Refused))
     × ((u : UnitNo) → w.units.phase u ≡ Refused → w.manager.verdict u ≡ Aborted)
 
-turned-phase : (w : World) (u : UnitNo) (end : Phase) → w.manager.verdict u ≡ Open → (end ≡ Refused → ⊥) → Turned w → Turned (record w { units = record w.units { phase = put w.units.phase u end } })
+pub turned-phase : (w : World) (u : UnitNo) (end : Phase) → w.manager.verdict u ≡ Open → (end ≡ Refused → ⊥) → Turned w → Turned (record w { units = record w.units { phase = put w.units.phase u end } })
 turned-phase w u end open_u n s = (
   (λ x d. put-at w.units.phase u end (λ p. (p ≡ Finished) ⊎ (p ≡ Refused)) x (λ q. absurd (d (ap w.manager.verdict q ∙ open_u))) (λ q. s.0 x d)),
   (λ x. put-from w.units.phase u end (λ p. p ≡ Refused) (w.manager.verdict x ≡ Aborted) x (λ q h. absurd (n h)) (λ q h. s.1 x h)),
@@ -47,18 +47,14 @@ turned-decided opening w b ds k q d s = (
   (λ x f. judged-other (members w b) ds w.manager.verdict x (λ m. (let t : Finished ≡ Refused = sym (members-open opening w b (inv-open opening w b k q d) x m).0 ∙ f in cc)) ∙ s.1 x f),
 )
 
-turned-mapped : (w : World) (f : Verdict → Verdict) (answer : UnitNo → Settled) (b : Batch) (ds : List Decision) → f Open ≡ Open → f Aborted ≡ Aborted → Turned w → Turned (closed w f answer b ds)
+pub turned-mapped : (w : World) (f : Verdict → Verdict) (answer : UnitNo → Settled) (b : Batch) (ds : List Decision) → f Open ≡ Open → f Aborted ≡ Aborted → Turned w → Turned (closed w f answer b ds)
 turned-mapped w f answer b ds still aborted s = (
   (λ x n. s.0 x (λ z. n (ap f z ∙ still))),
   (λ x q. ap f (s.1 x q) ∙ aborted),
 )
 
-pub turned-change : (opening : GrainId → List Value) (w : World) (e : CoreEvent) (w' : World) → Change w e w' → applies w e ≡ true → Kept opening w → Turned w → Turned w'
-turned-change opening w e w' (bad line why q) a k s = s
-turned-change opening w e w' (begin origin call plain c) a k s = turned-phase w (new_unit w) Running (k.0.undecided (new_unit w) (inl (k.0.unborn (new_unit w) (le_refl w.units.next)))) (λ z. cc) s
-turned-change opening w e w' (lock u g mode running free first here) a k s = s
-turned-change opening w e w' (raise u g mode running free held here uncovered) a k s = s
-turned-change opening w e w' (refuse u g mode why running q) a k s = (
+pub turned-refused : (w : World) (u : UnitNo) (why : Settled) → Turned w → Turned (refused w u why)
+turned-refused w u why s = (
   (λ x d. elim (cases_unit x u) [
     | inl z ↦ inr (put-is w.units.phase u Refused x z)
     | inr z ↦ elim (s.0 x (λ y. d (put-other w.manager.verdict u Aborted x z ∙ y))) [ inl f ↦ inl (put-other w.units.phase u Refused x z ∙ f) | inr f ↦ inr (put-other w.units.phase u Refused x z ∙ f) ]
@@ -68,6 +64,13 @@ turned-change opening w e w' (refuse u g mode why running q) a k s = (
     | inr z ↦ put-other w.manager.verdict u Aborted x z ∙ s.1 x (sym (put-other w.units.phase u Refused x z) ∙ f)
   ]),
 )
+
+pub turned-change : (opening : GrainId → List Value) (w : World) (e : CoreEvent) (w' : World) → Change w e w' → applies w e ≡ true → Kept opening w → Turned w → Turned w'
+turned-change opening w e w' (bad line why q) a k s = s
+turned-change opening w e w' (begin origin call plain c) a k s = turned-phase w (new_unit w) Running (k.0.undecided (new_unit w) (inl (k.0.unborn (new_unit w) (le_refl w.units.next)))) (λ z. cc) s
+turned-change opening w e w' (lock u g mode running free first here) a k s = s
+turned-change opening w e w' (raise u g mode running free held here uncovered) a k s = s
+turned-change opening w e w' (refuse u g mode why running q) a k s = turned-refused w u why s
 turned-change opening w e w' (finish u effect running plain of_call reads alone) a k s = turned-phase w u Finished (k.0.undecided u (inr running)) (λ z. cc) s
 turned-change opening w e w' (end_plain u effect running plain of_call bare) a k s = turned-phase w u Ended (k.0.undecided u (inr running)) (λ z. cc) s
 turned-change opening w e w' (end_snapshot u at outcome running plain kids answer) a k s = turned-phase w u Ended (k.0.undecided u (inr running)) (λ z. cc) s

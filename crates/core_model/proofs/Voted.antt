@@ -1,12 +1,11 @@
 -- The batches that were taken, and the votes behind their decisions.
-use Rattle.std.proofs.Common.{◌≡◌, ℕ, zero, suc, ◌+◌, ◌<◌, ◌≤◌, List, [], ◌∷◌, ◌++◌, length, Bool, true, false, ◌&&◌, ◌||◌, not, inl, inr, refl, sym, ap, ◌∙◌, subst, arith, Option, Some, None}
+use Rattle.std.proofs.Common.{◌≡◌, ℕ, zero, suc, ◌+◌, ◌<◌, ◌≤◌, List, [], ◌∷◌, ◌++◌, length, Bool, true, false, ◌&&◌, not, inl, inr, refl, sym, ap, ◌∙◌, subst, arith, Option, Some, None}
 use Rattle.std.proofs.lemmas.Bool.{and_parts, and_from, cases_Bool, cond_both}
 use Rattle.cell_model.proofs.Units.{any-true, any-false, all-true}
 use Rattle.core_model.specs.World.{UnitNo, GrainId, put, Member, Value, Running, Finished, Verdict, Write, Effect, Settled, Batch, Decision, World}
-use Rattle.core_model.specs.Tests.{any, all, is_bad, written}
+use Rattle.core_model.specs.Tests.{any, is_bad, written}
 use Rattle.core_model.specs.Chains.{Wrote}
 use Rattle.core_model.proofs.Puts.{put-other}
-use Rattle.core_model.proofs.Basics.{written-member}
 use Rattle.std.proofs.Common.{take, drop, length-drop}
 use Rattle.base_types.specs.declared.entries.Settled.TheVariants as settled
 use Rattle.cell_model.specs.declared.outcomes.Decision.TheVariants as decision
@@ -14,9 +13,9 @@ use Rattle.cell_model.specs.Decisions.{is_commit}
 use Rattle.core_model.specs.Tests.{members, is_vote_on, is_voted, has_bad_source, has_failed}
 use Rattle.core_model.specs.Batches.{HasYes, AreDecided, IsClosedBatch, FollowOneAnother, sizes, BatchesFollow}
 use Rattle.std.proofs.Common.{length-append}
-use Rattle.std.proofs.lemmas.Bool.{or_cases, not_from_false}
+use Rattle.std.proofs.lemmas.Bool.{not_from_false}
 use Rattle.core_model.specs.Events.{batch_size}
-use Rattle.core_model.specs.Changes.{voted, judged, decisions_of, with_decisions, closed, result_told, seal, spoil, leave, swept, swept_by}
+use Rattle.core_model.specs.Changes.{new_batch, voted, judged, decisions_of, with_decisions, closed, result_told, seal, spoil, leave, swept, swept_by}
 use Rattle.core_model.specs.Legal.{Run, IsLegal, begins, ends}
 use Rattle.core_model.specs.Events.{CoreEvent, applies, can, does, step, run, is_allowed}
 use Rattle.core_model.specs.Serial.{AllLoadsTrue}
@@ -24,6 +23,7 @@ use Rattle.core_model.proofs.Decoded.{Change, bad, begin, lock, raise, refuse, f
 use Rattle.cell_model.proofs.Units.{same_grain-true, any-none}
 use Rattle.core_model.proofs.Failures.{failed-none}
 use Rattle.core_model.proofs.Dependencies.{Depends, depends-step}
+use Rattle.core_model.proofs.Plans.{Planned, in-plan, planned-step}
 use Rattle.core_model.proofs.Batches.{Batched, batched-step}
 use Rattle.core_model.proofs.Growth.{grows-decided}
 use Rattle.core_model.proofs.Reasons.{Reason, Reasons, argued-decided, take-drop-push, member-finished}
@@ -58,12 +58,12 @@ yes-vote votes g a f =
       ],
     )
 
-are-decided : (opening : GrainId → List Value) (w : World) (b : Batch) → Kept opening w → Depends w → w.manager.batch ≡ Some b → b.decisions ≡ None → is_voted w b ≡ true → (us : List UnitNo) (ds : List Decision) →
+are-decided : (opening : GrainId → List Value) (w : World) (b : Batch) → Kept opening w → Depends w → Planned w → w.manager.batch ≡ Some b → b.decisions ≡ None → is_voted b ≡ true → (us : List UnitNo) (ds : List Decision) →
     ((u : UnitNo) → Member u us → Member u (members w b)) → Reasons b.votes w.manager.writes w.units.deps (judged (members w b) (decisions_of w b) w.manager.verdict) us ds → AreDecided w.manager.writes b.votes us ds
-are-decided opening w b k dep q d voted [] [] sub r = tt
-are-decided opening w b k dep q d voted [] (c ∷ cs) sub r = r
-are-decided opening w b k dep q d voted (u ∷ us) [] sub r = r
-are-decided opening w b k dep q d voted (u ∷ us) (c ∷ cs) sub r = (by c r.1, are-decided opening w b k dep q d voted us cs (λ x m. sub x (inr m)) r.2)
+are-decided opening w b k dep plan q d voted [] [] sub r = tt
+are-decided opening w b k dep plan q d voted [] (c ∷ cs) sub r = r
+are-decided opening w b k dep plan q d voted (u ∷ us) [] sub r = r
+are-decided opening w b k dep plan q d voted (u ∷ us) (c ∷ cs) sub r = (by c r.1, are-decided opening w b k dep plan q d voted us cs (λ x m. sub x (inr m)) r.2)
   where
     alive : ((e : UnitNo) → Member e (w.units.deps u) → is_bad (judged (members w b) (decisions_of w b) w.manager.verdict e) ≡ false) → has_bad_source w u ≡ false
     alive h = any-none (λ e. is_bad (w.manager.verdict e)) (w.units.deps u) (λ e m. elim (cases_Bool (is_bad (w.manager.verdict e))) [
@@ -73,13 +73,8 @@ are-decided opening w b k dep q d voted (u ∷ us) (c ∷ cs) sub r = (by c r.1,
 
     by : (c : Decision) → Reason b.votes (w.manager.writes u) (w.units.deps u) (judged (members w b) (decisions_of w b) w.manager.verdict) c → is_commit c ≡ true → (g : GrainId) → Wrote w.manager.writes u g → HasYes b.votes g
     by decision.Commit s e g wrote =
-        let planned = all-true (λ x. has_bad_source w x || all (λ y. any (is_vote_on y.0) b.votes) (w.manager.writes x)) (members w b) voted u (sub u (inl refl)) in
-        let all_voted : all (λ y. any (is_vote_on y.0) b.votes) (w.manager.writes u) ≡ true = elim (or_cases (has_bad_source w u) (all (λ y. any (is_vote_on y.0) b.votes) (w.manager.writes u)) planned) [
-          | inl z ↦ (let y : true ≡ false = sym z ∙ alive s.1 in cc)
-          | inr z ↦ z
-        ] in
-        let x = written-member g wrote.0 (w.manager.writes u) wrote.1 in
-        yes-vote b.votes g (ap (λ j. any (is_vote_on j) b.votes) (sym x.2) ∙ all-true (λ (y : Write). any (is_vote_on y.0) b.votes) (w.manager.writes u) all_voted x.0 x.1)
+        let at : Member g b.plan = subst (Member g) (sym (plan b q d)) (in-plan w (members w b) g u (sub u (inl refl)) (alive s.1) wrote) in
+        yes-vote b.votes g (all-true (λ y. any (is_vote_on y) b.votes) b.plan voted g at)
         (failed-none b.votes (w.manager.writes u) s.0 g wrote)
     by (decision.Vote k) s e g wrote = cc
     by (decision.Dependency x) s e g wrote = cc
@@ -162,8 +157,8 @@ follows-closed opening w f answer b c ds q n z v size le decided s =
 some-is : {A : Type 0} (x y : A) → Some x ≡ Some y → x ≡ y
 some-is x y e = cc
 
-follows-decided : (opening : GrainId → List Value) (w : World) (b : Batch) → Kept opening w → Depends w → w.manager.batch ≡ Some b → b.decisions ≡ None → is_voted w b ≡ true → Follows w → Follows (with_decisions w b (decisions_of w b))
-follows-decided opening w b k dep q d voted s = (
+follows-decided : (opening : GrainId → List Value) (w : World) (b : Batch) → Kept opening w → Depends w → Planned w → w.manager.batch ≡ Some b → b.decisions ≡ None → is_voted b ≡ true → Follows w → Follows (with_decisions w b (decisions_of w b))
+follows-decided opening w b k dep plan q d voted s = (
   s.0,
   s.1,
   s.2 ∙ ap (λ o. length w.manager.past + open_count o) q,
@@ -172,19 +167,19 @@ follows-decided opening w b k dep q d voted s = (
       let same : record b { decisions = Some (decisions_of w b) } ≡ c = some-is (record b { decisions = Some (decisions_of w b) }) c z in
       let all' : decisions_of w b ≡ ds = some-is (decisions_of w b) ds (ap (λ (t : Batch). t.decisions) same ∙ y) in
       subst (λ (t : Batch). AreDecided w.manager.writes t.votes (members w t) ds) same
-      (subst (λ cs. AreDecided w.manager.writes b.votes (members w b) cs) all' (are-decided opening w b k dep q d voted (members w b) (decisions_of w b) (λ x m. m) (argued-decided opening w b k dep q d)))),
+      (subst (λ cs. AreDecided w.manager.writes b.votes (members w b) cs) all' (are-decided opening w b k dep plan q d voted (members w b) (decisions_of w b) (λ x m. m) (argued-decided opening w b k dep q d)))),
 )
 
 order-finished : (opening : GrainId → List Value) (w : World) → Kept opening w → (x : UnitNo) → Member x w.manager.order → w.units.phase x ≡ Finished
 order-finished opening w k x m = (in_drop opening _ w k.0 0 x m).0
 
-pub follows-change : (opening : GrainId → List Value) (w : World) (e : CoreEvent) (w' : World) → Change w e w' → applies w e ≡ true → Kept opening w → Depends w → Batched w → Follows w → Follows w'
-follows-change opening w e w' (bad line why q) a k dep bat s = s
-follows-change opening w e w' (begin origin call plain c) a k dep bat s = s
-follows-change opening w e w' (lock u g mode running free first here) a k dep bat s = s
-follows-change opening w e w' (raise u g mode running free held here uncovered) a k dep bat s = s
-follows-change opening w e w' (refuse u g mode why running q) a k dep bat s = s
-follows-change opening w e w' (finish u effect running plain of_call reads alone) a k dep bat s =
+pub follows-change : (opening : GrainId → List Value) (w : World) (e : CoreEvent) (w' : World) → Change w e w' → applies w e ≡ true → Kept opening w → Depends w → Planned w → Batched w → Follows w → Follows w'
+follows-change opening w e w' (bad line why q) a k dep plan bat s = s
+follows-change opening w e w' (begin origin call plain c) a k dep plan bat s = s
+follows-change opening w e w' (lock u g mode running free first here) a k dep plan bat s = s
+follows-change opening w e w' (raise u g mode running free held here uncovered) a k dep plan bat s = s
+follows-change opening w e w' (refuse u g mode why running q) a k dep plan bat s = s
+follows-change opening w e w' (finish u effect running plain of_call reads alone) a k dep plan bat s =
     (let apart : (x : UnitNo) → w.units.phase x ≡ Finished → x ≡ u → ⊥ = λ x f z. (let t : Finished ≡ Running = sym f ∙ ap w.units.phase z ∙ running in cc) in
     let same : (x : UnitNo) → w.units.phase x ≡ Finished → put w.manager.writes u effect.writes x ≡ w.manager.writes x = λ x f. put-other w.manager.writes u effect.writes x (apart x f) in (
       follow-push w.manager.writes (put w.manager.writes u effect.writes) 0 w.manager.order u w.manager.past (λ x m. same x (order-finished opening w k x m)) s.0,
@@ -194,40 +189,40 @@ follows-change opening w e w' (finish u effect running plain of_call reads alone
       (λ b ds q d. subst (λ us. AreDecided (put w.manager.writes u effect.writes) b.votes us ds) (sym (take-drop-push b.size w.manager.closed w.manager.order u (size-open opening w b k q)))
           (are-same w.manager.writes (put w.manager.writes u effect.writes) b.votes (members w b) ds (λ x m. same x (member-finished opening w b k x m)) (s.4 b ds q d))),
     ))
-follows-change opening w e w' (end_plain u effect running plain of_call bare) a k dep bat s = s
-follows-change opening w e w' (end_snapshot u at outcome running plain kids answer) a k dep bat s = s
-follows-change opening w e w' (release u g over held) a k dep bat s = s
-follows-change opening w e w' (take_batch none some) a k dep bat s = (
+follows-change opening w e w' (end_plain u effect running plain of_call bare) a k dep plan bat s = s
+follows-change opening w e w' (end_snapshot u at outcome running plain kids answer) a k dep plan bat s = s
+follows-change opening w e w' (release u g over held) a k dep plan bat s = s
+follows-change opening w e w' (take_batch none some) a k dep plan bat s = (
   s.0,
   s.1,
   omega (arith, s.2, ap open_count none),
-  (λ b q. ap (λ (t : Batch). t.number) (sym (some-is (record { number = w.manager.batches + 1; size = batch_size w; votes = []; decisions = None }) b q)) ∙ omega (arith, s.2, ap open_count none)),
-  (λ b ds q d. (let t : None ≡ Some ds = ap (λ (t : Batch). t.decisions) (some-is (record { number = w.manager.batches + 1; size = batch_size w; votes = []; decisions = None }) b q) ∙ d in cc)),
+  (λ b q. ap (λ (t : Batch). t.number) (sym (some-is (new_batch w (batch_size w)) b q)) ∙ omega (arith, s.2, ap open_count none)),
+  (λ b ds q d. (let t : None ≡ Some ds = ap (λ (t : Batch). t.decisions) (some-is (new_batch w (batch_size w)) b q) ∙ d in cc)),
 )
-follows-change opening w e w' (vote n g kept b q number d planned fresh) a k dep bat s = (
+follows-change opening w e w' (vote n g kept b q number d planned fresh) a k dep plan bat s = (
   s.0,
   s.1,
   s.2 ∙ ap (λ o. length w.manager.past + open_count o) q,
   (λ c z. ap (λ (t : Batch). t.number) (sym (some-is (record b { votes = b.votes ++ (g, kept) ∷ [] }) c z)) ∙ s.3 b q),
   (λ c ds z y. (let t : None ≡ Some ds = sym d ∙ ap (λ (t : Batch). t.decisions) (some-is (record b { votes = b.votes ++ (g, kept) ∷ [] }) c z) ∙ y in cc)),
 )
-follows-change opening w e w' (decide_some n b q number d voted some) a k dep bat s = follows-decided opening w b k dep q d voted s
-follows-change opening w e w' (decide_none n b q number d voted none) a k dep bat s =
+follows-change opening w e w' (decide_some n b q number d voted some) a k dep plan bat s = follows-decided opening w b k dep plan q d voted s
+follows-change opening w e w' (decide_none n b q number d voted none) a k dep plan bat s =
     follows-closed opening (with_decisions w b (decisions_of w b)) seal (result_told (with_decisions w b (decisions_of w b))) b (record b { decisions = Some (decisions_of w b) }) (decisions_of w b) refl refl refl refl
-    (bat.0 b q) (size-open opening w b k q) (are-decided opening w b k dep q d voted (members w b) (decisions_of w b) (λ x m. m) (argued-decided opening w b k dep q d))
-    (follows-decided opening w b k dep q d voted s)
-follows-change opening w e w' (seal_batch n b ds q number d) a k dep bat s = follows-closed opening w seal (result_told w) b b ds q refl refl refl (bat.0 b q) (size-open opening w b k q) (s.4 b ds q d) s
-follows-change opening w e w' (spoil_batch n b ds q number d) a k dep bat s = follows-closed opening w spoil (λ u. settled.Disk) b b ds q refl refl refl (bat.0 b q) (size-open opening w b k q) (s.4 b ds q d) s
-follows-change opening w e w' (doubt_batch n b ds q number d) a k dep bat s = follows-closed opening w leave (λ u. settled.InDoubt) b b ds q refl refl refl (bat.0 b q) (size-open opening w b k q) (s.4 b ds q d) s
-follows-change opening w e w' (learn u g wrote final fresh) a k dep bat s = s
-follows-change opening w e w' (emit q) a k dep bat s = s
-follows-change opening w e w' (halt_run q) a k dep bat s = s
-follows-change opening w e w' (want u g running free fresh) a k dep bat s = s
-follows-change opening w e w' (load g u state gone wanted) a k dep bat s = s
+    (bat.0 b q) (size-open opening w b k q) (are-decided opening w b k dep plan q d voted (members w b) (decisions_of w b) (λ x m. m) (argued-decided opening w b k dep q d))
+    (follows-decided opening w b k dep plan q d voted s)
+follows-change opening w e w' (seal_batch n b ds q number d) a k dep plan bat s = follows-closed opening w seal (result_told w) b b ds q refl refl refl (bat.0 b q) (size-open opening w b k q) (s.4 b ds q d) s
+follows-change opening w e w' (spoil_batch n b ds q number d) a k dep plan bat s = follows-closed opening w spoil (λ u. settled.Disk) b b ds q refl refl refl (bat.0 b q) (size-open opening w b k q) (s.4 b ds q d) s
+follows-change opening w e w' (doubt_batch n b ds q number d) a k dep plan bat s = follows-closed opening w leave (λ u. settled.InDoubt) b b ds q refl refl refl (bat.0 b q) (size-open opening w b k q) (s.4 b ds q d) s
+follows-change opening w e w' (learn u g wrote final fresh) a k dep plan bat s = s
+follows-change opening w e w' (emit q) a k dep plan bat s = s
+follows-change opening w e w' (halt_run q) a k dep plan bat s = s
+follows-change opening w e w' (want u g running free fresh) a k dep plan bat s = s
+follows-change opening w e w' (load g u state gone wanted) a k dep plan bat s = s
 
-pub follows-step : (opening : GrainId → List Value) (w : World) (e : CoreEvent) → Kept opening w → Depends w → Batched w → Follows w → Follows (step w e)
-follows-step opening w e k dep bat s = cond_both (applies w e) (swept (does w e)) w Follows
-    (λ a. swept-follows (does w e) (follows-change opening w e (does w e) (decode w e (and_parts (is_allowed w e) (can w e) a).1) a k dep bat s))
+pub follows-step : (opening : GrainId → List Value) (w : World) (e : CoreEvent) → Kept opening w → Depends w → Planned w → Batched w → Follows w → Follows (step w e)
+follows-step opening w e k dep plan bat s = cond_both (applies w e) (swept (does w e)) w Follows
+    (λ a. swept-follows (does w e) (follows-change opening w e (does w e) (decode w e (and_parts (is_allowed w e) (can w e) a).1) a k dep plan bat s))
     (λ a. s)
   where
     swept-follows : (w : World) → Follows w → Follows (swept w)
@@ -237,13 +232,13 @@ follows-step opening w e k dep bat s = cond_both (applies w e) (swept (does w e)
         go None = s
         go (Some m) = s
 
-follows-run : (opening : GrainId → List Value) (es : List CoreEvent) (w : World) → AllLoadsTrue opening w es → Kept opening w → Depends w → Batched w → Follows w → Follows (run w es)
-follows-run opening [] w l k dep bat s = s
-follows-run opening (e ∷ es) w l k dep bat s =
-    follows-run opening es (step w e) l.1 (kept-step opening w e l.0 k) (depends-step opening w e l.0 k dep) (batched-step opening w e l.0 k bat) (follows-step opening w e k dep bat s)
+follows-run : (opening : GrainId → List Value) (es : List CoreEvent) (w : World) → AllLoadsTrue opening w es → Kept opening w → Depends w → Planned w → Batched w → Follows w → Follows (run w es)
+follows-run opening [] w l k dep plan bat s = s
+follows-run opening (e ∷ es) w l k dep plan bat s =
+    follows-run opening es (step w e) l.1 (kept-step opening w e l.0 k) (depends-step opening w e l.0 k dep) (planned-step opening w e k dep plan) (batched-step opening w e l.0 k bat) (follows-step opening w e k dep plan bat s)
 
 pub follows-ends : (plays : Effect → Bool) (r : Run) → IsLegal plays r → BatchesFollow (ends r)
 follows-ends plays r l =
-    let t = follows-run r.opening r.events (begins r) l.loads (kept-begins plays r l) ((λ u. tt), (λ u d n. absurd n)) ((λ b q. cc), (λ u f. cc), (λ u f. cc))
+    let t = follows-run r.opening r.events (begins r) l.loads (kept-begins plays r l) ((λ u. tt), (λ u d n. absurd n)) (λ b q. cc) ((λ b q. cc), (λ u f. cc), (λ u f. cc))
     (tt, refl, omega arith, (λ b q. cc), (λ b ds q. cc)) in
     record { closed = t.0; count = t.1; number = t.3; decided = t.4 }

@@ -1,5 +1,5 @@
 -- The answers to questions.
-use Rattle.std.specs.Prelude.{◌+◌, List, [], ◌∷◌, ◌||◌, not, Option, Some, None, find, filter, map, take, is_some, slice_get, flat_map, option_map}
+use Rattle.std.specs.Prelude.{◌+◌, List, [], ◌∷◌, ◌||◌, not, Option, Some, None, filter, map, is_some, slice_get, flat_map, option_map}
 use Rattle.core_model.specs.declared.questions.CoreQuestion.{CoreQuestion}
 use Rattle.core_model.specs.declared.questions.CoreQuestion.TheVariants as question
 use Rattle.core_model.specs.declared.questions.CoreAnswer.{CoreAnswer}
@@ -8,26 +8,17 @@ use Rattle.core_model.specs.declared.questions.KnownOutcome.{KnownOutcome}
 use Rattle.core_model.specs.declared.questions.KnownOutcome.TheVariants.{Undecided, Decided}
 use Rattle.core_model.specs.declared.questions.BatchView.{BatchView}
 use Rattle.cell_model.specs.Sources.{with_source}
-use Rattle.core_model.specs.World.{UnitNo, GrainId, Outcome, Effect, Write, Batch, World}
-use Rattle.core_model.specs.Tests.{is_final, is_aborted, outcome_of, ask, members, first_grain}
+use Rattle.core_model.specs.World.{UnitNo, GrainId, Outcome, Batch, World}
+use Rattle.core_model.specs.Tests.{is_aborted, is_decided, outcome_of, ask, members, first_grain}
+pub use Rattle.core_model.specs.Effects.{effect_of}
+pub use Rattle.core_model.specs.Learning.{next_learn}
+use Rattle.core_model.specs.Settler.{settler_step, work_in}
 use Rattle.core_model.specs.Events.{applies, Take}
 
 -- an outcome, where it is known
 abbrev pub known : Option Outcome → KnownOutcome
 known None = Undecided
 known (Some o) = Decided o
-
--- what a finished unit did
-abbrev pub effect_of : World → UnitNo → Effect
-effect_of w u = record {
-  unit = u;
-  origin = w.units.origin u;
-  call = w.units.call u;
-  answers = w.manager.answers u;
-  reads = w.units.reads u;
-  writes = w.manager.writes u;
-  result = w.manager.result u;
-}
 
 -- these units in order, each once
 abbrev pub as_set : List UnitNo → List UnitNo
@@ -48,16 +39,6 @@ view w b = record {
   decisions = b.decisions;
 }
 
--- the writes of decided units, in batch order, then grain order
-abbrev pub to_learn : World → List (UnitNo × GrainId)
-to_learn w =
-    flat_map (λ u. map (λ (x : Write). (u, x.0)) (w.manager.writes u))
-    (filter (λ u. is_final (w.manager.verdict u)) (take w.manager.closed w.manager.order))
-
--- the first that its grain hasn't learnt
-abbrev pub next_learn : World → Option (UnitNo × GrainId)
-next_learn w = find (λ t. not (w.cells.learnt t.0 t.1)) (to_learn w)
-
 -- the first wanted grain that isn't in memory
 abbrev pub next_wanted : World → Option GrainId
 next_wanted w = first_grain (filter (λ g. not (w.cells.here g)) (map (λ (t : UnitNo × GrainId). t.1) w.units.wants))
@@ -73,3 +54,5 @@ answer_to w question.NextLine = answer.NextLine (w.units.lines + 1)
 answer_to w question.NextSettled = answer.NextSettled (slice_get w.manager.settled w.manager.emitted)
 answer_to w question.Halted = answer.Halted (w.units.halt || is_some w.manager.doubt)
 answer_to w question.NextWanted = answer.NextWanted (next_wanted w)
+answer_to w question.NextStep = answer.NextStep (work_in w (settler_step w))
+answer_to w (question.IsDecided u) = answer.IsDecided (is_decided w u)

@@ -3,12 +3,12 @@ use Rattle.std.specs.Prelude.{◌≡◌, ◌↔◌, ◌⊎◌, ◌≤◌, ◌<�
 use Rattle.base_types.specs.declared.calls.Origin.TheVariants.{Line}
 use Rattle.base_types.specs.declared.entries.Settled.TheVariants as settled
 use Rattle.cell_model.specs.Laws.{IsOldestRival}
-use Rattle.core_model.specs.World.{UnitNo, GrainId, nobody, Member, Mode, Read, Version, Running, Entry, Settled, Batch, World}
+use Rattle.core_model.specs.World.{UnitNo, GrainId, nobody, Member, Mode, Outcome, Read, Version, Running, Entry, Settled, Batch, World}
 use Rattle.core_model.specs.Tests.{is_gone, is_before, has_failed, members, outcome_of}
 use Rattle.core_model.specs.Dead.{IsDead}
 use Rattle.core_model.specs.Chains.{Wrote}
 use Rattle.core_model.specs.Changes.{with_decisions, decisions_of}
-use Rattle.core_model.specs.Events.{CoreEvent, Bad, Refuse, Decide, Sealed, NotSealed, Doubt, applies, step, run}
+use Rattle.core_model.specs.Events.{CoreEvent, Bad, Refuse, EndPlain, EndSnapshot, Decide, Sealed, NotSealed, Doubt, applies, step, run}
 use Rattle.core_model.specs.Legal.{Run, begins}
 
 -- The unit wrote the grain, whose file failed, and it is the first such grain.
@@ -65,9 +65,17 @@ abbrev pub AtDecision : World → CoreEvent → UnitNo → (World → Batch → 
 AtDecision w e u Holds =
     (b : Batch) × (w.manager.batch ≡ Some b) × Settles e b.number × Member u (members w b) × Holds (decided_state w e b) b
 
+-- the unit comes to its end as a plain run with that result, or its batch is on disk, it can commit, and it finished with
+-- that result
+abbrev pub EndsWith : World → CoreEvent → UnitNo → Outcome → Type 0
+EndsWith w (EndPlain v effect) u result = (v ≡ u) × (effect.result ≡ result)
+EndsWith w (EndSnapshot v at outcome) u result = (v ≡ u) × (outcome ≡ result)
+EndsWith w (Sealed n) u result = (w.manager.result u ≡ result) × AtDecision w (Sealed n) u (λ v b. CanCommit v b u)
+EndsWith w _ u result = ⊥
+
 -- why an event that leads from a state to the next settles a unit so
 abbrev pub HasCause : World → CoreEvent → World → UnitNo → Settled → Type 0
-HasCause w e next u (settled.Done result) = outcome_of next u ≡ Some result
+HasCause w e next u (settled.Done result) = (outcome_of next u ≡ Some result) × EndsWith w e u result
 HasCause w e next u (settled.Lock by g) = IsRefusedBy w e u by g
 HasCause w e next u (settled.Vote g) = AtDecision w e u (λ v b. IsVotedDown v b u g)
 HasCause w e next u (settled.Dependency on) = IsRefusedFor w e u on ⊎ AtDecision w e u (λ v b. DependsOnDead v b u on)

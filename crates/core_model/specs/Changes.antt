@@ -13,7 +13,7 @@ use Rattle.cell_model.specs.Cells.{with_reading, without_reading, stacked, learn
 use Rattle.core_model.specs.declared.questions.AskAnswer.{AskAnswer}
 use Rattle.core_model.specs.declared.questions.AskAnswer.TheVariants as answer
 use Rattle.core_model.specs.World.{UnitNo, GrainId, nobody, same_unit, same_grain, Version, top, cut, Mode, Value, Call, Outcome, Origin, Entry, Settled, Read, Effect, Decision, put, put_grain, Running, Finished, Refused, Ended, Verdict, Chosen, Condemned, Committed, Aborted, Batch, World}
-use Rattle.core_model.specs.Tests.{any, is_committed, is_aborted, is_bad, written, members, prepared, is_idle, is_recent}
+use Rattle.core_model.specs.Tests.{any, is_committed, is_aborted, is_bad, written, waiting, members, planned, prepared, is_idle, is_recent}
 
 -- a line's unit has an entry for it, a child has none
 abbrev pub entry_for : Origin → UnitNo → Settled → List Entry
@@ -182,13 +182,20 @@ released w u g = record w {
 abbrev pub with_batch : World → Option Batch → World
 with_batch w b = record w { manager = record w.manager { batch = b } }
 
+-- the next batch, of that many units, with its plan
+abbrev pub new_batch : World → ℕ → Batch
+new_batch w size = record {
+  number = w.manager.batches + 1;
+  size = size;
+  plan = planned w (take size (waiting w));
+  votes = [];
+  decisions = None;
+}
+
 -- a batch of that many units is open
 abbrev pub taken : World → ℕ → World
 taken w size = record w {
-  manager = record w.manager {
-    batches = w.manager.batches + 1;
-    batch = Some (record { number = w.manager.batches + 1; size = size; votes = []; decisions = None });
-  };
+  manager = record w.manager { batches = w.manager.batches + 1; batch = Some (new_batch w size) };
 }
 
 -- one more vote

@@ -3,6 +3,10 @@ pub mod World
 pub mod Tests
 pub mod Changes
 pub mod Events
+pub mod Effects
+pub mod Learning
+pub mod Settler
+pub mod Steps
 pub mod Answers
 pub mod Serial
 pub mod Dead
@@ -11,8 +15,13 @@ pub mod Legal
 pub mod Consistent
 pub mod Laws
 pub mod Causes
+pub mod Asked
 pub mod Memory
 pub mod Batches
 pub mod Lines
+pub mod Proper
+pub mod Told
+pub mod Loadless
 pub mod Holders
 pub mod Replies
+pub mod ComputedRuns

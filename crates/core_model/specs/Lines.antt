@@ -22,8 +22,12 @@ StandInOrder w [] = ⊤
 StandInOrder w (x ∷ xs) =
     ((y : Entry) → Member y xs → w.units.phase x.unit ≡ Finished → w.units.phase y.unit ≡ Finished → w.manager.place x.unit < w.manager.place y.unit) × StandInOrder w xs
 
+-- each line so far has its unit or its entry
+abbrev pub LinesAreTaken : World → Type 0
+LinesAreTaken w = (n : ℕ) → 0 < n → n ≤ w.units.lines → ((u : UnitNo) × HasBegun w u n) ⊎ ((x : Entry) × Member x w.manager.settled × (x.line ≡ n))
+
 -- Each line that began has one unit or is bad, and each entry is of such a line. There is one for each line that is bad or
--- whose unit is settled, and no other; those of finished units stand in the finish order.
+-- whose unit is settled, and no other; those of finished units stand in the finish order. No line is left out.
 pub record EntriesAreOnce (w : World) : Type 0 where
   pub within : (u : UnitNo) (n : ℕ) → HasBegun w u n → (0 < n) × (n ≤ w.units.lines)
   pub one_unit : (u v : UnitNo) (n : ℕ) → HasBegun w u n → HasBegun w v n → u ≡ v
@@ -32,3 +36,4 @@ pub record EntriesAreOnce (w : World) : Type 0 where
   pub complete : (u : UnitNo) (n : ℕ) → HasBegun w u n → IsSettled w u → (x : Entry) × Member x w.manager.settled × (x.unit ≡ u) × (x.line ≡ n)
   pub order : StandInOrder w w.manager.settled
   pub written : w.manager.emitted ≤ length w.manager.settled
+  pub taken : LinesAreTaken w

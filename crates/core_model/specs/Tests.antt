@@ -1,5 +1,5 @@
 -- What the state tells of units and grains.
-use Rattle.std.specs.Prelude.{ℕ, ◌+◌, List, [], ◌∷◌, Bool, true, false, ◌&&◌, ◌||◌, not, Option, Some, None, ◌==◌, nat_lt, if◌then◌else◌, take, drop, is_some, map, filter}
+use Rattle.std.specs.Prelude.{ℕ, ◌+◌, List, [], ◌∷◌, Bool, true, false, ◌&&◌, ◌||◌, not, Option, Some, None, ◌==◌, nat_lt, if◌then◌else◌, take, drop, is_some, map, filter, flat_map}
 pub use Rattle.std.specs.List.{list_any as any, list_all as all}
 use Rattle.base_types.specs.declared.calls.Outcome.TheVariants as outcome
 use Rattle.cell_model.specs.Units.{oldest}
@@ -150,18 +150,36 @@ members w b = take b.size (waiting w)
 abbrev pub has_bad_source : World → UnitNo → Bool
 has_bad_source w u = any (λ d. is_bad (w.manager.verdict d)) (w.units.deps u)
 
--- the grain's file is part of the batch's work: a unit wrote it that can still commit
-abbrev pub is_planned : World → Batch → GrainId → Bool
-is_planned w b g = any (λ u. is_some (written g (w.manager.writes u)) && not (has_bad_source w u)) (members w b)
+-- the grains with one more, in its place
+abbrev pub with_grain : List GrainId → GrainId → List GrainId
+with_grain [] g = g ∷ []
+with_grain (x ∷ xs) g =
+    if same_grain x g then x ∷ xs else if is_before g x then g ∷ x ∷ xs else x ∷ with_grain xs g
+
+-- these grains in order, each once
+abbrev pub grains_of : List GrainId → List GrainId
+grains_of [] = []
+grains_of (g ∷ gs) = with_grain (grains_of gs) g
+
+-- the grains that the unit wrote, none where it read from a unit that is aborted, or to abort
+abbrev pub grains_to_write : World → UnitNo → List GrainId
+grains_to_write w u = if has_bad_source w u then [] else map (λ (x : Write). x.0) (w.manager.writes u)
+
+-- the grains whose files are the work of a batch of these units
+abbrev pub planned : World → List UnitNo → List GrainId
+planned w us = grains_of (flat_map (grains_to_write w) us)
+
+-- the grain's file is part of the batch's work
+abbrev pub is_planned : Batch → GrainId → Bool
+is_planned b g = any (same_grain g) b.plan
 
 -- the vote is on that grain
 abbrev pub is_vote_on : GrainId → GrainId × Bool → Bool
 is_vote_on g v = same_grain v.0 g
 
 -- every planned grain has its vote
-abbrev pub is_voted : World → Batch → Bool
-is_voted w b =
-    all (λ u. has_bad_source w u || all (λ x. any (is_vote_on x.0) b.votes) (w.manager.writes u)) (members w b)
+abbrev pub is_voted : Batch → Bool
+is_voted b = all (λ g. any (is_vote_on g) b.votes) b.plan
 
 -- the file of the grain failed
 abbrev pub has_failed : List (GrainId × Bool) → GrainId → Bool

@@ -65,6 +65,7 @@ pub record Cells : Type 0 where
 pub record Batch : Type 0 where
   pub number : ℕ
   pub size : ℕ
+  pub plan : List GrainId  -- the grains whose files are the batch's work, in order, each once
   pub votes : List (GrainId × Bool)  -- in the order in which they came
   pub decisions : Option (List Decision)
 

@@ -1,22 +1,30 @@
-ghost use Rattle.std.specs.Prelude.{◌≡◌, ◌++◌, Bool, false, not, List, Some};
+ghost use Rattle.std.specs.Prelude.{◌≡◌, ◌<◌, ◌++◌, Bool, true, false, not, List, Some, None};
 ghost use Rattle.base_types.specs.declared.calls.UnitNo.{UnitNo};
 ghost use Rattle.base_types.specs.declared.calls.Outcome.{Outcome};
 ghost use Rattle.base_types.specs.declared.entries.Entry.{Entry};
 ghost use Rattle.core_model.specs.declared.events.CoreEvent.{CoreEvent};
 ghost use Rattle.core_model.specs.declared.effects.Effect.{Effect};
-ghost use Rattle.core_model.specs.Legal.{Run, IsLegal, ends};
-ghost use Rattle.core_model.specs.Serial.{IsSerial, committed, chosen};
+ghost use Rattle.core_model.specs.Legal.{Run, IsLegal, begins, ends};
+ghost use Rattle.core_model.specs.Serial.{AllLoadsTrue, AllPlay, IsSerial, committed, chosen};
 ghost use Rattle.core_model.specs.Consistent.{IsConsistent, PlainRunsArePlays};
 ghost use Rattle.core_model.specs.World.{Member};
 ghost use Rattle.core_model.specs.Causes.{IsCaused, GoneIsRemoved};
 ghost use Rattle.core_model.specs.Dead.{IsDead, DeadEitherWay};
 ghost use Rattle.core_model.specs.Replies.{says_no, OnlyExtends};
-ghost use Rattle.core_model.specs.Tests.{outcome_of};
-ghost use Rattle.core_model.specs.World.{World};
+ghost use Rattle.core_model.specs.Tests.{ask, outcome_of};
+ghost use Rattle.core_model.specs.World.{GrainId, Mode, Batch, Decision, World};
+ghost use Rattle.core_model.specs.Asked.{AskExactly, GrantApplies, SettledStacksAreSingle, TakeApplies, TakesBatch};
+ghost use Rattle.core_model.specs.ComputedRuns.{RunsAreComputed};
+ghost use Rattle.core_model.specs.Settler.{settler_step, step_of, to_commit, work_in};
+ghost use Rattle.core_model.specs.Steps.{IsPlan, ShowsVersions, StepApplies, TellsDecided};
+ghost use Rattle.core_model.specs.declared.events.CoreEvent.TheVariants.{Take};
 ghost use Rattle.core_model.specs.Events.{applies, batch_size, reply_to, step};
 ghost use Rattle.core_model.specs.Memory.{MemoryIsBounded};
 ghost use Rattle.core_model.specs.Batches.{BatchesFollow};
 ghost use Rattle.core_model.specs.Lines.{EntriesAreOnce};
+ghost use Rattle.core_model.specs.Proper.{IsProperEntry, NeverAborts};
+ghost use Rattle.core_model.specs.Told.{LinesAreTold, ToldIsFinal};
+ghost use Rattle.core_model.specs.Loadless.{HoldsWithoutLoads};
 ghost use Rattle.core_model.specs.Holders.{HoldersHaveRead, RunnersKeepLocks};
 ghost use Rattle.core_model.specs.Laws.{IsLongestFreePrefix, NoLockIsHeldUntilCommit, ChildrenAreKnown, AnswersAreOutcomes, extended};
 
@@ -96,4 +104,73 @@ pub fn replies_tell()
 /// The finish order, the closed batches and the settled list only grow at their end.
 pub fn lists_only_grow()
     ensures { (r : Run) (more : List CoreEvent) → OnlyExtends (ends r) (ends (extended r more)) }
+{}
+
+/// The event of the settler's step applies, but after a stop that it isn't allowed after. What is shown tells the step: for a
+/// vote with the versions that the batch's units wrote there, for a seal with the effects of the units to commit. Whether a
+/// unit is decided is answered as its outcome is.
+pub fn settler_steps_apply()
+    ensures applies { (r : Run) (e : CoreEvent) → StepApplies (ends r) e }
+    ensures shown { (r : Run) → step_of (work_in (ends r) (settler_step (ends r))) ≡ settler_step (ends r) }
+    ensures versions { (w : World) (b : Batch) (g : GrainId) → ShowsVersions w b g }
+    ensures effects { (plays : Effect → Bool) (r : Run) → IsLegal plays r → (b : Batch) (ds : List Decision) → (ends r).manager.batch ≡ Some b → b.decisions ≡ Some ds → to_commit (ends r) (Some b) ≡ chosen (ends r) }
+    ensures is_decided { (w : World) (u : UnitNo) → TellsDecided w u }
+{}
+
+/// The plan of a batch has the grains that its units wrote, but for units that read from one that is aborted, or to abort;
+/// it is made where the batch is taken, and is still that until the batch is decided.
+pub fn plans_are_kept()
+    ensures taken { (w : World) → applies w Take ≡ true → (b : Batch) → (step w Take).manager.batch ≡ Some b → IsPlan (step w Take) b }
+    ensures stays { (plays : Effect → Bool) (r : Run) → IsLegal plays r → (b : Batch) → (ends r).manager.batch ≡ Some b → b.decisions ≡ None → IsPlan (ends r) b }
+{}
+
+/// A unit that asks for a lock is answered exactly: that it isn't active; or the oldest source whose version, read by the
+/// unit, was taken off; or what the grain's locks say; or that the grain isn't in memory. A grant applies exactly where the
+/// answer is that the lock can be had, and no stop stands.
+pub fn asking_is_told()
+    ensures asked { (plays : Effect → Bool) (r : Run) → IsLegal plays r → (u : UnitNo) (g : GrainId) (mode : Mode) → AskExactly (ends r) u g mode (ask (ends r) u g mode) }
+    ensures granted { (w : World) (u : UnitNo) (g : GrainId) (mode : Mode) → GrantApplies w u g mode }
+{}
+
+/// A take applies exactly where no batch is open, no stop stands, and the first of the finished undecided units holds no
+/// lock. The batch that it opens is the longest prefix of them that `batches_are_longest` tells.
+pub fn takes_apply()
+    ensures applies { (w : World) → TakeApplies w }
+    ensures opens { (w : World) → applies w Take ≡ true → (b : Batch) × TakesBatch w (step w Take) b }
+{}
+
+/// Where every grain has learnt what there is to learn, the stack of a grain whose writers are all decided is its last
+/// committed version alone.
+pub fn settled_stacks_are_single()
+    ensures { (plays : Effect → Bool) (r : Run) → IsLegal plays r → SettledStacksAreSingle r.opening (ends r) }
+{}
+
+/// Where memory has no limit no load applies: every list of events is a legal run, as far as its effects are plays.
+pub fn runs_without_limit_are_legal()
+    ensures loads { (r : Run) → r.capacity ≡ None → AllLoadsTrue r.opening (begins r) r.events }
+    ensures legal { (plays : Effect → Bool) (r : Run) → 0 < r.base → r.capacity ≡ None → AllPlay plays r.events → IsLegal plays r }
+{}
+
+/// These runs come to what is said of them. Each event of the table applies in one of them.
+pub fn runs_are_computed()
+    ensures { RunsAreComputed }
+{}
+
+/// Settled entries are proper, where no play ends in an abort: the line is one that was taken, the unit is one of the run's,
+/// or nobody's of a bad line, a result is no abort, and what a cause names is in range.
+pub fn entries_are_proper()
+    ensures { (plays : Effect → Bool) (r : Run) → IsLegal plays r → NeverAborts plays → (x : Entry) → Member x (ends r).manager.settled → IsProperEntry r.base (ends r) x }
+{}
+
+/// An outcome that was told is the unit's for good, and the unit's children are decided, as those of each unit are that came
+/// to its end. Unless a batch is in doubt, a line's unit is decided exactly where it has its entry.
+pub fn told_outcomes_are_final()
+    ensures told { (plays : Effect → Bool) (r : Run) → IsLegal plays r → ToldIsFinal (ends r) }
+    ensures lines { (plays : Effect → Bool) (r : Run) → IsLegal plays r → (ends r).manager.doubt ≡ None → LinesAreTold (ends r) }
+{}
+
+/// What code may rely on holds after every list of events, whatever was loaded: the finish order and its open batch, that
+/// who is judged is of that batch once it is decided, exclusive holders, and what holders have read.
+pub fn code_may_rely()
+    ensures { (r : Run) → 0 < r.base → HoldsWithoutLoads (ends r) }
 {}

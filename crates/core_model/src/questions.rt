@@ -1,5 +1,5 @@
 use crate::effects::Effect;
-use base_types::{Entry, GrainId, List, Mode, Outcome, UnitNo};
+use base_types::{Entry, GrainId, List, Mode, Outcome, UnitNo, Version};
 use cell_model::Decision;
 
 /// A question to the core.
@@ -20,6 +20,12 @@ pub enum CoreQuestion {
     NextSettled,
     Halted,
     NextWanted,
+    /// What the settler does next, with all that it needs for it: one look is one state.
+    NextStep,
+    /// Whether the unit is decided, without its outcome, so that the answer takes no memory.
+    IsDecided {
+        unit: UnitNo,
+    },
 }
 
 /// What the core answers to a unit that asks for a lock: the first of these that holds.
@@ -55,6 +61,40 @@ pub struct BatchView {
     pub decisions: Option<List<Decision>>,
 }
 
+/// What the settler does next: the first of these that there is. After a doubt it is `Write` or `Nothing`. Its event
+/// applies, but after a stop, which the settler asks for by `Halted`: then only the end of a batch and a written entry do.
+#[derive(Drop)]
+pub enum SettlerWork {
+    /// The open batch isn't decided, and this is the first grain of its plan without a vote: these versions, one for each
+    /// unit that wrote the grain and can still commit, in batch order, go to the grain's file.
+    Vote {
+        batch: u64,
+        grain: GrainId,
+        versions: List<Version>,
+    },
+    /// Each grain of the open batch's plan has its vote.
+    Decide {
+        batch: u64,
+    },
+    /// The open batch is decided: these units are to commit, in batch order.
+    Seal {
+        batch: u64,
+        effects: List<Effect>,
+    },
+    /// The grain learns the decision of a unit that wrote it.
+    Learn {
+        unit: UnitNo,
+        grain: GrainId,
+    },
+    /// The first settled entry that isn't written.
+    Write {
+        entry: Entry,
+    },
+    /// A batch can be taken.
+    Take,
+    Nothing,
+}
+
 /// The answer to a question.
 #[derive(Drop)]
 pub enum CoreAnswer {
@@ -67,4 +107,6 @@ pub enum CoreAnswer {
     NextSettled(Option<Entry>),
     Halted(bool),
     NextWanted(Option<GrainId>),
+    NextStep(SettlerWork),
+    IsDecided(bool),
 }

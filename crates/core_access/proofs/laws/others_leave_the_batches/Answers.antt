@@ -1,0 +1,5 @@
+use Rattle.core_access.proofs.Settling.{others-leave}
+use Rattle.core_access.proofs.laws.others_leave_the_batches.Goals as goal
+
+pub returns : goal.returns
+returns c = λ r e other. others-leave r e other

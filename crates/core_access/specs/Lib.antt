@@ -1,0 +1,7 @@
+pub mod Histories
+pub mod Sights
+pub mod Spared
+pub mod Shown
+pub mod Settling
+pub mod OneHolder
+pub mod ByPass

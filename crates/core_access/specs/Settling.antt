@@ -1,0 +1,30 @@
+-- Which events are the settler's, and what all others leave.
+use Rattle.std.specs.Prelude.{◌≡◌, Bool, true, false, not}
+use Rattle.core_model.specs.declared.events.CoreEvent.{CoreEvent}
+use Rattle.core_model.specs.declared.events.CoreEvent.TheVariants.{Take, Vote, Decide, Sealed, NotSealed, Doubt, Learn, Emitted}
+use Rattle.core_model.specs.World.{World}
+
+-- an event of the settler's
+abbrev pub is_settling : CoreEvent → Bool
+is_settling Take = true
+is_settling (Vote n g kept) = true
+is_settling (Decide n) = true
+is_settling (Sealed n) = true
+is_settling (NotSealed n) = true
+is_settling (Doubt n) = true
+is_settling (Learn u g) = true
+is_settling Emitted = true
+is_settling _ = false
+
+-- the event is harmless to the settler
+abbrev pub leaves_settling : CoreEvent → Bool
+leaves_settling e = not (is_settling e)
+
+-- The batches, the doubt and how much is written are as before.
+pub record LeavesBatches (w w' : World) : Type 0 where
+  pub batches : w'.manager.batches ≡ w.manager.batches
+  pub batch : w'.manager.batch ≡ w.manager.batch
+  pub past : w'.manager.past ≡ w.manager.past
+  pub closed : w'.manager.closed ≡ w.manager.closed
+  pub doubt : w'.manager.doubt ≡ w.manager.doubt
+  pub emitted : w'.manager.emitted ≡ w.manager.emitted
