@@ -1,5 +1,5 @@
 -- Each unit that ended aborted was aborted by an event, with its cause.
-use Rattle.std.proofs.Common.{◌≡◌, ℕ, ◌<◌, List, true, sym, ap, ◌∙◌, subst}
+use Rattle.std.proofs.Common.{◌≡◌, ◌<◌, true, sym, ap, ◌∙◌, subst}
 use Rattle.base_types.specs.declared.entries.Settled.{Settled}
 use Rattle.core_model.specs.World.{UnitNo, World}
 use Rattle.core_model.specs.declared.phases.Verdict.TheVariants.{Aborted}
@@ -7,19 +7,18 @@ use Rattle.core_model.specs.Events.{applies, step}
 use Rattle.core_model.specs.Legal.{Run, begins, ends}
 use Rattle.core_model.specs.Causes.{HasCause}
 use Rattle.core_model.proofs.Aborting.{StoppedFrom, stops-ends}
-use Rattle.script_tree.specs.Programs.{ProgramTree}
 use Rattle.promise_spec.specs.Causes.{IsAbortedFor, AreCaused}
-use Rattle.promise_spec.specs.UnitRule.{KeepsUnitRule}
+use Rattle.promise_spec.specs.UnitRule.{Basis, KeepsUnitRule}
 use Rattle.explained_runs.specs.Legality.{is_play, applied_run}
 use Rattle.explained_runs.proofs.Legal.{ends_alike, legal}
 use Rattle.explained_runs.proofs.SerialCauses.{PutBack, put_back, explained_causes}
 
 -- each unit that ended aborted was aborted by an event of the run, with its cause
-aborts_have_causes : (types : ProgramTree) (lines : List (List ℕ)) (r : Run) → 0 < r.base → KeepsUnitRule types lines r
+aborts_have_causes : (s : Basis) (r : Run) → 0 < r.base → KeepsUnitRule s r
     → (u : UnitNo) → (ends r).manager.verdict u ≡ Aborted → (why : Settled) × IsAbortedFor r u why
-aborts_have_causes types lines r above keeps u h =
+aborts_have_causes s r above keeps u h =
     let c : StoppedFrom (begins r) (applied_run r).events u =
-    stops-ends (is_play types) (applied_run r) (legal types lines r above keeps) u (ap (λ (w : World). w.manager.verdict u) (ends_alike r) ∙ h) in
+    stops-ends (is_play s.types) (applied_run r) (legal s r above keeps) u (ap (λ (w : World). w.manager.verdict u) (ends_alike r) ∙ h) in
     let back : PutBack (begins r) r.events c.0 c.1.0 = put_back (begins r) r.events c.0 c.1.1.0 c.1.0 c.1.1.1 in (
       c.1.1.3.0,
       record {
@@ -33,8 +32,8 @@ aborts_have_causes types lines r above keeps u h =
       },
     )
 
-pub explained_aborts : (types : ProgramTree) (lines : List (List ℕ)) (r : Run) → 0 < r.base → KeepsUnitRule types lines r → AreCaused r
-explained_aborts types lines r above keeps = record {
-  entries = explained_causes types lines r above keeps;
-  units = aborts_have_causes types lines r above keeps;
+pub explained_aborts : (s : Basis) (r : Run) → 0 < r.base → KeepsUnitRule s r → AreCaused r
+explained_aborts s r above keeps = record {
+  entries = explained_causes s r above keeps;
+  units = aborts_have_causes s r above keeps;
 }

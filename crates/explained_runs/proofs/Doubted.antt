@@ -39,7 +39,7 @@ doubt-rose r old new d rose = rose-by (how_many is_unsealed r) old new (λ none.
 -- ---- what a unit in doubt was told
 
 -- no line is both a call and bad
-not-both : (types : ProgramTree) (lines : List (List ℕ)) (n : ℕ) (call : Call) (why : BadRequest) → IsLineCall types lines n call → IsBadLine types lines n why → ⊥
+pub not-both : (types : ProgramTree) (lines : List (List ℕ)) (n : ℕ) (call : Call) (why : BadRequest) → IsLineCall types lines n call → IsBadLine types lines n why → ⊥
 not-both types lines n call why a b =
     let same : a.index ≡ b.index = omega (arith, a.number, b.number) in
     let text : a.text ≡ b.text = some_is a.text b.text (sym a.there ∙ ap (slice_get lines) same ∙ b.there) in

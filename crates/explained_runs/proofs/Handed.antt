@@ -12,38 +12,7 @@ use Rattle.script_meaning.proofs.Plays.{trails_grow_lem}
 use Rattle.promise_spec.specs.Serial.{depth_of}
 use Rattle.promise_spec.specs.Gotten.{Got, GotLock, GotRaise, GotChild, and_given, given_by, wanted_by}
 use Rattle.promise_spec.proofs.Lists.{head_of, tail_of, none_is, none_at, some_is}
-
--- what one of them was given for: a child's outcome is known
-abbrev pub IsGiven : (UnitNo → Option Outcome) → Got → Given → Type 0
-IsGiven outcome (GotLock g mode state) one = one ≡ GivenLock g mode state
-IsGiven outcome (GotRaise g) one = one ≡ GivenRaise g
-IsGiven outcome (GotChild call depth child) one = (o : Outcome) × (outcome child ≡ Some o) × (one ≡ GivenOutcome call depth o)
-
--- all of them, in order
-abbrev pub AreGiven : (UnitNo → Option Outcome) → List Got → List Given → Type 0
-AreGiven outcome [] [] = Unit {0}
-AreGiven outcome [] (one ∷ trail) = ⊥
-AreGiven outcome (x ∷ got) [] = ⊥
-AreGiven outcome (x ∷ got) (one ∷ trail) = IsGiven outcome x one × AreGiven outcome got trail
-
--- what it answers
-abbrev pub want_of : Got → Want
-want_of (GotLock g mode state) = WantLock g mode
-want_of (GotRaise g) = WantRaise g
-want_of (GotChild call depth child) = WantUnit call depth
-
--- the states of the first locks, and the children
-abbrev pub reads_got : List Got → List Found
-reads_got [] = []
-reads_got (GotLock g mode state ∷ rest) = (g, state) ∷ reads_got rest
-reads_got (GotRaise g ∷ rest) = reads_got rest
-reads_got (GotChild call depth child ∷ rest) = reads_got rest
-
-abbrev pub kids_got : List Got → List UnitNo
-kids_got [] = []
-kids_got (GotLock g mode state ∷ rest) = kids_got rest
-kids_got (GotRaise g ∷ rest) = kids_got rest
-kids_got (GotChild call depth child ∷ rest) = child ∷ kids_got rest
+use Rattle.explained_runs.specs.Handed.{IsGiven, AreGiven, want_of, reads_got, kids_got, IsNamed, AreNamed}
 
 -- those of two lists
 pub reads_got-append : (xs ys : List Got) → reads_got (xs ++ ys) ≡ reads_got xs ++ reads_got ys
@@ -173,17 +142,6 @@ as-many outcome [] [] e = refl
 as-many outcome [] (x ∷ os) e = absurd (none_is (Some x) (map Some os) (sym e))
 as-many outcome (k ∷ ks) [] e = absurd (none_is (outcome k) (map outcome ks) e)
 as-many outcome (k ∷ ks) (x ∷ os) e = ap suc (as-many outcome ks os (tail_of (outcome k) (Some x) (map outcome ks) (map Some os) e))
-
--- after what came before, the script asked for this one
-pub record IsNamed (outcome : UnitNo → Option Outcome) (types : ProgramTree) (call : Call) (depth : ℕ) (before : List Got) (x : Got) : Type 0 where
-  pub trail : List Given
-  pub given : AreGiven outcome before trail
-  pub named : next types call depth (locks_of trail) (answers_of trail) ≡ want_of x
-
--- each of them was asked for, after those before it
-abbrev pub AreNamed : (UnitNo → Option Outcome) → ProgramTree → Call → ℕ → List Got → List Got → Type 0
-AreNamed outcome types call depth before [] = Unit {0}
-AreNamed outcome types call depth before (x ∷ got) = IsNamed outcome types call depth before x × AreNamed outcome types call depth (before ++ (x ∷ [])) got
 
 -- that stays
 pub named-later : (outcome more : UnitNo → Option Outcome) → Extends outcome more → (types : ProgramTree) (call : Call) (depth : ℕ) (before got : List Got) →

@@ -20,7 +20,7 @@ use Rattle.script_tree.specs.Programs.{ProgramTree}
 use Rattle.script_meaning.specs.Play.{Found}
 use Rattle.promise_spec.specs.Gotten.{Got, got_from}
 use Rattle.promise_spec.specs.Cores.{applied_from, state_before}
-use Rattle.promise_spec.specs.UnitRule.{played_by, IsPlayOf, IsDue, KeepsUnitRule}
+use Rattle.promise_spec.specs.UnitRule.{Basis, played_by, IsPlayOf, IsDue, KeepsUnitRule}
 use Rattle.explained_runs.specs.Legality.{same_found, is_play, applied_run}
 
 -- a value is itself, by each of the core's tests
@@ -95,11 +95,11 @@ Needs types (Load g u state) = ⊥
 Needs types _ = Unit {0}
 
 -- what is due has it
-due-needs : (types : ProgramTree) (lines : List (List ℕ)) (w : World) (got : UnitNo → List Got) (e : CoreEvent) → IsDue types lines w got e → Needs types e
-due-needs types lines w got (Finish u e) d = d.1
-due-needs types lines w got (EndPlain u e) d = d.1
-due-needs types lines w got (Load g u state) d = d
-due-needs types lines w got _ d = tt
+due-needs : (s : Basis) (w : World) (got : UnitNo → List Got) (e : CoreEvent) → IsDue s w got e → Needs s.types e
+due-needs s w got (Finish u e) d = d.1
+due-needs s w got (EndPlain u e) d = d.1
+due-needs s w got (Load g u state) d = d
+due-needs s w got _ d = tt
 
 -- each event of the list that applies has it
 abbrev AllNeeded : ProgramTree → World → List CoreEvent → Type 0
@@ -135,11 +135,11 @@ loads-in types opening w (e ∷ events) all =
     (λ a. (one-true types opening w e (λ b. all 0 e refl b), rest))
     (λ a. subst (λ v. AllLoadsTrue opening v (applied_from (step w e) events)) (no-change w e a) rest)
 
-pub legal : (types : ProgramTree) (lines : List (List ℕ)) (r : Run) → 0 < r.base → KeepsUnitRule types lines r → IsLegal (is_play types) (applied_run r)
-legal types lines r above keeps =
-    let all : AllNeeded types (begins r) r.events = λ at e there a. due-needs types lines (state_before r at) (got_from (begins r) (take at r.events)) e (keeps at e (record { there = there; applied = a })) in
+pub legal : (s : Basis) (r : Run) → 0 < r.base → KeepsUnitRule s r → IsLegal (is_play s.types) (applied_run r)
+legal s r above keeps =
+    let all : AllNeeded s.types (begins r) r.events = λ at e there a. due-needs s (state_before r at) (got_from (begins r) (take at r.events)) e (keeps at e (record { there = there; applied = a })) in
     record {
       above = above;
-      effects = plays-in types (begins r) r.events all;
-      loads = loads-in types r.opening (begins r) r.events all;
+      effects = plays-in s.types (begins r) r.events all;
+      loads = loads-in s.types r.opening (begins r) r.events all;
     }

@@ -7,6 +7,7 @@ pub mod Unlocked
 pub mod AbortCauses
 pub mod UnitsByRule
 pub mod Tellings
+pub mod ProperEntries
 pub mod TrueReplies
 pub mod AskedFor
 pub mod Handed
@@ -15,6 +16,10 @@ pub mod ToldRuns
 pub mod Added
 pub mod OneFamily
 pub mod Doubted
+pub mod CountedLines
 pub mod ShownOrder
 pub mod ShownRuns
 pub mod ShownPromise
+pub mod OpenedRuns
+pub mod BatchEnds
+pub mod KeptRuns

@@ -34,7 +34,7 @@ use Rattle.promise_spec.specs.Lines.{IsLineCall}
 use Rattle.promise_spec.specs.Images.{IsAboveParent, AreNumbered}
 use Rattle.promise_spec.specs.Cores.{HasBegun}
 use Rattle.promise_spec.specs.Family.{is_child, answer_of, AreAnswers, HasGranted, LeadsTo, IsReached, by_line, by_parent, states_after, IsAskedBefore, IsUnitOf, IsFamily}
-use Rattle.promise_spec.specs.Courses.{Observed, Course, order, lines, opening_standing, core_run, core_end}
+use Rattle.promise_spec.specs.Courses.{Observed, Course, order, lines, basis, opening_standing, core_run, core_end}
 use Rattle.promise_spec.specs.Explained.{AreAdded, IsExplained}
 use Rattle.promise_spec.proofs.Lists.{head_of, tail_of, none_is, none_at, some_is}
 use Rattle.explained_runs.specs.Legality.{is_play, applied_run}
@@ -42,7 +42,8 @@ use Rattle.explained_runs.proofs.Legal.{ends_alike, legal}
 use Rattle.explained_runs.proofs.SerialRecords.{above_records}
 use Rattle.explained_runs.proofs.AskedFor.{asks_child}
 use Rattle.explained_runs.proofs.Handed.{outcome-at}
-use Rattle.explained_runs.proofs.Told.{found, HasOutcome, Led, Known}
+use Rattle.explained_runs.specs.Handed.{found}
+use Rattle.explained_runs.proofs.Told.{HasOutcome, Led, Known}
 use Rattle.explained_runs.proofs.ToldRuns.{known-ends}
 use Rattle.explained_runs.proofs.Added.{AreSerialOf, added-of, record-unit, unit-record, one-record, StandsAfter, stands-after, reads-stand}
 use Rattle.explained_runs.proofs.TrueReplies.{below-next}
@@ -359,11 +360,11 @@ pub explained_family : (p : Program) (r : Observed) (c : Course) → IsExplained
 explained_family p r c is numbered =
     let above : 0 < (core_run p c).base = above_records (new_silo p.types) c.opening (omega arith) in
     let run : Run = applied_run (core_run p c) in
-    let lawful : IsLegal (is_play p.types) run = legal p.types (lines r) (core_run p c) above is.units in
+    let lawful : IsLegal (is_play p.types) run = legal (basis p r c) (core_run p c) above is.units in
     let same : ends run ≡ core_end p c = ends_alike (core_run p c) in
     family p.types (lines r) (core_end p c) (opening_standing p c).states c.opening c.added (record {
       base = (core_run p c).base;
-      known = known-ends p.types (lines r) (core_run p c) above is.units;
+      known = known-ends (basis p r c) (core_run p c) above is.units;
       children = subst ChildrenAreKnown same (children-ends (is_play p.types) run lawful);
       answers = subst (λ (w : World). AnswersAreOutcomes w) same (answers-ends (is_play p.types) run lawful);
       lines = subst EntriesAreOnce same (once-ends (is_play p.types) run lawful);

@@ -1,5 +1,5 @@
 -- A cause among the events that applied is one among all.
-use Rattle.std.proofs.Common.{◌≡◌, ◌<◌, ℕ, List, [], ◌∷◌, ◌++◌, true, inl, inr, refl, sym, ap, ◌∙◌, subst}
+use Rattle.std.proofs.Common.{◌≡◌, ◌<◌, List, [], ◌∷◌, ◌++◌, true, inl, inr, refl, sym, ap, ◌∙◌, subst}
 use Rattle.std.specs.Prelude.{if◌then◌else◌}
 use Rattle.std.proofs.lemmas.Bool.{cases_Bool}
 use Rattle.base_types.specs.declared.entries.Entry.{Entry}
@@ -10,9 +10,8 @@ use Rattle.core_model.specs.Legal.{Run, begins, ends}
 use Rattle.core_model.specs.Causes.{HasCause, HasLine, IsCaused}
 use Rattle.core_model.proofs.Caused.{caused-ends}
 use Rattle.core_model.proofs.Replied.{no-change}
-use Rattle.script_tree.specs.Programs.{ProgramTree}
 use Rattle.promise_spec.specs.Cores.{applied_from}
-use Rattle.promise_spec.specs.UnitRule.{KeepsUnitRule}
+use Rattle.promise_spec.specs.UnitRule.{Basis, KeepsUnitRule}
 use Rattle.explained_runs.specs.Legality.{is_play, applied_run}
 use Rattle.promise_spec.proofs.Lists.{head_of, tail_of, none_is}
 use Rattle.explained_runs.proofs.Legal.{ends_alike, legal}
@@ -54,11 +53,11 @@ put_back w (x ∷ events) before later event e =
           (put_back (step w x) events before later event (sym (ap (λ t. if t then x ∷ applied else applied) a) ∙ e))
     ]
 
-pub explained_causes : (types : ProgramTree) (lines : List (List ℕ)) (r : Run) → 0 < r.base → KeepsUnitRule types lines r
+pub explained_causes : (s : Basis) (r : Run) → 0 < r.base → KeepsUnitRule s r
     → (x : Entry) → Member x (ends r).manager.settled → IsCaused r x
-explained_causes types lines r above keeps x there =
+explained_causes s r above keeps x there =
     let cause : IsCaused (applied_run r) x =
-    caused-ends (is_play types) (applied_run r) (legal types lines r above keeps) x (subst (λ (w : World). Member x w.manager.settled) (sym (ends_alike r)) there) in
+    caused-ends (is_play s.types) (applied_run r) (legal s r above keeps) x (subst (λ (w : World). Member x w.manager.settled) (sym (ends_alike r)) there) in
     let back : PutBack (begins r) r.events cause.before cause.event = put_back (begins r) r.events cause.before cause.later cause.event cause.split in
     record {
       before = back.front;

@@ -23,7 +23,7 @@ use Rattle.promise_spec.specs.Programs.{Program}
 use Rattle.promise_spec.specs.Records.{Commit, States, Standing, put_state, after_writes, new_silo, after_record, after_records, IsRecordOf, AreRecordsOf}
 use Rattle.promise_spec.specs.Serial.{IsSerial, Replays, depth_of, played}
 use Rattle.promise_spec.specs.UnitRule.{played_by, IsPlayOf}
-use Rattle.promise_spec.specs.Courses.{Observed, Course, lines, opening_standing, core_run, core_end}
+use Rattle.promise_spec.specs.Courses.{Observed, Course, basis, opening_standing, core_run, core_end}
 use Rattle.promise_spec.specs.Explained.{IsExplained}
 use Rattle.explained_runs.specs.Legality.{is_play, applied_run}
 use Rattle.explained_runs.proofs.Legal.{is_play-true, ends_alike, legal}
@@ -123,7 +123,7 @@ above_records before (l ∷ log) above = above_records (after_record before l) l
 pub explained_serial : (p : Program) (r : Observed) (c : Course) → IsExplained p r c → IsSerial p.types (opening_standing p c).states c.added
 explained_serial p r c is =
     let run : Run = applied_run (core_run p c) in
-    let lawful : IsLegal (is_play p.types) run = legal p.types (lines r) (core_run p c) (above_records (new_silo p.types) c.opening (omega arith)) is.units in
+    let lawful : IsLegal (is_play p.types) run = legal (basis p r c) (core_run p c) (above_records (new_silo p.types) c.opening (omega arith)) is.units in
     let same : ends run ≡ core_end p c = ends_alike (core_run p c) in
     elim is.records [
       | inl all ↦

@@ -6,22 +6,22 @@ use Rattle.host_trait.specs.declared.channels.Channel.TheVariants.{Input, Output
 use Rattle.host_trait.specs.declared.channels.FileId.TheVariants.{Program as ProgramFile, Manager, Grain}
 use Rattle.host_trait.specs.Faults.{Rose}
 use Rattle.host_trait.specs.Disk.{MayLeave}
-use Rattle.host_trait.specs.World.{Moment, Image, IsImage, moment_of}
+use Rattle.host_trait.specs.World.{Moment, Image, IsImage, moment_of, last_of}
 use Rattle.silo_spec.specs.Silos.{program_file, HasProgram}
 use Rattle.promise_spec.specs.Programs.{Program, shape_in}
 use Rattle.promise_spec.specs.Records.{Commit, new_silo}
 use Rattle.promise_spec.specs.Serial.{IsSerial}
-use Rattle.promise_spec.specs.Logs.{IsLog}
+use Rattle.promise_spec.specs.Logs.{live_slot, IsLog}
 use Rattle.promise_spec.specs.Images.{AreNumbered, IsSound}
-use Rattle.promise_spec.specs.Moments.{IsImageOf, IsLongest, last_of}
+use Rattle.promise_spec.specs.Moments.{IsImageOf, IsLongest}
 use Rattle.promise_spec.specs.Causes.{NoneRose, HasDoubt}
 use Rattle.promise_spec.specs.Endings as ending
 use Rattle.promise_spec.specs.Endings.{Ending, HasRisen, IsCarried, IsCalm}
-use Rattle.promise_spec.specs.Courses.{Observed, Course, order, moments, lines, opening_standing, core_run, core_end}
+use Rattle.promise_spec.specs.Courses.{Observed, Course, order, moments, lines, basis, opening_standing, core_run, core_end}
 use Rattle.promise_spec.specs.Orders.{IsOrdered}
 use Rattle.promise_spec.specs.Replies.{AreReplies}
 use Rattle.promise_spec.specs.Crashes.{SurvivesCrashes, HoldsReplies}
-use Rattle.promise_spec.specs.Explained.{IsExplained}
+use Rattle.promise_spec.specs.Explained.{ComeOfEvents, IsExplained}
 use Rattle.promise_spec.specs.Exits.{IsDoubt, IsLeft}
 use Rattle.promise_spec.specs.Journals.{KeepsJournal, commits_of}
 use Rattle.promise_spec.specs.Promise.{HasEnded, Keeps}
@@ -41,12 +41,12 @@ use Rattle.explained_runs.proofs.ShownOrder.{order_serial, order_numbered}
 -- ---- causes
 
 -- each abort has its cause by the unit rule
-explained : (p : Program) (r : Observed) (c : Course) → Explains p r c → IsExplained p r c
+pub explained : (p : Program) (r : Observed) (c : Course) → Explains p r c → IsExplained p r c
 explained p r c e = record {
   records = e.records;
   units = e.units;
   turns = e.turns;
-  caused = explained_aborts p.types (lines r) (core_run p c) (above_records (new_silo p.types) c.opening (omega arith)) e.units;
+  caused = explained_aborts (basis p r c) (core_run p c) (above_records (new_silo p.types) c.opening (omega arith)) e.units;
   faults = e.faults;
   doubted = e.doubted;
   ended = e.ended;
@@ -121,7 +121,6 @@ module _ (p : Program) (r : Observed) (c : Course) (s : Shows p r c) where
         (journaled.longest p c.opening r.old.output j.journal (moments r c) j.last j.left (subst (IsLog (shape_in p) j.last) (order_is p r c j) j.longest)
         (λ m there image left. (j.kept m there image left).0));
     serial = explained_serial p r c is;
-    family = explained_family p r c is (opening_sound p r c o).1;
   }
 
   -- the entries are a first part of those that the core settled
@@ -149,9 +148,12 @@ module _ (p : Program) (r : Observed) (c : Course) (s : Shows p r c) where
     keeps = λ image of.
         (let k = kept_in p r c j image of in
         record { log = c.opening ++ commits_of (k.said ++ k.unsaid); is = k.log; longer = (commits_of (k.said ++ k.unsaid), refl) });
-    whole = j.batches;
     alone = j.alone;
   }
+
+  -- the records come from the lines, and each image's log ends where a batch does
+  records : ComeOfEvents p r c
+  records = record { family = explained_family p r c is (opening_sound p r c o).1; whole = j.batches }
 
   holds : HoldsReplies p r c
   holds m image there left =
@@ -173,7 +175,7 @@ module _ (p : Program) (r : Observed) (c : Course) (s : Shows p r c) where
       ]
 
   -- so the manager file failed, and who is in the batch was told of the doubt
-  doubted : (begins : ℕ) → (core_end p c).manager.doubt ≡ Some begins → IsDoubt r c (core_end p c)
+  doubted : (begins : ℕ) → (core_end p c).manager.doubt ≡ Some begins → IsDoubt live_slot r c (core_end p c)
   doubted begins d =
       let left : HasDoubt (core_run p c) = doubt_left (core_run p c) begins d in
       record {
@@ -228,12 +230,10 @@ module _ (p : Program) (r : Observed) (c : Course) (s : Shows p r c) where
   -- all clauses
   pub shown : Keeps p r c
   shown = record {
-    ordered = ordered;
-    replies = replies;
-    crashes = crashes;
-    holds = holds;
-    exit = exit;
+    headline = record { ordered = ordered; replies = replies; crashes = crashes; holds = holds };
+    records = records;
     settled = s.settled;
     explained = is;
+    exit = exit;
     ended = ended;
   }

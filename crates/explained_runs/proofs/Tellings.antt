@@ -31,8 +31,8 @@ use Rattle.script_tree.specs.Programs.{ProgramTree}
 use Rattle.promise_spec.specs.Lines.{IsBadLine}
 use Rattle.explained_runs.proofs.UnitsByRule.{Says, AllSaid}
 
--- Who is told an outcome ended as a plain run, or is committed, with that result; who is told an abort is aborted; and a
--- bad line reads so.
+-- Who is told an outcome ended as a plain run, or is committed, with that result; who is told an abort is aborted; who is in
+-- doubt has finished; and a bad line reads so.
 abbrev pub Tells : ProgramTree → List (List ℕ) → World → Entry → Settled → Type 0
 Tells types lines w x (settled.Done outcome) =
     ((w.units.phase x.unit ≡ Ended) ⊎ ((w.units.phase x.unit ≡ Finished) × (w.manager.verdict x.unit ≡ Committed))) × (w.manager.result x.unit ≡ outcome)
@@ -40,7 +40,7 @@ Tells types lines w x (settled.Lock by grain) = w.manager.verdict x.unit ≡ Abo
 Tells types lines w x (settled.Vote grain) = w.manager.verdict x.unit ≡ Aborted
 Tells types lines w x (settled.Dependency on) = w.manager.verdict x.unit ≡ Aborted
 Tells types lines w x settled.Disk = w.manager.verdict x.unit ≡ Aborted
-Tells types lines w x settled.InDoubt = Unit {0}
+Tells types lines w x settled.InDoubt = w.units.phase x.unit ≡ Finished
 Tells types lines w x (settled.Bad why) = IsBadLine types lines x.line why
 
 -- each settled entry does
@@ -57,7 +57,7 @@ grows-tells types lines w w' g x (settled.Lock by grain) t = g.1 x.unit (ap is_f
 grows-tells types lines w w' g x (settled.Vote grain) t = g.1 x.unit (ap is_final t) ∙ t
 grows-tells types lines w w' g x (settled.Dependency on) t = g.1 x.unit (ap is_final t) ∙ t
 grows-tells types lines w w' g x settled.Disk t = g.1 x.unit (ap is_final t) ∙ t
-grows-tells types lines w w' g x settled.InDoubt t = tt
+grows-tells types lines w w' g x settled.InDoubt t = (g.3 x.unit (ap is_over t)).0 ∙ t
 grows-tells types lines w w' g x (settled.Bad why) t = t
 
 telling-same : (types : ProgramTree) (lines : List (List ℕ)) (w w' : World) → Grows w w' → w'.manager.settled ≡ w.manager.settled → Telling types lines w → Telling types lines w'
@@ -156,7 +156,7 @@ telling-change types lines opening w e w' (spoil_batch n b ds q number un) a d k
     s
 telling-change types lines opening w e w' (doubt_batch n b ds q number un) a d k dep arg g s =
     telling-more types lines w w' (entries_in w (λ u. settled.InDoubt) (members w b) ds) g refl
-    (batch-tells types lines opening _ w leave (λ u. settled.InDoubt) b ds (inv-judged opening w b ds k q un) (arg b ds q un) refl (λ x u same f c. tt))
+    (batch-tells types lines opening _ w leave (λ u. settled.InDoubt) b ds (inv-judged opening w b ds k q un) (arg b ds q un) refl (λ x u same f c. ap w.units.phase same ∙ f))
     s
 telling-change types lines opening w e w' (learn u grain wrote final fresh) a d k dep arg g s = telling-same types lines w w' g refl s
 telling-change types lines opening w e w' (emit q) a d k dep arg g s = telling-same types lines w w' g refl s

@@ -29,15 +29,12 @@ use Rattle.promise_spec.specs.Serial.{depth_of}
 use Rattle.promise_spec.specs.Lines.{IsLineCall}
 use Rattle.promise_spec.specs.Cores.{HasBegun}
 use Rattle.promise_spec.specs.Gotten.{Got, GotChild, got_by, wanted_by, wanted_lock}
-use Rattle.promise_spec.specs.UnitRule.{IsDue}
+use Rattle.promise_spec.specs.UnitRule.{Basis, IsDue}
 use Rattle.promise_spec.proofs.Lists.{some_is}
-use Rattle.explained_runs.proofs.Handed.{AreGiven, Extends, AreNamed, want_of, reads_got, kids_got, reads_got-append, kids_got-append, wants, given-reads, given-outcomes, outcome-at, as-many, named-later, named-push, named-trail}
+use Rattle.explained_runs.specs.Handed.{AreGiven, AreNamed, want_of, reads_got, kids_got, found, Traced}
+use Rattle.explained_runs.proofs.Handed.{Extends, reads_got-append, kids_got-append, wants, given-reads, given-outcomes, outcome-at, as-many, named-later, named-push, named-trail}
 
 -- ---- what is kept
-
--- a read's grain and state
-abbrev pub found : Read → Found
-found r = (r.grain, r.state)
 
 -- a child of this index has begun, and has this outcome
 pub record HasOutcome (w : World) (p : UnitNo) (j : ℕ) (o : Outcome) : Type 0 where
@@ -66,13 +63,6 @@ pub record Known (types : ProgramTree) (lines : List (List ℕ)) (base : ℕ) (w
   pub whole : (u p : UnitNo) (i d : ℕ) → HasBegun w u → w.units.origin u ≡ Child p i d → w.units.plain u ≡ false
   pub ended : (u : UnitNo) → w.units.phase u ≡ Ended → w.units.plain u ≡ true
   pub led : (u p : UnitNo) (i d : ℕ) → HasBegun w u → w.units.origin u ≡ Child p i d → Led types w (w.units.call u) p i d
-
--- What each unit got: its reads, its children, and each thing asked for before.
-pub record Traced (types : ProgramTree) (w : World) (got : UnitNo → List Got) : Type 0 where
-  pub fresh : (u : UnitNo) → w.units.phase u ≡ Unborn → got u ≡ []
-  pub reads : (u : UnitNo) → reads_got (got u) ≡ map found (w.units.reads u)
-  pub kids : (u : UnitNo) → kids_got (got u) ≡ w.units.kids u
-  pub named : (u : UnitNo) → AreNamed (outcome_of w) types (w.units.call u) (depth_of (w.units.origin u)) [] (got u)
 
 -- ---- what stays
 
@@ -511,23 +501,23 @@ led-child types w got p i d call kin running at due t =
     }
 
 -- a unit that begins is due
-pub told-begun : (types : ProgramTree) (lines : List (List ℕ)) (base : ℕ) (opening : GrainId → List Value) (w : World) (got : UnitNo → List Got) (origin : Origin) (call : Call) (plain : Bool) → Kept opening w → Kin w →
-    Grows w (begun w origin call plain) → can_begin w origin ≡ true → IsDue types lines w got (Begin origin call plain) → Told types lines base w got →
-    Told types lines base (begun w origin call plain) (λ u. got u ++ got_by w u (Begin origin call plain))
-told-begun types lines base opening w got (Line m) call plain k kin g c due t = (
-  known-begun types lines base opening w (Line m) call plain k g
-      (λ n e. (let same : m ≡ n = cc in subst (λ (x : ℕ). IsLineCall types lines x call) same due.0))
+pub told-begun : (s : Basis) (base : ℕ) (opening : GrainId → List Value) (w : World) (got : UnitNo → List Got) (origin : Origin) (call : Call) (plain : Bool) → Kept opening w → Kin w →
+    Grows w (begun w origin call plain) → can_begin w origin ≡ true → IsDue s w got (Begin origin call plain) → Told s.types s.lines base w got →
+    Told s.types s.lines base (begun w origin call plain) (λ u. got u ++ got_by w u (Begin origin call plain))
+told-begun s base opening w got (Line m) call plain k kin g c due t = (
+  known-begun s.types s.lines base opening w (Line m) call plain k g
+      (λ n e. (let same : m ≡ n = cc in subst (λ (x : ℕ). IsLineCall s.types s.lines x call) same due.0))
       (λ p i d e. absurd (cc)) t.0,
-  nothing_more types (begun w (Line m) call plain) got (traced-line types opening w got m call plain k g t.1),
+  nothing_more s.types (begun w (Line m) call plain) got (traced-line s.types opening w got m call plain k g t.1),
 )
-told-begun types lines base opening w got (Child q i0 d0) call plain k kin g c due t =
+told-begun s base opening w got (Child q i0 d0) call plain k kin g c due t =
     let tests = and_parts (is_running (w.units.phase q)) _ c in
     let running : w.units.phase q ≡ Running = is_running-true (w.units.phase q) tests.0 in
     let at : i0 ≡ length (w.units.kids q) = eqb-true _ _ (and_parts (i0 == length (w.units.kids q)) _ tests.1).0 in
-    let led : Led types w call q i0 d0 = led-child types w got q i0 d0 call kin running at due.0 t.1 in (
-      known-begun types lines base opening w (Child q i0 d0) call plain k g
+    let led : Led s.types w call q i0 d0 = led-child s.types w got q i0 d0 call kin running at due.0 t.1 in (
+      known-begun s.types s.lines base opening w (Child q i0 d0) call plain k g
           (λ n e. absurd (cc))
           (λ p i d e. (let parent : q ≡ p = cc in let index : i0 ≡ i = cc in let depth : d0 ≡ d = cc in
-          (due.1, subst (λ (x : ℕ). Led types w call p i x) depth (subst (λ (x : ℕ). Led types w call p x d0) index (subst (λ (x : UnitNo). Led types w call x i0 d0) parent led))))) t.0,
-      traced-child types opening w got q i0 d0 call plain k g running due.0 t.1,
+          (due.1, subst (λ (x : ℕ). Led s.types w call p i x) depth (subst (λ (x : ℕ). Led s.types w call p x d0) index (subst (λ (x : UnitNo). Led s.types w call x i0 d0) parent led))))) t.0,
+      traced-child s.types opening w got q i0 d0 call plain k g running due.0 t.1,
     )

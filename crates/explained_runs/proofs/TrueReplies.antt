@@ -38,7 +38,7 @@ use Rattle.promise_spec.specs.Images.{IsAboveParent, AreNumbered}
 use Rattle.promise_spec.specs.Family.{is_child, answer_of, AreAnswers}
 use Rattle.promise_spec.specs.Replies.{IsLoggedReply, IsPlainReply, IsTrueOf, StandInOrder}
 use Rattle.promise_spec.specs.UnitRule.{played_by, IsPlayOf}
-use Rattle.promise_spec.specs.Courses.{Observed, Course, lines, opening_standing, core_run, core_end}
+use Rattle.promise_spec.specs.Courses.{Observed, Course, lines, basis, opening_standing, core_run, core_end}
 use Rattle.promise_spec.specs.Explained.{AreAdded, IsExplained}
 use Rattle.promise_spec.proofs.Lists.{some_is, none_at, member_at, either_in, in_append}
 use Rattle.explained_runs.specs.Legality.{is_play, applied_run}
@@ -76,7 +76,7 @@ known-ends types lines r l said = record {
 pub known_of : (p : Program) (r : Observed) (c : Course) → IsExplained p r c → Known p.types (lines r) (opening_standing p c).states (opening_standing p c).next (core_end p c)
 known_of p r c is =
     subst (Known p.types (lines r) (opening_standing p c).states (opening_standing p c).next) (ends_alike (core_run p c))
-    (known-ends p.types (lines r) (applied_run (core_run p c)) (legal p.types (lines r) (core_run p c) (above_records (new_silo p.types) c.opening (omega arith)) is.units) (all_said p.types (lines r) (core_run p c) is.units))
+    (known-ends p.types (lines r) (applied_run (core_run p c)) (legal (basis p r c) (core_run p c) (above_records (new_silo p.types) c.opening (omega arith)) is.units) (all_said (basis p r c) (core_run p c) is.units))
 
 -- ---- the records are those of the units that meet a test
 

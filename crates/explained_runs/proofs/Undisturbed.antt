@@ -37,7 +37,7 @@ use Rattle.promise_spec.specs.Cores.{AppliesAt, how_many, state_before}
 use Rattle.promise_spec.specs.Gotten.{got_from}
 use Rattle.promise_spec.specs.UnitRule.{IsDue}
 use Rattle.promise_spec.specs.Causes.{NoneRose, RoseBy, is_no, is_unsealed, HasDoubt}
-use Rattle.promise_spec.specs.Courses.{Observed, Course, lines, core_run, core_end}
+use Rattle.promise_spec.specs.Courses.{Observed, Course, basis, core_run, core_end}
 use Rattle.promise_spec.specs.Explained.{IsExplained}
 use Rattle.promise_spec.specs.Promise.{IsUndisturbed}
 use Rattle.silo_spec.specs.Silos.{manager}
@@ -316,7 +316,7 @@ quiet-events p r c is none at e there a = quiet e (record { there = there; appli
     all_sealed : how_many is_unsealed (core_run p c) ≡ 0
     all_sealed = none-rose _ _ _ is.faults.seals (none (File manager))
 
-    quiet : (e : CoreEvent) → AppliesAt (core_run p c) at e → IsDue p.types (lines r) (state_before (core_run p c) at) (got_from (begins (core_run p c)) (take at c.events)) e → IsQuiet e
+    quiet : (e : CoreEvent) → AppliesAt (core_run p c) at e → IsDue (basis p r c) (state_before (core_run p c) at) (got_from (begins (core_run p c)) (take at c.events)) e → IsQuiet e
     quiet (Vote number g true) applied due = refl
     quiet (Vote number g false) applied due = absurd (none-applies (is_no g) (core_run p c) (no_vote g) at (Vote number g false) applied (ap (λ b. b && true) (same_grain-is g g refl)))
     quiet (NotSealed number) applied due = none-applies is_unsealed (core_run p c) all_sealed at (NotSealed number) applied refl

@@ -22,7 +22,7 @@ use Rattle.script_meaning.specs.Play.{IsTransaction}
 use Rattle.promise_spec.specs.Cores.{applied_from, state_before}
 use Rattle.promise_spec.specs.Gotten.{Got, got_from}
 use Rattle.promise_spec.specs.Lines.{Reads, IsLineCall, IsBadLine}
-use Rattle.promise_spec.specs.UnitRule.{IsDue, KeepsUnitRule}
+use Rattle.promise_spec.specs.UnitRule.{Basis, IsDue, KeepsUnitRule}
 use Rattle.explained_runs.specs.Legality.{applied_run}
 
 -- the line asks for the call, which is a plain run or a transaction of its own
@@ -37,12 +37,12 @@ Says types lines (Begin (Child parent index depth) call plain) = plain ≡ false
 Says types lines (EndSnapshot u at outcome) = ⊥
 Says types lines _ = Unit {0}
 
-due-says : (types : ProgramTree) (lines : List (List ℕ)) (w : World) (got : UnitNo → List Got) (e : CoreEvent) → IsDue types lines w got e → Says types lines e
-due-says types lines w got (Bad n why) d = d
-due-says types lines w got (Begin (Line n) call plain) d = d
-due-says types lines w got (Begin (Child parent index depth) call plain) d = d.1
-due-says types lines w got (EndSnapshot u at outcome) d = d
-due-says types lines w got _ d = tt
+due-says : (s : Basis) (w : World) (got : UnitNo → List Got) (e : CoreEvent) → IsDue s w got e → Says s.types s.lines e
+due-says s w got (Bad n why) d = d
+due-says s w got (Begin (Line n) call plain) d = d
+due-says s w got (Begin (Child parent index depth) call plain) d = d.1
+due-says s w got (EndSnapshot u at outcome) d = d
+due-says s w got _ d = tt
 
 -- it says so of each event of the list
 abbrev pub AllSaid : ProgramTree → List (List ℕ) → List CoreEvent → Type 0
@@ -59,10 +59,10 @@ said-in types lines w (e ∷ events) all =
     (λ a. rest)
 
 -- where a run keeps the unit rule, it says so of each event that applied
-pub all_said : (types : ProgramTree) (lines : List (List ℕ)) (r : Run) → KeepsUnitRule types lines r → AllSaid types lines (applied_run r).events
-all_said types lines r keeps =
-    said-in types lines (begins r) r.events
-    (λ at e there a. due-says types lines (state_before r at) (got_from (begins r) (take at r.events)) e (keeps at e (record { there = there; applied = a })))
+pub all_said : (s : Basis) (r : Run) → KeepsUnitRule s r → AllSaid s.types s.lines (applied_run r).events
+all_said s r keeps =
+    said-in s.types s.lines (begins r) r.events
+    (λ at e there a. due-says s (state_before r at) (got_from (begins r) (take at r.events)) e (keeps at e (record { there = there; applied = a })))
 
 -- Units are numbered from the base on. The lines that began are lines of the input. A line's unit has its call, and is
 -- plain where that is no transaction; a child is a transaction. Who ended as a plain run is plain, and saw no snapshot.

@@ -36,7 +36,7 @@ use Rattle.promise_spec.specs.Cores.{AppliesAt, state_before}
 use Rattle.promise_spec.specs.Gotten.{got_from}
 use Rattle.promise_spec.specs.UnitRule.{IsDue}
 use Rattle.promise_spec.specs.TurnRule.{is_line, is_settled, in_flight, units_from, units_of}
-use Rattle.promise_spec.specs.Courses.{Observed, Course, lines, core_run, core_end}
+use Rattle.promise_spec.specs.Courses.{Observed, Course, basis, core_run, core_end}
 use Rattle.promise_spec.specs.Explained.{IsExplained}
 use Rattle.promise_spec.specs.Promise.{HasNoChild, IsNoLock}
 use Rattle.explained_runs.proofs.SerialRecords.{above_records}
@@ -279,7 +279,7 @@ single-events p r c is unthreaded one none at e there a = single e (record { the
     w : World
     w = state_before (core_run p c) at
 
-    single : (e : CoreEvent) → AppliesAt (core_run p c) at e → IsDue p.types (lines r) w (got_from (begins (core_run p c)) (take at c.events)) e → IsSingle (core_run p c) w e
+    single : (e : CoreEvent) → AppliesAt (core_run p c) at e → IsDue (basis p r c) w (got_from (begins (core_run p c)) (take at c.events)) e → IsSingle (core_run p c) w e
     single (Begin (Line n) call plain) applied due =
         let t = and_parts (is_none w.manager.doubt) _ (is.turns unthreaded at (Begin (Line n) call plain) applied) in
         let few = ltb-true _ _ (and_parts (nat_lt (in_flight (core_run p c) w) r.manner.width) _ t.1).0 in

@@ -1,2 +1,5 @@
 pub mod Legality
+pub mod Handed
+pub mod Proper
 pub mod Obligations
+pub mod Closings

@@ -3,24 +3,24 @@ use Rattle.std.specs.Prelude.{◌≡◌, ◌≢◌, ◌⊎◌, ◌+◌, false, L
 use Rattle.base_types.specs.declared.entries.Entry.{Entry}
 use Rattle.base_types.specs.declared.entries.Settled.TheVariants.{InDoubt}
 use Rattle.host_trait.specs.declared.channels.FileId.{FileId}
-use Rattle.host_trait.specs.World.{Moment, Image, IsImage, moment_of}
+use Rattle.host_trait.specs.World.{Moment, Image, IsImage, moment_of, last_of}
 use Rattle.core_model.specs.World.{Member}
-use Rattle.silo_spec.specs.Silos.{manager}
 use Rattle.request_wire.specs.Lines.{lines_of}
 use Rattle.promise_spec.specs.Programs.{Program, shape_in}
 use Rattle.promise_spec.specs.Records.{Commit}
-use Rattle.promise_spec.specs.Logs.{IsLog, IsPrefix}
-use Rattle.promise_spec.specs.Moments.{IsImageOf, last_of}
+use Rattle.promise_spec.specs.Logs.{live_slot, IsLog, IsPrefix}
+use Rattle.promise_spec.specs.Moments.{IsImageOf}
 use Rattle.promise_spec.specs.Outputs.{Grew}
 use Rattle.promise_spec.specs.UnitRule.{KeepsUnitRule}
 use Rattle.promise_spec.specs.TurnRule.{KeepsTurnRule}
 use Rattle.promise_spec.specs.Causes.{AreFaults, HasDoubt, NoneRose, syncs_of}
-use Rattle.promise_spec.specs.Endings.{Done, WriteFault, DiskFault, HasRisen, IsCarried, HasLength, MayDoubt}
-use Rattle.promise_spec.specs.Courses.{Observed, Course, order, moments, lines, seen_at_entry, core_run, core_end}
-use Rattle.promise_spec.specs.Crashes.{EndsABatch, LeavesAlone}
+use Rattle.promise_spec.specs.Endings.{Done, WriteFault, DiskFault, HasRisen, IsCarried, HasLength, CountsSyncs, MayDoubt}
+use Rattle.promise_spec.specs.Courses.{Observed, Course, order, moments, lines, seen_at_entry, basis, core_run, core_end}
+use Rattle.promise_spec.specs.Crashes.{LeavesAlone}
+use Rattle.promise_spec.specs.Batches.{EndsABatch}
 use Rattle.promise_spec.specs.Replies.{HasNoRecord}
 use Rattle.promise_spec.specs.Exits.{EndsWith, IsNowhere, HasDoubtfulBlock}
-use Rattle.promise_spec.specs.Explained.{AreAdded, AreSettled}
+use Rattle.promise_spec.specs.Explained.{AreAdded, AreSettled, IsDoubtful}
 use Rattle.promise_spec.specs.Journals.{Settlement, commits_of, entries_of, KeepsJournal, AllLog, Backs}
 use Rattle.promise_spec.specs.Promise.{HasReadAll, IsDone, IsSoundFolder}
 
@@ -54,17 +54,17 @@ pub record Journals (p : Program) (r : Observed) (c : Course) : Type 0 where
   pub last : Image
   pub left : IsImageOf (moments r c) last
   pub longest : IsLog (shape_in p) last (order c)
-  pub alone : (m : Moment) → Member m (moments r c) → LeavesAlone r m
+  pub alone : (m : Moment) → Member m (moments r c) → LeavesAlone live_slot r m
 
 -- The records are those of the core's committed units. The events keep the unit rule, and on one thread the turn rule.
 -- No more faults show than were counted. Of files the manager file alone may end a run, and only with a batch in doubt;
 -- and a doubt ends the run.
 pub record Explains (p : Program) (r : Observed) (c : Course) : Type 0 where
   pub records : AreAdded (core_end p c) c.added
-  pub units : KeepsUnitRule p.types (lines r) (core_run p c)
+  pub units : KeepsUnitRule (basis p r c) (core_run p c)
   pub turns : r.manner.threaded ≡ false → KeepsTurnRule p.types (length (lines r)) r.manner.width r.manner.picks (core_run p c)
-  pub faults : AreFaults (core_run p c) r.faults_before r.faults_after
-  pub doubted : (file : FileId) → r.ending ≡ DiskFault file → (file ≡ manager) × HasDoubt (core_run p c)
+  pub faults : AreFaults live_slot (core_run p c) r.faults_before r.faults_after
+  pub doubted : (file : FileId) → r.ending ≡ DiskFault file → IsDoubtful live_slot (core_run p c) file
   pub ended : HasDoubt (core_run p c) → MayDoubt r.ending
 
 -- The log at the exit: each image has the whole order, or lacks the records of the batch in doubt. A unit that is told to
@@ -72,7 +72,7 @@ pub record Explains (p : Program) (r : Observed) (c : Course) : Type 0 where
 pub record Leaves (p : Program) (r : Observed) (c : Course) : Type 0 where
   pub logs : (image : Image) → IsImage r.new.disk image → EndsWith p c (core_end p c) image
   pub nowhere : (e : Entry) → Member e c.entries → e.what ≡ InDoubt → IsNowhere p r e.unit → HasNoRecord c e.unit
-  pub block : HasDoubt (core_run p c) → HasDoubtfulBlock r c (core_end p c)
+  pub block : HasDoubt (core_run p c) → HasDoubtfulBlock live_slot r c (core_end p c)
 
 -- How it ended: its lines are the input's, nothing began before the input was read whole, and done means that each line
 -- has its entry; a fault is shown by its count, and an input that is too long by its length. Where nothing failed, so many
@@ -84,7 +84,7 @@ pub record Ends (p : Program) (r : Observed) (c : Course) : Type 0 where
   pub long : HasLength r.ending (length r.old.input)
   pub begun : (c.events ≡ []) ⊎ HasReadAll r
   pub done : r.ending ≡ Done → IsDone r c
-  pub syncs : NoneRose r.faults_before r.faults_after → r.ending ≡ Done → r.new.syncs ≡ r.old.syncs + syncs_of (core_run p c)
+  pub syncs : NoneRose r.faults_before r.faults_after → CountsSyncs r.ending → r.new.syncs ≡ r.old.syncs + syncs_of (core_run p c)
 
 -- what a run has to show
 pub record Shows (p : Program) (r : Observed) (c : Course) : Type 0 where
@@ -96,3 +96,17 @@ pub record Shows (p : Program) (r : Observed) (c : Course) : Type 0 where
   pub journals : Journals p r c
   pub leaves : Leaves p r c
   pub ends : Ends p r c
+
+-- what a run has to show over any folder that reads as a silo, sound or not: nothing of what the images hold
+pub record Answers (p : Program) (r : Observed) (c : Course) : Type 0 where
+  pub explains : Explains p r c
+  pub settled : AreSettled p r c
+  pub output : Grew (shape_in p) r.old.output r.new.output c.entries c.rest
+  pub whole : r.ending ≢ WriteFault → c.rest ≡ []
+  pub ends : Ends p r c
+
+-- and what it has to show of the images, over a sound folder
+pub record Lasts (p : Program) (r : Observed) (c : Course) : Type 0 where
+  pub opens : Opens p r c
+  pub journals : Journals p r c
+  pub leaves : Leaves p r c

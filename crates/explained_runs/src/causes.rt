@@ -1,11 +1,10 @@
-ghost use Rattle.std.specs.Prelude.{◌<◌, ℕ, List};
+ghost use Rattle.std.specs.Prelude.{◌<◌};
 ghost use Rattle.core_model.specs.Legal.{Run};
-ghost use Rattle.script_tree.specs.Programs.{ProgramTree};
-ghost use Rattle.promise_spec.specs.UnitRule.{KeepsUnitRule};
+ghost use Rattle.promise_spec.specs.UnitRule.{Basis, KeepsUnitRule};
 ghost use Rattle.promise_spec.specs.Causes.{AreCaused};
 
 /// Where a run keeps the unit rule, each entry that it settles has its cause, and so has each unit that ended aborted,
 /// a child too: an event of the run aborted it.
 pub fn explained_aborts_have_causes()
-    ensures { (types : ProgramTree) (lines : List (List ℕ)) (r : Run) → 0 < r.base → KeepsUnitRule types lines r → AreCaused r }
+    ensures { (s : Basis) (r : Run) → 0 < r.base → KeepsUnitRule s r → AreCaused r }
 {}

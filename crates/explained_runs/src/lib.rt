@@ -4,20 +4,34 @@
 //! There is no code but public functions with empty bodies, whose contracts are these laws. `Legality` says which of a
 //! run's events are the core model's legal ones. `serial` and `families` speak of the records, which are serial and come
 //! from the lines, call by call; `causes` of the aborts, `replies` of what the entries say, and `calm` of runs in which no
-//! fault is counted, or one line at a time is in flight. `Obligations` is what a run has to show, and `shown` says that it
-//! is enough for the whole promise.
+//! fault is counted, or one line at a time is in flight; `gotten` of what units got, `proper` of entries as lines, `batches`
+//! of logs that end where a batch does, and `loads` of a load's counts. `Obligations` is what a run has to show, and `shown`
+//! says that it is enough for the whole promise; `answered` parts it in two, and `closing` has what a run's loop carries, from
+//! which it follows.
 #![tactic(auto)]
 
+mod answered;
+mod batches;
 mod calm;
 mod causes;
+mod closing;
 mod families;
+mod gotten;
+mod loads;
+mod proper;
 mod replies;
 mod serial;
 mod shown;
 
+pub use answered::{answered_runs_open, answered_runs_promise, shown_runs_answer_and_last};
+pub use batches::{batches_stay_whole, moments_end_batches, records_are_whole_batches};
 pub use calm::{calm_runs_are_undisturbed, single_runs_meet_no_lock};
 pub use causes::explained_aborts_have_causes;
+pub use closing::{carried_runs_promise, kept_journals_last, read_folders_open};
 pub use families::explained_runs_are_families;
+pub use gotten::units_got_what_the_core_shows;
+pub use loads::loads_count_each_line;
+pub use proper::settled_entries_are_proper;
 pub use replies::explained_replies_are_true;
 pub use serial::{explained_entries_have_causes, explained_runs_are_serial, runs_are_legal};
 pub use shown::{shown_runs_keep, shown_runs_promise};

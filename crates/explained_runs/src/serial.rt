@@ -1,4 +1,4 @@
-ghost use Rattle.std.specs.Prelude.{◌≡◌, ◌↔◌, ◌<◌, ℕ, true, List};
+ghost use Rattle.std.specs.Prelude.{◌≡◌, ◌↔◌, ◌<◌, true};
 ghost use Rattle.base_types.specs.declared.entries.Entry.{Entry};
 ghost use Rattle.core_model.specs.declared.effects.Effect.{Effect};
 ghost use Rattle.core_model.specs.World.{Member};
@@ -7,7 +7,7 @@ ghost use Rattle.core_model.specs.Legal.{Run, IsLegal, ends};
 ghost use Rattle.script_tree.specs.Programs.{ProgramTree};
 ghost use Rattle.promise_spec.specs.Programs.{Program};
 ghost use Rattle.promise_spec.specs.Serial.{IsSerial};
-ghost use Rattle.promise_spec.specs.UnitRule.{IsPlayOf, KeepsUnitRule};
+ghost use Rattle.promise_spec.specs.UnitRule.{Basis, IsPlayOf, KeepsUnitRule};
 ghost use Rattle.promise_spec.specs.Courses.{Observed, Course, opening_standing};
 ghost use Rattle.promise_spec.specs.Explained.{IsExplained};
 ghost use Rattle.explained_runs.specs.Legality.{is_play, applied_run};
@@ -17,8 +17,7 @@ ghost use Rattle.explained_runs.specs.Legality.{is_play, applied_run};
 pub fn runs_are_legal()
     ensures tests { (types : ProgramTree) (e : Effect) → (is_play types e ≡ true) ↔ IsPlayOf types e }
     ensures ends_alike { (r : Run) → ends (applied_run r) ≡ ends r }
-    ensures legal { (types : ProgramTree) (lines : List (List ℕ)) (r : Run) → 0 < r.base → KeepsUnitRule types lines r
-        → IsLegal (is_play types) (applied_run r) }
+    ensures legal { (s : Basis) (r : Run) → 0 < r.base → KeepsUnitRule s r → IsLegal (is_play s.types) (applied_run r) }
 {}
 
 /// What the causes clause explains is serial: where the records are those of the core's committed units, or of these and
@@ -30,6 +29,6 @@ pub fn explained_runs_are_serial()
 
 /// Where a run keeps the unit rule, each entry that it settles has its cause at an event of the run.
 pub fn explained_entries_have_causes()
-    ensures { (types : ProgramTree) (lines : List (List ℕ)) (r : Run) → 0 < r.base → KeepsUnitRule types lines r
+    ensures { (s : Basis) (r : Run) → 0 < r.base → KeepsUnitRule s r
         → (x : Entry) → Member x (ends r).manager.settled → IsCaused r x }
 {}

@@ -12,10 +12,10 @@ use Rattle.script_meaning.specs.Play.{unit, next, play_over}
 use Rattle.promise_spec.specs.Records.{AreRecordsOf}
 use Rattle.promise_spec.specs.Cores.{applied_in, how_many}
 use Rattle.promise_spec.specs.Causes.{HasDoubt, is_no, is_unsealed, syncs_of}
-use Rattle.promise_spec.specs.Crashes.{EndsABatch, kept_by}
+use Rattle.promise_spec.specs.Batches.{EndsABatch, kept_by}
 use Rattle.promise_spec.specs.UnitRule.{KeepsUnitRule}
 use Rattle.promise_spec.specs.TurnRule.{KeepsTurnRule}
-use Rattle.promise_runs.specs.Examples.{accounts, account_1, unit_no, first_commit, account_run, AskDeposits}
+use Rattle.promise_runs.specs.Examples.{accounts, account_1, unit_no, first_commit, account_run, account_basis, AskDeposits}
 use Rattle.promise_runs.specs.WrittenBatch.{batch_events, both_commits, both_entries}
 use Rattle.promise_runs.proofs.FirstFamily.{none_of, none_counted}
 use Rattle.promise_runs.proofs.WholeBatches.{not_between}
@@ -53,7 +53,7 @@ module _ (lines : List (List ℕ)) (asks : AskDeposits lines) where
     ),
   )
 
-  pub batch_unit_rule : KeepsUnitRule accounts lines core
+  pub batch_unit_rule : KeepsUnitRule (account_basis lines) core
   batch_unit_rule at e is = each_from_0 (DueAt lines core) batch_events at e batch_due is.there
 
 batch_turns : Each (TurnAt 2 2 [] core) 0 batch_events
@@ -63,17 +63,17 @@ batch_turns = (
   (
     refl,
     (
-      (refl, refl, tt),
+      (refl, refl),
       (
-        (refl, refl, tt),
+        (refl, refl),
         (
-          (refl, refl, tt),
+          (refl, refl),
           (
-            (refl, refl, tt),
+            (refl, refl),
             (
-              (refl, refl, tt),
+              (refl, refl),
               (
-                (refl, refl, tt),
+                (refl, refl),
                 (
                   (refl, refl, refl),
                   (

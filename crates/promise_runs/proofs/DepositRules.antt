@@ -18,8 +18,8 @@ use Rattle.promise_spec.specs.Lines.{IsLineCall}
 use Rattle.promise_spec.specs.Cores.{state_before}
 use Rattle.promise_spec.specs.Gotten.{got_from}
 use Rattle.promise_spec.specs.UnitRule.{IsDue, KeepsUnitRule}
-use Rattle.promise_spec.specs.TurnRule.{Mover, OfUnit, OfSettler, IsTurn, KeepsTurnRule, can_begin, picked, movers, picks_used, mover_of}
-use Rattle.promise_runs.specs.Examples.{accounts, account_1, deposit_call, unit_no, deposit_events, conflict_events, conflict_entries, account_run, AskDeposits, vote_events, vote_entries, AskBoth}
+use Rattle.promise_spec.specs.TurnRule.{Mover, OfLine, OfUnit, OfSettler, IsTurn, KeepsTurnRule, can_begin, picked, movers, picks_used, mover_of}
+use Rattle.promise_runs.specs.Examples.{accounts, account_1, deposit_call, unit_no, deposit_events, conflict_events, conflict_entries, account_run, account_basis, AskDeposits, vote_events, vote_entries, AskBoth}
 use Rattle.promise_spec.proofs.Lists.{none_at, some_is}
 
 -- it holds of each event at its place
@@ -37,7 +37,7 @@ pub each_from_0 : (P : ℕ → CoreEvent → Type 0) (events : List CoreEvent) (
 each_from_0 P events at e all there = subst (λ n. P n e) (zero-add at) (each_at P 0 events at e all there)
 
 abbrev pub DueAt : List (List ℕ) → Run → ℕ → CoreEvent → Type 0
-DueAt lines r at e = IsDue accounts lines (state_before r at) (got_from (begins r) (take at r.events)) e
+DueAt lines r at e = IsDue (account_basis lines) (state_before r at) (got_from (begins r) (take at r.events)) e
 
 abbrev pub TurnAt : ℕ → ℕ → List ℕ → Run → ℕ → CoreEvent → Type 0
 TurnAt lines width picks r at e =
@@ -74,7 +74,7 @@ module _ (lines : List (List ℕ)) (asks : IsLineCall accounts lines 1 deposit_c
     (refl, ((refl, record { result = refl; asked = refl; reads = refl; writes = refl }), ((λ h holds. lowest (unit_no 1) h (same_grain h account_1) (record { unit = unit_no 1; mode = Alone } ∷ []) refl holds), (tt, (tt, (tt, (tt, (tt, (tt, tt))))))))),
   )
 
-  pub one_unit_rule : KeepsUnitRule accounts lines (account_run deposit_events)
+  pub one_unit_rule : KeepsUnitRule (account_basis lines) (account_run deposit_events)
   one_unit_rule at e is = each_from_0 (DueAt lines (account_run deposit_events)) deposit_events at e one_due is.there
 
 module _ (lines : List (List ℕ)) (asks : AskDeposits lines) where
@@ -88,19 +88,19 @@ module _ (lines : List (List ℕ)) (asks : AskDeposits lines) where
     ),
   )
 
-  pub two_unit_rule : KeepsUnitRule accounts lines (account_run conflict_events)
+  pub two_unit_rule : KeepsUnitRule (account_basis lines) (account_run conflict_events)
   two_unit_rule at e is = each_from_0 (DueAt lines (account_run conflict_events)) conflict_events at e two_due is.there
 
 one_turns : Each (TurnAt 1 1 [] (account_run deposit_events)) 0 deposit_events
 unfolding put put_grain unit next play_over
-one_turns = (refl, ((refl, refl, tt), ((refl, refl, tt), ((refl, refl, tt), ((refl, refl, refl), ((refl, refl, (true, refl)), ((refl, refl, refl), ((refl, refl, inl refl), ((refl, refl, refl), ((refl, refl, refl), tt))))))))))
+one_turns = (refl, ((refl, refl), ((refl, refl), ((refl, refl), ((refl, refl, refl), ((refl, refl, (true, refl)), ((refl, refl, refl), ((refl, refl, inl refl), ((refl, refl, refl), ((refl, refl, refl), tt))))))))))
 
 pub one_turn_rule : KeepsTurnRule accounts 1 1 [] (account_run deposit_events)
 one_turn_rule at e is = each_from_0 (TurnAt 1 1 [] (account_run deposit_events)) deposit_events at e one_turns is.there
 
 two_turns : Each (TurnAt 2 2 (0 ∷ 1 ∷ 1 ∷ []) (account_run conflict_events)) 0 conflict_events
 unfolding put put_grain unit next play_over
-two_turns = (refl, (refl, ((refl, refl, tt), ((refl, refl, tt), ((refl, refl, refl), ((refl, refl, tt), ((refl, refl, tt), ((refl, refl, refl), ((refl, refl, (true, refl)), ((refl, refl, refl), ((refl, refl, inr (inr refl)), ((refl, refl, refl), tt))))))))))))
+two_turns = (refl, (refl, ((refl, refl), ((refl, refl), ((refl, refl, refl), ((refl, refl), ((refl, refl), ((refl, refl, refl), ((refl, refl, (true, refl)), ((refl, refl, refl), ((refl, refl, inr (inr refl)), ((refl, refl, refl), tt))))))))))))
 
 pub two_turn_rule : KeepsTurnRule accounts 2 2 (0 ∷ 1 ∷ 1 ∷ []) (account_run conflict_events)
 two_turn_rule at e is = each_from_0 (TurnAt 2 2 (0 ∷ 1 ∷ 1 ∷ []) (account_run conflict_events)) conflict_events at e two_turns is.there
@@ -112,6 +112,7 @@ two_settled = refl
 
 abbrev number_of : Option Mover → ℕ
 number_of None = 0
+number_of (Some OfLine) = 0
 number_of (Some OfSettler) = 0
 number_of (Some (OfUnit u)) = u.0
 
@@ -156,12 +157,12 @@ module _ (lines : List (List ℕ)) (asks : AskBoth lines) where
     ),
   )
 
-  pub vote_unit_rule : KeepsUnitRule accounts lines (account_run vote_events)
+  pub vote_unit_rule : KeepsUnitRule (account_basis lines) (account_run vote_events)
   vote_unit_rule at e is = each_from_0 (DueAt lines (account_run vote_events)) vote_events at e vote_due is.there
 
 vote_turns : Each (TurnAt 2 2 [] (account_run vote_events)) 0 vote_events
 unfolding put put_grain unit next play_over
-vote_turns = (refl, (refl, ((refl, refl, tt), ((refl, refl, tt), ((refl, refl, tt), ((refl, refl, tt), ((refl, refl, tt), ((refl, refl, tt), ((refl, refl, refl), ((refl, refl, (false, refl)), ((refl, refl, refl), ((refl, refl, refl), ((refl, refl, refl), ((refl, refl, refl), tt))))))))))))))
+vote_turns = (refl, (refl, ((refl, refl), ((refl, refl), ((refl, refl), ((refl, refl), ((refl, refl), ((refl, refl), ((refl, refl, refl), ((refl, refl, (false, refl)), ((refl, refl, refl), ((refl, refl, refl), ((refl, refl, refl), ((refl, refl, refl), tt))))))))))))))
 
 pub vote_turn_rule : KeepsTurnRule accounts 2 2 [] (account_run vote_events)
 vote_turn_rule at e is = each_from_0 (TurnAt 2 2 [] (account_run vote_events)) vote_events at e vote_turns is.there

@@ -1,5 +1,5 @@
 -- A run of one deposit keeps the whole promise.
-use Rattle.std.proofs.Common.{◌≡◌, inl, inr, ℕ, ◌+◌, ◌≤◌, Bool, true, false, List, [], ◌∷◌, ◌++◌, length, take, drop, refl, sym, ◌∙◌, ap, subst, arith, lit<}
+use Rattle.std.proofs.Common.{◌≡◌, inl, inr, ℕ, ◌+◌, ◌≤◌, Bool, true, false, List, [], ◌∷◌, ◌++◌, length, refl, sym, ◌∙◌, ap, subst, arith, lit<}
 use Rattle.std.specs.Prelude.{count_by, if◌then◌else◌}
 use Rattle.std.proofs.lemmas.List.{append-nil}
 use Rattle.base_types.specs.declared.calls.GrainId.{GrainId}
@@ -8,9 +8,9 @@ use Rattle.base_types.specs.declared.entries.Settled.TheVariants as settled
 use Rattle.core_model.specs.declared.events.CoreEvent.{CoreEvent}
 use Rattle.core_model.specs.declared.events.CoreEvent.TheVariants as event
 use Rattle.core_model.specs.declared.phases.Verdict.TheVariants as verdict
-use Rattle.core_model.specs.Causes.{IsCaused}
 use Rattle.core_model.specs.Changes.{seal}
-use Rattle.core_model.specs.Legal.{Run}
+use Rattle.core_model.specs.Legal.{Run, IsLegal}
+use Rattle.core_model.proofs.Caused.{caused-ends}
 use Rattle.core_model.specs.World.{Member, same_unit, same_grain, put, put_grain}
 use Rattle.host_trait.specs.declared.channels.Channel.{Channel}
 use Rattle.host_trait.specs.declared.channels.Channel.TheVariants.{File}
@@ -19,7 +19,7 @@ use Rattle.host_trait.specs.World.{Moment, Image, IsImage, moment_of}
 use Rattle.silo_spec.specs.Silos.{manager, program_file, HasProgram}
 use Rattle.promise_spec.specs.Programs.{shape_in}
 use Rattle.promise_spec.specs.Records.{Commit}
-use Rattle.promise_spec.specs.Logs.{IsLog, IsPrefix}
+use Rattle.promise_spec.specs.Logs.{live_slot, IsLog, IsPrefix}
 use Rattle.promise_spec.specs.Moments.{IsImageOf}
 use Rattle.promise_spec.specs.Outputs.{IsProper, Grew, reply_lines}
 use Rattle.promise_spec.specs.Cores.{HasBegun, applied_in, how_many}
@@ -30,9 +30,10 @@ use Rattle.promise_spec.specs.Endings as ending
 use Rattle.promise_spec.specs.Courses.{Observed, Course, moments, lines, core_end}
 use Rattle.promise_spec.specs.Orders.{IsOrdered}
 use Rattle.promise_spec.specs.Replies.{AreReplies, IsTrueOf, HasNoRecord}
-use Rattle.promise_spec.specs.Crashes.{EndsABatch, LeavesAlone, SurvivesCrashes, HoldsReplies}
+use Rattle.promise_spec.specs.Crashes.{LeavesAlone, SurvivesCrashes, HoldsReplies}
+use Rattle.promise_spec.specs.Batches.{EndsABatch}
 use Rattle.promise_spec.specs.Exits.{IsLeft, IsNowhere}
-use Rattle.promise_spec.specs.Explained.{AreAdded, AreSettled, IsExplained}
+use Rattle.promise_spec.specs.Explained.{ComeOfEvents, AreAdded, AreSettled, IsExplained}
 use Rattle.promise_spec.specs.Journals.{Settlement, KeepsJournal, Backs, commits_of, entries_of}
 use Rattle.promise_spec.specs.Promise.{IsSoundFolder, IsUndisturbed, IsNoLock, HasEnded, Keeps}
 use Rattle.explained_runs.specs.Obligations.{Shows}
@@ -76,13 +77,16 @@ not_aborted : (b : Bool) → seal (if b then verdict.Chosen else verdict.Open) �
 not_aborted true is = absurd (cc is)
 not_aborted false is = absurd (cc is)
 
-is_caused : IsCaused core first_entry
-unfolding put put_grain
-is_caused = record { before = take 7 deposit_events; event = event.Sealed 1; later = drop 8 deposit_events; split = refl; applied = refl; cause = refl; line = refl }
+legal : IsLegal (λ e. true) core
+legal = record {
+  above = omega arith;
+  effects = (tt, (tt, (refl, (tt, (tt, (tt, (tt, (tt, (tt, (tt, tt))))))))));
+  loads = (tt, (tt, (tt, (tt, (tt, (tt, (tt, (tt, (tt, (tt, tt))))))))));
+}
 
 caused : AreCaused core
 unfolding put put_grain
-caused = record { entries = λ x there. only (IsCaused core) first_entry x is_caused there; units = λ u is. absurd (not_aborted (same_unit u (unit_no 1)) is) }
+caused = record { entries = λ x there. caused-ends (λ e. true) core legal x there; units = λ u is. absurd (not_aborted (same_unit u (unit_no 1)) is) }
 
 all_apply : applied_in core ≡ deposit_events
 unfolding put put_grain
@@ -171,7 +175,6 @@ module _ (r : Observed) (opened : Moment) (sealing : List Moment) (run : IsDepos
     longest = longest account_program [] r.old.output journal (moments r course) run.some (record { moment = moment_of r.new; member = exit_there opened sealing (moment_of r.new); left = run.possible }) (run.logged run.some run.possible).0
         (λ m there image left. (known m there image left).0.0);
     serial = serial;
-    family = family_of (lines r) (core_end account_program course) run.asks begun unit_is reached;
   }
 
   replies : AreReplies account_program r course
@@ -190,10 +193,10 @@ module _ (r : Observed) (opened : Moment) (sealing : List Moment) (run : IsDepos
   }
 
   -- at each moment other files and the header are as they were
-  alone : (m : Moment) → Member m (moments r course) → LeavesAlone r m
+  alone : (m : Moment) → Member m (moments r course) → LeavesAlone live_slot r m
   alone =
-      at_each (LeavesAlone r) opened sealing (moment_of r.new) run.alone.0
-      (all_less (IsBetween r r.old.output MayHaveDeposit) (LeavesAlone r) sealing (λ m is. is.alone) run.sealed) run.alone.1
+      at_each (LeavesAlone live_slot r) opened sealing (moment_of r.new) run.alone.0
+      (all_less (IsBetween r r.old.output MayHaveDeposit) (LeavesAlone live_slot r) sealing (λ m is. is.alone) run.sealed) run.alone.1
 
   -- each image of each moment has the deposit or not
   may_have : (m : Moment) → Member m (moments r course) → (image : Image) → IsImage m.disk image → MayHaveDeposit image
@@ -220,8 +223,14 @@ module _ (r : Observed) (opened : Moment) (sealing : List Moment) (run : IsDepos
     chain = λ one other a b. chained account_program [] r.old.output journal a.moment b.moment one other (keeps_at one a) (keeps_at other b);
     sound = λ image is. sound account_program [] r.old.output journal is.moment image (keeps_at image is) (known is.moment is.member image is.left).1 serial numbered;
     keeps = λ image is. let k = keeps_at image is in record { log = commits_of (k.said ++ k.unsaid); is = k.log; longer = (commits_of (k.said ++ k.unsaid), refl) };
-    whole = λ image log is log_is. whole_batches image log (may_have is.moment is.member image is.left) log_is;
     alone = alone;
+  }
+
+  -- the records come of the events
+  of_events : ComeOfEvents account_program r course
+  of_events = record {
+    family = family_of (lines r) (core_end account_program course) run.asks begun unit_is reached;
+    whole = λ image log is log_is. whole_batches image log (may_have is.moment is.member image is.left) log_is;
   }
 
   replied : HoldsReplies account_program r course
@@ -303,7 +312,14 @@ module _ (r : Observed) (opened : Moment) (sealing : List Moment) (run : IsDepos
   }
 
   pub kept : Keeps account_program r course
-  kept = record { ordered = ordered; replies = replies; crashes = crashes; holds = replied; exit = exit; settled = written; explained = explained; ended = ended }
+  kept = record {
+    headline = record { ordered = ordered; replies = replies; crashes = crashes; holds = replied };
+    records = of_events;
+    settled = written;
+    explained = explained;
+    exit = exit;
+    ended = ended;
+  }
 
   -- and over a sound folder it shows what has to be shown, where some image was there at the return of the opening's sync
   pub shown : IsSoundFolder account_program r.old → (some : Image) → IsImage opened.disk some → Shows account_program r course

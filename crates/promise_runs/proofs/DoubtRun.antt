@@ -25,7 +25,7 @@ use Rattle.host_trait.specs.World.{Moment, Image, IsImage, moment_of}
 use Rattle.silo_spec.specs.Silos.{manager, program_file, HasProgram}
 use Rattle.promise_spec.specs.Programs.{shape_in}
 use Rattle.promise_spec.specs.Records.{Commit, AreRecordsOf}
-use Rattle.promise_spec.specs.Logs.{IsLog, IsPrefix}
+use Rattle.promise_spec.specs.Logs.{live_slot, IsLog, IsPrefix}
 use Rattle.promise_spec.specs.Moments.{IsImageOf}
 use Rattle.promise_spec.specs.Outputs.{IsProper, reply_lines}
 use Rattle.promise_spec.specs.Cores.{HasBegun, applied_in, how_many}
@@ -36,9 +36,10 @@ use Rattle.promise_spec.specs.Endings as ending
 use Rattle.promise_spec.specs.Courses.{Observed, Course, moments, lines, core_end}
 use Rattle.promise_spec.specs.Orders.{IsOrdered}
 use Rattle.promise_spec.specs.Replies.{AreReplies, IsTrueOf, HasNoRecord}
-use Rattle.promise_spec.specs.Crashes.{HasOutcome, EndsABatch, LeavesAlone, SurvivesCrashes, HoldsReplies}
+use Rattle.promise_spec.specs.Crashes.{HasOutcome, LeavesAlone, SurvivesCrashes, HoldsReplies}
+use Rattle.promise_spec.specs.Batches.{EndsABatch}
 use Rattle.promise_spec.specs.Exits.{IsLeft, IsDoubt, EndsWith, IsNowhere, doubtful}
-use Rattle.promise_spec.specs.Explained.{AreAdded, AreSettled, IsExplained}
+use Rattle.promise_spec.specs.Explained.{ComeOfEvents, AreAdded, AreSettled, IsExplained}
 use Rattle.promise_spec.specs.Journals.{Settlement, KeepsJournal, Backs, commits_of, entries_of}
 use Rattle.promise_spec.specs.Promise.{IsSoundFolder, HasEnded, Keeps}
 use Rattle.explained_runs.specs.Obligations.{Shows}
@@ -54,10 +55,10 @@ use Rattle.promise_runs.proofs.Showing.{shows}
 use Rattle.promise_runs.proofs.FirstFamily.{only, either_of, serial, numbered, none_of, none_counted, family_of}
 use Rattle.promise_runs.proofs.DepositRules.{two_unit_rule, two_turn_rule, two_settled}
 
-abbrev locked : Settlement
+abbrev pub locked : Settlement
 locked = record { commits = []; entries = locked_entry ∷ [] }
 
-abbrev doubted : Settlement
+abbrev pub doubted : Settlement
 doubted = record { commits = []; entries = doubt_entry ∷ [] }
 
 abbrev batch : Settlement
@@ -79,7 +80,7 @@ no_outcome s (inr (inr (inr none))) = absurd none
 backs : Backs journal (first_commit ∷ [])
 backs e l s front back split here added is = absurd (no_outcome s (subst (λ (j : List Settlement). Member s j) (sym split) (in_append s front (s ∷ back) (inr (inl refl)))) e here is.0)
 
-abbrev core : Run
+abbrev pub core : Run
 core = account_run conflict_events
 
 legal : IsLegal (λ e. true) core
@@ -114,22 +115,22 @@ all_apply : applied_in core ≡ conflict_events
 unfolding put put_grain
 all_apply = refl
 
-no_votes : (g : GrainId) → how_many (is_no g) core ≡ 0
+pub no_votes : (g : GrainId) → how_many (is_no g) core ≡ 0
 no_votes g =
     ap (λ (events : List CoreEvent). count_by (is_no g) events) all_apply
     ∙ none_counted (is_no g) conflict_events (refl, (refl, (refl, (refl, (refl, (refl, (refl, (refl, (none_of (same_grain account_1 g), (refl, (refl, (refl, tt))))))))))))
 
-one_seal : how_many is_unsealed core ≡ 1
+pub one_seal : how_many is_unsealed core ≡ 1
 one_seal = ap (λ (events : List CoreEvent). count_by is_unsealed events) all_apply
 
-has_doubt : HasDoubt core
+pub has_doubt : HasDoubt core
 unfolding put put_grain
 has_doubt = record { at = 10; number = 1; doubt = record { there = refl; applied = refl } }
 
-locked_proper : IsProper (shape_in account_program) locked_entry
+pub locked_proper : IsProper (shape_in account_program) locked_entry
 locked_proper = record { line = (omega arith, lit< tt); unit = (omega arith, lit< tt); what = (lit< tt, (omega arith, lit< tt)) }
 
-doubt_proper : IsProper (shape_in account_program) doubt_entry
+pub doubt_proper : IsProper (shape_in account_program) doubt_entry
 doubt_proper = record { line = (omega arith, lit< tt); unit = (omega arith, lit< tt); what = tt }
 
 not_one : unit_no 2 ≡ unit_no 1 → ⊥
@@ -225,7 +226,6 @@ module _ (r : Observed) (opened : Moment) (told doubting : List Moment) (run : I
     longest = longest account_program [] r.old.output journal (moments r course) run.some (record { moment = moment_of r.new; member = exit_there opened (told ++ doubting) (moment_of r.new); left = run.possible }) run.there.0
         (λ m there image left. (known m there image left).0.0);
     serial = serial;
-    family = family_of (lines r) (core_end account_program course) run.asks.first begun unit_is reached;
   }
 
   replies : AreReplies account_program r course
@@ -246,11 +246,11 @@ module _ (r : Observed) (opened : Moment) (told doubting : List Moment) (run : I
   }
 
   -- at each moment other files and the header are as they were
-  alone : (m : Moment) → Member m (moments r course) → LeavesAlone r m
+  alone : (m : Moment) → Member m (moments r course) → LeavesAlone live_slot r m
   alone =
-      at_each (LeavesAlone r) opened (told ++ doubting) (moment_of r.new) run.alone.0
-      (both_parts (LeavesAlone r) told doubting (all_less (IsBetween r (first_told r) HasNone) (LeavesAlone r) told (λ m is. is.alone) run.none)
-      (all_less (IsBetween r (first_told r) MayHaveDeposit) (LeavesAlone r) doubting (λ m is. is.alone) run.either))
+      at_each (LeavesAlone live_slot r) opened (told ++ doubting) (moment_of r.new) run.alone.0
+      (both_parts (LeavesAlone live_slot r) told doubting (all_less (IsBetween r (first_told r) HasNone) (LeavesAlone live_slot r) told (λ m is. is.alone) run.none)
+      (all_less (IsBetween r (first_told r) MayHaveDeposit) (LeavesAlone live_slot r) doubting (λ m is. is.alone) run.either))
       run.alone.1
 
   -- each image of each moment has the deposit or not
@@ -280,7 +280,6 @@ module _ (r : Observed) (opened : Moment) (told doubting : List Moment) (run : I
     chain = λ one other a b. chained account_program [] r.old.output journal a.moment b.moment one other (keeps_at one a) (keeps_at other b);
     sound = λ image is. sound account_program [] r.old.output journal is.moment image (keeps_at image is) (known is.moment is.member image is.left).1 serial numbered;
     keeps = λ image is. let k = keeps_at image is in record { log = commits_of (k.said ++ k.unsaid); is = k.log; longer = (commits_of (k.said ++ k.unsaid), refl) };
-    whole = λ image log is log_is. whole_batches image log (may_have is.moment is.member image is.left) log_is;
     alone = alone;
   }
 
@@ -302,7 +301,7 @@ module _ (r : Observed) (opened : Moment) (told doubting : List Moment) (run : I
   may_doubt : ending.MayDoubt r.ending
   may_doubt = subst ending.MayDoubt (sym run.ending) tt
 
-  is_doubt : IsDoubt r course (core_end account_program course)
+  is_doubt : IsDoubt live_slot r course (core_end account_program course)
   is_doubt = record {
     rose = rose;
     ending = may_doubt;
@@ -316,6 +315,13 @@ module _ (r : Observed) (opened : Moment) (told doubting : List Moment) (run : I
   chosen_is : AreRecordsOf (chosen (core_end account_program course)) (first_commit ∷ [])
   unfolding put put_grain
   chosen_is = (record { unit = refl; origin = refl; call = refl; answers = refl; result = refl; writes = refl }, tt)
+
+  -- the records come of the events
+  of_events : ComeOfEvents account_program r course
+  of_events = record {
+    family = family_of (lines r) (core_end account_program course) run.asks.first begun unit_is reached;
+    whole = λ image log is log_is. whole_batches image log (may_have is.moment is.member image is.left) log_is;
+  }
 
   replied : HoldsReplies account_program r course
   replied m image there left = let k = (known m there image left).0 in holds account_program r course journal m image backs k.0 k.1
@@ -413,7 +419,14 @@ module _ (r : Observed) (opened : Moment) (told doubting : List Moment) (run : I
   }
 
   pub kept : Keeps account_program r course
-  kept = record { ordered = ordered; replies = replies; crashes = crashes; holds = replied; exit = exit; settled = written; explained = explained; ended = ended }
+  kept = record {
+    headline = record { ordered = ordered; replies = replies; crashes = crashes; holds = replied };
+    records = of_events;
+    settled = written;
+    explained = explained;
+    exit = exit;
+    ended = ended;
+  }
 
   -- and over a sound folder it shows what has to be shown, where some image was there at the return of the opening's sync
   pub shown : IsSoundFolder account_program r.old → (some : Image) → IsImage opened.disk some → Shows account_program r course

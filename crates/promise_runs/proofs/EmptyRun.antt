@@ -7,11 +7,12 @@ use Rattle.host_trait.specs.declared.channels.Channel.{Channel}
 use Rattle.request_wire.specs.Lines.{lines_of}
 use Rattle.promise_spec.specs.Programs.{Program, shape_in}
 use Rattle.promise_spec.specs.Records.{Commit}
-use Rattle.promise_spec.specs.Logs.{IsLog}
+use Rattle.promise_spec.specs.Logs.{live_slot, IsLog}
 use Rattle.promise_spec.specs.Moments.{IsImageOf}
 use Rattle.promise_spec.specs.Causes.{RoseBy}
 use Rattle.promise_spec.specs.Endings.{Done, DiskFault, HasRisen, IsCarried, HasLength, IsCalm}
-use Rattle.promise_spec.specs.Crashes.{LeavesAlone, EndsABatch}
+use Rattle.promise_spec.specs.Crashes.{LeavesAlone}
+use Rattle.promise_spec.specs.Batches.{EndsABatch}
 use Rattle.promise_spec.specs.Courses.{Observed, moments, lines, core_end}
 use Rattle.promise_spec.specs.Promise.{Keeps}
 use Rattle.promise_spec.proofs.Lists.{none_at}
@@ -56,53 +57,51 @@ module _ (p : Program) (r : Observed) (opening : List Commit) (run : IsEmptyRun 
 
   pub kept : Keeps p r (empty_course r opening)
   kept = record {
-    ordered = record {
-      read = run.read;
-      opened = λ image is. record { entry = run.entry image is; log = run.logs image is };
-      longest = record {
-        image = run.some;
-        left = record { moment = moment_of r.new; member = inl refl; left = run.possible };
-        log = whole run.some run.possible;
-        longest = λ other is silo. (opening ++ [], whole other (at_exit other is), ([], sym (append-nil (opening ++ []))));
+    headline = record {
+      ordered = record {
+        read = run.read;
+        opened = λ image is. record { entry = run.entry image is; log = run.logs image is };
+        longest = record {
+          image = run.some;
+          left = record { moment = moment_of r.new; member = inl refl; left = run.possible };
+          log = whole run.some run.possible;
+          longest = λ other is silo. (opening ++ [], whole other (at_exit other is), ([], sym (append-nil (opening ++ []))));
+        };
+        serial = tt;
       };
-      serial = tt;
+      replies = record {
+        output = record { output = run.output ∙ sym (append-nil r.old.output); unended = tt; proper = tt };
+        whole = λ other. refl;
+        within = λ e none. absurd none;
+        once = tt;
+        true_each = λ e none. absurd none;
+        ordered = λ i j m n d e a b at other. absurd (none_at i d at);
+      };
+      crashes = record {
+        past = run.synced;
+        quiet = λ m there. elim there [ inl same ↦ ap (λ (n : Moment). n.output) same ∙ run.output | inr none ↦ absurd none ];
+        before = λ image is. elim is.member [ inl same ↦ run.entry image (subst (λ (m : Moment). IsImage m.disk image) same is.left) | inr none ↦ absurd none ];
+        chain = λ one other a b silo. (opening ++ [], whole one (at_exit one a), λ silo_too. (opening ++ [], whole other (at_exit other b), inl ([], sym (append-nil (opening ++ [])))));
+        sound = λ image is. run.sound image (at_exit image is);
+        keeps = λ image is. record { log = opening; is = run.logs image (at_exit image is); longer = ([], sym (append-nil opening)) };
+        alone = λ m there. elim there [
+          | inl same ↦ subst (LeavesAlone live_slot r) (sym same) run.alone
+          | inr more ↦ elim more [ inl same ↦ subst (LeavesAlone live_slot r) (sym same) run.alone | inr none ↦ absurd none ]
+        ];
+      };
+      holds = λ m image there left. record {
+        written = [];
+        rest = [];
+        output = record { output = same_output m there ∙ sym (append-nil r.old.output); unended = tt; proper = tt };
+        front = ([], refl);
+        log = opening;
+        is = run.logs image (disk_of m image there left);
+        has = λ e l none. absurd none;
+      };
+    };
+    records = record {
       family = no_family p.types (lines r) _ _ _;
-    };
-    replies = record {
-      output = record { output = run.output ∙ sym (append-nil r.old.output); unended = tt; proper = tt };
-      whole = λ other. refl;
-      within = λ e none. absurd none;
-      once = tt;
-      true_each = λ e none. absurd none;
-      ordered = λ i j m n d e a b at other. absurd (none_at i d at);
-    };
-    crashes = record {
-      past = run.synced;
-      quiet = λ m there. elim there [ inl same ↦ ap (λ (n : Moment). n.output) same ∙ run.output | inr none ↦ absurd none ];
-      before = λ image is. elim is.member [ inl same ↦ run.entry image (subst (λ (m : Moment). IsImage m.disk image) same is.left) | inr none ↦ absurd none ];
-      chain = λ one other a b silo. (opening ++ [], whole one (at_exit one a), λ silo_too. (opening ++ [], whole other (at_exit other b), inl ([], sym (append-nil (opening ++ [])))));
-      sound = λ image is. run.sound image (at_exit image is);
-      keeps = λ image is. record { log = opening; is = run.logs image (at_exit image is); longer = ([], sym (append-nil opening)) };
       whole = λ image log is log_is. subst (EndsABatch (core_end p (empty_course r opening)) opening) (one_log (shape_in p) image opening log (run.logs image (at_exit image is)) log_is) (no_batch (core_end p (empty_course r opening)) opening);
-      alone = λ m there. elim there [
-        | inl same ↦ subst (LeavesAlone r) (sym same) run.alone
-        | inr more ↦ elim more [ inl same ↦ subst (LeavesAlone r) (sym same) run.alone | inr none ↦ absurd none ]
-      ];
-    };
-    holds = λ m image there left. record {
-      written = [];
-      rest = [];
-      output = record { output = same_output m there ∙ sym (append-nil r.old.output); unended = tt; proper = tt };
-      front = ([], refl);
-      log = opening;
-      is = run.logs image (disk_of m image there left);
-      has = λ e l none. absurd none;
-    };
-    exit = record {
-      logs = λ image is. record { log = opening ++ []; is = whole image is; which = inl refl };
-      doubt = λ one other a b is_one is_other log_a log_b differ. absurd (differ (one_log (shape_in p) one a (opening ++ []) log_a (whole one is_one) ∙ sym (one_log (shape_in p) other b (opening ++ []) log_b (whole other is_other))));
-      nowhere = λ e none. absurd none;
-      block = λ doubt. absurd (none_at doubt.at _ doubt.doubt.there);
     };
     settled = record {
       entries = ([], refl);
@@ -118,6 +117,12 @@ module _ (p : Program) (r : Observed) (opening : List Commit) (run : IsEmptyRun 
       faults = record { votes = λ g. no_fault _; seals = no_fault _ };
       doubted = λ file is. absurd (let e : Done ≡ DiskFault file = sym run.ending ∙ is in cc e);
       ended = λ doubt. absurd (none_at doubt.at _ doubt.doubt.there);
+    };
+    exit = record {
+      logs = λ image is. record { log = opening ++ []; is = whole image is; which = inl refl };
+      doubt = λ one other a b is_one is_other log_a log_b differ. absurd (differ (one_log (shape_in p) one a (opening ++ []) log_a (whole one is_one) ∙ sym (one_log (shape_in p) other b (opening ++ []) log_b (whole other is_other))));
+      nowhere = λ e none. absurd none;
+      block = λ doubt. absurd (none_at doubt.at _ doubt.doubt.there);
     };
     ended = record {
       given = run.given;

@@ -142,6 +142,24 @@ module _ (output : List ℕ) (log grain : FileState) (syncs : ℕ) (past : List 
     counts = failed;
   }
 
+  -- a write there that never began
+  pub unbegun_log : (at n : ℕ) (faults : Channel → ℕ) → at ≤ length log.seen → FailedOn (File manager) (λ channel. 0) faults
+      → IsStep (FailedWrite manager at n) (held [] output (disk_of log grain) syncs past (λ channel. 0)) (held [] output (disk_of log grain) syncs (past ++ moment output (disk_of log grain) ∷ []) faults)
+  unbegun_log at n faults within failed = record {
+    says = record {
+      place = within;
+      written = record {
+        state = record { pends = inr refl; seen = record { before = refl; after = refl; no_shorter = omega arith; no_longer = omega arith } };
+        others = λ f other. refl;
+        input = refl;
+        output = refl;
+        syncs = refl;
+        past = inl refl;
+      };
+    };
+    counts = failed;
+  }
+
   -- a sync of the manager file
   pub synced_log : (input : List ℕ) → IsStep (Sync manager) (held input output (disk_of log grain) syncs past (λ channel. 0)) (held input output (disk_of (settled log.seen) grain) (syncs + 1) (past ++ moment output (disk_of (settled log.seen) grain) ∷ []) (λ channel. 0))
   synced_log input = record {

@@ -15,6 +15,7 @@ pub mod HostSteps
 pub mod WrittenRun
 pub mod DoubtRun
 pub mod WrittenDoubt
+pub mod WrittenUnbegun
 pub mod VoteRun
 pub mod WrittenVote
 pub mod BatchRules

@@ -26,7 +26,7 @@ use Rattle.request_wire.specs.Request.{shape_of, grain_of, method_of, args_of, p
 use Rattle.request_wire.proofs.Arguments.{json_of-read}
 use Rattle.promise_spec.specs.Programs.{ProgramFault, program_in}
 use Rattle.promise_spec.specs.Openings.{with_types, program_in_file}
-use Rattle.promise_spec.specs.Logs.{magic, body_of}
+use Rattle.promise_spec.specs.Logs.{live_slot, magic, body_of}
 use Rattle.promise_spec.specs.Crashes.{IsAside}
 use Rattle.promise_spec.specs.Promise.{IsSoundFolder}
 use Rattle.promise_runs.specs.Examples.{account_text, accounts, account_program, program_bytes, account_1, deposit_of, read_call, first_version, grain_bytes, block_bytes, manager_of, manager_bytes}
@@ -168,7 +168,7 @@ module _ (image : Image) where
       (settled_only grain_bytes (image (Grain 0 account_1)) (left (Grain 0 account_1)))
 
 -- files of other slots, and the program's, are the same on both disks
-pub same_aside : (log grain later_log later_grain : FileState) (file : FileId) → IsAside file → disk_of later_log later_grain file ≡ disk_of log grain file
+pub same_aside : (log grain later_log later_grain : FileState) (file : FileId) → IsAside live_slot file → disk_of later_log later_grain file ≡ disk_of log grain file
 same_aside log grain later_log later_grain (ProgramFile zero) is = refl
 same_aside log grain later_log later_grain (ProgramFile (suc slot)) is = refl
 same_aside log grain later_log later_grain (Manager zero) is = absurd (is refl)

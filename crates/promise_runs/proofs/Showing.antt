@@ -1,9 +1,8 @@
 -- A run that keeps its promise over a sound folder, and kept a journal, shows what has to be shown.
 use Rattle.std.proofs.Common.{◌≡◌, List}
 use Rattle.core_model.specs.World.{Member}
-use Rattle.host_trait.specs.World.{Moment, Image, IsImage, moment_of}
+use Rattle.host_trait.specs.World.{Moment, Image, IsImage, moment_of, last_of}
 use Rattle.promise_spec.specs.Programs.{Program}
-use Rattle.promise_spec.specs.Moments.{last_of}
 use Rattle.promise_spec.specs.Courses.{Observed, Course, moments}
 use Rattle.promise_spec.specs.Journals.{Settlement, Backs, commits_of}
 use Rattle.promise_spec.specs.Promise.{IsSoundFolder, Keeps}
@@ -14,13 +13,13 @@ module _ (p : Program) (r : Observed) (c : Course) (keeps : Keeps p r c) where
   opens : IsSoundFolder p r.old → (some : Image) → IsImage (last_of (moment_of r.old) c.early).disk some → Opens p r c
   opens sound some possible = record {
     folder = sound;
-    read = keeps.ordered.read;
-    opened = λ image left. (keeps.ordered.opened image left).log;
+    read = keeps.headline.ordered.read;
+    opened = λ image left. (keeps.headline.ordered.opened image left).log;
     some = some;
     possible = possible;
-    past = keeps.crashes.past;
-    quiet = keeps.crashes.quiet;
-    before = keeps.crashes.before;
+    past = keeps.headline.crashes.past;
+    quiet = keeps.headline.crashes.quiet;
+    before = keeps.headline.crashes.before;
   }
 
   -- the journal has the records, and the longest log of an image is the order
@@ -30,11 +29,11 @@ module _ (p : Program) (r : Observed) (c : Course) (keeps : Keeps p r c) where
     commits = commits;
     backs = backs;
     kept = kept;
-    batches = keeps.crashes.whole;
-    last = keeps.ordered.longest.image;
-    left = keeps.ordered.longest.left;
-    longest = keeps.ordered.longest.log;
-    alone = keeps.crashes.alone;
+    batches = keeps.records.whole;
+    last = keeps.headline.ordered.longest.image;
+    left = keeps.headline.ordered.longest.left;
+    longest = keeps.headline.ordered.longest.log;
+    alone = keeps.headline.crashes.alone;
   }
 
   explains : Explains p r c
@@ -67,8 +66,8 @@ module _ (p : Program) (r : Observed) (c : Course) (keeps : Keeps p r c) where
     opens = opens sound some possible;
     explains = explains;
     settled = keeps.settled;
-    output = keeps.replies.output;
-    whole = keeps.replies.whole;
+    output = keeps.headline.replies.output;
+    whole = keeps.headline.replies.whole;
     journals = journals journal commits backs kept;
     leaves = leaves;
     ends = ends;

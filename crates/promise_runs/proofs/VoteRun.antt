@@ -23,7 +23,7 @@ use Rattle.host_trait.specs.World.{Moment, Image, IsImage, moment_of}
 use Rattle.silo_spec.specs.Silos.{manager, program_file, HasProgram}
 use Rattle.promise_spec.specs.Programs.{shape_in}
 use Rattle.promise_spec.specs.Records.{AreRecordsOf}
-use Rattle.promise_spec.specs.Logs.{IsPrefix}
+use Rattle.promise_spec.specs.Logs.{live_slot, IsPrefix}
 use Rattle.promise_spec.specs.Moments.{IsImageOf}
 use Rattle.promise_spec.specs.Outputs.{IsProper, Grew, reply_lines}
 use Rattle.promise_spec.specs.Cores.{applied_in, how_many}
@@ -33,9 +33,10 @@ use Rattle.promise_spec.specs.Endings as ending
 use Rattle.promise_spec.specs.Courses.{Observed, Course, moments, lines, core_end}
 use Rattle.promise_spec.specs.Orders.{IsOrdered}
 use Rattle.promise_spec.specs.Replies.{AreReplies, IsTrueOf}
-use Rattle.promise_spec.specs.Crashes.{EndsABatch, LeavesAlone, SurvivesCrashes, HoldsReplies}
+use Rattle.promise_spec.specs.Crashes.{LeavesAlone, SurvivesCrashes, HoldsReplies}
+use Rattle.promise_spec.specs.Batches.{EndsABatch}
 use Rattle.promise_spec.specs.Exits.{IsLeft}
-use Rattle.promise_spec.specs.Explained.{AreSettled, IsExplained}
+use Rattle.promise_spec.specs.Explained.{ComeOfEvents, AreSettled, IsExplained}
 use Rattle.promise_spec.specs.Journals.{Settlement, KeepsJournal, Backs, commits_of, entries_of}
 use Rattle.promise_spec.specs.Promise.{IsSoundFolder, HasEnded, Keeps}
 use Rattle.explained_runs.specs.Obligations.{Shows}
@@ -213,7 +214,6 @@ module _ (r : Observed) (opened : Moment) (failing told : List Moment) (run : Is
     longest = longest account_program [] r.old.output journal (moments r course) run.some (record { moment = moment_of r.new; member = exit_there opened (failing ++ told) (moment_of r.new); left = run.possible }) (run.exit run.some run.possible).0
         (λ m there image left. (known m there image left).0.0);
     serial = tt;
-    family = no_family accounts (lines r) _ _ _;
   }
 
   replies : AreReplies account_program r course
@@ -230,11 +230,11 @@ module _ (r : Observed) (opened : Moment) (failing told : List Moment) (run : Is
   }
 
   -- at each moment other files and the header are as they were
-  alone : (m : Moment) → Member m (moments r course) → LeavesAlone r m
+  alone : (m : Moment) → Member m (moments r course) → LeavesAlone live_slot r m
   alone =
-      at_each (LeavesAlone r) opened (failing ++ told) (moment_of r.new) run.alone.0
-      (both_parts (LeavesAlone r) failing told (all_less (IsBetween r r.old.output HasNone) (LeavesAlone r) failing (λ m is. is.alone) run.unsaid)
-      (all_less (IsBetween r (r.old.output ++ reply_lines (shape_in account_program) (voted_entry ∷ [])) HasNone) (LeavesAlone r) told (λ m is. is.alone) run.first))
+      at_each (LeavesAlone live_slot r) opened (failing ++ told) (moment_of r.new) run.alone.0
+      (both_parts (LeavesAlone live_slot r) failing told (all_less (IsBetween r r.old.output HasNone) (LeavesAlone live_slot r) failing (λ m is. is.alone) run.unsaid)
+      (all_less (IsBetween r (r.old.output ++ reply_lines (shape_in account_program) (voted_entry ∷ [])) HasNone) (LeavesAlone live_slot r) told (λ m is. is.alone) run.first))
       run.alone.1
 
   -- no image of any moment has a record
@@ -253,9 +253,15 @@ module _ (r : Observed) (opened : Moment) (failing told : List Moment) (run : Is
     chain = λ one other a b. chained account_program [] r.old.output journal a.moment b.moment one other (keeps_at one a) (keeps_at other b);
     sound = λ image is. sound account_program [] r.old.output journal is.moment image (keeps_at image is) (known is.moment is.member image is.left).1 tt tt;
     keeps = λ image is. let k = keeps_at image is in record { log = commits_of (k.said ++ k.unsaid); is = k.log; longer = (commits_of (k.said ++ k.unsaid), refl) };
+    alone = alone;
+  }
+
+  -- the records come of the events
+  of_events : ComeOfEvents account_program r course
+  of_events = record {
+    family = no_family accounts (lines r) _ _ _;
     whole = λ image log is log_is.
         subst (EndsABatch (core_end account_program course) []) (one_log (shape_in account_program) image [] log (have_none is.moment is.member image is.left).0 log_is) (no_batch (core_end account_program course) []);
-    alone = alone;
   }
 
   replied : HoldsReplies account_program r course
@@ -345,7 +351,14 @@ module _ (r : Observed) (opened : Moment) (failing told : List Moment) (run : Is
   }
 
   pub kept : Keeps account_program r course
-  kept = record { ordered = ordered; replies = replies; crashes = crashes; holds = replied; exit = exit; settled = written; explained = explained; ended = ended }
+  kept = record {
+    headline = record { ordered = ordered; replies = replies; crashes = crashes; holds = replied };
+    records = of_events;
+    settled = written;
+    explained = explained;
+    exit = exit;
+    ended = ended;
+  }
 
   -- and over a sound folder it shows what has to be shown, where some image was there at the return of the opening's sync
   pub shown : IsSoundFolder account_program r.old → (some : Image) → IsImage opened.disk some → Shows account_program r course

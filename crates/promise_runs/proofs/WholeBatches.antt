@@ -9,7 +9,7 @@ use Rattle.core_model.specs.Answers.{effect_of}
 use Rattle.core_model.specs.Tests.{is_good}
 use Rattle.core_model.specs.World.{UnitNo, Batch, World}
 use Rattle.promise_spec.specs.Records.{Commit, AreRecordsOf}
-use Rattle.promise_spec.specs.Crashes.{EndsABatch, units_in, kept_by}
+use Rattle.promise_spec.specs.Batches.{EndsABatch, units_in, kept_by}
 
 -- the opening log has no batch behind it
 pub no_batch : (w : World) (opening : List Commit) → EndsABatch w opening opening

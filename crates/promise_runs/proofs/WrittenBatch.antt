@@ -24,11 +24,12 @@ use Rattle.host_trait.proofs.Crashes.{settled_only}
 use Rattle.silo_spec.specs.Silos.{manager, program_file, IsSilo}
 use Rattle.promise_spec.specs.Programs.{shape_in}
 use Rattle.promise_spec.specs.Records.{Commit}
-use Rattle.promise_spec.specs.Logs.{magic, IsLog, body_of}
+use Rattle.promise_spec.specs.Logs.{live_slot, magic, IsLog, body_of}
 use Rattle.promise_spec.specs.Outputs.{IsProper, Grew, reply_lines}
 use Rattle.promise_spec.specs.Causes.{RoseBy}
 use Rattle.promise_spec.specs.Courses.{moments, core_end}
-use Rattle.promise_spec.specs.Crashes.{Acknowledges, EndsABatch, LeavesAlone}
+use Rattle.promise_spec.specs.Crashes.{Acknowledges, LeavesAlone}
+use Rattle.promise_spec.specs.Batches.{EndsABatch}
 use Rattle.promise_spec.specs.Explained.{AreSettled}
 use Rattle.promise_spec.specs.Exits.{IsNowhere}
 use Rattle.promise_spec.specs.Replies.{HasNoRecord}
@@ -203,13 +204,13 @@ may_have =
     (λ image left. inr (both_images image left))
 
 -- at each moment other files and the header are as they were
-way_alone : (m : Moment) → IsOnWay m → LeavesAlone batched m
+way_alone : (m : Moment) → IsOnWay m → LeavesAlone live_slot batched m
 way_alone m (inl is) = is.alone
 way_alone m (inr is) = is.alone
 
-alone : (m : Moment) → Member m (moments batched batch_course) → LeavesAlone batched m
+alone : (m : Moment) → Member m (moments batched batch_course) → LeavesAlone live_slot batched m
 alone =
-    at_each (LeavesAlone batched) opened batching (moment_of batch_after) (at_new batched refl [] (settled [])).alone (all_less IsOnWay (LeavesAlone batched) batching way_alone on_way)
+    at_each (LeavesAlone live_slot batched) opened batching (moment_of batch_after) (at_new batched refl [] (settled [])).alone (all_less IsOnWay (LeavesAlone live_slot batched) batching way_alone on_way)
     (alone_of batched refl (reply_text ++ second_text) (settled (manager_of both_block 1)) (settled both_versions) (sealed_front both_block 1))
 
 whole_batches : (image : Image) (log : List Commit) → MayHaveBoth image → IsLog (shape_in account_program) image log → EndsABatch (core_end account_program batch_course) [] log

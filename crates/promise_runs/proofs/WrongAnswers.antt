@@ -8,7 +8,7 @@ use Rattle.core_model.specs.Tests.{is_before}
 use Rattle.core_model.specs.World.{Member}
 use Rattle.host_trait.specs.Faults.{Rose}
 use Rattle.host_trait.specs.declared.channels.Channel.{Channel}
-use Rattle.host_trait.specs.declared.channels.Channel.TheVariants.{File}
+use Rattle.host_trait.specs.declared.channels.Channel.TheVariants.{Input, Output, File}
 use Rattle.host_trait.specs.declared.channels.FileId.{FileId}
 use Rattle.host_trait.specs.declared.channels.FileId.TheVariants as file
 use Rattle.host_trait.specs.World.{Image, IsImage}
@@ -31,7 +31,7 @@ use Rattle.promise_spec.specs.Reports.{show_text, history_text}
 use Rattle.promise_spec.specs.Promise.{Promises}
 use Rattle.promise_spec.specs.Commands.{MakesAs, MakesSilo, MayCut, IsReported, Reports, Audits}
 use Rattle.promise_spec.specs.Loads.{IsUnmadeBy, from_there, Loads}
-use Rattle.promise_spec.specs.Calls.{Understands, Obeys, Serves, AnswersAs}
+use Rattle.promise_spec.specs.Calls.{Understands, Obeys, Serves, GoesOn, AnswersAs}
 use Rattle.promise_spec.proofs.Lists.{in_append}
 use Rattle.promise_spec.proofs.Openings.{log_is_read, no_silo_is_read, sound_is_read, reads_is}
 
@@ -306,3 +306,24 @@ module _ (built : Command → Bool) (takes : Given → Bool) (words : List (List
   fault_uncounted f answers is low same =
       let rose : Rose (old (File f)) (new (File f)) = subst (λ (x : ending.Ending). ending.HasRisen x old new) is answers.risen in
       omega (arith, rose, low, same)
+
+  pub input_passed : AnswersAs built takes words e old new → e ≡ ending.Done → new Input ≢ old Input → ⊥
+  input_passed answers is rose = elim (answers.input rose) [
+    | inl fault ↦ (let z : ending.Done ≡ ending.ReadFault = sym is ∙ fault in absurd (cc z))
+    | inr want ↦ (let z : ending.Done ≡ ending.Memory = sym is ∙ want in absurd (cc z))
+  ]
+
+  pub output_passed : AnswersAs built takes words e old new → e ≡ ending.Done → new Output ≢ old Output → ⊥
+  output_passed answers is rose = elim (answers.output rose) [
+    | inl fault ↦ (let z : ending.Done ≡ ending.WriteFault = sym is ∙ fault in absurd (cc z))
+    | inr want ↦ (let z : ending.Done ≡ ending.Memory = sym is ∙ want in absurd (cc z))
+  ]
+
+  pub made_though : (c : Command) (channel : Channel) → AnswersAs built takes words e old new → Understands built takes words c → ((f : ending.Ending) → GoesOn c f → ⊥)
+      → e ≡ ending.Done → new channel ≢ old channel → ⊥
+  made_though c channel answers says never is rose = rose (subst (λ (x : ending.Ending). ending.HasFailedAs x old new) is (answers.exact c says (never e)) channel)
+
+  pub other_named : (c : Command) (f : FileId) (channel : Channel) → AnswersAs built takes words e old new → Understands built takes words c → ((g : ending.Ending) → GoesOn c g → ⊥)
+      → e ≡ ending.DiskFault f → channel ≢ File f → new channel ≢ old channel → ⊥
+  other_named c f channel answers says never is other rose =
+      rose ((subst (λ (x : ending.Ending). ending.HasFailedAs x old new) is (answers.exact c says (never e))).counts.others channel other)

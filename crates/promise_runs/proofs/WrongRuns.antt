@@ -32,7 +32,7 @@ use Rattle.gate_block.proofs.Logs as blocks
 use Rattle.gate_block.specs.Log.{HasBlocks, LogsUpTo}
 use Rattle.host_trait.specs.declared.channels.FileId.{FileId}
 use Rattle.host_trait.specs.declared.channels.FileId.TheVariants as file
-use Rattle.host_trait.specs.World.{Image, IsImage, Moment, moment_of}
+use Rattle.host_trait.specs.World.{Image, IsImage, Moment, moment_of, last_of}
 use Rattle.request_wire.specs.Names.{names_in}
 use Rattle.request_wire.specs.Request.{call_of}
 use Rattle.request_wire.specs.Reply.{reply_line}
@@ -42,8 +42,8 @@ use Rattle.silo_spec.specs.Silos.{manager, IsSilo}
 use Rattle.promise_spec.specs.Programs.{Program, shape_in}
 use Rattle.promise_spec.specs.Records.{Commit, Standing, States, after_writes, AreRecordsOf}
 use Rattle.promise_spec.specs.Serial.{IsSerial, played}
-use Rattle.promise_spec.specs.Logs.{magic, IsLog, IsPrefix, body_of}
-use Rattle.promise_spec.specs.Moments.{IsImageOf, last_of}
+use Rattle.promise_spec.specs.Logs.{live_slot, magic, IsLog, IsPrefix, body_of}
+use Rattle.promise_spec.specs.Moments.{IsImageOf}
 use Rattle.promise_spec.specs.Lines.{Reads, IsLineCall}
 use Rattle.promise_spec.specs.Outputs.{reply_lines}
 use Rattle.promise_spec.specs.Cores.{AppliesAt, state_before, core_from}
@@ -52,12 +52,14 @@ use Rattle.promise_spec.specs.Family.{states_after}
 use Rattle.promise_spec.specs.Endings as ending
 use Rattle.promise_spec.specs.Courses.{Observed, Course, order, moments, seen_at_entry, lines, opening_standing, core_run, core_end}
 use Rattle.promise_spec.specs.Replies.{IsEntryOf, IsTrueOf, HasNoRecord}
-use Rattle.promise_spec.specs.Crashes.{Acknowledges, IsAside, kept_by}
+use Rattle.promise_spec.specs.Crashes.{Acknowledges, IsAside}
+use Rattle.promise_spec.specs.Batches.{kept_by}
 use Rattle.promise_spec.specs.Explained.{AreAdded}
 use Rattle.promise_spec.specs.Exits.{HasBlock}
 use Rattle.promise_spec.specs.Promise.{Keeps, HasReadAll}
 use Rattle.promise_spec.proofs.Lists.{head_of, none_is, none_at, some_is, each_of, in_append, either_in, get_seam, member_at}
 use Rattle.promise_spec.proofs.Opened.{in_settled, no_events}
+use Rattle.promise_spec.proofs.CountedSyncs.{long_syncs}
 use Rattle.promise_runs.proofs.WholeBatches.{not_between}
 use Rattle.promise_runs.proofs.Emitting.{emitted_before, nothing_unwritten}
 use Rattle.promise_spec.proofs.OneLog.{one_log}
@@ -119,20 +121,20 @@ nothing_added types standing (x ∷ added) (inr follow) l there = absurd (cc fol
 
 module _ (p : Program) (r : Observed) (c : Course) where
   pub read_at_entry : (log : List Commit) → Keeps p r c → IsLog (shape_in p) (seen_at_entry r) log → c.opening ≡ log
-  read_at_entry log keeps is = one_log (shape_in p) (seen_at_entry r) c.opening log keeps.ordered.read is
+  read_at_entry log keeps is = one_log (shape_in p) (seen_at_entry r) c.opening log keeps.headline.ordered.read is
 
   pub opening_is : (image : Image) (log : List Commit) → Keeps p r c → IsImage (last_of (moment_of r.old) c.early).disk image → IsLog (shape_in p) image log → c.opening ≡ log
-  opening_is image log keeps left is = one_log (shape_in p) image c.opening log (keeps.ordered.opened image left).log is
+  opening_is image log keeps left is = one_log (shape_in p) image c.opening log (keeps.headline.ordered.opened image left).log is
 
   pub shorter : (image : Image) (log : List Commit) → Keeps p r c → IsImageOf (moments r c) image → IsLog (shape_in p) image log → (IsPrefix c.opening log → ⊥) → ⊥
   shorter image log keeps left is lost =
-      let k = keeps.crashes.keeps image left in
+      let k = keeps.headline.crashes.keeps image left in
       lost (subst (λ (l : List Commit). IsPrefix c.opening l) (one_log (shape_in p) image k.log log k.is is) k.longer)
 
   pub part_of_batch : (image : Image) (more : List Commit) (n : ℕ) → Keeps p r c → IsImageOf (moments r c) image → IsLog (shape_in p) image (c.opening ++ more)
       → length (kept_by (core_end p c) n) < length more → length more < length (kept_by (core_end p c) (n + 1)) → ⊥
   part_of_batch image more n keeps left is above below =
-      not_between (core_end p c) c.opening more n (keeps.crashes.whole image (c.opening ++ more) left is) above below
+      not_between (core_end p c) c.opening more n (keeps.records.whole image (c.opening ++ more) left is) above below
 
   pub one_of_two : (image : Image) (l : Commit) → Keeps p r c → IsImageOf (moments r c) image → IsLog (shape_in p) image (c.opening ++ (l ∷ [])) → 2 ≤ length (kept_by (core_end p c) 1) → ⊥
   one_of_two image l keeps left is two =
@@ -140,25 +142,28 @@ module _ (p : Program) (r : Observed) (c : Course) where
       let below : length (l ∷ []) < length (kept_by (core_end p c) (0 + 1)) = omega (arith, two) in
       part_of_batch image (l ∷ []) 0 keeps left is (omega (arith, none)) below
 
-  pub more_syncs : Keeps p r c → NoneRose r.faults_before r.faults_after → r.ending ≡ ending.Done → r.old.syncs + syncs_of (core_run p c) < r.new.syncs → ⊥
+  pub more_syncs : Keeps p r c → NoneRose r.faults_before r.faults_after → ending.CountsSyncs r.ending → r.old.syncs + syncs_of (core_run p c) < r.new.syncs → ⊥
   more_syncs keeps calm is more = let same : r.new.syncs ≡ r.old.syncs + syncs_of (core_run p c) = keeps.ended.syncs calm is in omega (arith, same, more)
 
-  pub fewer_syncs : Keeps p r c → NoneRose r.faults_before r.faults_after → r.ending ≡ ending.Done → r.new.syncs < r.old.syncs + syncs_of (core_run p c) → ⊥
+  pub fewer_syncs : Keeps p r c → NoneRose r.faults_before r.faults_after → ending.CountsSyncs r.ending → r.new.syncs < r.old.syncs + syncs_of (core_run p c) → ⊥
   fewer_syncs keeps calm is fewer = let same : r.new.syncs ≡ r.old.syncs + syncs_of (core_run p c) = keeps.ended.syncs calm is in omega (arith, same, fewer)
+
+  pub other_long_syncs : (line : ℕ) → Keeps p r c → NoneRose r.faults_before r.faults_after → r.ending ≡ ending.InputTooLong line → r.new.syncs ≢ r.old.syncs + 1 → ⊥
+  other_long_syncs line keeps calm is differ = differ (long_syncs p r c line keeps calm is)
 
   pub closed : (image : Image) → Keeps p r c → IsImage r.new.disk image → (IsSilo magic (image manager) → ⊥) → ⊥
   closed image keeps left none = none (keeps.exit.logs image left).is.silo
 
-  pub changed_aside : (m : Moment) (f : FileId) → Keeps p r c → Member m (moments r c) → IsAside f → m.disk f ≢ r.old.disk f → ⊥
-  changed_aside m f keeps there aside differ = differ ((keeps.crashes.alone m there).aside f aside)
+  pub changed_aside : (m : Moment) (f : FileId) → Keeps p r c → Member m (moments r c) → IsAside live_slot f → m.disk f ≢ r.old.disk f → ⊥
+  changed_aside m f keeps there aside differ = differ ((keeps.headline.crashes.alone m there).aside f aside)
 
   pub changed_header : (m : Moment) (image : Image) → Keeps p r c → Member m (moments r c) → IsImage m.disk image → take 15 (image manager) ≢ take 15 (seen_at_entry r manager) → ⊥
-  changed_header m image keeps there left differ = differ ((keeps.crashes.alone m there).header image left)
+  changed_header m image keeps there left differ = differ ((keeps.headline.crashes.alone m there).header image left)
 
   pub early_reply : (m : Moment) (image : Image) (more : List ℕ) → Keeps p r c → Member m (moments r c) → IsImage m.disk image → IsLog (shape_in p) image c.opening → m.output ≡ r.old.output ++ more → Member 10 more
       → ((e : Entry) → Member e c.entries → (l : Commit) × Member l c.added × Acknowledges e l × (Member l c.opening → ⊥)) → ⊥
   early_reply m image more keeps there left is grew feed backed =
-      let h = keeps.holds m image there left in
+      let h = keeps.headline.holds m image there left in
       let same : more ≡ reply_lines (shape_in p) h.written ++ h.rest = append_cancel_left r.old.output more (reply_lines (shape_in p) h.written ++ h.rest) (sym grew ∙ h.output.output) in
       let w = written_some (shape_in p) h.written c.entries h.rest more same h.output.unended feed h.front in
       let b = backed w.0 w.2 in
@@ -181,10 +186,10 @@ module _ (p : Program) (r : Observed) (c : Course) where
   ]
 
   pub answered_twice : (front between back : List Entry) (d e : Entry) → Keeps p r c → c.entries ≡ front ++ (d ∷ (between ++ (e ∷ back))) → d.line ≡ e.line → ⊥
-  answered_twice front between back d e keeps split same = twice front between back d e (subst DifferInLine split keeps.replies.once) same
+  answered_twice front between back d e keeps split same = twice front between back d e (subst DifferInLine split keeps.headline.replies.once) same
 
   pub locked_and_logged : (e : Entry) (l : Commit) (by : UnitNo) (grain : GrainId) → Keeps p r c → Member e c.entries → e.what ≡ settled.Lock by grain → Member l c.added → l.logged.unit ≡ e.unit → ⊥
-  locked_and_logged e l by grain keeps there is added same = subst (λ (w : Settled). IsTrueOf p r c e w) is (keeps.replies.true_each e there) l added same
+  locked_and_logged e l by grain keeps there is added same = subst (λ (w : Settled). IsTrueOf p r c e w) is (keeps.headline.replies.true_each e there) l added same
 
   in_order : (image : Image) (log : List Commit) (l : Commit) → Keeps p r c → IsImage r.new.disk image → IsLog (shape_in p) image log → Member l log → Member l (order c)
   in_order image log l keeps left is there =
@@ -198,18 +203,18 @@ module _ (p : Program) (r : Observed) (c : Course) where
   pub refused_in_doubt : (e : Entry) (l : Commit) (image : Image) (log : List Commit) → Keeps p r c → Member e c.entries → e.what ≡ settled.Disk → IsImage r.new.disk image → IsLog (shape_in p) image log → Member l log
       → (Member l c.opening → ⊥) → l.logged.unit ≡ e.unit → ⊥
   refused_in_doubt e l image log keeps there is left log_is in_log not_old same =
-      let none : HasNoRecord c e.unit = subst (λ (w : Settled). IsTrueOf p r c e w) is (keeps.replies.true_each e there) in
+      let none : HasNoRecord c e.unit = subst (λ (w : Settled). IsTrueOf p r c e w) is (keeps.headline.replies.true_each e there) in
       elim (either_in l c.opening c.added (in_order image log l keeps left log_is in_log)) [ inl old ↦ not_old old | inr added ↦ none l added same ]
 
   pub another_block : (image : Image) → Keeps p r c → HasDoubt (core_run p c) → IsImage r.new.disk image
-      → ((gate : ℕ) (batch : List Commit) (batches : List (List Commit)) → AreRecordsOf (chosen (core_end p c)) batch → HasBlocks (map body_of batches) gate (image manager) → HasBlock gate batch image → ⊥) → ⊥
+      → ((gate : ℕ) (batch : List Commit) (batches : List (List Commit)) → AreRecordsOf (chosen (core_end p c)) batch → HasBlocks (map body_of batches) gate (image manager) → HasBlock live_slot gate batch image → ⊥) → ⊥
   another_block image keeps doubt left none =
       let b = keeps.exit.block doubt in
       none b.gate b.batch b.batches b.records (b.front image left) (b.block image left)
 
   pub no_such_line : (l : Commit) (n : ℕ) → Keeps p r c → Member l c.added → l.logged.origin ≡ Line n → length (lines r) < n → ⊥
   no_such_line l n keeps added is beyond =
-      let x = keeps.ordered.family.line l n added is in
+      let x = keeps.records.family.line l n added is in
       let within : x.index < length (lines r) = slice_get_within (lines r) x.index x.text x.there in
       let number : n ≡ x.index + 1 = x.number in
       omega arith
@@ -217,7 +222,7 @@ module _ (p : Program) (r : Observed) (c : Course) where
   pub not_asked : (l parent : Commit) (index depth : ℕ) → Keeps p r c → Member l c.added → Member parent c.added → l.logged.origin ≡ Child parent.logged.unit index depth
       → ((states : States) → (played p.types states parent.logged).asked ≡ []) → ⊥
   not_asked l parent index depth keeps added also is asks_none =
-      let a = keeps.ordered.family.asked l parent index depth added also is in
+      let a = keeps.records.family.asked l parent index depth added also is in
       let none = asks_none (states_after (opening_standing p c).states a.front) in
       none_at index _ (sym (ap (λ asked. slice_get asked index) none) ∙ a.asks)
 
@@ -228,13 +233,13 @@ module _ (p : Program) (r : Observed) (c : Course) where
       → (played p.types (states_after (opening_standing p c).states front) l.logged).result ≢ outcome → ⊥
   wrong_total e l front back outcome keeps there is split of transaction differ =
       let added : Member l c.added = subst (λ (x : List Commit). Member l x) (sym split) (in_append l front (l ∷ back) (inr (inl refl))) in
-      let replays = serial_at p.types (opening_standing p c).states front l back (subst (λ (x : List Commit). IsSerial p.types (opening_standing p c).states x) split keeps.ordered.serial) in
-      elim (subst (λ (w : Settled). IsTrueOf p r c e w) is (keeps.replies.true_each e there)) [
+      let replays = serial_at p.types (opening_standing p c).states front l back (subst (λ (x : List Commit). IsSerial p.types (opening_standing p c).states x) split keeps.headline.ordered.serial) in
+      elim (subst (λ (w : Settled). IsTrueOf p r c e w) is (keeps.headline.replies.true_each e there)) [
         | inl reply ↦
-            let same : reply.commit ≡ l = keeps.ordered.family.one_each reply.commit l e.line reply.added added reply.of.line of.line in
+            let same : reply.commit ≡ l = keeps.records.family.one_each reply.commit l e.line reply.added added reply.of.line of.line in
             differ (replays ∙ ap (λ (x : Commit). x.logged.result) (sym same) ∙ reply.result)
         | inr plain ↦
-            let same : l.logged.call ≡ plain.call = same_call p.types (lines r) e.line l.logged.call plain.call (keeps.ordered.family.line l e.line added of.line) plain.line in
+            let same : l.logged.call ≡ plain.call = same_call p.types (lines r) e.line l.logged.call plain.call (keeps.records.family.line l e.line added of.line) plain.line in
             plain.plain (subst (IsTransaction p.types) same transaction)
       ]
 

@@ -6,7 +6,7 @@ use Rattle.host_trait.specs.World.{Moment, Image, IsImage, moment_of}
 use Rattle.silo_spec.specs.Silos.{program_file, HasProgram}
 use Rattle.request_wire.specs.Lines.{lines_of}
 use Rattle.promise_spec.specs.Programs.{shape_in}
-use Rattle.promise_spec.specs.Logs.{IsLog}
+use Rattle.promise_spec.specs.Logs.{live_slot, IsLog}
 use Rattle.promise_spec.specs.Outputs.{reply_lines}
 use Rattle.promise_spec.specs.Lines.{IsLineCall}
 use Rattle.promise_spec.specs.Endings.{Done, input_limit}
@@ -27,7 +27,7 @@ HasDeposit image =
 pub record IsBetween (r : Observed) (written : List ℕ) (Has : Image → Type 0) (m : Moment) : Type 0 where
   pub output : m.output ≡ written
   pub images : (image : Image) → IsImage m.disk image → Has image
-  pub alone : LeavesAlone r m
+  pub alone : LeavesAlone live_slot r m
 
 -- the image has the deposit or not
 abbrev pub MayHaveDeposit : Image → Type 0
@@ -53,7 +53,7 @@ pub record IsDepositRun (r : Observed) (opened : Moment) (sealing : List Moment)
   pub entry : (image : Image) → IsImage opened.disk image → IsImage r.old.disk image × HasNone image
   pub sealed : AllByRecursion (IsBetween r r.old.output MayHaveDeposit) sealing
   pub logged : (image : Image) → IsImage r.new.disk image → HasDeposit image
-  pub alone : LeavesAlone r opened × LeavesAlone r (moment_of r.new)
+  pub alone : LeavesAlone live_slot r opened × LeavesAlone live_slot r (moment_of r.new)
   pub some : Image
   pub possible : IsImage r.new.disk some
   pub faults : (channel : Channel) → r.faults_after channel ≡ r.faults_before channel

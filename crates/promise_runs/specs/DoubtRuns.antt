@@ -8,7 +8,7 @@ use Rattle.gate_block.specs.Log.{HasBlocks}
 use Rattle.silo_spec.specs.Silos.{manager}
 use Rattle.request_wire.specs.Lines.{lines_of}
 use Rattle.promise_spec.specs.Programs.{shape_in}
-use Rattle.promise_spec.specs.Logs.{IsLog}
+use Rattle.promise_spec.specs.Logs.{live_slot, IsLog}
 use Rattle.promise_spec.specs.Outputs.{reply_lines}
 use Rattle.promise_spec.specs.Endings.{DiskFault, input_limit}
 use Rattle.promise_spec.specs.Crashes.{LeavesAlone}
@@ -42,10 +42,10 @@ pub record IsDoubtRun (r : Observed) (opened : Moment) (told doubting : List Mom
   pub either : AllByRecursion (IsBetween r (first_told r) MayHaveDeposit) doubting
   pub exit : (image : Image) → IsImage r.new.disk image → MayHaveDeposit image
   pub front : (image : Image) → IsImage r.new.disk image → HasBlocks [] 15 (image manager)
-  pub block : (image : Image) → IsImage r.new.disk image → HasBlock 15 (first_commit ∷ []) image
+  pub block : (image : Image) → IsImage r.new.disk image → HasBlock live_slot 15 (first_commit ∷ []) image
   pub differ : (one other : Image) → IsImage r.new.disk one → IsImage r.new.disk other →
       DifferAt 15 (one manager) (other manager)
-  pub alone : LeavesAlone r opened × LeavesAlone r (moment_of r.new)
+  pub alone : LeavesAlone live_slot r opened × LeavesAlone live_slot r (moment_of r.new)
   pub some : Image
   pub possible : IsImage r.new.disk some
   pub there : HasDeposit some

@@ -5,7 +5,7 @@ use Rattle.host_trait.specs.World.{Image, IsImage, moment_of}
 use Rattle.request_wire.specs.Lines.{lines_of}
 use Rattle.promise_spec.specs.Programs.{Program, shape_in}
 use Rattle.promise_spec.specs.Records.{Commit}
-use Rattle.promise_spec.specs.Logs.{IsLog}
+use Rattle.promise_spec.specs.Logs.{live_slot, IsLog}
 use Rattle.promise_spec.specs.Images.{IsSoundIfSilo}
 use Rattle.promise_spec.specs.Endings.{Done}
 use Rattle.promise_spec.specs.Crashes.{LeavesAlone}
@@ -26,7 +26,7 @@ pub record IsEmptyRun (p : Program) (r : Observed) (opening : List Commit) : Typ
   pub entry : (image : Image) → IsImage r.new.disk image → IsImage r.old.disk image
   pub logs : (image : Image) → IsImage r.new.disk image → IsLog (shape_in p) image opening
   pub sound : (image : Image) → IsImage r.new.disk image → IsSoundIfSilo p image
-  pub alone : LeavesAlone r (moment_of r.new)
+  pub alone : LeavesAlone live_slot r (moment_of r.new)
   pub some : Image
   pub possible : IsImage r.new.disk some
   pub faults : (channel : Channel) → r.faults_after channel ≡ r.faults_before channel

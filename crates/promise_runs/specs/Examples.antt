@@ -30,6 +30,7 @@ use Rattle.promise_spec.specs.Records.{Commit, new_silo}
 use Rattle.promise_spec.specs.Logs.{magic}
 use Rattle.promise_spec.specs.Lines.{IsLineCall}
 use Rattle.promise_spec.specs.Cores.{core_from}
+use Rattle.promise_spec.specs.UnitRule.{Basis}
 
 -- the text of a program
 abbrev pub account_text : List ℕ
@@ -258,6 +259,10 @@ pub record AskBoth (lines : List (List ℕ)) : Type 0 where
 -- the core's run of these events over an empty log
 abbrev pub account_run : List CoreEvent → Run
 account_run events = core_from accounts (new_silo accounts) events
+
+-- what the unit rule is told of it, where these lines are asked
+abbrev pub account_basis : List (List ℕ) → Basis
+account_basis lines = record { types = accounts; lines = lines; opening = new_silo accounts }
 
 -- the lines 1 and 2 ask for deposits of 5 and 4
 pub record AskDeposits (lines : List (List ℕ)) : Type 0 where

@@ -6,6 +6,7 @@ pub mod HostCalls
 pub mod WrittenRun
 pub mod DoubtRuns
 pub mod WrittenDoubt
+pub mod WrittenUnbegun
 pub mod VoteRuns
 pub mod WrittenVote
 pub mod WrittenBatch

@@ -7,7 +7,7 @@ use Rattle.host_trait.specs.declared.channels.FileId.TheVariants.{Grain}
 use Rattle.host_trait.specs.World.{Moment, Image, IsImage, moment_of}
 use Rattle.request_wire.specs.Lines.{lines_of}
 use Rattle.promise_spec.specs.Programs.{shape_in}
-use Rattle.promise_spec.specs.Logs.{IsLog}
+use Rattle.promise_spec.specs.Logs.{live_slot, IsLog}
 use Rattle.promise_spec.specs.Outputs.{reply_lines}
 use Rattle.promise_spec.specs.Endings.{Done, input_limit}
 use Rattle.promise_spec.specs.Crashes.{LeavesAlone}
@@ -34,7 +34,7 @@ pub record IsVoteRun (r : Observed) (opened : Moment) (failing told : List Momen
   pub unsaid : AllByRecursion (IsBetween r r.old.output HasNone) failing
   pub first : AllByRecursion (IsBetween r (r.old.output ++ reply_lines (shape_in account_program) (voted_entry ∷ [])) HasNone) told
   pub exit : (image : Image) → IsImage r.new.disk image → HasNone image
-  pub alone : LeavesAlone r opened × LeavesAlone r (moment_of r.new)
+  pub alone : LeavesAlone live_slot r opened × LeavesAlone live_slot r (moment_of r.new)
   pub some : Image
   pub possible : IsImage r.new.disk some
   pub rose : r.faults_after (File (Grain 0 account_1)) ≡ r.faults_before (File (Grain 0 account_1)) + 1

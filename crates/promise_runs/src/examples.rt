@@ -1,6 +1,7 @@
 ghost use Rattle.std.specs.Prelude.{◌≡◌, ◌≢◌, ℕ, true, List, [], ◌∷◌, ◌++◌, codes, length, None, pos, take, drop, slice_get, Some, Err};
 ghost use Rattle.base_types.specs.declared.calls.Value.{Value};
 ghost use Rattle.base_types.specs.declared.calls.Value.TheVariants.{Int};
+ghost use Rattle.core_model.specs.World.{Member};
 ghost use Rattle.field_codec.specs.Spelling.{spelling_of_version};
 ghost use Rattle.gate_block.specs.Blocks.{block_of};
 ghost use Rattle.request_wire.specs.Reply.{reply_line};
@@ -8,7 +9,7 @@ ghost use Rattle.promise_spec.specs.Programs.{Program, IsChecked, shape_in, prog
 ghost use Rattle.promise_spec.specs.Records.{Commit, new_silo, standing_of};
 ghost use Rattle.promise_spec.specs.Serial.{IsSerial};
 ghost use Rattle.promise_spec.specs.Logs.{magic, IsLog, IsKept, body_of};
-ghost use Rattle.promise_spec.specs.Courses.{Observed, lines, seen_at_entry, core_end};
+ghost use Rattle.promise_spec.specs.Courses.{Observed, lines, moments, seen_at_entry, core_end};
 ghost use Rattle.promise_spec.specs.Promise.{Keeps, IsSoundFolder, Promises};
 ghost use Rattle.explained_runs.specs.Obligations.{Shows};
 ghost use Rattle.promise_spec.specs.Openings.{NoSilo, DamagedAt, Reads, opened_as};
@@ -16,9 +17,10 @@ ghost use Rattle.promise_spec.specs.Words.{plain_manner, Command, Say};
 ghost use Rattle.promise_runs.specs.HostCalls.{IsHosted};
 ghost use Rattle.promise_runs.specs.WrittenRun.{opened, sealing, written, written_steps};
 ghost use Rattle.promise_runs.specs.WrittenDoubt.{pair_manner, told, doubting, doubted, doubted_steps};
+ghost use Rattle.promise_runs.specs.WrittenUnbegun.{unbegun, unbegun_course, unbegun_steps};
 ghost use Rattle.promise_runs.specs.WrittenVote.{reading_manner, failing, vote_told, voted, voted_steps};
 ghost use Rattle.promise_runs.specs.WrittenBatch.{both_commits, both_block, batched, batch_course, batched_steps};
-ghost use Rattle.promise_spec.specs.Crashes.{EndsABatch};
+ghost use Rattle.promise_spec.specs.Batches.{EndsABatch};
 ghost use Rattle.promise_runs.specs.WrittenRefusal.{refused, refused_steps};
 ghost use Rattle.promise_runs.specs.WrittenInit.{init_words, made, made_steps, made_again, again_steps, cut_text, cut_fault, unmade, unmade_steps, halted, halted_steps, other_words, unused};
 ghost use Rattle.promise_spec.specs.Commands.{MakesSilo};
@@ -40,7 +42,7 @@ ghost use Rattle.host_trait.specs.declared.channels.FileId.TheVariants.{Grain};
 ghost use Rattle.silo_spec.specs.Silos.{manager, program_file, IsSilo, IsNewSilo, IsNewIfSilo};
 ghost use Rattle.promise_runs.specs.Readings.{changed, folder_of, program_folder, log_folder, log_changed, grain_folder, program_with, two_writes, same_account, version_by, two_folder};
 ghost use Rattle.promise_spec.specs.Reports.{show_text, history_text, audit_text};
-ghost use Rattle.promise_runs.specs.Examples.{accounts, account_program, program_bytes, account_1, account_2, deposit_call, first_commit, next_commit, first_version, grain_bytes, block_bytes, manager_bytes, folder, torn_folder, deposit, first_entry, deposit_events, conflict_events, conflict_entries, account_run, AskDeposits, vote_events, vote_entries, AskBoth};
+ghost use Rattle.promise_runs.specs.Examples.{accounts, account_program, program_bytes, account_1, account_2, deposit_call, first_commit, next_commit, first_version, grain_bytes, block_bytes, manager_bytes, folder, torn_folder, deposit, first_entry, deposit_events, conflict_events, conflict_entries, account_run, account_basis, AskDeposits, vote_events, vote_entries, AskBoth};
 ghost use Rattle.core_model.specs.Legal.{ends};
 ghost use Rattle.promise_spec.specs.Lines.{IsLineCall};
 ghost use Rattle.promise_spec.specs.UnitRule.{KeepsUnitRule};
@@ -100,9 +102,9 @@ pub fn empty_runs_keep()
 /// Two runs of the core keep both rules: one deposit at width 1, and two at width 2, of which the second meets the first
 /// one's lock and dies, and the first is left in doubt. With other picks, or at width 1, the second list keeps no turns.
 pub fn deposits_keep_the_rules()
-    ensures one_unit { (lines : List (List ℕ)) → IsLineCall accounts lines 1 deposit_call → KeepsUnitRule accounts lines (account_run deposit_events) }
+    ensures one_unit { (lines : List (List ℕ)) → IsLineCall accounts lines 1 deposit_call → KeepsUnitRule (account_basis lines) (account_run deposit_events) }
     ensures one_turn { KeepsTurnRule accounts 1 1 [] (account_run deposit_events) }
-    ensures two_unit { (lines : List (List ℕ)) → AskDeposits lines → KeepsUnitRule accounts lines (account_run conflict_events) }
+    ensures two_unit { (lines : List (List ℕ)) → AskDeposits lines → KeepsUnitRule (account_basis lines) (account_run conflict_events) }
     ensures two_turn { KeepsTurnRule accounts 2 2 (0 ∷ 1 ∷ 1 ∷ []) (account_run conflict_events) }
     ensures settled { (ends (account_run conflict_events)).manager.settled ≡ conflict_entries }
     ensures picks { KeepsTurnRule accounts 2 2 [] (account_run conflict_events) → ⊥ }
@@ -122,7 +124,7 @@ pub fn doubt_runs_keep()
 /// A third run keeps both rules: a deposit, and a read of what it left before it is logged. The deposit's file can't be
 /// written, so the deposit is aborted for its vote and the read for what it depends on.
 pub fn votes_keep_the_rules()
-    ensures unit { (lines : List (List ℕ)) → AskBoth lines → KeepsUnitRule accounts lines (account_run vote_events) }
+    ensures unit { (lines : List (List ℕ)) → AskBoth lines → KeepsUnitRule (account_basis lines) (account_run vote_events) }
     ensures turn { KeepsTurnRule accounts 2 2 [] (account_run vote_events) }
     ensures settled { (ends (account_run vote_events)).manager.settled ≡ vote_entries }
 {}
@@ -158,6 +160,17 @@ pub fn a_doubt_is_written_out()
     ensures kept { Keeps account_program doubted (doubt_course opened told doubting doubted) }
     ensures promised { Promises pair_manner doubted }
     ensures hosted { IsHosted doubted doubted_steps }
+{}
+
+/// And so is that run where the write of the gate fails and never began, as a host may answer: no image has a record at any moment, and
+/// the deposit's line is told to be in doubt all the same. It shows what a run has to show.
+pub fn an_unbegun_doubt_is_written_out()
+    ensures none { (m : Moment) (image : Image) → Member m (moments unbegun unbegun_course) → IsImage m.disk image
+        → IsLog (shape_in account_program) image [] }
+    ensures shown { Shows account_program unbegun unbegun_course }
+    ensures kept { Keeps account_program unbegun unbegun_course }
+    ensures promised { Promises pair_manner unbegun }
+    ensures hosted { IsHosted unbegun unbegun_steps }
 {}
 
 /// And so is a run of a deposit whose version can't be written, and of a read of what it left.

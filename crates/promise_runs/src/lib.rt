@@ -3,7 +3,7 @@
 //!
 //! `Examples` has a silo of accounts and lists of core events, `Transfers` a silo of a bank; `EmptyRuns`, `DepositRuns`,
 //! `DoubtRuns` and `VoteRuns` say what a run of each kind shows, and which course it took. `WrittenRun`,
-//! `WrittenDoubt`, `WrittenVote` and `WrittenRefusal` have such runs and a refusal, and `WrittenBatch` a run with a batch of
+//! `WrittenDoubt`, `WrittenUnbegun`, `WrittenVote` and `WrittenRefusal` have such runs and a refusal, and `WrittenBatch` a run with a batch of
 //! two, written out with the host's calls that `HostCalls` tells of. `WrittenInit` has calls of `init`, and the answer to words
 //! that say nothing. `Readings` has folders, each with a small damage.
 #![tactic(auto)]
@@ -15,10 +15,11 @@ pub use examples::{
     a_batch_is_written_out, a_doubt_is_written_out, a_failed_init_is_written_out,
     a_refusal_is_written_out, a_refused_init_is_written_out, a_run_is_written_out,
     a_run_shows_enough, a_second_init_is_written_out, a_vote_is_written_out,
-    an_init_is_written_out, bad_use_is_written_out, deposit_runs_keep, deposits_are_serial,
-    deposits_keep_the_rules, doubt_runs_keep, empty_runs_keep, first_deposit_reads,
-    folders_read_so, loads_draw_and_sum, reports_tell_the_first_deposit, the_bank_is_a_program,
-    torn_folders_have_no_log, transfers_read, vote_runs_keep, votes_keep_the_rules,
+    an_init_is_written_out, an_unbegun_doubt_is_written_out, bad_use_is_written_out,
+    deposit_runs_keep, deposits_are_serial, deposits_keep_the_rules, doubt_runs_keep,
+    empty_runs_keep, first_deposit_reads, folders_read_so, loads_draw_and_sum,
+    reports_tell_the_first_deposit, the_bank_is_a_program, torn_folders_have_no_log,
+    transfers_read, vote_runs_keep, votes_keep_the_rules,
 };
 pub use wrong_runs::{
     aborted_units_have_no_record, aborts_have_causes, bad_use_is_said_by_words, batches_are_small,

@@ -19,10 +19,10 @@ ghost use Rattle.core_model.specs.Tests.{is_before};
 ghost use Rattle.core_model.specs.World.{Member, Mode};
 ghost use Rattle.gate_block.specs.Log.{HasBlocks, LogsUpTo};
 ghost use Rattle.host_trait.specs.declared.channels.Channel.{Channel};
-ghost use Rattle.host_trait.specs.declared.channels.Channel.TheVariants.{File};
+ghost use Rattle.host_trait.specs.declared.channels.Channel.TheVariants.{Input, Output, File};
 ghost use Rattle.host_trait.specs.declared.channels.FileId.{FileId};
 ghost use Rattle.host_trait.specs.declared.channels.FileId.TheVariants as file;
-ghost use Rattle.host_trait.specs.World.{Image, IsImage, Moment, moment_of};
+ghost use Rattle.host_trait.specs.World.{Image, IsImage, Moment, moment_of, last_of};
 ghost use Rattle.request_wire.specs.Lines.{lines_of};
 ghost use Rattle.request_wire.specs.Reply.{reply_line};
 ghost use Rattle.script_meaning.specs.Play.{IsTransaction};
@@ -34,8 +34,8 @@ ghost use Rattle.promise_spec.specs.Words.{Given, Command, Manner};
 ghost use Rattle.promise_spec.specs.Refusals.{IsUnopened, IsNamedIn};
 ghost use Rattle.promise_spec.specs.Records.{Commit, States, AreRecordsOf};
 ghost use Rattle.promise_spec.specs.Serial.{played};
-ghost use Rattle.promise_spec.specs.Logs.{magic, IsLog, IsPrefix, body_of};
-ghost use Rattle.promise_spec.specs.Moments.{IsImageOf, last_of};
+ghost use Rattle.promise_spec.specs.Logs.{live_slot, magic, IsLog, IsPrefix, body_of};
+ghost use Rattle.promise_spec.specs.Moments.{IsImageOf};
 ghost use Rattle.promise_spec.specs.Lines.{IsLineCall};
 ghost use Rattle.promise_spec.specs.Cores.{AppliesAt, state_before};
 ghost use Rattle.promise_spec.specs.Causes.{HasDoubt, IsAlive, NoneRose, syncs_of};
@@ -43,11 +43,12 @@ ghost use Rattle.promise_spec.specs.Family.{states_after};
 ghost use Rattle.promise_spec.specs.Endings as ending;
 ghost use Rattle.promise_spec.specs.Courses.{Observed, Course, order, moments, seen_at_entry, lines, opening_standing, core_run, core_end};
 ghost use Rattle.promise_spec.specs.Replies.{IsEntryOf};
-ghost use Rattle.promise_spec.specs.Crashes.{Acknowledges, IsAside, kept_by};
+ghost use Rattle.promise_spec.specs.Crashes.{Acknowledges, IsAside};
+ghost use Rattle.promise_spec.specs.Batches.{kept_by};
 ghost use Rattle.promise_spec.specs.Exits.{HasBlock};
 ghost use Rattle.promise_spec.specs.Promise.{Keeps, Promises};
 ghost use Rattle.promise_spec.specs.Commands.{MakesSilo, Reports};
-ghost use Rattle.promise_spec.specs.Calls.{Understands, Serves, AnswersAs};
+ghost use Rattle.promise_spec.specs.Calls.{Understands, Serves, GoesOn, AnswersAs};
 ghost use Rattle.promise_spec.specs.Loads.{KeepsLoad, summary_text};
 
 /// The opening log is the disk's: no run can take another for it, as one that answers from an old log again would, or one
@@ -80,13 +81,15 @@ pub fn batches_are_whole()
         → 2 ≤ length (kept_by (core_end p c) 1) → ⊥ }
 {}
 
-/// No run or load keeps its promise that is done with no count risen, and asks for more syncs than the opening's, one for each
-/// vote, and two for each batch on disk; or for fewer.
+/// No run or load keeps its promise that is done, or whose input is too long, with no count risen, and asks for more syncs than the
+/// opening's, one for each vote, and two for each batch on disk; or for fewer. An input too long asks for the opening's alone.
 pub fn calm_runs_sync_once()
-    ensures more { (p : Program) (r : Observed) (c : Course) → Keeps p r c → NoneRose r.faults_before r.faults_after → r.ending ≡ ending.Done
+    ensures more { (p : Program) (r : Observed) (c : Course) → Keeps p r c → NoneRose r.faults_before r.faults_after → ending.CountsSyncs r.ending
         → r.old.syncs + syncs_of (core_run p c) < r.new.syncs → ⊥ }
-    ensures fewer { (p : Program) (r : Observed) (c : Course) → Keeps p r c → NoneRose r.faults_before r.faults_after → r.ending ≡ ending.Done
+    ensures fewer { (p : Program) (r : Observed) (c : Course) → Keeps p r c → NoneRose r.faults_before r.faults_after → ending.CountsSyncs r.ending
         → r.new.syncs < r.old.syncs + syncs_of (core_run p c) → ⊥ }
+    ensures long { (p : Program) (r : Observed) (c : Course) (line : ℕ) → Keeps p r c → NoneRose r.faults_before r.faults_after
+        → r.ending ≡ ending.InputTooLong line → r.new.syncs ≢ r.old.syncs + 1 → ⊥ }
     ensures load { (p : Program) (n seed : ℕ) (r : Observed) (c : Course) → KeepsLoad p n seed r c → NoneRose r.faults_before r.faults_after
         → r.ending ≡ ending.Done → r.new.syncs ≢ r.old.syncs + syncs_of (core_run p c) → ⊥ }
 {}
@@ -95,7 +98,7 @@ pub fn calm_runs_sync_once()
 /// header before the first gate.
 pub fn other_files_stay()
     ensures aside { (p : Program) (r : Observed) (c : Course) (m : Moment) (f : FileId) → Keeps p r c → Member m (moments r c)
-        → IsAside f → m.disk f ≢ r.old.disk f → ⊥ }
+        → IsAside live_slot f → m.disk f ≢ r.old.disk f → ⊥ }
     ensures header { (p : Program) (r : Observed) (c : Course) (m : Moment) (image : Image) → Keeps p r c → Member m (moments r c)
         → IsImage m.disk image → take 15 (image manager) ≢ take 15 (seen_at_entry r manager) → ⊥ }
 {}
@@ -142,7 +145,7 @@ pub fn aborted_units_have_no_record()
 pub fn the_block_in_doubt_is_the_batchs()
     ensures { (p : Program) (r : Observed) (c : Course) (image : Image) → Keeps p r c → HasDoubt (core_run p c) → IsImage r.new.disk image
         → ((gate : ℕ) (batch : List Commit) (batches : List (List Commit)) → AreRecordsOf (chosen (core_end p c)) batch
-        → HasBlocks (map body_of batches) gate (image manager) → HasBlock gate batch image → ⊥) → ⊥ }
+        → HasBlocks (map body_of batches) gate (image manager) → HasBlock live_slot gate batch image → ⊥) → ⊥ }
 {}
 
 /// No run keeps the promise that adds a record of a line that isn't there, or of a child for which its parent's play doesn't
@@ -231,7 +234,8 @@ pub fn words_are_answered()
 
 /// Over any host, one that tells nothing of what it holds too: no answer is right that calls words bad use that say a command,
 /// that answers other words otherwise, but for want of memory, or lets a count of faults rise for them, or that ends with a file's fault though its count,
-/// below its last value, is what it was.
+/// below its last value, is what it was; that is done though a call on the input or the output failed, or that has made a silo, or
+/// reported one, though any call failed; or that names one fault though a call on another channel failed, where it carries no lines.
 pub fn bad_use_is_said_by_words()
     ensures said { (built : Command → Bool) (takes : Given → Bool) (words : List (List ℕ)) (e : ending.Ending) (old new : Channel → ℕ) (c : Command)
         → AnswersAs built takes words e old new → Understands built takes words c → e ≡ ending.BadUse → ⊥ }
@@ -241,6 +245,16 @@ pub fn bad_use_is_said_by_words()
         → AnswersAs built takes words e old new → ((c : Command) → Understands built takes words c → ⊥) → new channel ≢ old channel → ⊥ }
     ensures fault { (built : Command → Bool) (takes : Given → Bool) (words : List (List ℕ)) (e : ending.Ending) (old new : Channel → ℕ) (f : FileId)
         → AnswersAs built takes words e old new → e ≡ ending.DiskFault f → old (File f) < 2 ^ 64 - 1 → new (File f) ≡ old (File f) → ⊥ }
+    ensures input { (built : Command → Bool) (takes : Given → Bool) (words : List (List ℕ)) (e : ending.Ending) (old new : Channel → ℕ)
+        → AnswersAs built takes words e old new → e ≡ ending.Done → new Input ≢ old Input → ⊥ }
+    ensures output { (built : Command → Bool) (takes : Given → Bool) (words : List (List ℕ)) (e : ending.Ending) (old new : Channel → ℕ)
+        → AnswersAs built takes words e old new → e ≡ ending.Done → new Output ≢ old Output → ⊥ }
+    ensures made { (built : Command → Bool) (takes : Given → Bool) (words : List (List ℕ)) (e : ending.Ending) (old new : Channel → ℕ) (c : Command) (channel : Channel)
+        → AnswersAs built takes words e old new → Understands built takes words c → ((f : ending.Ending) → GoesOn c f → ⊥) → e ≡ ending.Done
+        → new channel ≢ old channel → ⊥ }
+    ensures named { (built : Command → Bool) (takes : Given → Bool) (words : List (List ℕ)) (e : ending.Ending) (old new : Channel → ℕ) (c : Command) (f : FileId) (channel : Channel)
+        → AnswersAs built takes words e old new → Understands built takes words c → ((g : ending.Ending) → GoesOn c g → ⊥) → e ≡ ending.DiskFault f
+        → channel ≢ File f → new channel ≢ old channel → ⊥ }
 {}
 
 /// No run keeps the promise in which anything begins before the input is read whole, or where it is too long, or couldn't be

@@ -96,7 +96,7 @@ serial_front : (types : ProgramTree) (states : States) (a b : List Commit) → I
 serial_front types states [] b serial = tt
 serial_front types states (c ∷ a) b serial = (serial.0, serial_front types (after_writes states c) a b serial.1)
 
-numbered_front : (first : ℕ) (a b : List Commit) → AreNumbered first (a ++ b) → AreNumbered first a
+pub numbered_front : (first : ℕ) (a b : List Commit) → AreNumbered first (a ++ b) → AreNumbered first a
 numbered_front first [] b numbered = tt
 numbered_front first (c ∷ a) b numbered = (numbered.0, numbered.1, (parts_of _ a b numbered.2).0, numbered_front first a b numbered.3)
 

@@ -9,4 +9,11 @@ pub mod Openings
 pub mod Doubts
 pub mod Quiet
 pub mod Words
+pub mod Standings
+pub mod Stepping
 pub mod Opened
+pub mod CountedSyncs
+pub mod SettledLogs
+pub mod SoundFolders
+pub mod Backing
+pub mod DoubtImages

@@ -40,13 +40,13 @@ module _ (p : Program) (r : Observed) (c : Course) (keeps : Keeps p r c) where
   has_answered : r.ending ≡ ending.Done → HasAnswered p r
   has_answered is =
       let done = keeps.ended.done is in
-      let whole : c.rest ≡ [] = keeps.replies.whole (λ fault. let e : ending.Done ≡ ending.WriteFault = sym is ∙ fault in absurd (cc e)) in
+      let whole : c.rest ≡ [] = keeps.headline.replies.whole (λ fault. let e : ending.Done ≡ ending.WriteFault = sym is ∙ fault in absurd (cc e)) in
       record {
         input = done.input;
         entries = c.entries;
-        output = subst (λ (rest : List ℕ). Grew (shape_in p) r.old.output r.new.output c.entries rest) whole keeps.replies.output;
-        once = keeps.replies.once;
-        within = λ e there. subst (λ (lines : List (List ℕ)). (1 ≤ e.line) × (e.line ≤ length lines)) keeps.ended.given (keeps.replies.within e there);
+        output = subst (λ (rest : List ℕ). Grew (shape_in p) r.old.output r.new.output c.entries rest) whole keeps.headline.replies.output;
+        once = keeps.headline.replies.once;
+        within = λ e there. subst (λ (lines : List (List ℕ)). (1 ≤ e.line) × (e.line ≤ length lines)) keeps.ended.given (keeps.headline.replies.within e there);
         each = λ n low high. done.answered n low (subst (λ (lines : List (List ℕ)). n ≤ length lines) (sym keeps.ended.given) high);
       }
 
@@ -54,8 +54,8 @@ module _ (p : Program) (r : Observed) (c : Course) (keeps : Keeps p r c) where
   nothing_said : (ending.IsBegun r.ending → ⊥) → r.new.output ≡ r.old.output
   nothing_said never =
       let none : c.entries ≡ [] = no_member c.entries (λ e there. unbegun_entry p r c e keeps never there) in
-      let whole : c.rest ≡ [] = keeps.replies.whole (λ fault. never (subst ending.IsBegun (sym fault) tt)) in
-      keeps.replies.output.output
+      let whole : c.rest ≡ [] = keeps.headline.replies.whole (λ fault. never (subst ending.IsBegun (sym fault) tt)) in
+      keeps.headline.replies.output.output
       ∙ ap (λ (entries : List Entry). r.old.output ++ (reply_lines (shape_in p) entries ++ c.rest)) none
       ∙ ap (λ (rest : List ℕ). r.old.output ++ rest) whole
       ∙ append-nil r.old.output

@@ -2,18 +2,18 @@
 use Rattle.std.proofs.Common.{◌≡◌, ◌≢◌, ◌⊎◌, inl, inr, ℕ, ◌+◌, List, [], ◌∷◌, ◌++◌, map, refl, sym, ap, subst, ◌∙◌}
 use Rattle.std.proofs.lemmas.List.{append-nil}
 use Rattle.core_model.specs.World.{Member, World as CoreWorld}
-use Rattle.host_trait.specs.World.{Moment, Image, IsImage, moment_of}
+use Rattle.host_trait.specs.World.{Moment, Image, IsImage, moment_of, last_of}
 use Rattle.promise_spec.specs.Programs.{Program, shape_in}
 use Rattle.promise_spec.specs.Records.{Commit}
 use Rattle.promise_spec.specs.Logs.{IsLog}
 use Rattle.promise_spec.specs.Causes.{syncs_of}
-use Rattle.promise_spec.specs.Moments.{IsImageOf, last_of}
-use Rattle.promise_spec.specs.Endings.{Done, WriteFault, IsBegun, IsAllWritten, MayDoubt}
+use Rattle.promise_spec.specs.Moments.{IsImageOf}
+use Rattle.promise_spec.specs.Endings.{Done, WriteFault, CountsSyncs, IsBegun, IsAllWritten, MayDoubt}
 use Rattle.promise_spec.specs.Courses.{Observed, Course, order, moments, lines, core_run, core_end}
 use Rattle.promise_spec.specs.Orders.{IsOrdered}
 use Rattle.promise_spec.specs.Crashes.{SurvivesCrashes}
 use Rattle.promise_spec.specs.Exits.{IsLeft, LacksDoubtful}
-use Rattle.promise_spec.specs.Explained.{IsExplained}
+use Rattle.promise_spec.specs.Explained.{ComeOfEvents, IsExplained}
 use Rattle.promise_spec.specs.Promise.{Keeps}
 use Rattle.promise_spec.specs.Commands.{Prints}
 use Rattle.promise_spec.specs.Loads.{AskFor, HasLoaded, KeepsLoad, IsQuietRun, load_calls, quieted, quiet_course, summary_text}
@@ -140,7 +140,6 @@ module _ (p : Program) (r s : Observed) (c : Course) (told : List Moment) (told_
       longest = λ other is. k.longest.longest other (of_run other is);
     };
     serial = k.serial;
-    family = k.family;
   }
 
   crashes : (alike r s).new.past ≡ s.old.past ++ (c.early ++ (map (quieted r.old.output) c.late ++ told)) → SurvivesCrashes p r c → SurvivesCrashes p (alike r s) (quiet_course r c told)
@@ -151,7 +150,6 @@ module _ (p : Program) (r s : Observed) (c : Course) (told : List Moment) (told_
     chain = λ one other is_one is_other. k.chain one other (of_run one is_one) (of_run other is_other);
     sound = λ image is. k.sound image (of_run image is);
     keeps = λ image is. let o = k.keeps image (of_run image is) in record { log = o.log; is = o.is; longer = o.longer };
-    whole = λ image log is is_log. let o = k.whole image log (of_run image is) is_log in record { batches = o.batches; more = o.more; split = o.split; records = o.records };
     alone = λ m there.
         let h = to_run m there in
         let o = k.alone h.moment h.member in
@@ -159,6 +157,12 @@ module _ (p : Program) (r s : Observed) (c : Course) (told : List Moment) (told_
           aside = λ file is. ap (λ d. d file) h.disk ∙ o.aside file is;
           header = λ image is. o.header image (subst (λ d. IsImage d image) h.disk is);
         };
+  }
+
+  records : ComeOfEvents p r c → ComeOfEvents p (alike r s) (quiet_course r c told)
+  records k = record {
+    family = k.family;
+    whole = λ image log is is_log. let o = k.whole image log (of_run image is) is_log in record { batches = o.batches; more = o.more; split = o.split; records = o.records };
   }
 
   lacks : (w : CoreWorld) (log : _) → LacksDoubtful c w log → LacksDoubtful (quiet_course r c told) w log
@@ -212,7 +216,7 @@ module _ (p : Program) (r s : Observed) (c : Course) (told : List Moment) (told_
       ]
 
   lasting : Keeps p r c → r.ending ≡ Done → (m : Moment) (image : Image) → Member m (moments (alike r s) (quiet_course r c told)) → IsImage m.disk image → m.output ≢ r.old.output → IsLog (shape_in p) image (order c)
-  lasting k done m image there left said = elim (unsaid_or_left k.crashes m there) [
+  lasting k done m image there left said = elim (unsaid_or_left k.headline.crashes m there) [
     | inl quiet ↦ absurd (said quiet)
     | inr same ↦ whole_order k done image (subst (λ d. IsImage d image) same left)
   ]
@@ -226,7 +230,7 @@ module _ (p : Program) (r s : Observed) (c : Course) (told : List Moment) (told_
     undoubted = λ fault doubt. absurd (let e : Done ≡ WriteFault = sym done ∙ fault in cc e);
     complete = λ calm. let o = k.ended.complete calm in record { calm = o.calm; undisturbed = o.undisturbed };
     alone = k.ended.alone;
-    syncs = λ calm is. after ∙ k.ended.syncs calm is ∙ ap (λ (n : ℕ). n + syncs_of (core_run p c)) (sym before);
+    syncs = λ calm is. after ∙ k.ended.syncs calm (subst CountsSyncs (sym is) tt) ∙ ap (λ (n : ℕ). n + syncs_of (core_run p c)) (sym before);
   }
 
   prints : (text : List ℕ) → r.ending ≡ Done → s.new.output ≡ r.old.output ++ text → Prints text (alike r s)
@@ -242,8 +246,9 @@ module _ (p : Program) (r s : Observed) (c : Course) (told : List Moment) (told_
   alike_keeps : (n seed : ℕ) → Keeps p r c → r.ending ≡ Done → AskFor p.types (lines r) (load_calls n seed) → IsQuietRun r c (summary_text p r c) told s → KeepsLoad p n seed (alike r s) (quiet_course r c told)
   alike_keeps n seed k done asked q = record {
     asked = asked;
-    ordered = ordered k.ordered;
-    crashes = crashes q.past k.crashes;
+    ordered = ordered k.headline.ordered;
+    crashes = crashes q.past k.headline.crashes;
+    records = records k.records;
     exit = exit k.exit;
     settled = k.settled.all (inl (subst IsAllWritten (sym done) tt));
     explained = explained k.explained;

@@ -1,9 +1,10 @@
 -- What a call of the whole program promises, by its words.
 use Rattle.std.specs.Prelude.{◌≡◌, ◌≢◌, ◌⊎◌, ℕ, Bool, true, List}
 use Rattle.host_trait.specs.declared.channels.Channel.{Channel}
+use Rattle.host_trait.specs.declared.channels.Channel.TheVariants.{Input, Output}
 use Rattle.host_trait.specs.Faults.{NoneFailed}
 use Rattle.promise_spec.specs.Words.{Given, Command, Init, Run, Show, History, Audit, Load, Say}
-use Rattle.promise_spec.specs.Endings.{Ending, BadUse, Memory, HasRisen}
+use Rattle.promise_spec.specs.Endings.{Ending, BadUse, Memory, ReadFault, WriteFault, HasRisen, HasFailedAs, IsBegun}
 use Rattle.promise_spec.specs.Courses.{Observed}
 use Rattle.promise_spec.specs.Promise.{Promises}
 use Rattle.promise_spec.specs.Reports.{show_text, history_text}
@@ -35,9 +36,22 @@ pub record Serves (built : Command → Bool) (takes : Given → Bool) (words : L
   pub obeys : (c : Command) → Understands built takes words c → Obeys c r
   pub refuses : ((c : Command) → Understands built takes words c → ⊥) → IsBadUse r
 
+-- a command may go on behind a file's fault and end so: one that carries lines, whose votes and seals may fail
+abbrev pub GoesOn : Command → Ending → Type 0
+GoesOn Init e = ⊥
+GoesOn (Run m) e = IsBegun e
+GoesOn Show e = ⊥
+GoesOn History e = ⊥
+GoesOn Audit e = ⊥
+GoesOn (Load n seed m) e = IsBegun e
+
 -- What holds over any host, one that tells nothing of what it holds too: the words alone say what is bad use, but for want of
--- memory, and a fault is shown by its count.
+-- memory, and a fault is shown by its count. No failed call is passed over: one on the input or the output ends the call so, or
+-- memory is wanting then; and where the command doesn't go on behind a file's fault, exactly the call that the ending names failed.
 pub record AnswersAs (built : Command → Bool) (takes : Given → Bool) (words : List (List ℕ)) (e : Ending) (old new : Channel → ℕ) : Type 0 where
   pub said : (c : Command) → Understands built takes words c → e ≢ BadUse
   pub other : ((c : Command) → Understands built takes words c → ⊥) → ((e ≡ BadUse) ⊎ (e ≡ Memory)) × NoneFailed old new
   pub risen : HasRisen e old new
+  pub input : new Input ≢ old Input → (e ≡ ReadFault) ⊎ (e ≡ Memory)
+  pub output : new Output ≢ old Output → (e ≡ WriteFault) ⊎ (e ≡ Memory)
+  pub exact : (c : Command) → Understands built takes words c → (GoesOn c e → ⊥) → HasFailedAs e old new

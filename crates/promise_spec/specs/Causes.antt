@@ -3,16 +3,15 @@ use Rattle.std.specs.Prelude.{◌≡◌, ℕ, ◌+◌, ◌*◌, ◌-◌, ◌^◌
 use Rattle.base_types.specs.declared.entries.Settled.{Settled}
 use Rattle.host_trait.specs.declared.channels.Channel.{Channel}
 use Rattle.host_trait.specs.declared.channels.Channel.TheVariants.{File}
-use Rattle.host_trait.specs.declared.channels.FileId.TheVariants.{Grain}
+use Rattle.host_trait.specs.declared.channels.FileId.TheVariants.{Manager, Grain}
 use Rattle.core_model.specs.declared.phases.Verdict.TheVariants.{Aborted}
 use Rattle.core_model.specs.World.{UnitNo, GrainId, same_grain, Member, Entry, Batch, World}
 use Rattle.core_model.specs.Causes.{IsAbort, HasCause, IsCaused, decided_state}
 use Rattle.core_model.specs.Dead.{IsDead}
 use Rattle.core_model.specs.declared.events.CoreEvent.{CoreEvent}
-use Rattle.core_model.specs.declared.events.CoreEvent.TheVariants.{Vote, Sealed, NotSealed, Doubt}
+use Rattle.core_model.specs.declared.events.CoreEvent.TheVariants.{Bad, Begin, Grant, Refuse, Finish, EndPlain, EndSnapshot, Release, Take, Vote, Decide, Sealed, NotSealed, Doubt, Learn, Emitted, Halt, Want, Load}
 use Rattle.core_model.specs.Events.{applies, step, run}
 use Rattle.core_model.specs.Legal.{Run, begins, ends}
-use Rattle.silo_spec.specs.Silos.{manager}
 use Rattle.promise_spec.specs.Cores.{AppliesAt, how_many}
 
 -- an event of the run aborted the unit, with this cause
@@ -43,35 +42,84 @@ NoneRose old new = (c : Channel) → (new c ≡ old c) × (old c < 2 ^ 64 - 1)
 abbrev pub RoseBy : ℕ → ℕ → ℕ → Type 0
 RoseBy n old new = min (old + n) (2 ^ 64 - 1) ≤ new
 
+-- What a file has answered where an event comes: none; a grain's, which was written or not; or the manager file: the batch is
+-- on disk, or it isn't as far as anybody knows.
+pub data FileAnswer : Type 0 where
+  NoAnswer : FileAnswer
+  Voted : GrainId → Bool → FileAnswer
+  OnDisk : FileAnswer
+  NotOnDisk : FileAnswer
+
+-- the answer of each event
+abbrev pub file_answer : CoreEvent → FileAnswer
+file_answer (Bad n why) = NoAnswer
+file_answer (Begin origin call plain) = NoAnswer
+file_answer (Grant u g mode) = NoAnswer
+file_answer (Refuse u g mode) = NoAnswer
+file_answer (Finish u e) = NoAnswer
+file_answer (EndPlain u e) = NoAnswer
+file_answer (EndSnapshot u at outcome) = NoAnswer
+file_answer (Release u g) = NoAnswer
+file_answer Take = NoAnswer
+file_answer (Vote n g kept) = Voted g kept
+file_answer (Decide n) = NoAnswer
+file_answer (Sealed n) = OnDisk
+file_answer (NotSealed n) = NotOnDisk
+file_answer (Doubt n) = NotOnDisk
+file_answer (Learn u g) = NoAnswer
+file_answer Emitted = NoAnswer
+file_answer Halt = NoAnswer
+file_answer (Want u g) = NoAnswer
+file_answer (Load g u state) = NoAnswer
+
 -- a vote that a grain's file wasn't written
+abbrev pub is_no_of : GrainId → FileAnswer → Bool
+is_no_of g NoAnswer = false
+is_no_of g (Voted h kept) = same_grain h g && not kept
+is_no_of g OnDisk = false
+is_no_of g NotOnDisk = false
+
 abbrev pub is_no : GrainId → CoreEvent → Bool
-is_no g (Vote number h kept) = same_grain h g && not kept
-is_no g e = false
+is_no g e = is_no_of g (file_answer e)
 
 -- a batch that isn't on disk, or of which nobody knows
+abbrev pub is_not_on_disk : FileAnswer → Bool
+is_not_on_disk NoAnswer = false
+is_not_on_disk (Voted g kept) = false
+is_not_on_disk OnDisk = false
+is_not_on_disk NotOnDisk = true
+
 abbrev pub is_unsealed : CoreEvent → Bool
-is_unsealed (NotSealed number) = true
-is_unsealed (Doubt number) = true
-is_unsealed e = false
+is_unsealed e = is_not_on_disk (file_answer e)
 
 -- a vote, and a batch that is on disk
+abbrev pub is_voted : FileAnswer → Bool
+is_voted NoAnswer = false
+is_voted (Voted g kept) = true
+is_voted OnDisk = false
+is_voted NotOnDisk = false
+
 abbrev pub is_vote : CoreEvent → Bool
-is_vote (Vote number g kept) = true
-is_vote e = false
+is_vote e = is_voted (file_answer e)
+
+abbrev pub is_on_disk : FileAnswer → Bool
+is_on_disk NoAnswer = false
+is_on_disk (Voted g kept) = false
+is_on_disk OnDisk = true
+is_on_disk NotOnDisk = false
 
 abbrev pub is_sealed : CoreEvent → Bool
-is_sealed (Sealed number) = true
-is_sealed e = false
+is_sealed e = is_on_disk (file_answer e)
 
 -- how many syncs a run asks for where nothing fails: the opening's, one for each vote, and two for each batch on disk
 abbrev pub syncs_of : Run → ℕ
 syncs_of r = 1 + (how_many is_vote r + 2 * how_many is_sealed r)
 
--- No more votes of no came on a grain than its file's count of faults rose by, and no more batches failed to be
--- sealed than the manager file's rose by.
-pub record AreFaults (r : Run) (old new : Channel → ℕ) : Type 0 where
-  pub votes : (g : GrainId) → RoseBy (how_many (is_no g) r) (old (File (Grain 0 g))) (new (File (Grain 0 g)))
-  pub seals : RoseBy (how_many is_unsealed r) (old (File manager)) (new (File manager))
+-- No more votes of no came on a grain than its live file's count of faults rose by, and no more batches failed to be
+-- sealed than the live manager file's rose by.
+pub record AreFaults (live : ℕ) (r : Run) (old new : Channel → ℕ) : Type 0 where
+  pub votes : (g : GrainId) → RoseBy (how_many (is_no g) r) (old (File (Grain live g))) (new (File (Grain live g)))
+  pub seals : RoseBy (how_many is_unsealed r) (old (File (Manager live))) (new (File (Manager live)))
 
 -- a batch was left in doubt
 pub record HasDoubt (r : Run) : Type 0 where

@@ -7,7 +7,7 @@ use Rattle.silo_spec.specs.Moments.{IsUntouched}
 use Rattle.silo_spec.specs.Making.{Makes, IsBeside}
 use Rattle.script_tree.specs.Programs.{ProgramTree}
 use Rattle.promise_spec.specs.Programs.{Program, ProgramFault, text_limit, program_in}
-use Rattle.promise_spec.specs.Records.{Commit, new_silo}
+use Rattle.promise_spec.specs.Records.{Commit, log_start}
 use Rattle.promise_spec.specs.Serial.{IsSerial, Replays}
 use Rattle.promise_spec.specs.Logs.{magic, IsPrefix}
 use Rattle.promise_spec.specs.Openings.{Reads, opened_as}
@@ -71,10 +71,17 @@ pub record MakesSilo (r : Observed) : Type 0 where
 
 -- a command that prints may end so with a part of its text
 abbrev pub MayCut : Ending → Type 0
+MayCut Done = ⊥
+MayCut BadUse = ⊥
 MayCut Memory = ⊤
+MayCut ReadFault = ⊥
 MayCut WriteFault = ⊤
 MayCut (DiskFault file) = ⊤
-MayCut ending = ⊥
+MayCut NotASilo = ⊥
+MayCut AlreadyASilo = ⊥
+MayCut (Damaged file place) = ⊥
+MayCut (BadProgram fault) = ⊥
+MayCut (InputTooLong line) = ⊥
 
 -- What a command that prints adds to the output is a first part of its text: all of it where it is done, and nothing
 -- unless it is done or ended so.
@@ -113,10 +120,10 @@ Reports text r = IsUnopened r ⊎ IsReported text r
 
 -- the first record that doesn't replay is this unit's; there is none exactly where the log is serial
 abbrev pub IsFirstBad : Program → List Commit → Option ℕ → Type 0
-IsFirstBad p log None = IsSerial p.types (new_silo p.types).states log
+IsFirstBad p log None = IsSerial p.types (log_start p.types).states log
 IsFirstBad p log (Some unit) =
     (front : List Commit) × (bad : Commit) × (back : List Commit) × (log ≡ (front ++ (bad ∷ back))) × (bad.logged.unit.0 ≡ unit)
-    × IsSerial p.types (new_silo p.types).states front × (Replays p.types (states_after (new_silo p.types).states front) bad → ⊥)
+    × IsSerial p.types (log_start p.types).states front × (Replays p.types (states_after (log_start p.types).states front) bad → ⊥)
 
 -- an audit of the folder: it names the first unit of the log whose record doesn't replay
 pub record IsAudited (r : Observed) : Type 0 where

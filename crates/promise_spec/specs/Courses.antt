@@ -10,6 +10,7 @@ use Rattle.promise_spec.specs.Records.{Commit, Standing, standing_of}
 use Rattle.promise_spec.specs.Programs.{Program}
 use Rattle.promise_spec.specs.Moments.{counted}
 use Rattle.promise_spec.specs.Cores.{core_from}
+use Rattle.promise_spec.specs.UnitRule.{Basis}
 use Rattle.promise_spec.specs.Endings.{Ending}
 use Rattle.promise_spec.specs.Words.{Manner}
 
@@ -55,6 +56,10 @@ lines r = r.asked
 -- what the opening log stands for
 abbrev pub opening_standing : Program → Course → Standing
 opening_standing p c = standing_of p.types c.opening
+
+-- what the unit rule is told of the run
+abbrev pub basis : Program → Observed → Course → Basis
+basis p r c = record { types = p.types; lines = lines r; opening = opening_standing p c }
 
 -- the core's run
 abbrev pub core_run : Program → Course → legal.Run

@@ -1,9 +1,9 @@
 -- How a run ends.
-use Rattle.std.specs.Prelude.{◌≡◌, ℕ, ◌<◌, ◌≤◌, ⊤}
+use Rattle.std.specs.Prelude.{◌≡◌, ℕ, ◌<◌, ◌≤◌, Bool, true, false, Option, Some, None, ⊤}
 use Rattle.host_trait.specs.declared.channels.Channel.{Channel}
 use Rattle.host_trait.specs.declared.channels.Channel.TheVariants.{Input, Output, File}
 use Rattle.host_trait.specs.declared.channels.FileId.{FileId}
-use Rattle.host_trait.specs.Faults.{Rose}
+use Rattle.host_trait.specs.Faults.{Rose, NoneFailed, FailedOn}
 use Rattle.promise_spec.specs.Programs.{ProgramFault}
 
 -- All is done; the words aren't a command; there was no memory; the input, the output or a file failed; the folder is
@@ -21,109 +21,128 @@ pub data Ending : Type 0 where
   BadProgram : ProgramFault → Ending
   InputTooLong : ℕ → Ending
 
--- where a run ends so, this count of faults rose
-abbrev pub HasRisen : Ending → (Channel → ℕ) → (Channel → ℕ) → Type 0
-HasRisen Done old new = ⊤
-HasRisen BadUse old new = ⊤
-HasRisen Memory old new = ⊤
-HasRisen ReadFault old new = Rose (old Input) (new Input)
-HasRisen WriteFault old new = Rose (old Output) (new Output)
-HasRisen (DiskFault file) old new = Rose (old (File file)) (new (File file))
-HasRisen NotASilo old new = ⊤
-HasRisen AlreadyASilo old new = ⊤
-HasRisen (Damaged file place) old new = ⊤
-HasRisen (BadProgram fault) old new = ⊤
-HasRisen (InputTooLong line) old new = ⊤
+-- ---- what each ending says
+
+-- how long the input was found to be: it may be of any length, is within the limit, or is too long at a line
+pub data Size : Type 0 where
+  Unknown : Size
+  Within : Size
+  TooLong : ℕ → Size
+
+-- What an ending says of a call of `run`: a call on this channel failed; the input is so long; it may come after the folder
+-- was opened, and after the first line has begun; all that is settled has been written; a batch may be in doubt; where
+-- nothing failed, as many syncs were asked for as the events need; and it may come where no count of faults rises.
+pub record Says : Type 0 where
+  pub failed : Option Channel
+  pub size : Size
+  pub opened : Bool
+  pub begun : Bool
+  pub written : Bool
+  pub doubt : Bool
+  pub counted : Bool
+  pub calm : Bool
+
+-- what is said where the folder wasn't opened: nothing
+abbrev pub unopened : Says
+unopened = record {
+  failed = None;
+  size = Unknown;
+  opened = false;
+  begun = false;
+  written = false;
+  doubt = false;
+  counted = false;
+  calm = false;
+}
+
+-- the table of endings
+abbrev pub says : Ending → Says
+says Done = record unopened { size = Within; opened = true; begun = true; written = true; counted = true; calm = true }
+says BadUse = unopened
+says Memory = record unopened { opened = true; begun = true; doubt = true; calm = true }
+says ReadFault = record unopened { failed = Some Input; opened = true; written = true }
+says WriteFault = record unopened { failed = Some Output; size = Within; opened = true; begun = true; doubt = true }
+says (DiskFault file) = record unopened { failed = Some (File file); size = Within; opened = true; begun = true; doubt = true }
+says NotASilo = unopened
+says AlreadyASilo = unopened
+says (Damaged file place) = unopened
+says (BadProgram fault) = unopened
+says (InputTooLong line) = record unopened { size = TooLong line; opened = true; written = true; counted = true; calm = true }
+
+-- ---- the columns as facts
+
+-- a mark of the table stands
+abbrev pub IsMarked : Bool → Type 0
+IsMarked true = ⊤
+IsMarked false = ⊥
 
 -- a run may end so after it has opened the folder
 abbrev pub IsCarried : Ending → Type 0
-IsCarried Done = ⊤
-IsCarried BadUse = ⊥
-IsCarried Memory = ⊤
-IsCarried ReadFault = ⊤
-IsCarried WriteFault = ⊤
-IsCarried (DiskFault file) = ⊤
-IsCarried NotASilo = ⊥
-IsCarried AlreadyASilo = ⊥
-IsCarried (Damaged file place) = ⊥
-IsCarried (BadProgram fault) = ⊥
-IsCarried (InputTooLong line) = ⊤
+IsCarried ending = IsMarked (says ending).opened
 
 -- a run may end so after its first line has begun
 abbrev pub IsBegun : Ending → Type 0
-IsBegun Done = ⊤
-IsBegun BadUse = ⊥
-IsBegun Memory = ⊤
-IsBegun ReadFault = ⊥
-IsBegun WriteFault = ⊤
-IsBegun (DiskFault file) = ⊤
-IsBegun NotASilo = ⊥
-IsBegun AlreadyASilo = ⊥
-IsBegun (Damaged file place) = ⊥
-IsBegun (BadProgram fault) = ⊥
-IsBegun (InputTooLong line) = ⊥
+IsBegun ending = IsMarked (says ending).begun
 
 -- all that is settled has been written
 abbrev pub IsAllWritten : Ending → Type 0
-IsAllWritten Done = ⊤
-IsAllWritten BadUse = ⊥
-IsAllWritten Memory = ⊥
-IsAllWritten ReadFault = ⊤
-IsAllWritten WriteFault = ⊥
-IsAllWritten (DiskFault file) = ⊥
-IsAllWritten NotASilo = ⊥
-IsAllWritten AlreadyASilo = ⊥
-IsAllWritten (Damaged file place) = ⊥
-IsAllWritten (BadProgram fault) = ⊥
-IsAllWritten (InputTooLong line) = ⊤
-
--- a file failed
-abbrev pub IsDiskFault : Ending → Type 0
-IsDiskFault (DiskFault file) = ⊤
-IsDiskFault ending = ⊥
+IsAllWritten ending = IsMarked (says ending).written
 
 -- a run may end so with a batch in doubt
 abbrev pub MayDoubt : Ending → Type 0
-MayDoubt Done = ⊥
-MayDoubt BadUse = ⊥
-MayDoubt Memory = ⊤
-MayDoubt ReadFault = ⊥
-MayDoubt WriteFault = ⊤
-MayDoubt (DiskFault file) = ⊤
-MayDoubt NotASilo = ⊥
-MayDoubt AlreadyASilo = ⊥
-MayDoubt (Damaged file place) = ⊥
-MayDoubt (BadProgram fault) = ⊥
-MayDoubt (InputTooLong line) = ⊥
+MayDoubt ending = IsMarked (says ending).doubt
+
+-- where nothing failed, a run that ends so has asked for as many syncs as its events need
+abbrev pub CountsSyncs : Ending → Type 0
+CountsSyncs ending = IsMarked (says ending).counted
+
+-- a run ends so where no count of faults rises
+abbrev pub IsCalm : Ending → Type 0
+IsCalm ending = IsMarked (says ending).calm
+
+-- ---- the channel that failed
+
+-- the channel's count of faults rose, where there is one
+abbrev pub HasRisenOn : Option Channel → (Channel → ℕ) → (Channel → ℕ) → Type 0
+HasRisenOn None old new = ⊤
+HasRisenOn (Some channel) old new = Rose (old channel) (new channel)
+
+-- where a run ends so, this count of faults rose
+abbrev pub HasRisen : Ending → (Channel → ℕ) → (Channel → ℕ) → Type 0
+HasRisen ending old new = HasRisenOn (says ending).failed old new
+
+-- a call on the channel failed, and no other; where there is none, no call failed
+abbrev pub HasFailedOn : Option Channel → (Channel → ℕ) → (Channel → ℕ) → Type 0
+HasFailedOn None old new = NoneFailed old new
+HasFailedOn (Some channel) old new = FailedOn channel old new
+
+-- exactly the call that the ending names has failed: its channel's count rose, and no other changed
+abbrev pub HasFailedAs : Ending → (Channel → ℕ) → (Channel → ℕ) → Type 0
+HasFailedAs ending old new = HasFailedOn (says ending).failed old new
+
+-- the channel is a file's
+abbrev pub IsOfFile : Option Channel → Type 0
+IsOfFile None = ⊥
+IsOfFile (Some Input) = ⊥
+IsOfFile (Some Output) = ⊥
+IsOfFile (Some (File file)) = ⊤
+
+-- a file failed
+abbrev pub IsDiskFault : Ending → Type 0
+IsDiskFault ending = IsOfFile (says ending).failed
+
+-- ---- the length of the input
 
 -- the most bytes that the input of a run may have
 abbrev pub input_limit : ℕ
 input_limit = 16777216
 
+-- an input of so many bytes is so long; one that is too long is so as a whole, which counts as line 0
+abbrev pub HasSize : Size → ℕ → Type 0
+HasSize Unknown size = ⊤
+HasSize Within size = size ≤ input_limit
+HasSize (TooLong line) size = (line ≡ 0) × (input_limit < size)
+
 -- a run that ends so read an input within the limit, and one that ends with an input too long, one above it
 abbrev pub HasLength : Ending → ℕ → Type 0
-HasLength Done size = size ≤ input_limit
-HasLength BadUse size = ⊤
-HasLength Memory size = ⊤
-HasLength ReadFault size = ⊤
-HasLength WriteFault size = size ≤ input_limit
-HasLength (DiskFault file) size = size ≤ input_limit
-HasLength NotASilo size = ⊤
-HasLength AlreadyASilo size = ⊤
-HasLength (Damaged file place) size = ⊤
-HasLength (BadProgram fault) size = ⊤
-HasLength (InputTooLong line) size = (line ≡ 0) × (input_limit < size)
-
--- a run ends so where no count of faults rises
-abbrev pub IsCalm : Ending → Type 0
-IsCalm Done = ⊤
-IsCalm BadUse = ⊥
-IsCalm Memory = ⊤
-IsCalm ReadFault = ⊥
-IsCalm WriteFault = ⊥
-IsCalm (DiskFault file) = ⊥
-IsCalm NotASilo = ⊥
-IsCalm AlreadyASilo = ⊥
-IsCalm (Damaged file place) = ⊥
-IsCalm (BadProgram fault) = ⊥
-IsCalm (InputTooLong line) = ⊤
+HasLength ending size = HasSize (says ending).size size

@@ -8,11 +8,11 @@ use Rattle.core_model.specs.Serial.{chosen}
 use Rattle.gate_block.specs.Blocks.{block_of}
 use Rattle.gate_block.specs.Log.{HasBlocks}
 use Rattle.host_trait.specs.declared.channels.Channel.TheVariants.{File}
+use Rattle.host_trait.specs.declared.channels.FileId.TheVariants.{Manager}
 use Rattle.host_trait.specs.Faults.{Rose}
 use Rattle.host_trait.specs.World.{Image, IsImage}
-use Rattle.silo_spec.specs.Silos.{manager}
 use Rattle.promise_spec.specs.Records.{Commit, AreRecordsOf}
-use Rattle.promise_spec.specs.Logs.{IsLog, body_of}
+use Rattle.promise_spec.specs.Logs.{live_slot, IsLog, body_of}
 use Rattle.promise_spec.specs.Programs.{Program, shape_in}
 use Rattle.promise_spec.specs.Endings.{MayDoubt}
 use Rattle.promise_spec.specs.Courses.{Observed, Course, order, core_run, core_end}
@@ -41,10 +41,10 @@ pub record EndsWith (p : Program) (c : Course) (w : World) (image : Image) : Typ
   pub is : IsLog (shape_in p) image log
   pub which : (log ≡ order c) ⊎ LacksDoubtful c w log
 
--- Where images have different logs the manager file's count of faults rose, the ending is one of three, and each unit
--- of the batch is told to be in doubt or has no entry.
-pub record IsDoubt (r : Observed) (c : Course) (w : World) : Type 0 where
-  pub rose : Rose (r.faults_before (File manager)) (r.faults_after (File manager))
+-- Where images have different logs the live manager file's count of faults rose, the ending is one of three, and each
+-- unit of the batch is told to be in doubt or has no entry.
+pub record IsDoubt (live : ℕ) (r : Observed) (c : Course) (w : World) : Type 0 where
+  pub rose : Rose (r.faults_before (File (Manager live))) (r.faults_after (File (Manager live)))
   pub ending : MayDoubt r.ending
   pub told : (e : Entry) → Member e c.entries → Member e.unit (doubtful w) → e.what ≡ InDoubt
 
@@ -54,10 +54,10 @@ IsNowhere p r u =
     (image : Image) (log : List Commit) (l : Commit) → IsImage r.new.disk image → IsLog (shape_in p) image log →
     Member l log → l.logged.unit ≢ u
 
--- the whole block of a batch stands behind a gate, which is open or not
-abbrev pub HasBlock : ℕ → List Commit → Image → Type 0
-HasBlock gate batch image =
-    take (length (block_of (body_of batch))) (drop (gate + 1) (image manager)) ≡ block_of (body_of batch)
+-- the whole block of a batch stands behind a gate of the live manager file, which is open or not
+abbrev pub HasBlock : ℕ → ℕ → List Commit → Image → Type 0
+HasBlock live gate batch image =
+    take (length (block_of (body_of batch))) (drop (gate + 1) (image (Manager live))) ≡ block_of (body_of batch)
 
 -- the two manager files differ at most in this byte
 pub record DifferAt (gate : ℕ) (one other : List ℕ) : Type 0 where
@@ -67,21 +67,21 @@ pub record DifferAt (gate : ℕ) (one other : List ℕ) : Type 0 where
 -- The batch has the records of the units to commit of the batch in doubt, and the order is that of the batches before
 -- it, or has it last. In every image at the exit those before it end at the gate, its whole block stands behind that,
 -- and the images differ at most in the gate.
-pub record HasDoubtfulBlock (r : Observed) (c : Course) (w : World) : Type 0 where
+pub record HasDoubtfulBlock (live : ℕ) (r : Observed) (c : Course) (w : World) : Type 0 where
   pub gate : ℕ
   pub batch : List Commit
   pub batches : List (List Commit)
   pub records : AreRecordsOf (chosen w) batch
   pub log : (order c ≡ flat_map (λ b. b) batches) ⊎ (order c ≡ flat_map (λ b. b) batches ++ batch)
-  pub front : (image : Image) → IsImage r.new.disk image → HasBlocks (map body_of batches) gate (image manager)
-  pub block : (image : Image) → IsImage r.new.disk image → HasBlock gate batch image
+  pub front : (image : Image) → IsImage r.new.disk image → HasBlocks (map body_of batches) gate (image (Manager live))
+  pub block : (image : Image) → IsImage r.new.disk image → HasBlock live gate batch image
   pub differ : (one other : Image) → IsImage r.new.disk one → IsImage r.new.disk other →
-      DifferAt gate (one manager) (other manager)
+      DifferAt gate (one (Manager live)) (other (Manager live))
 
 -- The log at the exit, where lines are in doubt too.
 pub record IsLeft (p : Program) (r : Observed) (c : Course) : Type 0 where
   pub logs : (image : Image) → IsImage r.new.disk image → EndsWith p c (core_end p c) image
   pub doubt : (one other : Image) (a b : List Commit) → IsImage r.new.disk one → IsImage r.new.disk other →
-      IsLog (shape_in p) one a → IsLog (shape_in p) other b → a ≢ b → IsDoubt r c (core_end p c)
+      IsLog (shape_in p) one a → IsLog (shape_in p) other b → a ≢ b → IsDoubt live_slot r c (core_end p c)
   pub nowhere : (e : Entry) → Member e c.entries → e.what ≡ InDoubt → IsNowhere p r e.unit → HasNoRecord c e.unit
-  pub block : HasDoubt (core_run p c) → HasDoubtfulBlock r c (core_end p c)
+  pub block : HasDoubt (core_run p c) → HasDoubtfulBlock live_slot r c (core_end p c)

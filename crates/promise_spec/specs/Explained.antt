@@ -4,17 +4,22 @@ use Rattle.base_types.specs.declared.entries.Entry.{Entry}
 use Rattle.base_types.specs.declared.shapes.Shape.{Shape}
 use Rattle.core_model.specs.World.{World}
 use Rattle.core_model.specs.Serial.{committed, chosen}
+use Rattle.core_model.specs.Legal.{Run}
 use Rattle.host_trait.specs.declared.channels.FileId.{FileId}
-use Rattle.silo_spec.specs.Silos.{manager}
+use Rattle.host_trait.specs.declared.channels.FileId.TheVariants.{Manager}
+use Rattle.host_trait.specs.World.{Image}
 use Rattle.promise_spec.specs.Records.{Commit, AreRecordsOf}
-use Rattle.promise_spec.specs.Logs.{IsPrefix}
+use Rattle.promise_spec.specs.Logs.{live_slot, IsLog, IsPrefix}
 use Rattle.request_wire.specs.Reply.{reply_line}
 use Rattle.promise_spec.specs.Programs.{Program, shape_in}
 use Rattle.promise_spec.specs.Endings.{DiskFault, IsAllWritten, IsDiskFault, MayDoubt}
 use Rattle.promise_spec.specs.UnitRule.{KeepsUnitRule}
 use Rattle.promise_spec.specs.TurnRule.{KeepsTurnRule}
 use Rattle.promise_spec.specs.Causes.{AreCaused, AreFaults, HasDoubt}
-use Rattle.promise_spec.specs.Courses.{Observed, Course, lines, core_run, core_end}
+use Rattle.promise_spec.specs.Moments.{IsImageOf}
+use Rattle.promise_spec.specs.Family.{IsFamily}
+use Rattle.promise_spec.specs.Batches.{EndsABatch}
+use Rattle.promise_spec.specs.Courses.{Observed, Course, order, moments, lines, basis, opening_standing, core_run, core_end}
 
 -- the records of the batch in doubt follow those of the committed units
 pub record FollowInDoubt (w : World) (added : List Commit) : Type 0 where
@@ -26,6 +31,13 @@ pub record FollowInDoubt (w : World) (added : List Commit) : Type 0 where
 -- doubt
 abbrev pub AreAdded : World → List Commit → Type 0
 AreAdded w added = AreRecordsOf (committed w) added ⊎ FollowInDoubt w added
+
+-- The records of the order come from the core's events: those that the run added come from the lines, call by call, and
+-- each image's log is the opening log and whole batches behind it.
+pub record ComeOfEvents (p : Program) (r : Observed) (c : Course) : Type 0 where
+  pub family : IsFamily p.types (lines r) (core_end p c) (opening_standing p c).states (order c) c.added
+  pub whole : (image : Image) (log : List Commit) → IsImageOf (moments r c) image → IsLog (shape_in p) image log →
+      EndsABatch (core_end p c) c.opening log
 
 -- all that is settled has been written, or the run ended with a batch in doubt
 abbrev pub EndsWritten : Program → Observed → Course → Type 0
@@ -44,14 +56,18 @@ pub record AreSettled (p : Program) (r : Observed) (c : Course) : Type 0 where
   pub told : (core_end p c).manager.emitted ≤ length c.entries
   pub cut : IsCutShort (shape_in p) (core_end p c).manager.settled c
 
+-- a file whose fault may end a run: the live manager file, with a batch in doubt
+abbrev pub IsDoubtful : ℕ → Run → FileId → Type 0
+IsDoubtful live run file = (file ≡ Manager live) × HasDoubt run
+
 -- The records are those of the core's committed units. The events keep the unit rule, and on one thread the turn rule.
 -- Each abort has its cause, and no more faults than were counted. Of files the manager file alone may end a run, and
 -- only with a batch in doubt; and a doubt ends the run.
 pub record IsExplained (p : Program) (r : Observed) (c : Course) : Type 0 where
   pub records : AreAdded (core_end p c) c.added
-  pub units : KeepsUnitRule p.types (lines r) (core_run p c)
+  pub units : KeepsUnitRule (basis p r c) (core_run p c)
   pub turns : r.manner.threaded ≡ false → KeepsTurnRule p.types (length (lines r)) r.manner.width r.manner.picks (core_run p c)
   pub caused : AreCaused (core_run p c)
-  pub faults : AreFaults (core_run p c) r.faults_before r.faults_after
-  pub doubted : (file : FileId) → r.ending ≡ DiskFault file → (file ≡ manager) × HasDoubt (core_run p c)
+  pub faults : AreFaults live_slot (core_run p c) r.faults_before r.faults_after
+  pub doubted : (file : FileId) → r.ending ≡ DiskFault file → IsDoubtful live_slot (core_run p c) file
   pub ended : HasDoubt (core_run p c) → MayDoubt r.ending

@@ -6,7 +6,7 @@ use Rattle.base_types.specs.declared.calls.Origin.TheVariants.{Line, Child}
 use Rattle.host_trait.specs.World.{Image}
 use Rattle.silo_spec.specs.Silos.{manager, program_file, IsSilo, HasProgram}
 use Rattle.promise_spec.specs.Programs.{Program, shape_in}
-use Rattle.promise_spec.specs.Records.{Commit, new_silo}
+use Rattle.promise_spec.specs.Records.{Commit, log_start}
 use Rattle.promise_spec.specs.Serial.{IsSerial}
 use Rattle.promise_spec.specs.Logs.{magic, IsLog, HasLog, IsPrefix}
 
@@ -23,13 +23,13 @@ AreNumbered first (c ∷ later) =
     × AllByRecursion (λ d. d.logged.unit ≢ c.logged.unit) later × AreNumbered first later
 
 -- The image is a silo of this program. All that it names is in the format and whole, its records are what the
--- one-thread store gives from a new silo's states, and their units are numbered.
+-- one-thread store gives from where every log begins, and their units are numbered.
 pub record IsSound (p : Program) (image : Image) : Type 0 where
   pub log : List Commit
   pub is : IsLog (shape_in p) image log
   pub program : HasProgram p.text (image program_file)
-  pub serial : IsSerial p.types (new_silo p.types).states log
-  pub numbered : AreNumbered (new_silo p.types).next log
+  pub serial : IsSerial p.types (log_start p.types).states log
+  pub numbered : AreNumbered (log_start p.types).next log
 
 -- an image that is a silo is sound
 abbrev pub IsSoundIfSilo : Program → Image → Type 0

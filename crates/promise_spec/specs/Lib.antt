@@ -20,11 +20,14 @@ pub mod Refusals
 pub mod Orders
 pub mod Replies
 pub mod Crashes
-pub mod Exits
+pub mod Headline
+pub mod Batches
 pub mod Explained
+pub mod Exits
 pub mod Promise
 pub mod Journals
 pub mod Reports
 pub mod Commands
 pub mod Loads
 pub mod Calls
+pub mod SoundMoments

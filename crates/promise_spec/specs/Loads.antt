@@ -1,12 +1,13 @@
 -- What `load` promises: to make a silo of the bank program, and to carry generated lines in it.
 use Rattle.std.specs.Prelude.{◌≡◌, ◌≢◌, ℕ, zero, suc, ◌+◌, ◌*◌, ◌/◌, ◌%◌, ◌^◌, ◌≤◌, Bool, true, false, List, [], ◌∷◌, ◌++◌, length, map, slice_get, count_by, codes, ℤ, pos, ◌+ℤ◌, Some, ◌⊎◌}
 use Rattle.base_types.specs.declared.calls.Call.{Call}
+use Rattle.base_types.specs.declared.calls.GrainId.{GrainId}
 use Rattle.base_types.specs.declared.calls.Outcome.TheVariants as outcome
 use Rattle.base_types.specs.declared.calls.Value.{Value}
-use Rattle.base_types.specs.declared.calls.Value.TheVariants.{Int}
+use Rattle.base_types.specs.declared.calls.Value.TheVariants.{Int, Text}
 use Rattle.base_types.specs.declared.entries.Entry.{Entry}
 use Rattle.base_types.specs.declared.entries.Settled.{Settled}
-use Rattle.base_types.specs.declared.entries.Settled.TheVariants.{Done, Lock, Vote, Dependency, Disk}
+use Rattle.base_types.specs.declared.entries.Settled.TheVariants.{Done, Lock, Vote, Dependency, Disk, InDoubt, Bad}
 use Rattle.core_model.specs.World.{Member}
 use Rattle.host_trait.specs.World.{World, Moment, Image, IsImage}
 use Rattle.request_wire.specs.Reply.{value_data, counted}
@@ -15,7 +16,6 @@ use Rattle.silo_spec.specs.Silos.{IsNewSilo}
 use Rattle.silo_spec.specs.Moments.{IsUntouched}
 use Rattle.silo_spec.specs.Making.{StaysBeside, IsNewAt, FromFirstSync, Makes}
 use Rattle.script_tree.specs.Programs.{ProgramTree}
-use Rattle.script_meaning.specs.Worked.{at, int, call}
 use Rattle.promise_spec.specs.Programs.{Program, IsChecked, shape_in}
 use Rattle.promise_spec.specs.Records.{States, standing_of}
 use Rattle.promise_spec.specs.Logs.{magic, IsLog}
@@ -26,7 +26,7 @@ use Rattle.promise_spec.specs.Courses.{Observed, Course, order, moments, lines, 
 use Rattle.promise_spec.specs.Orders.{IsOrdered}
 use Rattle.promise_spec.specs.Crashes.{SurvivesCrashes}
 use Rattle.promise_spec.specs.Exits.{IsLeft}
-use Rattle.promise_spec.specs.Explained.{IsExplained}
+use Rattle.promise_spec.specs.Explained.{ComeOfEvents, IsExplained}
 use Rattle.promise_spec.specs.Promise.{IsAnswered, GoesThrough, HasNoChild, IsNoLock}
 use Rattle.promise_spec.specs.Reports.{line_of}
 use Rattle.promise_spec.specs.Words.{Manner}
@@ -43,12 +43,23 @@ next_number x = (x * 6364136223846793005 + 1442695040888963407) % 2 ^ 64
 abbrev pub drawn : ℕ → ℕ → ℕ
 drawn x bound = (x / 2147483648 / 4) % bound
 
+-- the accounts are grains of the bank's first type, and the one that moves money between them is of its second
+abbrev pub account : ℕ → GrainId
+account k = record { kind = 0; key = k }
+
+abbrev pub atm : GrainId
+atm = record { kind = 1; key = 0 }
+
+-- a call of a grain's first method with these numbers
+abbrev pub first_method : GrainId → List ℕ → Call
+first_method grain numbers = record { grain = grain; method = 0; args = map (λ n. Int (pos n)) numbers }
+
 -- the transfer of which this number gives the first account, and the two after it the second one and the amount
 abbrev pub transfer_by : ℕ → Call
 transfer_by x =
     let y : ℕ = next_number x in
     let z : ℕ = next_number y in
-    call (at 1 0) 0 (int (drawn x 64) ∷ int (drawn y 64) ∷ int (drawn z 100 + 1) ∷ [])
+    first_method atm (drawn x 64 ∷ drawn y 64 ∷ (drawn z 100 + 1) ∷ [])
 
 -- so many transfers, of the numbers after x
 abbrev pub transfers_after : ℕ → ℕ → List Call
@@ -59,7 +70,7 @@ transfers_after x (suc n) =
 -- so many deposits of 1000, from this account on
 abbrev pub deposits_from : ℕ → ℕ → List Call
 deposits_from k zero = []
-deposits_from k (suc n) = call (at 0 k) 0 (int 1000 ∷ []) ∷ deposits_from (k + 1) n
+deposits_from k (suc n) = first_method (account k) (1000 ∷ []) ∷ deposits_from (k + 1) n
 
 -- the calls of a load: a deposit into each of 64 accounts, and n transfers between them, drawn from the seed on
 abbrev pub load_calls : ℕ → ℕ → List Call
@@ -75,20 +86,38 @@ pub record AskFor (types : ProgramTree) (lines : List (List ℕ)) (calls : List 
 -- the line ended with a value
 abbrev pub is_committed : Settled → Bool
 is_committed (Done (outcome.Value value)) = true
-is_committed _ = false
+is_committed (Done (outcome.Fault text)) = false
+is_committed (Done outcome.Aborted) = false
+is_committed (Lock by grain) = false
+is_committed (Vote grain) = false
+is_committed (Dependency on) = false
+is_committed Disk = false
+is_committed InDoubt = false
+is_committed (Bad why) = false
 
 -- the line ended with a fault
 abbrev pub is_faulted : Settled → Bool
+is_faulted (Done (outcome.Value value)) = false
 is_faulted (Done (outcome.Fault text)) = true
-is_faulted _ = false
+is_faulted (Done outcome.Aborted) = false
+is_faulted (Lock by grain) = false
+is_faulted (Vote grain) = false
+is_faulted (Dependency on) = false
+is_faulted Disk = false
+is_faulted InDoubt = false
+is_faulted (Bad why) = false
 
 -- the line was aborted
 abbrev pub is_aborted : Settled → Bool
+is_aborted (Done (outcome.Value value)) = false
+is_aborted (Done (outcome.Fault text)) = false
+is_aborted (Done outcome.Aborted) = false
 is_aborted (Lock by grain) = true
 is_aborted (Vote grain) = true
 is_aborted (Dependency on) = true
 is_aborted Disk = true
-is_aborted _ = false
+is_aborted InDoubt = false
+is_aborted (Bad why) = false
 
 -- how many lines ended so
 abbrev pub how_many_lines : (Settled → Bool) → List Entry → ℕ
@@ -96,13 +125,14 @@ how_many_lines is entries = count_by (λ e. is e.what) entries
 
 -- an account's balance
 abbrev pub balance_in : List Value → ℤ
+balance_in [] = pos 0
 balance_in (Int n ∷ values) = n
-balance_in _ = pos 0
+balance_in (Text text ∷ values) = pos 0
 
 -- the balances of so many accounts, from account 0 on
 abbrev pub total_of : States → ℕ → ℤ
 total_of states zero = pos 0
-total_of states (suc n) = total_of states n +ℤ balance_in (states (at 0 n))
+total_of states (suc n) = total_of states n +ℤ balance_in (states (account n))
 
 -- the one line that a load prints: how many lines were aborted, ended with a value, ended with a fault, and were
 -- asked, and the balances of the 64 accounts by the order
@@ -136,6 +166,7 @@ pub record KeepsLoad (p : Program) (n seed : ℕ) (r : Observed) (c : Course) : 
   pub asked : AskFor p.types (lines r) (load_calls n seed)
   pub ordered : IsOrdered p r c
   pub crashes : SurvivesCrashes p r c
+  pub records : ComeOfEvents p r c
   pub exit : IsLeft p r c
   pub settled : c.entries ≡ (core_end p c).manager.settled
   pub explained : IsExplained p r c

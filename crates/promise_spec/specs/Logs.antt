@@ -20,6 +20,10 @@ use Rattle.promise_spec.specs.Records.{Commit}
 abbrev pub magic : List ℕ
 magic = codes "OTXLOG01"
 
+-- the slot of the live files, in every command
+abbrev pub live_slot : ℕ
+live_slot = 0
+
 -- the version of a unit stands whole at the place that its write names, below 2 to the 63, with this state, which has
 -- the fields of its type
 pub record Stands (shape : Shape) (image : Image) (unit : UnitNo) (w : Written) (state : List Value) : Type 0 where

@@ -1,6 +1,6 @@
 -- The moments of a run, and the order that they leave.
-use Rattle.std.specs.Prelude.{List, [], ◌∷◌, ◌++◌, fold}
-use Rattle.host_trait.specs.World.{World, Moment, Image, IsImage, moment_of}
+use Rattle.std.specs.Prelude.{List, [], ◌∷◌, ◌++◌}
+use Rattle.host_trait.specs.World.{World, Moment, Image, IsImage, moment_of, last_of}
 use Rattle.cell_model.specs.Units.{Member}
 use Rattle.promise_spec.specs.Programs.{Program, shape_in}
 use Rattle.promise_spec.specs.Records.{Commit}
@@ -11,10 +11,6 @@ pub record IsImageOf (moments : List Moment) (image : Image) : Type 0 where
   pub moment : Moment
   pub member : Member moment moments
   pub left : IsImage moment.disk image
-
--- the last of some moments, or the one before them where there is none
-abbrev pub last_of : Moment → List Moment → Moment
-last_of before moments = fold (λ earlier later. later) before moments
 
 -- The moments that count for crashes: the one at which the opening's last sync returned, the later ones, and the
 -- exit. The early moments are those up to that sync's.

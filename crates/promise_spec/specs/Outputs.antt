@@ -15,8 +15,13 @@ use Rattle.request_wire.specs.Reply.{reply_line}
 
 -- a bad line has nobody's unit, every other one a unit's number
 abbrev pub HasUnit : UnitNo → Settled → Type 0
+HasUnit unit (Done outcome) = (0 < unit.0) × (unit.0 < 2 ^ 64)
+HasUnit unit (Lock by grain) = (0 < unit.0) × (unit.0 < 2 ^ 64)
+HasUnit unit (Vote grain) = (0 < unit.0) × (unit.0 < 2 ^ 64)
+HasUnit unit (Dependency on) = (0 < unit.0) × (unit.0 < 2 ^ 64)
+HasUnit unit Disk = (0 < unit.0) × (unit.0 < 2 ^ 64)
+HasUnit unit InDoubt = (0 < unit.0) × (unit.0 < 2 ^ 64)
 HasUnit unit (Bad why) = unit ≡ nobody
-HasUnit unit _ = (0 < unit.0) × (unit.0 < 2 ^ 64)
 
 -- a grain of one of the program's types
 abbrev pub IsGrainIn : Shape → GrainId → Type 0

@@ -13,15 +13,13 @@ use Rattle.promise_spec.specs.Programs.{Program, IsChecked}
 use Rattle.promise_spec.specs.Images.{AreChained, IsSoundIfSilo}
 use Rattle.promise_spec.specs.Cores.{AppliesAt}
 use Rattle.promise_spec.specs.Causes.{NoneRose, syncs_of}
-use Rattle.promise_spec.specs.Endings.{Done, HasRisen, IsCarried, IsBegun, IsCalm, HasLength, input_limit}
+use Rattle.promise_spec.specs.Endings.{Done, HasRisen, IsCarried, IsBegun, IsCalm, HasLength, CountsSyncs, input_limit}
 use Rattle.promise_spec.specs.Words.{Manner}
 use Rattle.promise_spec.specs.Courses.{Observed, Course, lines, core_run}
 use Rattle.promise_spec.specs.Refusals.{IsUnopened, HasOpened}
-use Rattle.promise_spec.specs.Orders.{IsOrdered}
-use Rattle.promise_spec.specs.Replies.{AreReplies}
-use Rattle.promise_spec.specs.Crashes.{SurvivesCrashes, HoldsReplies}
+use Rattle.promise_spec.specs.Headline.{KeepsHeadline}
 use Rattle.promise_spec.specs.Exits.{IsLeft}
-use Rattle.promise_spec.specs.Explained.{AreSettled, IsExplained}
+use Rattle.promise_spec.specs.Explained.{ComeOfEvents, AreSettled, IsExplained}
 
 -- ---- statuses
 
@@ -57,8 +55,13 @@ HasNoChild p c =
 
 -- no line waited for another, or was aborted for one
 abbrev pub IsNoLock : Settled → Type 0
+IsNoLock (settled.Done outcome) = ⊤
 IsNoLock (settled.Lock by grain) = ⊥
-IsNoLock what = ⊤
+IsNoLock (settled.Vote grain) = ⊤
+IsNoLock (settled.Dependency on) = ⊤
+IsNoLock settled.Disk = ⊤
+IsNoLock settled.InDoubt = ⊤
+IsNoLock (settled.Bad why) = ⊤
 
 -- the whole input was read, and is within the limit, and a run that has begun may end so
 pub record HasReadAll (r : Observed) : Type 0 where
@@ -69,7 +72,7 @@ pub record HasReadAll (r : Observed) : Type 0 where
 -- How a run that opened the folder ends: its lines are the input's; a fault is shown by its count, and an input that is
 -- too long by its length; nothing begins before the input is read whole and found within the limit; all is done only
 -- where each line has its entry; and where no count rises, and none stands at its last value, it goes through, at
--- width 1 without nested units with no abort, and asks for so many syncs.
+-- width 1 without nested units with no abort, and asks for so many syncs: also where its input is too long, for one.
 pub record HasEnded (p : Program) (r : Observed) (c : Course) : Type 0 where
   pub given : lines r ≡ lines_of r.old.input
   pub risen : HasRisen r.ending r.faults_before r.faults_after
@@ -79,19 +82,17 @@ pub record HasEnded (p : Program) (r : Observed) (c : Course) : Type 0 where
   pub done : r.ending ≡ Done → IsDone r c
   pub complete : NoneRose r.faults_before r.faults_after → GoesThrough r c
   pub alone : r.manner.threaded ≡ false → r.manner.width ≡ 1 → HasNoChild p c → (e : Entry) → Member e c.entries → IsNoLock e.what
-  pub syncs : NoneRose r.faults_before r.faults_after → r.ending ≡ Done → r.new.syncs ≡ r.old.syncs + syncs_of (core_run p c)
+  pub syncs : NoneRose r.faults_before r.faults_after → CountsSyncs r.ending → r.new.syncs ≡ r.old.syncs + syncs_of (core_run p c)
 
 -- ---- the promise
 
--- all six clauses of one course
+-- All six clauses of one course: the headline (order, replies, crashes), causes, exit and status.
 pub record Keeps (p : Program) (r : Observed) (c : Course) : Type 0 where
-  pub ordered : IsOrdered p r c
-  pub replies : AreReplies p r c
-  pub crashes : SurvivesCrashes p r c
-  pub holds : HoldsReplies p r c
-  pub exit : IsLeft p r c
+  pub headline : KeepsHeadline p r c
+  pub records : ComeOfEvents p r c
   pub settled : AreSettled p r c
   pub explained : IsExplained p r c
+  pub exit : IsLeft p r c
   pub ended : HasEnded p r c
 
 -- the images at entry are a chain, and each that is a silo is sound

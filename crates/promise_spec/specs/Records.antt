@@ -3,11 +3,12 @@ use Rattle.std.specs.Prelude.{◌≡◌, ℕ, ◌+◌, max, if◌then◌else◌,
 use Rattle.base_types.specs.declared.calls.GrainId.{GrainId}
 use Rattle.base_types.specs.declared.calls.Value.{Value}
 use Rattle.core_model.specs.declared.effects.Effect.{Effect}
-use Rattle.core_model.specs.Tests.{is_before}
 use Rattle.commit_log.specs.declared.records.CommitRecord.{CommitRecord}
 use Rattle.script_holding.specs.Holding.{same_grain}
 use Rattle.script_tree.specs.Programs.{ProgramTree}
 use Rattle.script_meaning.specs.Play.{initial_of}
+-- grains in ascending order
+pub use Rattle.log_reading.specs.Versions.{with_grain, ascending}
 
 -- a record of the log, and the states that stand at the places which it names, in their order
 pub record Commit : Type 0 where
@@ -30,26 +31,19 @@ put_state states new grain = if same_grain new.0 grain then new.1 else states gr
 abbrev pub after_writes : States → Commit → States
 after_writes states c = fold put_state states (written c)
 
--- one more grain in an ascending list, each once
-abbrev pub with_grain : GrainId → List GrainId → List GrainId
-with_grain g [] = g ∷ []
-with_grain g (h ∷ hs) = if same_grain g h then h ∷ hs else (if is_before g h then g ∷ h ∷ hs else h ∷ with_grain g hs)
-
--- these grains in ascending order, each once
-abbrev pub ascending : List GrainId → List GrainId
-ascending [] = []
-ascending (g ∷ gs) = with_grain g (ascending gs)
-
 -- What a log stands for: how many records it has, the number of the next unit, and the state of each grain.
 pub record Standing : Type 0 where
   pub count : ℕ
   pub next : ℕ
   pub states : States
 
--- What every log begins from, that of a new silo: no record, the unit 1 is next, and each grain has its type's
--- initial fields.
+-- What a new silo stands for: no record, the unit 1 is next, and each grain has its type's initial fields.
 abbrev pub new_silo : ProgramTree → Standing
 new_silo types = record { count = 0; next = 1; states = λ grain. initial_of (slice_get types grain.kind) }
+
+-- what every log begins from: a new silo
+abbrev pub log_start : ProgramTree → Standing
+log_start types = new_silo types
 
 -- what stands after one more record
 abbrev pub after_record : Standing → Commit → Standing
@@ -62,7 +56,7 @@ after_records before log = fold after_record before log
 
 -- what a log stands for
 abbrev pub standing_of : ProgramTree → List Commit → Standing
-standing_of types log = after_records (new_silo types) log
+standing_of types log = after_records (log_start types) log
 
 -- the record is that of a unit with this effect, and its states are those that the unit wrote
 pub record IsRecordOf (e : Effect) (l : Commit) : Type 0 where

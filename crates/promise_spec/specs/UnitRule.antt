@@ -11,10 +11,18 @@ use Rattle.core_model.specs.Legal.{Run, begins}
 use Rattle.script_tree.specs.Programs.{ProgramTree}
 use Rattle.script_meaning.specs.Play.{Played, WantUnit, Over, play_over, IsTransaction}
 use Rattle.script_meaning.specs.Trails.{states_of}
+use Rattle.promise_spec.specs.Records.{Standing}
 use Rattle.promise_spec.specs.Serial.{depth_of}
 use Rattle.promise_spec.specs.Lines.{IsLineCall, IsBadLine}
 use Rattle.promise_spec.specs.Cores.{AppliesAt, state_before}
 use Rattle.promise_spec.specs.Gotten.{Got, got_from, wanted_by, wanted_lock}
+
+-- What the unit rule is told from outside: the program's types, the lines that are asked, and what the opening log stands
+-- for. What a later rule is told of, as the order or the manner of a run, has its place here.
+pub record Basis : Type 0 where
+  pub types : ProgramTree
+  pub lines : List (List ℕ)
+  pub opening : Standing
 
 -- what a call does over what a unit read and was answered
 abbrev pub played_by : ProgramTree → Effect → Played
@@ -35,32 +43,32 @@ IsLowestHeld w u g = (h : GrainId) → holds_lock u (w.cells.holds h) ≡ true �
 -- An event may be made of a unit or a line in this state, by what each unit got: a line's event is what the line
 -- reads as; each other one is what the unit's script asks for next, over what it was given, and at its end the whole
 -- effect is the call's; locks go in ascending order. Events of the settler are no unit's.
-abbrev pub IsDue : ProgramTree → List (List ℕ) → World → (UnitNo → List Got) → CoreEvent → Type 0
-IsDue types lines w got (Bad n why) = IsBadLine types lines n why
-IsDue types lines w got (Begin (Line n) call plain) =
-    IsLineCall types lines n call × ((plain ≡ false) ↔ IsTransaction types call)
-IsDue types lines w got (Begin (Child parent index depth) call plain) =
-    (wanted_by types w parent (got parent) ≡ Some (WantUnit call depth)) × (plain ≡ false)
-IsDue types lines w got (Grant u g mode) = wanted_lock (wanted_by types w u (got u)) ≡ Some (g, mode)
-IsDue types lines w got (Refuse u g mode) = wanted_lock (wanted_by types w u (got u)) ≡ Some (g, mode)
-IsDue types lines w got (Finish u e) = (wanted_by types w u (got u) ≡ Some (Over e.result)) × IsPlayOf types e
-IsDue types lines w got (EndPlain u e) = (wanted_by types w u (got u) ≡ Some (Over e.result)) × IsPlayOf types e
-IsDue types lines w got (EndSnapshot u at outcome) = ⊥
-IsDue types lines w got (Release u g) = IsLowestHeld w u g
-IsDue types lines w got Take = ⊤
-IsDue types lines w got (Vote n g kept) = ⊤
-IsDue types lines w got (Decide n) = ⊤
-IsDue types lines w got (Sealed n) = ⊤
-IsDue types lines w got (NotSealed n) = ⊤
-IsDue types lines w got (Doubt n) = ⊤
-IsDue types lines w got (Learn u g) = ⊤
-IsDue types lines w got Emitted = ⊤
-IsDue types lines w got Halt = ⊤
-IsDue types lines w got (Want u g) = ⊥
-IsDue types lines w got (Load g u state) = ⊥
+abbrev pub IsDue : Basis → World → (UnitNo → List Got) → CoreEvent → Type 0
+IsDue s w got (Bad n why) = IsBadLine s.types s.lines n why
+IsDue s w got (Begin (Line n) call plain) =
+    IsLineCall s.types s.lines n call × ((plain ≡ false) ↔ IsTransaction s.types call)
+IsDue s w got (Begin (Child parent index depth) call plain) =
+    (wanted_by s.types w parent (got parent) ≡ Some (WantUnit call depth)) × (plain ≡ false)
+IsDue s w got (Grant u g mode) = wanted_lock (wanted_by s.types w u (got u)) ≡ Some (g, mode)
+IsDue s w got (Refuse u g mode) = wanted_lock (wanted_by s.types w u (got u)) ≡ Some (g, mode)
+IsDue s w got (Finish u e) = (wanted_by s.types w u (got u) ≡ Some (Over e.result)) × IsPlayOf s.types e
+IsDue s w got (EndPlain u e) = (wanted_by s.types w u (got u) ≡ Some (Over e.result)) × IsPlayOf s.types e
+IsDue s w got (EndSnapshot u at outcome) = ⊥
+IsDue s w got (Release u g) = IsLowestHeld w u g
+IsDue s w got Take = ⊤
+IsDue s w got (Vote n g kept) = ⊤
+IsDue s w got (Decide n) = ⊤
+IsDue s w got (Sealed n) = ⊤
+IsDue s w got (NotSealed n) = ⊤
+IsDue s w got (Doubt n) = ⊤
+IsDue s w got (Learn u g) = ⊤
+IsDue s w got Emitted = ⊤
+IsDue s w got Halt = ⊤
+IsDue s w got (Want u g) = ⊥
+IsDue s w got (Load g u state) = ⊥
 
 -- each event of the run that applies is due in the state before it
-abbrev pub KeepsUnitRule : ProgramTree → List (List ℕ) → Run → Type 0
-KeepsUnitRule types lines r =
+abbrev pub KeepsUnitRule : Basis → Run → Type 0
+KeepsUnitRule s r =
     (at : ℕ) (e : CoreEvent) → AppliesAt r at e →
-    IsDue types lines (state_before r at) (got_from (begins r) (take at r.events)) e
+    IsDue s (state_before r at) (got_from (begins r) (take at r.events)) e

@@ -1,4 +1,4 @@
-ghost use Rattle.std.specs.Prelude.{◌≡◌, ◌⊎◌, ◌↔◌, ◌++◌, ◌≤◌, ℕ, Bool, true, false, List, [], ◌∷◌, length, codes, Ok};
+ghost use Rattle.std.specs.Prelude.{◌≡◌, ◌⊎◌, ◌↔◌, ◌++◌, ◌+◌, ◌≤◌, max, fold, ℕ, Bool, true, false, List, [], ◌∷◌, length, codes, Ok};
 ghost use Rattle.base_types.specs.declared.shapes.Shape.{Shape};
 ghost use Rattle.base_types.specs.declared.entries.Entry.{Entry};
 ghost use Rattle.core_model.specs.World.{Member};
@@ -8,7 +8,7 @@ ghost use Rattle.field_codec.specs.Reading.{AreBytes};
 ghost use Rattle.script_tree.specs.Programs.{ProgramTree};
 ghost use Rattle.silo_spec.specs.Silos.{manager, program_file, IsSilo, HasProgram};
 ghost use Rattle.promise_spec.specs.Programs.{Program, IsChecked, text_limit, shape_in, program_in};
-ghost use Rattle.promise_spec.specs.Records.{Commit, new_silo};
+ghost use Rattle.promise_spec.specs.Records.{Commit, Standing, new_silo, after_writes, after_records};
 ghost use Rattle.promise_spec.specs.Serial.{IsSerial};
 ghost use Rattle.promise_spec.specs.Logs.{magic, IsLog, IsPrefix};
 ghost use Rattle.promise_spec.specs.Images.{AreChained, AreNumbered, IsSound, IsSoundIfSilo};
@@ -17,12 +17,21 @@ ghost use Rattle.promise_spec.specs.Words.{Given, Manner, plain_manner, Command,
 ghost use Rattle.promise_spec.specs.Moments.{IsImageOf, IsLongest};
 ghost use Rattle.request_wire.specs.Reply.{reply_line};
 ghost use Rattle.promise_spec.specs.Outputs.{HavePlainNames, IsProper, Grew};
-ghost use Rattle.promise_spec.specs.Endings.{Done};
-ghost use Rattle.promise_spec.specs.Courses.{Observed, Course, lines};
-ghost use Rattle.promise_spec.specs.Promise.{Keeps};
+ghost use Rattle.promise_spec.specs.Endings.{Done, InputTooLong};
+ghost use Rattle.promise_spec.specs.Courses.{Observed, Course, lines, core_run};
+ghost use Rattle.promise_spec.specs.Causes.{NoneRose, syncs_of};
+ghost use Rattle.promise_spec.specs.Headline.{KeepsHeadline, HasHeadline};
+ghost use Rattle.promise_spec.specs.Promise.{Keeps, IsSoundFolder, Promises};
 ghost use Rattle.promise_spec.specs.Loads.{load_calls, AskFor, summary_text, KeepsLoad, quiet_course, IsQuietRun};
 ghost use Rattle.promise_spec.specs.Crashes.{Holds};
 ghost use Rattle.promise_spec.specs.Journals.{Settlement, KeepsJournal, AllKeep, Backs, commits_of, entries_of};
+
+/// The headline alone, where a reader may stop: what keeps all six clauses keeps it; so does a call of `run` over a sound folder
+/// that keeps its promise, unless it left all as it was.
+pub fn promises_keep_the_headline()
+    ensures course { (p : Program) (r : Observed) (c : Course) → Keeps p r c → KeepsHeadline p r c }
+    ensures call { (m : Manner) (p : Program) (r : Observed) → IsChecked p → Promises m r → IsSoundFolder p r.old → HasHeadline p r }
+{}
 
 /// An image has at most one log under a program's shape: the records and their states are the bytes'. So where a
 /// definition says that an image has a log, it is the log.
@@ -52,6 +61,25 @@ pub fn checked_programs_have_plain_names()
 pub fn chains_compare()
     ensures { (p : Program) (one other : Image) (a b : List Commit) → AreChained p one other
         → IsLog (shape_in p) one a → IsLog (shape_in p) other b → IsPrefix a b ⊎ IsPrefix b a }
+{}
+
+/// What a log stands for is three folds over its records, each by itself: their count, the number after the greatest unit, and the
+/// states after their writes.
+pub fn standings_are_three_folds()
+    ensures count { (before : Standing) (log : List Commit) → (after_records before log).count ≡ before.count + length log }
+    ensures next { (before : Standing) (log : List Commit)
+        → (after_records before log).next ≡ fold (λ (next : ℕ) (c : Commit). max next (c.logged.unit.0 + 1)) before.next log }
+    ensures states { (before : Standing) (log : List Commit) → (after_records before log).states ≡ fold after_writes before.states log }
+    ensures front { (before : Standing) (log more : List Commit)
+        → after_records before (log ++ more) ≡ after_records (after_records before log) more }
+{}
+
+/// A run that is done, or whose input is too long, has asked for as many syncs as its events need, where nothing failed.
+pub fn done_runs_count_syncs()
+    ensures done { (p : Program) (r : Observed) (c : Course) → Keeps p r c → NoneRose r.faults_before r.faults_after → r.ending ≡ Done
+        → r.new.syncs ≡ r.old.syncs + syncs_of (core_run p c) }
+    ensures long { (p : Program) (r : Observed) (c : Course) (line : ℕ) → Keeps p r c → NoneRose r.faults_before r.faults_after
+        → r.ending ≡ InputTooLong line → r.new.syncs ≡ r.old.syncs + 1 }
 {}
 
 /// From a journal that each image keeps: the images of any moments are a chain, the order is the opening log with the

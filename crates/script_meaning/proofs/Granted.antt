@@ -70,7 +70,7 @@ module _ (types : ProgramTree) (may : Bool) (depth : ℕ) where
       (λ i. held_in (same i) (same_mode i)) (sound.3 state) in
       let later : GoesOn (held ++ (held_in at how ∷ [])) asked rest after =
       sound_leads (go state) rest after _ asked sound' leads.1 in
-      ((sound.0, subst (λ (g : GrainId). mode_at g held ≡ None) same sound.1, sound.2, later.0), later.1)
+      ((sound.0.0, subst (λ (g : GrainId). mode_at g held ≡ None) same sound.1, sound.2, later.0), later.1)
   sound_leads (AskLock grain mode go) (GivenRaise at ∷ rest) after held asked sound leads =
       absurd (let e = leads.0 in cc)
   sound_leads (AskLock grain mode go) (GivenOutcome of at outcome ∷ rest) after held asked sound leads =
@@ -83,7 +83,7 @@ module _ (types : ProgramTree) (may : Bool) (depth : ℕ) where
       let sound' : IsSound types may depth (change at raised held) asked run =
       subst (λ (g : GrainId). IsSound types may depth (change g raised held) asked run) same sound.2 in
       let later : GoesOn (change at raised held) asked rest after = sound_leads run rest after _ asked sound' leads.1 in
-      ((sound.0, subst (λ (g : GrainId). mode_at g held ≡ Some Read) same sound.1, later.0), later.1)
+      ((sound.0.0, subst (λ (g : GrainId). mode_at g held ≡ Some Read) same sound.1, later.0), later.1)
   sound_leads (AskRaise grain run) (GivenOutcome of at outcome ∷ rest) after held asked sound leads =
       absurd (let e = leads.0 in cc)
   sound_leads (AskUnit call depth go) (GivenLock at how state ∷ rest) after held asked sound leads =

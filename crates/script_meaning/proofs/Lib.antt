@@ -16,3 +16,5 @@ pub mod Steps
 pub mod Trees
 pub mod Lookups
 pub mod Written
+pub mod Once
+pub mod Within

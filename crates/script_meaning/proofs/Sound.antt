@@ -6,6 +6,7 @@ use Rattle.std.specs.List.{All}
 use Rattle.std.proofs.lemmas.Bool.{ltb-true, eqb-true}
 use Rattle.std.proofs.lemmas.List.{map-append, length-map, length-set}
 use Rattle.std.proofs.lemmas.List.Elements.{All-nil, All-push}
+use Rattle.std.proofs.lemmas.Option.{slice_get_within}
 use Rattle.base_types.specs.declared.calls.Call.{Call}
 use Rattle.base_types.specs.declared.calls.GrainId.{GrainId}
 use Rattle.base_types.specs.declared.calls.Mode.{Mode}
@@ -104,14 +105,18 @@ module _ (types : ProgramTree) where
     pub fit : All IsFit has.held
 
   module _ (may : Bool) (depth : ℕ) where
+    -- a lock may be asked for, of a grain of the program's types
+    abbrev pub MayLock : GrainId → Type 0
+    MayLock grain = (may ≡ true) × (grain.kind < length types)
+
     -- a run of a unit whose first frame has this depth, which holds these grains and has asked for so many units:
     -- it asks for a lock only where it may
     abbrev pub IsSound : List Held → ℕ → Requests → Type 0
     IsSound held asked (End result has) = EndsWell held result has
     IsSound held asked (AskLock grain mode go) =
-        (may ≡ true) × (mode_at grain held ≡ None) × (length held < grain_limit)
+        MayLock grain × (mode_at grain held ≡ None) × (length held < grain_limit)
         × ((found : List Value) → IsSound (held ++ (held_in grain mode ∷ [])) asked (go found))
-    IsSound held asked (AskRaise grain rest) = (may ≡ true) × (mode_at grain held ≡ Some Read)
+    IsSound held asked (AskRaise grain rest) = MayLock grain × (mode_at grain held ≡ Some Read)
         × IsSound (change grain raised held) asked rest
     IsSound held asked (AskUnit call at go) = (asked < unit_limit) × IsChild types depth (call, at)
         × ((outcome : Outcome) → IsSound held (asked + 1) (go outcome))
@@ -235,7 +240,7 @@ module _ (types : ProgramTree) where
         SoundAt has (AskLock grain mode
         (λ found. go (with_held has (has.held ++ (newly_held grain mode of_type.fields found ∷ [])))))
     first_lock_sound floor mode grain of_type go permits is sound has kept free room = (
-      permits,
+      (permits, slice_get_within types grain.kind of_type is),
       mode_at-bare grain has.held ∙ free,
       subst (λ (n : ℕ). n < grain_limit) (sym (length-map has.held bare)) room,
       λ found.
@@ -251,7 +256,7 @@ module _ (types : ProgramTree) where
     )
 
     -- an exclusive lock in place of a shared one
-    raise_sound : (floor : List GrainId) (grain : GrainId) (go : Holding → Requests) → may ≡ true →
+    raise_sound : (floor : List GrainId) (grain : GrainId) (go : Holding → Requests) → MayLock grain →
         SoundHeld floor grain Update go →
         (has : Holding) → Kept floor has → mode_at grain has.held ≡ Some Read →
         SoundAt has (AskRaise grain (go (with_held has (change grain raised has.held))))
@@ -283,7 +288,7 @@ module _ (types : ProgramTree) where
     locked_sound floor (Some Read) Read grain of_type go permits is sound has kept at =
         sound has kept (λ e. absurd (cc))
     locked_sound floor (Some Read) Update grain of_type go permits is sound has kept at =
-        raise_sound floor grain go permits sound has kept at
+        raise_sound floor grain go (permits, slice_get_within types grain.kind of_type is) sound has kept at
 
     -- how a frame may be entered: it joins only where locks may be asked for, passes a context on only there, and a unit
     -- of its own is a transaction, deeper than the unit's first frame, and has the right arguments

@@ -1,5 +1,5 @@
 -- What `play` and `next` have to do with each other, and what a play rests on.
-use Rattle.std.specs.Prelude.{◌≡◌, ◌≢◌, ◌≤◌, ◌<◌, ℕ, List, [], ◌∷◌, ◌++◌, length, IsTrue, Some, slice_get}
+use Rattle.std.specs.Prelude.{◌≡◌, ◌≢◌, ◌≤◌, ◌<◌, ℕ, List, [], ◌∷◌, ◌++◌, length, IsTrue, Some, slice_get, ⊤}
 use Rattle.std.specs.List.{All, AllPairs, Contains}
 use Rattle.base_types.specs.declared.calls.Call.{Call}
 use Rattle.base_types.specs.declared.calls.GrainId.{GrainId}
@@ -18,7 +18,7 @@ use Rattle.script_holding.specs.Limits.{depth_limit, unit_limit, grain_limit}
 use Rattle.script_meaning.specs.Requests.{Back, with_value}
 use Rattle.script_meaning.specs.Calls.{Site, Target, numbered}
 use Rattle.script_meaning.specs.Statements.{Next, step, chosen, given, does, runs, deep}
-use Rattle.script_meaning.specs.Play.{IsTransaction, Asked, Played, Want, WantLock, WantRaise, WantUnit, Over, grains_of, is_below, play_over, play, next}
+use Rattle.script_meaning.specs.Play.{IsTransaction, Asked, Played, Lock, Want, WantLock, WantRaise, WantUnit, Over, grains_of, is_below, play_over, play, next}
 use Rattle.script_meaning.specs.Trails.{Given, wanted, locks_of, answers_of, reads_of, exclusive_in, Has, IsTrail, IsWhole, IsShown, outcomes, states_of}
 
 -- a play is a run of `next` to its end, over states of the store and the outcomes of the children
@@ -122,6 +122,25 @@ pub record TrailGrows (types : ProgramTree) (call : Call) (depth : ℕ) : Type 0
 
 abbrev pub TrailsGrow : Type 0
 TrailsGrow = (types : ProgramTree) (call : Call) (depth : ℕ) → TrailGrows types call depth
+
+-- a trail reads each grain once, so what its reads found are those grains' states
+pub record ReadsOnce (trail : List Given) : Type 0 where
+  pub once : AllPairs (λ one other. one.0 ≢ other.0) (reads_of trail)
+  pub found : Has (states_of (reads_of trail)) (reads_of trail)
+
+abbrev pub TrailsReadOnce : Type 0
+TrailsReadOnce = (types : ProgramTree) (call : Call) (depth : ℕ) (trail : List Given) → IsTrail types call depth trail → ReadsOnce trail
+
+-- what is asked for is of a type of the program: the grain that is to be locked, and that of a unit's call
+abbrev pub IsOfTypes : ProgramTree → Want → Type 0
+IsOfTypes types (WantLock grain mode) = grain.kind < length types
+IsOfTypes types (WantRaise grain) = grain.kind < length types
+IsOfTypes types (WantUnit call at) = call.grain.kind < length types
+IsOfTypes types (Over outcome) = ⊤
+
+abbrev pub NextIsOfTypes : Type 0
+NextIsOfTypes = (types : ProgramTree) (call : Call) (depth : ℕ) (locks : List Lock) (answers : List Outcome) →
+    IsOfTypes types (next types call depth locks answers)
 
 -- A `while` takes a step, then its test chooses between its block, behind which stands the same `while`, and what
 -- follows: the count of turns in its definition never ends it.

@@ -1,4 +1,4 @@
-ghost use Rattle.script_meaning.specs.Laws.{PlayIsNext, NextIsPlay, PlayRestsOnReads, PlayIsAgain, EqualStoresPlayAlike, PlaysAreOrderly, PlainRunsLockNothing, NextIsMissing, TrailsGrow, LoopsGoOn};
+ghost use Rattle.script_meaning.specs.Laws.{PlayIsNext, NextIsPlay, PlayRestsOnReads, PlayIsAgain, EqualStoresPlayAlike, PlaysAreOrderly, PlainRunsLockNothing, NextIsMissing, TrailsGrow, TrailsReadOnce, NextIsOfTypes, LoopsGoOn};
 ghost use Rattle.script_meaning.specs.Texts.{FaultsAreKnown};
 
 /// A play is a run of `next` to its end: a unit that is given what `next` names, one after the other, over states of
@@ -50,6 +50,17 @@ pub fn next_is_missing()
 /// A trail of what a unit was given begins empty and grows by what `next` names, and each beginning of one is one.
 pub fn trails_grow()
     ensures { TrailsGrow }
+{}
+
+/// A trail reads each grain once, so the states that it found are those of its reads.
+pub fn trails_read_once()
+    ensures { TrailsReadOnce }
+{}
+
+/// Whatever locks and answers a unit was given, `next` names no grain but those of the program's types: neither a lock's
+/// nor a call's.
+pub fn next_is_of_types()
+    ensures { NextIsOfTypes }
 {}
 
 /// A `while` is a step, then its test, then its block and the same `while` again, or what follows.

@@ -16,9 +16,9 @@ mod worked;
 
 pub use frames::initial;
 pub use laws::{
-    equal_stores_play_alike, faults_are_known, loops_go_on, next_is_missing, next_is_play,
-    plain_runs_lock_nothing, play_is_again, play_is_next, play_rests_on_reads, plays_are_orderly,
-    trails_grow,
+    equal_stores_play_alike, faults_are_known, loops_go_on, next_is_missing, next_is_of_types,
+    next_is_play, plain_runs_lock_nothing, play_is_again, play_is_next, play_rests_on_reads,
+    plays_are_orderly, trails_grow, trails_read_once,
 };
 pub use targets::{Target, bind_arguments, method_number, target_at, target_named, type_number};
 pub use units::{Played, play};

@@ -1,4 +1,4 @@
-use Rattle.promise_runs.proofs.WrongRuns.{more_syncs, fewer_syncs}
+use Rattle.promise_runs.proofs.WrongRuns.{more_syncs, fewer_syncs, other_long_syncs}
 use Rattle.promise_runs.proofs.Load.{other_syncs}
 use Rattle.promise_runs.proofs.wrong_runs.calm_runs_sync_once.Goals as goal
 
@@ -7,6 +7,9 @@ returns-clause-more c = more_syncs
 
 pub returns-clause-fewer : goal.returns-clause-fewer
 returns-clause-fewer c = fewer_syncs
+
+pub returns-clause-long : goal.returns-clause-long
+returns-clause-long c p r course line = other_long_syncs p r course line
 
 pub returns-clause-load : goal.returns-clause-load
 returns-clause-load c = other_syncs

@@ -27,7 +27,7 @@ returns-clause-led c = λ go.
     let holds = λ (s : List Value). with_held has (has.held ++ (newly_held grain mode fields s ∷ [])) in
     let here = λ (reads : List Found) (h : Holding). heard world (record { asked = progress.asked; reads = reads; used = progress.used }) (go h) in
     ap (λ (reads : List Found). here reads c.lock.new.self)
-    (c.in_ok-push.ensures {u = tt} ∙ ap (λ (s : List Value). let all : List Found = progress.reads ++ ((grain, s) ∷ []) in all) read)
+    ((c.in_ok-push.ensures {u = tt}).pushed ∙ ap (λ (s : List Value). let all : List Found = progress.reads ++ ((grain, s) ∷ []) in all) read)
     ∙ ap (here (progress.reads ++ ((grain, state) ∷ []))) ((c.in_ok-lock.ensures {u = tt}).ok ∙ ap holds found)
     ∙ heard_lock world progress.asked progress.reads progress.used grain mode (λ s. go (holds s))
     ∙ ap (heard world progress) (sym (room_for mode grain fields go has (c.if-not-has_room.ensures {u = tt})))

@@ -1,0 +1,49 @@
+-- What the loop of a run carries to its end, from which `Lasts` follows.
+use Rattle.std.specs.Prelude.{◌≡◌, ◌≢◌, List, ◌++◌}
+use Rattle.host_trait.specs.Disk.{MayLeave, settled}
+use Rattle.host_trait.specs.declared.channels.FileId.{FileId}
+use Rattle.host_trait.specs.World as host
+use Rattle.host_trait.specs.World.{Moment, Image, IsImage, Passes, moment_of, last_of}
+use Rattle.core_model.specs.World.{World}
+use Rattle.silo_spec.specs.Silos.{manager}
+use Rattle.silo_spec.specs.Moments.{IsUntouched}
+use Rattle.promise_spec.specs.Programs.{Program, shape_in}
+use Rattle.promise_spec.specs.Records.{Commit}
+use Rattle.promise_spec.specs.Logs.{live_slot, IsLog}
+use Rattle.promise_spec.specs.Openings.{Reads, opened_as}
+use Rattle.promise_spec.specs.Causes.{HasDoubt}
+use Rattle.promise_spec.specs.Courses.{Observed, Course, seen_at_entry, core_run, core_end}
+use Rattle.promise_spec.specs.Crashes.{LeavesAlone}
+use Rattle.promise_spec.specs.Batches.{EndsABatch}
+use Rattle.promise_spec.specs.Exits.{HasDoubtfulBlock}
+use Rattle.promise_spec.specs.Journals.{Settlement, commits_of, Backs}
+
+-- what a read gives is among what a crash may leave, file by file
+abbrev pub ReadsMayStay : host.World → Type 0
+ReadsMayStay w = (file : FileId) → MayLeave (w.disk file) (w.disk file).seen
+
+-- The world behind the opening: the folder read as this program and log, no image was added, nothing is pending in the
+-- manager file, and the early moments end here.
+pub record IsBehind (p : Program) (r : Observed) (c : Course) (mid : host.World) : Type 0 where
+  pub reads : opened_as (seen_at_entry r) ≡ Reads p c.opening
+  pub untouched : IsUntouched r.old mid
+  pub settled : mid.disk manager ≡ settled (seen_at_entry r manager)
+  pub others : (file : FileId) → file ≢ manager → mid.disk file ≡ r.old.disk file
+  pub early : mid.past ≡ r.old.past ++ c.early
+  pub last : last_of (moment_of r.old) c.early ≡ moment_of mid
+  pub late : r.new.past ≡ mid.past ++ c.late
+
+-- the log of each image of the moment ends where a batch does, as the core has closed them
+abbrev pub AllEnd : Program → World → List Commit → Moment → Type 0
+AllEnd p w opening m = (image : Image) (log : List Commit) → IsImage m.disk image → IsLog (shape_in p) image log → EndsABatch w opening log
+
+-- what is carried beside the journal itself: at each moment since, and now, whole batches, and other files and the header as
+-- they were
+pub record Carries (p : Program) (r : Observed) (c : Course) (mid : host.World) (journal : List Settlement) : Type 0 where
+  pub commits : c.added ≡ commits_of journal
+  pub backs : Backs journal c.added
+  pub batches : Passes (AllEnd p (core_end p c) c.opening) mid.past r.new.past
+  pub batches_now : AllEnd p (core_end p c) c.opening (moment_of r.new)
+  pub alone : Passes (LeavesAlone live_slot r) mid.past r.new.past
+  pub alone_now : LeavesAlone live_slot r (moment_of r.new)
+  pub block : HasDoubt (core_run p c) → HasDoubtfulBlock live_slot r c (core_end p c)

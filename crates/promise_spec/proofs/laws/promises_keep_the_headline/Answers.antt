@@ -1,0 +1,11 @@
+use Rattle.std.proofs.Common.{inl, inr}
+use Rattle.promise_spec.proofs.laws.promises_keep_the_headline.Goals as goal
+
+pub returns-clause-course : goal.returns-clause-course
+returns-clause-course c p r course keeps = keeps.headline
+
+pub returns-clause-call : goal.returns-clause-call
+returns-clause-call c m p r checked promised sound = elim (promised.over_sound p checked sound) [
+  | inl unopened ↦ inl unopened.untouched
+  | inr kept ↦ inr (kept.0, kept.1.headline)
+]

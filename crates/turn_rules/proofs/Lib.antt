@@ -1,0 +1,15 @@
+pub mod Listed
+pub mod Growth
+pub mod Frame
+pub mod Numbers
+pub mod Movers
+pub mod Counted
+pub mod Resting
+pub mod Waits
+pub mod Ended
+pub mod Linked
+pub mod Others
+pub mod Lawful
+pub mod Picks
+pub mod Settlers
+pub mod Turns

@@ -1,0 +1,117 @@
+-- The events of the settler's steps, and that no run by turns is stopped.
+use Rattle.std.proofs.Common.{◌≡◌, ℕ, suc, Option, Some, None, List, [], ◌∷◌, get_or, true, false, inl, inr, refl, sym, ap, ◌∙◌, subst}
+use Rattle.std.specs.Prelude.{take, slice_get}
+use Rattle.std.proofs.lemmas.Bool.{cond_both, and_parts}
+use Rattle.core_model.specs.World.{UnitNo, World}
+use Rattle.core_model.specs.declared.events.CoreEvent.{CoreEvent}
+use Rattle.core_model.specs.declared.events.CoreEvent.TheVariants.{Halt}
+use Rattle.core_model.specs.Changes.{swept, swept_by}
+use Rattle.core_model.proofs.Decoded.{Change, bad, begin, lock, raise, refuse, finish, end_plain, end_snapshot, release, take_batch, vote, decide_some, decide_none, seal_batch, spoil_batch, doubt_batch, learn, emit, halt_run, want, load, decode}
+use Rattle.core_model.specs.Events.{applies, can, does, is_allowed, step, run}
+use Rattle.core_model.specs.Legal.{Run, begins, ends}
+use Rattle.script_tree.specs.Programs.{ProgramTree}
+use Rattle.promise_spec.specs.Cores.{state_before}
+use Rattle.promise_spec.specs.Gotten.{Got, got_from}
+use Rattle.promise_spec.specs.UnitRule.{Basis, IsDue}
+use Rattle.core_model.specs.Settler.{Makes, Step, Votes, Decides, Seals, Learns, Writes, Takes, Rests, settler_step}
+use Rattle.promise_spec.specs.TurnRule.{OfSettler, IsTurn, KeepsTurnRule, can_begin, movers, mover_of, picked, picks_used}
+use Rattle.turn_rules.specs.Going.{is_begin, is_own}
+
+-- ---- no stop
+
+-- none but a stop stops the run
+halt-change : (w : World) (e : CoreEvent) (w' : World) → Change w e w' → (e ≡ Halt → ⊥) → w'.units.halt ≡ w.units.halt
+halt-change w e w' (bad line why q) n = refl
+halt-change w e w' (begin origin call plain c) n = refl
+halt-change w e w' (lock v g mode running free first here) n = refl
+halt-change w e w' (raise v g mode running free held here uncovered) n = refl
+halt-change w e w' (refuse v g mode why running q) n = refl
+halt-change w e w' (finish v effect running plain of_call reads alone) n = refl
+halt-change w e w' (end_plain v effect running plain of_call bare) n = refl
+halt-change w e w' (end_snapshot v at outcome running plain kids answer) n = refl
+halt-change w e w' (release v g over held) n = refl
+halt-change w e w' (take_batch o some) n = refl
+halt-change w e w' (vote m g kept b q number un planned fresh) n = refl
+halt-change w e w' (decide_some m b q number un voted some) n = refl
+halt-change w e w' (decide_none m b q number un voted not_one) n = refl
+halt-change w e w' (seal_batch m b ds q number un) n = refl
+halt-change w e w' (spoil_batch m b ds q number un) n = refl
+halt-change w e w' (doubt_batch m b ds q number un) n = refl
+halt-change w e w' (learn v g wrote final fresh) n = refl
+halt-change w e w' (emit q) n = refl
+halt-change w e w' (halt_run q) n = absurd (n refl)
+halt-change w e w' (want v g running free fresh) n = refl
+halt-change w e w' (load g v state gone wanted) n = refl
+
+-- by one event
+halt-step : (w : World) (e : CoreEvent) → (applies w e ≡ true → e ≡ Halt → ⊥) → (step w e).units.halt ≡ w.units.halt
+halt-step w e n = cond_both (applies w e) (swept (does w e)) w (λ (x : World). x.units.halt ≡ w.units.halt)
+    (λ a. sweep (does w e) ∙ halt-change w e (does w e) (decode w e (and_parts (is_allowed w e) (can w e) a).1) (n a))
+    (λ a. refl)
+  where
+    sweep : (x : World) → (swept x).units.halt ≡ x.units.halt
+    sweep x = go x.cells.capacity
+      where
+        go : (c : Option ℕ) → (swept_by x c).units.halt ≡ x.units.halt
+        go None = refl
+        go (Some m) = refl
+
+-- by a list of events
+halt-run : (es : List CoreEvent) (w : World) → ((at : ℕ) (e : CoreEvent) → slice_get es at ≡ Some e → applies (run w (take at es)) e ≡ true → e ≡ Halt → ⊥) → (run w es).units.halt ≡ w.units.halt
+halt-run [] w n = refl
+halt-run (e ∷ es) w n = halt-run es (step w e) (λ at f there a. n (suc at) f there a) ∙ halt-step w e (n 0 e refl)
+
+-- no step makes a stop
+no-halt-step : (s : Step) → Makes s Halt → ⊥
+no-halt-step (Votes n g) m = (let e = m.1 in absurd cc)
+no-halt-step (Decides n) m = absurd cc
+no-halt-step (Seals n) (inl m) = absurd cc
+no-halt-step (Seals n) (inr (inl m)) = absurd cc
+no-halt-step (Seals n) (inr (inr m)) = absurd cc
+no-halt-step (Learns u g) m = absurd cc
+no-halt-step Writes m = absurd cc
+no-halt-step Takes m = absurd cc
+no-halt-step Rests m = m
+
+-- no run that keeps the turn rule is stopped
+pub never-halted : (types : ProgramTree) (lines width : ℕ) (picks : List ℕ) (r : Run) → KeepsTurnRule types lines width picks r → (ends r).units.halt ≡ false
+never-halted types lines width picks r keeps =
+    halt-run r.events (begins r) (λ at e there a q.
+    no-halt-step (settler_step (state_before r at)) (subst (λ (x : CoreEvent). IsTurn (can_begin width lines r (state_before r at)) (picked (movers types r (state_before r at) (got_from (begins r) (take at r.events))) (get_or picks (picks_used r at) 0)) (state_before r at) x (mover_of x)) q
+    (keeps at e (record { there = there; applied = a }))).2)
+
+-- the settler's events
+pub settlers : (s : Step) (e : CoreEvent) → Makes s e → (mover_of e ≡ OfSettler) × (is_begin e ≡ false)
+settlers (Votes n g) e m = subst (λ (x : CoreEvent). (mover_of x ≡ OfSettler) × (is_begin x ≡ false)) (sym m.1) (refl, refl)
+settlers (Decides n) e m = subst (λ (x : CoreEvent). (mover_of x ≡ OfSettler) × (is_begin x ≡ false)) (sym m) (refl, refl)
+settlers (Seals n) e (inl m) = subst (λ (x : CoreEvent). (mover_of x ≡ OfSettler) × (is_begin x ≡ false)) (sym m) (refl, refl)
+settlers (Seals n) e (inr (inl m)) = subst (λ (x : CoreEvent). (mover_of x ≡ OfSettler) × (is_begin x ≡ false)) (sym m) (refl, refl)
+settlers (Seals n) e (inr (inr m)) = subst (λ (x : CoreEvent). (mover_of x ≡ OfSettler) × (is_begin x ≡ false)) (sym m) (refl, refl)
+settlers (Learns u g) e m = subst (λ (x : CoreEvent). (mover_of x ≡ OfSettler) × (is_begin x ≡ false)) (sym m) (refl, refl)
+settlers Writes e m = subst (λ (x : CoreEvent). (mover_of x ≡ OfSettler) × (is_begin x ≡ false)) (sym m) (refl, refl)
+settlers Takes e m = subst (λ (x : CoreEvent). (mover_of x ≡ OfSettler) × (is_begin x ≡ false)) (sym m) (refl, refl)
+settlers Rests e m = absurd m
+
+-- and is due
+pub settlers-due : (around : Basis) (w : World) (got : UnitNo → List Got) (s : Step) (e : CoreEvent) → Makes s e → IsDue around w got e
+settlers-due around w got (Votes n g) e m = subst (IsDue around w got) (sym m.1) tt
+settlers-due around w got (Decides n) e m = subst (IsDue around w got) (sym m) tt
+settlers-due around w got (Seals n) e (inl m) = subst (IsDue around w got) (sym m) tt
+settlers-due around w got (Seals n) e (inr (inl m)) = subst (IsDue around w got) (sym m) tt
+settlers-due around w got (Seals n) e (inr (inr m)) = subst (IsDue around w got) (sym m) tt
+settlers-due around w got (Learns u g) e m = subst (IsDue around w got) (sym m) tt
+settlers-due around w got Writes e m = subst (IsDue around w got) (sym m) tt
+settlers-due around w got Takes e m = subst (IsDue around w got) (sym m) tt
+settlers-due around w got Rests e m = absurd m
+
+-- no event of a settler is a unit's own
+pub settlers-others : (u : UnitNo) (s : Step) (e : CoreEvent) → Makes s e → is_own u e ≡ false
+settlers-others u (Votes n g) e m = ap (is_own u) m.1
+settlers-others u (Decides n) e m = ap (is_own u) m
+settlers-others u (Seals n) e (inl m) = ap (is_own u) m
+settlers-others u (Seals n) e (inr (inl m)) = ap (is_own u) m
+settlers-others u (Seals n) e (inr (inr m)) = ap (is_own u) m
+settlers-others u (Learns v g) e m = ap (is_own u) m
+settlers-others u Writes e m = ap (is_own u) m
+settlers-others u Takes e m = ap (is_own u) m
+settlers-others u Rests e m = absurd m

@@ -1,0 +1,182 @@
+-- One turn of the loop.
+use Rattle.std.proofs.Common.{◌≡◌, ℕ, ◌+◌, ◌-◌, ◌<◌, Some, None, List, [], length, get_or, Bool, true, false, refl, sym, ap, ◌∙◌, subst, arith}
+use Rattle.std.specs.Prelude.{filter, take, slice_get, count_by}
+use Rattle.base_types.specs.declared.calls.Origin.TheVariants.{Line, Child}
+use Rattle.core_model.specs.World.{UnitNo, Call, World}
+use Rattle.core_model.specs.declared.effects.Effect.{Effect}
+use Rattle.core_model.specs.declared.events.CoreEvent.{CoreEvent}
+use Rattle.core_model.specs.declared.events.CoreEvent.TheVariants.{Begin}
+use Rattle.core_model.specs.Changes.{new_unit}
+use Rattle.core_model.specs.Events.{applies, can, run}
+use Rattle.core_model.specs.Legal.{Run, IsLegal, begins, ends}
+use Rattle.core_model.proofs.Kept.{Kept}
+use Rattle.core_model.proofs.Ends.{kept-ends}
+use Rattle.core_model.proofs.Replied.{no-change}
+use Rattle.promise_spec.specs.Cores.{applied_from}
+use Rattle.promise_spec.specs.Gotten.{got_in}
+use Rattle.promise_spec.specs.UnitRule.{Basis}
+use Rattle.core_model.specs.Settler.{Makes, settler_step}
+use Rattle.promise_spec.specs.TurnRule.{Mover, OfLine, OfUnit, OfSettler, IsTurn, can_begin, mover_of, takes_pick, picked, units_of, units_from}
+use Rattle.turn_rules.specs.Going.{with_event, is_begin, MayCome, IsNext, movers_in, next_pick}
+use Rattle.turn_rules.specs.Carried.{AreKept, movers_of, is_kept}
+use Rattle.turn_rules.specs.Quiet.{HasRun}
+use Rattle.turn_rules.specs.Turning.{TurnLoop, IsTurning, IsPicked, has_room, with_new, turned}
+use Rattle.turn_rules.proofs.Movers.{begins-kept, drop-kept, kept-begun, kept-on, movers-kept}
+use Rattle.turn_rules.proofs.Counted.{counted-ends}
+use Rattle.turn_rules.proofs.Growth.{ends-more, turn-grows, unit-grows}
+use Rattle.turn_rules.proofs.Lawful.{legal-run}
+use Rattle.turn_rules.proofs.Settlers.{never-halted, settlers, settlers-due}
+use Rattle.turn_rules.proofs.Numbers.{older-filter, older-last}
+use Rattle.turn_rules.proofs.Picks.{used-none, used-one, used-unapplied}
+use Rattle.turn_rules.proofs.Ended.{without-mover}
+
+-- ---- the turns
+
+module _ (l : TurnLoop) (t : IsTurning l) where
+  -- what the core's laws ask for
+  legal : IsLegal (λ (e : Effect). true) l.run
+  legal = legal-run l.basis l.run t.first t.unit_rule
+
+  held : Kept l.run.opening (ends l.run)
+  held = kept-ends (λ (e : Effect). true) l.run legal
+
+  -- an event that doesn't apply
+  pub turn-unapplied : (e : CoreEvent) → applies (ends l.run) e ≡ false → IsTurning (turned l e l.units l.used)
+  turn-unapplied e a = record {
+    first = t.first;
+    unit_rule = unit-grows l.basis l.run e t.unit_rule (λ b. not_both b);
+    turn_rule = turn-grows l.basis.types (length l.basis.lines) l.width l.picks l.run e t.turn_rule (λ b. not_both b);
+    kept = same_kept;
+    older = t.older;
+    count = used-unapplied l.run e l.used t.count a;
+  }
+    where
+      not_both : {A : Type 0} → applies (ends l.run) e ≡ true → A
+      not_both b = absurd (let z : true ≡ false = sym b ∙ a in cc)
+
+      same : ends (with_event l.run e) ≡ ends l.run
+      same = ends-more l.run e ∙ no-change (ends l.run) e a
+
+      same_kept : AreKept (with_event l.run e) l.units
+      same_kept = record {
+        kept = subst (λ (w : World). filter (is_kept w) l.units ≡ filter (is_kept w) (units_of l.run w)) (sym same) t.kept.kept;
+        below = λ u m. subst (λ (w : World). u.0 < w.units.next) (sym same) (t.kept.below u m);
+      }
+
+  -- a line that is bad
+  pub turn-bad : (e : CoreEvent) → is_begin e ≡ false → mover_of e ≡ OfLine → has_room l ≡ true → MayCome l.basis l.run e → IsTurning (turned l e l.units l.used)
+  turn-bad e b m can may = record {
+    first = t.first;
+    unit_rule = unit-grows l.basis l.run e t.unit_rule may;
+    turn_rule = turn-grows l.basis.types (length l.basis.lines) l.width l.picks l.run e t.turn_rule (λ a. no_mover a);
+    kept = kept-on l.run.opening l.run e l.units held b t.kept;
+    older = t.older;
+    count = used-none l.run e l.used t.count (ap takes_pick m);
+  }
+    where
+      no_mover : applies (ends l.run) e ≡ true → IsTurn (can_begin l.width (length l.basis.lines) l.run (ends l.run)) (picked (movers_in l.basis.types l.run) (next_pick l.picks l.run)) (ends l.run) e (mover_of e)
+      no_mover a = subst (λ (o : Mover). IsTurn (can_begin l.width (length l.basis.lines) l.run (ends l.run)) (picked (movers_in l.basis.types l.run) (next_pick l.picks l.run)) (ends l.run) e o) (sym m) (begins-kept l.width (length l.basis.lines) l.run l.units t.kept ∙ can)
+
+  -- a line that begins
+  pub turn-line : (n : ℕ) (call : Call) (plain : Bool) → has_room l ≡ true → MayCome l.basis l.run (Begin (Line n) call plain) → applies (ends l.run) (Begin (Line n) call plain) ≡ true →
+      IsTurning (turned l (Begin (Line n) call plain) (with_new l) l.used)
+  turn-line n call plain can may a = record {
+    first = t.first;
+    unit_rule = unit-grows l.basis l.run (Begin (Line n) call plain) t.unit_rule may;
+    turn_rule = turn-grows l.basis.types (length l.basis.lines) l.width l.picks l.run (Begin (Line n) call plain) t.turn_rule (λ b. begins-kept l.width (length l.basis.lines) l.run l.units t.kept ∙ can);
+    kept = kept-begun l.run.opening l.run (Line n) call plain l.units held (counted-ends (λ (e : Effect). true) l.run legal).above a t.kept;
+    older = older-last l.units (new_unit (ends l.run)) (λ v m. t.kept.below v m) t.older;
+    count = used-none l.run (Begin (Line n) call plain) l.used t.count refl;
+  }
+
+  -- the mover that was picked, among those that are looked at
+  chosen : (m : Mover) → picked (movers_of l.basis.types l.run l.units) (get_or l.picks l.used 0) ≡ Some m → picked (movers_in l.basis.types l.run) (next_pick l.picks l.run) ≡ Some m
+  chosen m pick =
+      ap (λ (ms : List Mover). picked ms (next_pick l.picks l.run)) (movers-kept l.basis.types l.run l.units t.kept) ∙ ap (λ (n : ℕ). picked (movers_of l.basis.types l.run l.units) (get_or l.picks n 0)) (sym t.count) ∙ pick
+
+  -- no line can begin
+  none_begins : has_room l ≡ false → can_begin l.width (length l.basis.lines) l.run (ends l.run) ≡ false
+  none_begins cannot = begins-kept l.width (length l.basis.lines) l.run l.units t.kept ∙ cannot
+
+  -- the turn is a mover's whose event it is
+  at_turn : (m : Mover) (e : CoreEvent) → mover_of e ≡ m → IsTurn (can_begin l.width (length l.basis.lines) l.run (ends l.run)) (picked (movers_in l.basis.types l.run) (next_pick l.picks l.run)) (ends l.run) e m → IsNext l.basis.types (length l.basis.lines) l.width l.picks l.run e
+  at_turn m e is turn a =
+      subst (λ (o : Mover). IsTurn (can_begin l.width (length l.basis.lines) l.run (ends l.run)) (picked (movers_in l.basis.types l.run) (next_pick l.picks l.run)) (ends l.run) e o) (sym is) turn
+
+  -- the settler's step
+  pub turn-settler : (e : CoreEvent) → IsPicked l OfSettler → Makes (settler_step (ends l.run)) e → applies (ends l.run) e ≡ true → IsTurning (turned l e l.units (l.used + 1))
+  turn-settler e turn makes a =
+      let s = settlers (settler_step (ends l.run)) e makes in
+      record {
+        first = t.first;
+        unit_rule = unit-grows l.basis l.run e t.unit_rule (λ b. settlers-due l.basis (ends l.run) (got_in l.run) (settler_step (ends l.run)) e makes);
+        turn_rule = turn-grows l.basis.types (length l.basis.lines) l.width l.picks l.run e t.turn_rule (at_turn OfSettler e s.0 (none_begins turn.none, chosen OfSettler turn.pick, makes));
+        kept = kept-on l.run.opening l.run e l.units held s.1 t.kept;
+        older = t.older;
+        count = used-one l.run e l.used t.count a (ap takes_pick s.0);
+      }
+
+  -- an event of the unit whose turn it is
+  pub turn-unit : (u : UnitNo) (e : CoreEvent) → IsPicked l (OfUnit u) → mover_of e ≡ OfUnit u → is_begin e ≡ false → MayCome l.basis l.run e → applies (ends l.run) e ≡ true →
+      IsTurning (turned l e l.units (l.used + 1))
+  turn-unit u e turn is b may a = record {
+    first = t.first;
+    unit_rule = unit-grows l.basis l.run e t.unit_rule may;
+    turn_rule = turn-grows l.basis.types (length l.basis.lines) l.width l.picks l.run e t.turn_rule (at_turn (OfUnit u) e is (none_begins turn.none, chosen (OfUnit u) turn.pick));
+    kept = kept-on l.run.opening l.run e l.units held b t.kept;
+    older = t.older;
+    count = used-one l.run e l.used t.count a (ap takes_pick is);
+  }
+
+  -- a child that it begins
+  pub turn-child : (u : UnitNo) (index depth : ℕ) (call : Call) → IsPicked l (OfUnit u) → MayCome l.basis l.run (Begin (Child u index depth) call false) →
+      applies (ends l.run) (Begin (Child u index depth) call false) ≡ true → IsTurning (turned l (Begin (Child u index depth) call false) (with_new l) (l.used + 1))
+  turn-child u index depth call turn may a = record {
+    first = t.first;
+    unit_rule = unit-grows l.basis l.run (Begin (Child u index depth) call false) t.unit_rule may;
+    turn_rule = turn-grows l.basis.types (length l.basis.lines) l.width l.picks l.run (Begin (Child u index depth) call false) t.turn_rule (at_turn (OfUnit u) (Begin (Child u index depth) call false) refl (none_begins turn.none, chosen (OfUnit u) turn.pick));
+    kept = kept-begun l.run.opening l.run (Child u index depth) call false l.units held (counted-ends (λ (e : Effect). true) l.run legal).above a t.kept;
+    older = older-last l.units (new_unit (ends l.run)) (λ v m. t.kept.below v m) t.older;
+    count = used-one l.run (Begin (Child u index depth) call false) l.used t.count a refl;
+  }
+
+  -- agents that are no more to be looked at go
+  pub turn-dropped : (stays : UnitNo → Bool) → ((u : UnitNo) → is_kept (ends l.run) u ≡ true → stays u ≡ true) → IsTurning (record l { units = filter stays l.units })
+  turn-dropped stays weak = record {
+    first = t.first;
+    unit_rule = t.unit_rule;
+    turn_rule = t.turn_rule;
+    kept = drop-kept l.run l.units stays weak t.kept;
+    older = older-filter stays l.units t.older;
+    count = t.count;
+  }
+
+  -- nobody moves, and no line begins
+  pub turn-ended : (ends l.run).manager.doubt ≡ None → movers_of l.basis.types l.run l.units ≡ [] → 0 < l.width → has_room l ≡ false →
+      HasRun (length l.basis.lines) (ends l.run)
+  turn-ended doubt none some cannot =
+      without-mover l.basis.types (λ (e : Effect). true) l.run l.width (length l.basis.lines) legal doubt (never-halted l.basis.types (length l.basis.lines) l.width l.picks l.run t.turn_rule) (movers-kept l.basis.types l.run l.units t.kept ∙ none) some (begins-kept l.width (length l.basis.lines) l.run l.units t.kept ∙ cannot)
+
+-- ---- the start
+
+-- a run without events
+pub turning-begins : (around : Basis) (width : ℕ) (picks : List ℕ) (r : Run) → r.events ≡ [] → 0 < r.base → IsTurning (record { basis = around; width = width; picks = picks; run = r; units = []; used = 0 })
+turning-begins around width picks r none first = record {
+  first = first;
+  unit_rule = λ at e a. absurd (nothing at e a.there);
+  turn_rule = λ at e a. absurd (nothing at e a.there);
+  kept = record { kept = kept; below = λ u m. absurd m };
+  older = tt;
+  count = sym (ap (λ (l : List CoreEvent). count_by (λ e. takes_pick (mover_of e)) (applied_from (begins r) (take (length l) l))) none);
+}
+  where
+    nothing : (at : ℕ) (e : CoreEvent) → slice_get r.events at ≡ Some e → ⊥
+    nothing at e there = (let t : slice_get [] at ≡ Some e = subst (λ (l : List CoreEvent). slice_get l at ≡ Some e) none there in cc t)
+
+    kept : filter (is_kept (ends r)) [] ≡ filter (is_kept (ends r)) (units_of r (ends r))
+    kept =
+        let same : (ends r).units.next - r.base ≡ 0 = ap (λ (l : List CoreEvent). (run (begins r) l).units.next - r.base) none ∙ itself r.base in
+        ap (λ (n : ℕ). filter (is_kept (ends r)) (units_from n r.base)) (sym same)
+      where
+        itself : (n : ℕ) → n - n ≡ 0
+        itself n = omega arith

@@ -1,0 +1,31 @@
+-- What holds of the units and lines of every run.
+use Rattle.std.specs.Prelude.{◌≡◌, ◌⊎◌, ◌≤◌, ◌<◌, ℕ, List, [], ◌∷◌}
+use Rattle.base_types.specs.declared.entries.Entry.{Entry}
+use Rattle.base_types.specs.declared.calls.Origin.TheVariants.{Line}
+use Rattle.core_model.specs.World.{UnitNo, Member, World}
+use Rattle.promise_spec.specs.Cores.{HasBegun}
+use Rattle.promise_spec.specs.Gotten.{Got, GotLock, GotRaise, GotChild}
+
+-- the children among what a unit got
+abbrev pub kids_got : List Got → List UnitNo
+kids_got [] = []
+kids_got (GotLock g mode state ∷ rest) = kids_got rest
+kids_got (GotRaise g ∷ rest) = kids_got rest
+kids_got (GotChild call depth child ∷ rest) = child ∷ kids_got rest
+
+-- the line has an entry
+abbrev pub HasEntry : World → ℕ → Type 0
+HasEntry w n = (x : Entry) × Member x w.manager.settled × (x.line ≡ n)
+
+-- the line has a unit
+abbrev pub HasUnit : World → ℕ → Type 0
+HasUnit w n = (u : UnitNo) × HasBegun w u × (w.units.origin u ≡ Line n)
+
+-- Units are numbered from the base on without a gap, what a unit got has its children, and each line that was taken has
+-- its unit or its entry.
+pub record IsCounted (base : ℕ) (w : World) (got : UnitNo → List Got) : Type 0 where
+  pub above : base ≤ w.units.next
+  pub numbered : (u : UnitNo) → HasBegun w u → base ≤ u.0
+  pub born : (u : UnitNo) → base ≤ u.0 → u.0 < w.units.next → HasBegun w u
+  pub kids : (u : UnitNo) → kids_got (got u) ≡ w.units.kids u
+  pub taken : (n : ℕ) → 1 ≤ n → n ≤ w.units.lines → HasUnit w n ⊎ HasEntry w n
