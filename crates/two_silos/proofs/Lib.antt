@@ -1,0 +1,16 @@
+pub mod Sums
+pub mod Order
+pub mod Invariant
+pub mod Changes
+pub mod Small
+pub mod Kept
+pub mod Ends
+pub mod Further
+pub mod Whole
+pub mod Started
+pub mod Rows
+pub mod Reached
+pub mod Parted
+pub mod Opened
+pub mod Repeated
+pub mod Totals

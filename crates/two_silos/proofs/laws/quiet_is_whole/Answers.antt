@@ -1,0 +1,5 @@
+use Rattle.two_silos.proofs.Whole.{whole-ends}
+use Rattle.two_silos.proofs.laws.quiet_is_whole.Goals as goal
+
+pub returns : goal.returns
+returns c = λ openings es o. whole-ends openings es o

@@ -1,0 +1,6 @@
+pub mod Nodes
+pub mod World
+pub mod Links
+pub mod Promise
+pub mod Generated
+pub mod Summaries

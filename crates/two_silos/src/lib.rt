@@ -1,0 +1,22 @@
+//! Two-phase commit between silos: the world of a coordinator and its participants, over a link that loses,
+//! repeats and reorders packets, and what holds in it after every list of events. The protocol is told in
+//! `docs/TWO-SILOS.md`.
+#![tactic(auto)]
+
+mod course;
+mod draws;
+mod events;
+mod laws;
+mod link;
+mod openings;
+mod parts;
+mod summary;
+mod world;
+
+pub use events::WorldEvent;
+pub use laws::{
+    balances_follow, commits_are_prepared, decisions_are_kept, no_is_exact, numbers_are_new,
+    orders_agree, parts_are_started, quiet_is_whole,
+};
+pub use summary::{Summary, check};
+pub use world::World;
