@@ -4,9 +4,9 @@ use Rattle.host_trait.specs.declared.channels.FileId.{FileId}
 use Rattle.host_trait.specs.Disk.{FileState, MayLeave, settled}
 use Rattle.host_trait.specs.World.{World, Moment, Image, Disk, IsImage, moment_of, Asked, Synced}
 use Rattle.host_trait.specs.Runs.{ChangesFile, RunsOnFile, OnlyAsked}
-use Rattle.host_trait.proofs.Moments.{both, weaker, same_moment}
+use Rattle.host_trait.proofs.Moments.{both, weaker, same_moment, arrives_then}
 use Rattle.host_trait.proofs.Names.{cases_file}
-use Rattle.host_trait.proofs.Runs.{Change, run_started, run_asked, run_synced, run_more_syncs, asked_keeps, image_from, settled_image}
+use Rattle.host_trait.proofs.Runs.{Change, run_started, run_asked, run_synced, run_more_syncs, asked_keeps, arrives_asked, image_from, settled_image}
 use Rattle.gate_block.specs.Log.{LogsUpTo}
 use Rattle.silo_spec.specs.Silos.{manager, IsSilo}
 use Rattle.silo_spec.specs.declared.units.Logged.{Logged}
@@ -24,6 +24,7 @@ run_only_asked file R most old mid new run asked = record {
   seen = subst (R (old.disk file).seen) (sym (ap (λ (d : Disk). (d file).seen) asked.disk)) run.seen;
   now = subst (λ (m : Moment). ChangesFile file R old m) (sym (same_moment mid new asked.output asked.disk)) run.now;
   moments = both _ run.moments (asked_keeps (ChangesFile file R old) mid new asked run.now);
+  clock = arrives_then old mid new run.clock (arrives_asked mid new asked);
 }
 
 -- the length was asked
