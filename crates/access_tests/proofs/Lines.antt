@@ -2,7 +2,7 @@
 use Rattle.std.proofs.Common.{◌≡◌, ℕ, ◌+◌, List, [], ◌∷◌, ◌++◌, length, Bool, true, false, true≢false, Option, None, refl, sym, ap, ◌∙◌, subst, eqb-true, length-append}
 use Rattle.std.specs.Prelude.{◌==◌, nat_lt, ◌&&◌, ◌||◌, not, is_none, if◌then◌else◌}
 use Rattle.std.proofs.lemmas.Bool.{and_parts}
-use Rattle.core_model.specs.World.{World}
+use Rattle.core_model.specs.CoreState.{CoreState}
 use Rattle.core_model.specs.Changes.{swept, swept_by}
 use Rattle.core_model.specs.declared.events.CoreEvent.{CoreEvent}
 use Rattle.core_model.specs.declared.events.CoreEvent.TheVariants.{Bad, Begin, Grant, Refuse, Finish, EndPlain, EndSnapshot, Release, Take, Vote, Decide, Sealed, NotSealed, Doubt, Learn, Emitted, Halt, Want, Load}
@@ -29,7 +29,7 @@ and-same false = refl
 
 -- ---- events
 
-module _ (b k : ℕ) (h : Bool) (w : World) (s : Stands b k h w) where
+module _ (b k : ℕ) (h : Bool) (w : CoreState) (s : Stands b k h w) where
   -- without a doubt and by the mark of a stop
   allowed-but : (x : Bool) → ((is_none w.manager.doubt || false) && (not w.units.halt || false) && x) ≡ (not h && x)
   allowed-but x =

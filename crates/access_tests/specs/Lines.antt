@@ -1,7 +1,7 @@
 -- A core in which no unit begins: its lines are bad, its entries are written, and it may stop. What its counters say of the
 -- model's state.
 use Rattle.std.specs.Prelude.{◌≡◌, ℕ, ◌+◌, ◌==◌, nat_lt, Bool, true, false, ◌&&◌, not, if◌then◌else◌, [], Option, None, Some, length}
-use Rattle.core_model.specs.World.{UnitNo, World}
+use Rattle.core_model.specs.CoreState.{UnitNo, CoreState}
 use Rattle.core_model.specs.declared.phases.Phase.TheVariants.{Unborn}
 use Rattle.core_model.specs.declared.phases.Verdict.TheVariants.{Open}
 use Rattle.core_model.specs.declared.events.CoreEvent.{CoreEvent}
@@ -80,7 +80,7 @@ shown_by lines halted (question.IsDecided u) = Some (answer.IsDecided false)
 
 -- What the counters say of a state: so many lines are bad and settled, so many of their entries written, and nothing else was
 -- done, but that the run may have stopped.
-pub record Stands (bad told : ℕ) (stopped : Bool) (w : World) : Type 0 where
+pub record Stands (bad told : ℕ) (stopped : Bool) (w : CoreState) : Type 0 where
   pub lines : w.units.lines ≡ bad
   pub halt : w.units.halt ≡ stopped
   pub phase : (u : UnitNo) → w.units.phase u ≡ Unborn

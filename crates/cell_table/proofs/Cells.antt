@@ -9,7 +9,7 @@ use Rattle.std.proofs.lemmas.Map.Lookups.{exact_unsigned}
 use Rattle.base_types.specs.declared.calls.GrainId.{GrainId}
 use Rattle.base_types.specs.Stores.{grain_cmp}
 use Rattle.cell_model.specs.Cells.{Cell}
-use Rattle.core_model.specs.World.{put_grain}
+use Rattle.core_model.specs.CoreState.{put_grain}
 use Rattle.core_model.proofs.Puts.{grain-at}
 use Rattle.grain_cell.specs.Room.{CellInRoom}
 use Rattle.cell_table.specs.declared.table.CellTable.{CellTable}

@@ -5,7 +5,7 @@ ghost use Rattle.cell_model.specs.declared.locks.Ask.TheVariants.{Free};
 ghost use Rattle.cell_model.specs.Stacks.{top};
 ghost use Rattle.cell_model.specs.Locks.{ask, covers, holds_lock};
 ghost use Rattle.cell_model.specs.Cells.{opened, granted, released, learned};
-ghost use Rattle.core_model.specs.World.{put_grain};
+ghost use Rattle.core_model.specs.CoreState.{put_grain};
 ghost use Rattle.rw_locks.specs.Locked.{holds_alone};
 ghost use Rattle.grain_cell.specs.Room.{without_aborted};
 ghost use Rattle.cell_table.specs.Table.{opening_state, opens_with, cell_in, has_cell, spare_in};

@@ -2,7 +2,7 @@
 use Rattle.std.proofs.Common.{◌≡◌, ℕ, [], ◌∷◌, Bool, true, false, true≢false, Option, Some, None, refl, sym, subst}
 use Rattle.std.specs.Prelude.{if◌then◌else◌}
 use Rattle.std.proofs.lemmas.Bool.{and_parts}
-use Rattle.core_model.specs.World.{World}
+use Rattle.core_model.specs.CoreState.{CoreState}
 use Rattle.core_model.specs.Changes.{swept, swept_by}
 use Rattle.core_model.specs.declared.events.CoreEvent.{CoreEvent}
 use Rattle.core_model.specs.Events.{applies, is_allowed, can, does, step}
@@ -13,11 +13,11 @@ use Rattle.core_model.proofs.Further.{run-append}
 use Rattle.core_access.specs.Settling.{is_settling, LeavesBatches}
 
 -- nothing changed
-leaves-same : (w : World) → LeavesBatches w w
+leaves-same : (w : CoreState) → LeavesBatches w w
 leaves-same w = record { batches = refl; batch = refl; past = refl; closed = refl; doubt = refl; emitted = refl }
 
 -- an event that applies
-leaves-change : (w : World) (e : CoreEvent) (w' : World) → Change w e w' → is_settling e ≡ false → LeavesBatches w w'
+leaves-change : (w : CoreState) (e : CoreEvent) (w' : CoreState) → Change w e w' → is_settling e ≡ false → LeavesBatches w w'
 leaves-change w e w' (bad line why q) other = record { batches = refl; batch = refl; past = refl; closed = refl; doubt = refl; emitted = refl }
 leaves-change w e w' (begin origin call plain c) other = record { batches = refl; batch = refl; past = refl; closed = refl; doubt = refl; emitted = refl }
 leaves-change w e w' (lock u g mode running free first here) other = record { batches = refl; batch = refl; past = refl; closed = refl; doubt = refl; emitted = refl }
@@ -41,7 +41,7 @@ leaves-change w e w' (want u g running free fresh) other = record { batches = re
 leaves-change w e w' (load g u state gone wanted) other = record { batches = refl; batch = refl; past = refl; closed = refl; doubt = refl; emitted = refl }
 
 -- grains that leave memory leave it all
-leaves-swept : (w w' : World) → LeavesBatches w w' → LeavesBatches w (swept w')
+leaves-swept : (w w' : CoreState) → LeavesBatches w w' → LeavesBatches w (swept w')
 leaves-swept w w' l = go w'.cells.capacity
   where
     go : (c : Option ℕ) → LeavesBatches w (swept_by w' c)
@@ -49,7 +49,7 @@ leaves-swept w w' l = go w'.cells.capacity
     go (Some n) = record { batches = l.batches; batch = l.batch; past = l.past; closed = l.closed; doubt = l.doubt; emitted = l.emitted }
 
 -- an event, whether it applies or not
-leaves-step : (w : World) (e : CoreEvent) → is_settling e ≡ false → LeavesBatches w (step w e)
+leaves-step : (w : CoreState) (e : CoreEvent) → is_settling e ≡ false → LeavesBatches w (step w e)
 leaves-step w e other = by (applies w e) refl
   where
     by : (a : Bool) → applies w e ≡ a → LeavesBatches w (if a then swept (does w e) else w)

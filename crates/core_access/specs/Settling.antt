@@ -2,7 +2,7 @@
 use Rattle.std.specs.Prelude.{◌≡◌, Bool, true, false, not}
 use Rattle.core_model.specs.declared.events.CoreEvent.{CoreEvent}
 use Rattle.core_model.specs.declared.events.CoreEvent.TheVariants.{Take, Vote, Decide, Sealed, NotSealed, Doubt, Learn, Emitted}
-use Rattle.core_model.specs.World.{World}
+use Rattle.core_model.specs.CoreState.{CoreState}
 
 -- an event of the settler's
 abbrev pub is_settling : CoreEvent → Bool
@@ -21,7 +21,7 @@ abbrev pub leaves_settling : CoreEvent → Bool
 leaves_settling e = not (is_settling e)
 
 -- The batches, the doubt and how much is written are as before.
-pub record LeavesBatches (w w' : World) : Type 0 where
+pub record LeavesBatches (w w' : CoreState) : Type 0 where
   pub batches : w'.manager.batches ≡ w.manager.batches
   pub batch : w'.manager.batch ≡ w.manager.batch
   pub past : w'.manager.past ≡ w.manager.past

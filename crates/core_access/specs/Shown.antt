@@ -1,6 +1,6 @@
 -- Batches and settled entries, by all that was seen.
 use Rattle.std.specs.Prelude.{List, [], ◌∷◌, ◌++◌, Option, None, Some}
-use Rattle.core_model.specs.World.{Entry, Batch}
+use Rattle.core_model.specs.CoreState.{Entry, Batch}
 use Rattle.core_model.specs.Legal.{ends}
 use Rattle.core_access.specs.Sights.{Sight, run_seen}
 

@@ -2,7 +2,7 @@
 use Rattle.std.proofs.Common.{◌≡◌, List, [], ◌∷◌, ◌++◌, Bool, true, false, refl, sym, ap, ◌∙◌, subst, Option, Some, None, append-nil, append_assoc}
 use Rattle.std.proofs.lemmas.Bool.{and_parts, cond-true, cond-false}
 use Rattle.core_model.specs.declared.events.CoreEvent.{CoreEvent}
-use Rattle.core_model.specs.World.{GrainId, World}
+use Rattle.core_model.specs.CoreState.{GrainId, CoreState}
 use Rattle.core_model.specs.Changes.{swept, swept_by}
 use Rattle.core_model.specs.Events.{applies, is_allowed, can, does, step, run, reply_to, reply_with, reply_without}
 use Rattle.core_model.proofs.Decoded.{Change, decode}
@@ -10,15 +10,15 @@ use Rattle.core_history.specs.Histories.{Applied, with_event, history_from}
 use Rattle.core_history.proofs.Words.{more}
 
 -- an event that applies, with its reply
-abbrev pub answered : World → CoreEvent → Applied
+abbrev pub answered : CoreState → CoreEvent → Applied
 answered w e = record { event = e; reply = reply_with w e }
 
 -- the state where other grains are in memory
-abbrev pub with_here : World → (GrainId → Bool) → World
+abbrev pub with_here : CoreState → (GrainId → Bool) → CoreState
 with_here w here = record w { cells = record w.cells { here = here } }
 
 -- what holds after an event's change holds after its step
-pub after-step : (P : World → Type 0) (w : World) (e : CoreEvent) → applies w e ≡ true → (Change w e (does w e) → P (does w e)) → ((v : World) (here : GrainId → Bool) → P v → P (with_here v here)) → P (step w e)
+pub after-step : (P : CoreState → Type 0) (w : CoreState) (e : CoreEvent) → applies w e ≡ true → (Change w e (does w e) → P (does w e)) → ((v : CoreState) (here : GrainId → Bool) → P v → P (with_here v here)) → P (step w e)
 after-step P w e a change sweep =
     subst P (sym (cond-true (applies w e) (swept (does w e)) w a)) (go (does w e).cells.capacity)
   where
@@ -30,9 +30,9 @@ after-step P w e a change sweep =
     go (Some n) = sweep (does w e) _ p
 
 -- what each event that applies keeps, a run keeps
-pub along : (S : World → List CoreEvent → Type 0) → ((w : World) (e : CoreEvent) (es : List CoreEvent) → S w (e ∷ es) → S (step w e) es) →
-    (P : List Applied → World → Type 0) → ((h : List Applied) (w : World) (e : CoreEvent) (es : List CoreEvent) → S w (e ∷ es) → applies w e ≡ true → P h w → P (more h (answered w e)) (step w e)) →
-    (h : List Applied) (w : World) (es : List CoreEvent) → S w es → P h w → P (h ++ history_from w es) (run w es)
+pub along : (S : CoreState → List CoreEvent → Type 0) → ((w : CoreState) (e : CoreEvent) (es : List CoreEvent) → S w (e ∷ es) → S (step w e) es) →
+    (P : List Applied → CoreState → Type 0) → ((h : List Applied) (w : CoreState) (e : CoreEvent) (es : List CoreEvent) → S w (e ∷ es) → applies w e ≡ true → P h w → P (more h (answered w e)) (step w e)) →
+    (h : List Applied) (w : CoreState) (es : List CoreEvent) → S w es → P h w → P (h ++ history_from w es) (run w es)
 along S rest P keep h w [] s p = subst (λ t. P t w) (sym (append-nil h)) p
 along S rest P keep h w (e ∷ es) s p = go (λ f q. along S rest P keep f (step w e) es (rest w e es s) q) (applies w e) refl
   where

@@ -14,7 +14,7 @@ use Rattle.core_model.specs.declared.events.CoreEvent.TheVariants.{Bad, Refuse, 
 use Rattle.core_model.specs.declared.phases.Phase.TheVariants.{Unborn, Running, Finished}
 use Rattle.core_model.specs.declared.phases.Verdict.{Verdict}
 use Rattle.core_model.specs.declared.phases.Verdict.TheVariants.{Chosen}
-use Rattle.core_model.specs.World.{UnitNo, GrainId, Mode, Value, Entry, Settled, Hold, Batch, World, Member, nobody, same_unit}
+use Rattle.core_model.specs.CoreState.{UnitNo, GrainId, Mode, Value, Entry, Settled, Hold, Batch, CoreState, Member, nobody, same_unit}
 use Rattle.core_model.specs.Tests.{is_bad, is_good, members, ask}
 use Rattle.core_model.specs.Dead.{Dead, itself}
 use Rattle.core_model.specs.Holders.{DifferInUnit}
@@ -43,7 +43,7 @@ use Rattle.core_history.proofs.Depending.{DependsOf}
 use Rattle.core_history.proofs.Going.{SameGone}
 
 -- each settled entry of a state has its cause in the history
-abbrev pub CausesOf : List Applied → World → Type 0
+abbrev pub CausesOf : List Applied → CoreState → Type 0
 CausesOf h w = (x : Entry) → Member x w.manager.settled → IsCausedIn h x
 
 -- a cause stays one
@@ -71,7 +71,7 @@ mode-lock (h ∷ hs) v m e = elim (cases_Bool (same_unit h.unit v)) [
 ]
 
 -- the oldest rival by the locks is the oldest by the history
-locked-out : (opening : GrainId → List Value) (h : List Applied) (w : World) → Core opening w → Tells h w → (e : CoreEvent) (u by : UnitNo) (g : GrainId) → IsRefusedBy w e u by g → IsLockedOut h e u by g
+locked-out : (opening : GrainId → List Value) (h : List Applied) (w : CoreState) → Core opening w → Tells h w → (e : CoreEvent) (u by : UnitNo) (g : GrainId) → IsRefusedBy w e u by g → IsLockedOut h e u by g
 locked-out opening h w c t e u by g r = record {
   mode = r.mode;
   refused = r.refused;
@@ -93,7 +93,7 @@ locked-out opening h w c t e u by g r = record {
     parts = and_parts (not (is_hold_of u k)) (is_update r.mode || is_update k.mode) r.rival.rival.2
 
 -- the cause of a refusal
-pub refused-in : (opening : GrainId → List Value) (h : List Applied) (w : World) (u : UnitNo) (g : GrainId) (mode : Mode) (why : Settled) → Core opening w → Tells h w → FatesOf h w → SameGone h w → w.units.phase u ≡ Running → refusal g (ask w u g mode) ≡ Some why →
+pub refused-in : (opening : GrainId → List Value) (h : List Applied) (w : CoreState) (u : UnitNo) (g : GrainId) (mode : Mode) (why : Settled) → Core opening w → Tells h w → FatesOf h w → SameGone h w → w.units.phase u ≡ Running → refusal g (ask w u g mode) ≡ Some why →
     CauseIn h (answered w (Refuse u g mode)) u why
 refused-in opening h w u g mode why c t f same running q = elim (ask-refused w u g mode why q).1 [
   | inl d ↦ subst (CauseIn h (answered w (Refuse u g mode)) u) (sym d.2) (elim (subst (HasCause w (Refuse u g mode) w u) d.2 cause) [
@@ -112,14 +112,14 @@ refused-in opening h w u g mode why c t f same running q = elim (ask-refused w u
     cause = (refused-cause opening w u g mode why w c.kept running q).0
 
 -- who is refused for a cause has its line
-refused-line : (h : List Applied) (w : World) (u : UnitNo) (g : GrainId) (mode : Mode) (why : Settled) (x : Entry) → refusal g (ask w u g mode) ≡ Some why → BeganFor h x.unit x.line → HasLineIn h (Refuse u g mode) x why
+refused-line : (h : List Applied) (w : CoreState) (u : UnitNo) (g : GrainId) (mode : Mode) (why : Settled) (x : Entry) → refusal g (ask w u g mode) ≡ Some why → BeganFor h x.unit x.line → HasLineIn h (Refuse u g mode) x why
 refused-line h w u g mode why x q l = elim (ask-refused w u g mode why q).1 [
   | inl d ↦ subst (HasLineIn h (Refuse u g mode) x) (sym d.2) l
   | inr d ↦ subst (HasLineIn h (Refuse u g mode) x) (sym d.3) l
 ]
 
 -- the line of a unit that has begun
-line-of : (h : List Applied) (w : World) → Tells h w → (u : UnitNo) (x : Entry) → (w.units.phase u ≡ Unborn → ⊥) → x.unit ≡ u → w.units.origin u ≡ Line x.line → BeganFor h x.unit x.line
+line-of : (h : List Applied) (w : CoreState) → Tells h w → (u : UnitNo) (x : Entry) → (w.units.phase u ≡ Unborn → ⊥) → x.unit ≡ u → w.units.origin u ≡ Line x.line → BeganFor h x.unit x.line
 line-of h w t u x born p o = subst (λ z. BeganFor h z x.line) (sym p) ((t.lines u x.line).0 (born, o))
 
 -- what a unit of a batch is told has its line
@@ -129,7 +129,7 @@ told-line h e x answer (decision.Vote g) l a = l
 told-line h e x answer (decision.Dependency on) l a = l
 
 -- a failed vote
-voted-in : (h : List Applied) (w : World) (e : CoreEvent) (b : Batch) (u : UnitNo) (g : GrainId) (verdict : UnitNo → Verdict) → Tells h w → FatesOf h w → w.manager.batch ≡ Some b → Settles e b.number → Member u (members w b) →
+voted-in : (h : List Applied) (w : CoreState) (e : CoreEvent) (b : Batch) (u : UnitNo) (g : GrainId) (verdict : UnitNo → Verdict) → Tells h w → FatesOf h w → w.manager.batch ≡ Some b → Settles e b.number → Member u (members w b) →
     Reason b.votes (w.manager.writes u) (w.units.deps u) verdict (decision.Vote g) → IsVotedDown h e u g
 voted-in h w e b u g verdict t f q s m r =
     let x = failed-some b.votes (w.manager.writes u) g r in
@@ -142,7 +142,7 @@ voted-in h w e b u g verdict t f q s m r =
     }
 
 -- a dead dependency
-depends-in : (h : List Applied) (w : World) (a : Applied) (b : Batch) (u on : UnitNo) (verdict : UnitNo → Verdict) → Tells h w → FatesOf h w → DependsOf h w → w.manager.batch ≡ Some b → Settles a.event b.number → Member u (members w b) →
+depends-in : (h : List Applied) (w : CoreState) (a : Applied) (b : Batch) (u on : UnitNo) (verdict : UnitNo → Verdict) → Tells h w → FatesOf h w → DependsOf h w → w.manager.batch ≡ Some b → Settles a.event b.number → Member u (members w b) →
     Reason b.votes (w.manager.writes u) (w.units.deps u) verdict (decision.Dependency on) → IsDeadIn (once_decided h a a.event) on →
     ((d : UnitNo) → Member d (w.units.deps u) → IsDeadIn (once_decided h a a.event) d → is_bad (verdict d) ≡ true) → DependsOnDead h a u on
 depends-in h w a b u on verdict t f dep q s m r dead bads = record {
@@ -155,7 +155,7 @@ depends-in h w a b u on verdict t f dep q s m r dead bads = record {
 }
 
 -- each entry of a batch has its cause where each decision has
-entries-in : (h : List Applied) (w v : World) (a : Applied) (answer : UnitNo → Settled) (votes : List (GrainId × Bool)) (us : List UnitNo) (ds : List Decision) → Reasons votes v.manager.writes v.units.deps v.manager.verdict us ds →
+entries-in : (h : List Applied) (w v : CoreState) (a : Applied) (answer : UnitNo → Settled) (votes : List (GrainId × Bool)) (us : List UnitNo) (ds : List Decision) → Reasons votes v.manager.writes v.units.deps v.manager.verdict us ds →
     ((u : UnitNo) (d : Decision) → Member u us → v.manager.verdict u ≡ verdict_of d → Reason votes (v.manager.writes u) (v.units.deps u) v.manager.verdict d → CauseIn h a u (told (answer u) d)) →
     Tells h w → v.units.origin ≡ w.units.origin → ((u : UnitNo) → Member u us → w.units.phase u ≡ Finished) → (x : Entry) → (BeganFor h x.unit x.line → (u : UnitNo) → HasLineIn h a.event x (answer u)) →
     Member x (entries_in v answer us ds) → IsCausedIn (more h a) x
@@ -165,7 +165,7 @@ entries-in h w v a answer votes us ds reasons cause tells origin finished x own 
     (let l = line-of h w tells t.0 x (λ q. (let z : Unborn ≡ Finished = sym q ∙ finished t.0 t.1.1 in cc)) t.1.4 (ap (λ f. f t.0) (sym origin) ∙ t.1.6) in told-line h a.event x (answer t.0) t.1.0 l (own l t.0))
 
 -- what an event that ends a batch tells its units, but for those that could commit
-pub ended-in : (opening : GrainId → List Value) (h : List Applied) (w : World) (a : Applied) (b : Batch) (ds : List Decision) → Core opening w → Tells h w → FatesOf h w → DependsOf h w → w.manager.batch ≡ Some b → b.decisions ≡ Some ds → Settles a.event b.number →
+pub ended-in : (opening : GrainId → List Value) (h : List Applied) (w : CoreState) (a : Applied) (b : Batch) (ds : List Decision) → Core opening w → Tells h w → FatesOf h w → DependsOf h w → w.manager.batch ≡ Some b → b.decisions ≡ Some ds → Settles a.event b.number →
     once_decided h a a.event ≡ h → (answer : Settled) (u : UnitNo) → Member u (members w b) → (w.manager.verdict u ≡ Chosen → CouldCommit h b.number u → CauseIn h a u answer) → (d : Decision) → w.manager.verdict u ≡ verdict_of d →
     Reason b.votes (w.manager.writes u) (w.units.deps u) w.manager.verdict d → CauseIn h a u (told answer d)
 ended-in opening h w a b ds c t f dep q e s before answer u m commits decision.Commit v r =
@@ -177,7 +177,7 @@ ended-in opening h w a b ds c t f dep q e s before answer u m commits (decision.
     (λ d n y. dead-bad opening w b (inv-judged opening w b ds c.kept q e) c.depends u m d n (dead-by h w t f d (subst (λ z. IsDeadIn z d) before y))))
 
 -- the entries of a batch that is decided and closed at once
-pub closed-in : (opening : GrainId → List Value) (h : List Applied) (w : World) (n : ℕ) (w' : World) → Change w (Decide n) w' → Step opening h w (Decide n) w' → DependsOf h w → (b : Batch) → w.manager.batch ≡ Some b → b.number ≡ n → b.decisions ≡ None →
+pub closed-in : (opening : GrainId → List Value) (h : List Applied) (w : CoreState) (n : ℕ) (w' : CoreState) → Change w (Decide n) w' → Step opening h w (Decide n) w' → DependsOf h w → (b : Batch) → w.manager.batch ≡ Some b → b.number ≡ n → b.decisions ≡ None →
     any is_commit (decisions_of w b) ≡ false → ((u : UnitNo) → w.units.reads u ≡ reads_in u (more h (answered w (Decide n)))) →
     ((u : UnitNo) → IsDeadIn (more h (answered w (Decide n))) u → Dead (judged (members w b) (decisions_of w b) w.manager.verdict) w.units.reads u) →
     (answer : Settled) (u : UnitNo) → Member u (members w b) → (d : Decision) → judged (members w b) (decisions_of w b) w.manager.verdict u ≡ verdict_of d →
@@ -192,7 +192,7 @@ closed-in opening h w n w' c s dep b q number d none reads dead answer u m (deci
     (λ e k y. dead-bad opening (with_decisions w b (decisions_of w b)) b (inv-decided opening w b s.core.kept q d) s.core.depends u m e k (dead e y)))
 
 -- the causes after an event
-pub causes-after : (opening : GrainId → List Value) (h : List Applied) (w : World) (e : CoreEvent) (w' : World) → Change w e w' → Step opening h w e w' → DependsOf h w → SameGone h w → CausesOf h w → CausesOf (more h (answered w e)) w'
+pub causes-after : (opening : GrainId → List Value) (h : List Applied) (w : CoreState) (e : CoreEvent) (w' : CoreState) → Change w e w' → Step opening h w e w' → DependsOf h w → SameGone h w → CausesOf h w → CausesOf (more h (answered w e)) w'
 causes-after opening h w e w' (bad line why q) s dep same k = λ x m. elim (Member-append x w.manager.settled (record { line = line; unit = nobody; what = settled.Bad why } ∷ []) m) [
   | inl o ↦ caused-before h (answered w (Bad line why)) x (k x o)
   | inr o ↦ elim o [
@@ -214,7 +214,7 @@ causes-after opening h w e w' (end_snapshot u at outcome running plain kids answ
   | inr o ↦ (let t = entry-parts w u (settled.Done outcome) x o in caused-now h (answered w (EndSnapshot u at outcome)) x u (settled.Done outcome) t.0 t.1 (refl, refl) (line-of h w s.told u x (λ z. (let y : Unborn ≡ Running = sym z ∙ running in cc)) t.0 t.2))
 ]
 causes-after opening h w e w' (decide_none n b q number d voted none) s dep same k = λ x m.
-    (let v : World = with_decisions w b (decisions_of w b) in
+    (let v : CoreState = with_decisions w b (decisions_of w b) in
     let fates = fates-after opening h w (Decide n) w' (decide_none n b q number d voted none) s in
     elim (Member-append x w.manager.settled (entries_in v (result_told v) (members w b) (decisions_of w b)) m) [
       | inl o ↦ caused-before h (answered w (Decide n)) x (k x o)

@@ -7,7 +7,7 @@ use Rattle.core_model.specs.declared.phases.Phase.TheVariants.{Finished}
 use Rattle.core_model.specs.declared.phases.Verdict.{Verdict}
 use Rattle.core_model.specs.declared.phases.Verdict.TheVariants.{Open, Chosen, Condemned, Committed, Aborted}
 use Rattle.cell_model.specs.declared.outcomes.Decision.{Decision}
-use Rattle.core_model.specs.World.{UnitNo, GrainId, Value, Write, Batch, World, Member}
+use Rattle.core_model.specs.CoreState.{UnitNo, GrainId, Value, Write, Batch, CoreState, Member}
 use Rattle.core_model.specs.Tests.{is_bad, is_final, members}
 use Rattle.core_model.specs.Serial.{IsTrueLoad, batch_begin}
 use Rattle.core_model.specs.Changes.{seal, spoil, leave, verdict_of}
@@ -27,7 +27,7 @@ use Rattle.core_model.proofs.Caused.{member-place}
 use Rattle.core_history.proofs.Placed.{placed-member}
 
 -- what the core model keeps along a legal run
-pub record Core (opening : GrainId → List Value) (w : World) : Type 0 where
+pub record Core (opening : GrainId → List Value) (w : CoreState) : Type 0 where
   pub kept : Kept opening w
   pub depends : Depends w
   pub batched : Batched w
@@ -38,7 +38,7 @@ pub record Core (opening : GrainId → List Value) (w : World) : Type 0 where
   pub unheld : Unheld w
 
 -- an event keeps it
-pub core-step : (opening : GrainId → List Value) (w : World) (e : CoreEvent) → IsTrueLoad opening w e → Core opening w → Core opening (step w e)
+pub core-step : (opening : GrainId → List Value) (w : CoreState) (e : CoreEvent) → IsTrueLoad opening w e → Core opening w → Core opening (step w e)
 core-step opening w e l c = record {
   kept = kept-step opening w e l c.kept;
   depends = depends-step opening w e l c.kept c.depends;
@@ -64,14 +64,14 @@ core-begins plays r l = record {
 }
 
 -- who is to commit or is committed has finished
-pub chosen-finished : (opening : GrainId → List Value) (w : World) → Core opening w → (x : UnitNo) → w.manager.verdict x ≡ Chosen → w.units.phase x ≡ Finished
+pub chosen-finished : (opening : GrainId → List Value) (w : CoreState) → Core opening w → (x : UnitNo) → w.manager.verdict x ≡ Chosen → w.units.phase x ≡ Finished
 chosen-finished opening w c x q = elim (c.turned.0 x (λ z. (let t : Open ≡ Chosen = sym z ∙ q in cc))) [
   | inl f ↦ f
   | inr r ↦ (let t : Aborted ≡ Chosen = sym (c.turned.1 x r) ∙ q in cc)
 ]
 
 -- where no batch is in doubt, who is to commit stands after the closed batches
-chosen-late : (opening : GrainId → List Value) (w : World) → Core opening w → w.manager.doubt ≡ None → (x : UnitNo) → w.manager.verdict x ≡ Chosen → w.manager.closed < w.manager.place x
+chosen-late : (opening : GrainId → List Value) (w : CoreState) → Core opening w → w.manager.doubt ≡ None → (x : UnitNo) → w.manager.verdict x ≡ Chosen → w.manager.closed < w.manager.place x
 chosen-late opening w c none x q = elim (cases_lt w.manager.closed (w.manager.place x)) [
   | inl lt ↦ lt
   | inr le ↦ (let f = c.split.0 x (chosen-finished opening w c x q) (omega (arith, le, ap (λ o. batch_begin o w.manager.closed) none)) in
@@ -79,13 +79,13 @@ chosen-late opening w c none x q = elim (cases_lt w.manager.closed (w.manager.pl
 ]
 
 -- nobody is to commit while the open batch is undecided
-pub chosen-undecided : (opening : GrainId → List Value) (w : World) (b : Batch) → Core opening w → w.manager.doubt ≡ None → w.manager.batch ≡ Some b → b.decisions ≡ None → (x : UnitNo) → w.manager.verdict x ≡ Chosen → ⊥
+pub chosen-undecided : (opening : GrainId → List Value) (w : CoreState) (b : Batch) → Core opening w → w.manager.doubt ≡ None → w.manager.batch ≡ Some b → b.decisions ≡ None → (x : UnitNo) → w.manager.verdict x ≡ Chosen → ⊥
 chosen-undecided opening w b c none q d x v =
     let i = inv-open opening w b c.kept q d in
     let t : Open ≡ Chosen = sym (i.late x (chosen-finished opening w c x v) (chosen-late opening w c none x v)) ∙ v in cc
 
 -- who is to commit stands in the open batch
-pub chosen-member : (opening : GrainId → List Value) (w : World) (b : Batch) (ds : List Decision) → Core opening w → w.manager.doubt ≡ None → w.manager.batch ≡ Some b → b.decisions ≡ Some ds → (x : UnitNo) → w.manager.verdict x ≡ Chosen → Member x (members w b)
+pub chosen-member : (opening : GrainId → List Value) (w : CoreState) (b : Batch) (ds : List Decision) → Core opening w → w.manager.doubt ≡ None → w.manager.batch ≡ Some b → b.decisions ≡ Some ds → (x : UnitNo) → w.manager.verdict x ≡ Chosen → Member x (members w b)
 chosen-member opening w b ds c none q d x v =
     let i = inv-judged opening w b ds c.kept q d in
     let f = chosen-finished opening w c x v in
@@ -96,7 +96,7 @@ chosen-member opening w b ds c none q d x v =
     ])
 
 -- the units of a decided open batch are judged, and not for good
-pub member-judged : (opening : GrainId → List Value) (w : World) (b : Batch) (ds : List Decision) → Core opening w → w.manager.batch ≡ Some b → b.decisions ≡ Some ds → (x : UnitNo) → Member x (members w b) →
+pub member-judged : (opening : GrainId → List Value) (w : CoreState) (b : Batch) (ds : List Decision) → Core opening w → w.manager.batch ≡ Some b → b.decisions ≡ Some ds → (x : UnitNo) → Member x (members w b) →
     (w.manager.verdict x ≡ Open → ⊥) × (is_final (w.manager.verdict x) ≡ false)
 member-judged opening w b ds c q d x m =
     let i = inv-judged opening w b ds c.kept q d in

@@ -10,7 +10,7 @@ use Rattle.core_model.specs.declared.events.CoreEvent.{CoreEvent}
 use Rattle.core_model.specs.declared.events.CoreEvent.TheVariants.{Grant}
 use Rattle.core_model.specs.declared.effects.Read.{Read}
 use Rattle.core_model.specs.declared.phases.Phase.TheVariants.{Running}
-use Rattle.core_model.specs.World.{UnitNo, GrainId, Mode, Value, World, Member, nobody, same_unit, top, put, put_grain}
+use Rattle.core_model.specs.CoreState.{UnitNo, GrainId, Mode, Value, CoreState, Member, nobody, same_unit, top, put, put_grain}
 use Rattle.core_model.specs.Tests.{is_over, is_committed}
 use Rattle.core_model.specs.Changes.{cleaned, restacked, deps_with, is_sure, read_of}
 use Rattle.core_model.proofs.Decoded.{Change, lock, raise}
@@ -87,11 +87,11 @@ depends-cases h a u d x = elim (split-last x.front x.back h x.at a (sym x.split)
 ]
 
 -- the dependencies of a state are those of the history
-abbrev pub DependsOf : List Applied → World → Type 0
+abbrev pub DependsOf : List Applied → CoreState → Type 0
 DependsOf h w = (u d : UnitNo) → Member d (w.units.deps u) ↔ IsDependency h u d
 
 -- a unit's first lock of a grain
-locked-to : (opening : GrainId → List Value) (h : List Applied) (w : World) (u : UnitNo) (g : GrainId) (mode : Mode) → Core opening w → Tells h w → FatesOf h w → DependsOf h w → w.units.phase u ≡ Running → holds_lock u (w.cells.holds g) ≡ false → (x d : UnitNo) →
+locked-to : (opening : GrainId → List Value) (h : List Applied) (w : CoreState) (u : UnitNo) (g : GrainId) (mode : Mode) → Core opening w → Tells h w → FatesOf h w → DependsOf h w → w.units.phase u ≡ Running → holds_lock u (w.cells.holds g) ≡ false → (x d : UnitNo) →
     Member d (put w.units.deps u (deps_with (restacked w g (cleaned w g)) (w.units.deps u) (top (put_grain w.cells.stack g (cleaned w g) g)).unit) x) → IsDependency (more h (answered w (Grant u g mode))) x d
 locked-to opening h w u g mode core t f s running free x d =
     put-from w.units.deps u (deps_with w2 (w.units.deps u) source) (Member d) (IsDependency (more h (answered w (Grant u g mode))) x d) x
@@ -103,7 +103,7 @@ locked-to opening h w u g mode core t f s running free x d =
     ]))
     (λ e m. old m)
   where
-    w2 : World
+    w2 : CoreState
     w2 = restacked w g (cleaned w g)
 
     source : UnitNo
@@ -128,7 +128,7 @@ locked-to opening h w u g mode core t f s running free x d =
         }
 
 -- the other way round
-locked-from : (opening : GrainId → List Value) (h : List Applied) (w : World) (u : UnitNo) (g : GrainId) (mode : Mode) → Core opening w → Tells h w → FatesOf h w → DependsOf h w → (x d : UnitNo) →
+locked-from : (opening : GrainId → List Value) (h : List Applied) (w : CoreState) (u : UnitNo) (g : GrainId) (mode : Mode) → Core opening w → Tells h w → FatesOf h w → DependsOf h w → (x d : UnitNo) →
     IsDependency (more h (answered w (Grant u g mode))) x d → Member d (put w.units.deps u (deps_with (restacked w g (cleaned w g)) (w.units.deps u) (top (put_grain w.cells.stack g (cleaned w g) g)).unit) x)
 locked-from opening h w u g mode core t f s x d dep = elim (depends-cases h (answered w (Grant u g mode)) x d dep) [
   | inl o ↦ (let m = (s x d).1 o in
@@ -148,7 +148,7 @@ locked-from opening h w u g mode core t f s x d dep = elim (depends-cases h (ans
   ]
 ]
   where
-    w2 : World
+    w2 : CoreState
     w2 = restacked w g (cleaned w g)
 
     source : UnitNo
@@ -166,7 +166,7 @@ locked-from opening h w u g mode core t f s x d dep = elim (depends-cases h (ans
         ])
 
 -- a later grant shows nothing new
-raised-from : (h : List Applied) (w : World) (u : UnitNo) (g : GrainId) (mode : Mode) → Tells h w → DependsOf h w → w.units.phase u ≡ Running → holds_lock u (w.cells.holds g) ≡ true → (x d : UnitNo) → IsDependency (more h (answered w (Grant u g mode))) x d → Member d (w.units.deps x)
+raised-from : (h : List Applied) (w : CoreState) (u : UnitNo) (g : GrainId) (mode : Mode) → Tells h w → DependsOf h w → w.units.phase u ≡ Running → holds_lock u (w.cells.holds g) ≡ true → (x d : UnitNo) → IsDependency (more h (answered w (Grant u g mode))) x d → Member d (w.units.deps x)
 raised-from h w u g mode t s running own x d dep = elim (depends-cases h (answered w (Grant u g mode)) x d dep) [
   | inl o ↦ (s x d).1 o
   | inr n ↦ elim (cases_Bool (same_unit u x)) [
@@ -179,12 +179,12 @@ raised-from h w u g mode t s running own x d dep = elim (depends-cases h (answer
 ]
 
 -- each dependency after an event is one of the history
-depends-to : (opening : GrainId → List Value) (h : List Applied) (w : World) (e : CoreEvent) (w' : World) → Change w e w' → Core opening w → Tells h w → FatesOf h w → DependsOf h w → (x d : UnitNo) → Member d (w'.units.deps x) → IsDependency (more h (answered w e)) x d
+depends-to : (opening : GrainId → List Value) (h : List Applied) (w : CoreState) (e : CoreEvent) (w' : CoreState) → Change w e w' → Core opening w → Tells h w → FatesOf h w → DependsOf h w → (x d : UnitNo) → Member d (w'.units.deps x) → IsDependency (more h (answered w e)) x d
 depends-to opening h w e w' (lock u g mode running free first here) core t f s x d = locked-to opening h w u g mode core t f s running first x d
 depends-to opening h w e w' c core t f s x d = λ m. depends-before h (answered w e) x d ((s x d).0 m)
 
 -- and each of the history is one
-depends-from : (opening : GrainId → List Value) (h : List Applied) (w : World) (e : CoreEvent) (w' : World) → Change w e w' → Core opening w → Tells h w → FatesOf h w → DependsOf h w → (x d : UnitNo) → IsDependency (more h (answered w e)) x d → Member d (w'.units.deps x)
+depends-from : (opening : GrainId → List Value) (h : List Applied) (w : CoreState) (e : CoreEvent) (w' : CoreState) → Change w e w' → Core opening w → Tells h w → FatesOf h w → DependsOf h w → (x d : UnitNo) → IsDependency (more h (answered w e)) x d → Member d (w'.units.deps x)
 depends-from opening h w e w' (lock u g mode running free first here) core t f s x d = locked-from opening h w u g mode core t f s x d
 depends-from opening h w e w' (raise u g mode running free own here uncovered) core t f s x d = raised-from h w u g mode t s running own x d
 depends-from opening h w e w' c core t f s x d = λ dep. elim (depends-cases h (answered w e) x d dep) [
@@ -193,5 +193,5 @@ depends-from opening h w e w' c core t f s x d = λ dep. elim (depends-cases h (
 ]
 
 -- the dependencies after an event
-pub depends-after : (opening : GrainId → List Value) (h : List Applied) (w : World) (e : CoreEvent) (w' : World) → Change w e w' → Core opening w → Tells h w → FatesOf h w → DependsOf h w → DependsOf (more h (answered w e)) w'
+pub depends-after : (opening : GrainId → List Value) (h : List Applied) (w : CoreState) (e : CoreEvent) (w' : CoreState) → Change w e w' → Core opening w → Tells h w → FatesOf h w → DependsOf h w → DependsOf (more h (answered w e)) w'
 depends-after opening h w e w' c core t f s x d = (depends-to opening h w e w' c core t f s x d, depends-from opening h w e w' c core t f s x d)

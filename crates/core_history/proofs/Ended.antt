@@ -10,7 +10,7 @@ use Rattle.core_model.specs.declared.events.CoreEvent.TheVariants.{Decide, Seale
 use Rattle.core_model.specs.declared.phases.Phase.TheVariants.{Running, Finished, Refused, Ended}
 use Rattle.core_model.specs.declared.phases.Verdict.{Verdict}
 use Rattle.core_model.specs.declared.phases.Verdict.TheVariants.{Open, Chosen, Condemned, Committed, Aborted}
-use Rattle.core_model.specs.World.{UnitNo, GrainId, Value, Write, Batch, World, Member, put}
+use Rattle.core_model.specs.CoreState.{UnitNo, GrainId, Value, Write, Batch, CoreState, Member, put}
 use Rattle.core_model.specs.Tests.{is_bad, is_good, is_final, members}
 use Rattle.core_model.specs.Changes.{new_unit, decisions_of, judged, verdict_of, seal, spoil, leave}
 use Rattle.core_model.proofs.Decoded.{Change, begin, refuse, finish, end_plain, end_snapshot, release, emit, decide_some, decide_none, seal_batch, spoil_batch, doubt_batch}
@@ -36,7 +36,7 @@ use Rattle.core_model.proofs.Verdicts.{member-or-not}
 
 -- What the history tells of decided batches: who is aborted after its finish had a batch that has ended; in a batch in
 -- doubt nobody is to abort any more; and in a decided one somebody is to abort only where somebody is to commit.
-pub record Endings (h : List Applied) (w : World) : Type 0 where
+pub record Endings (h : List Applied) (w : CoreState) : Type 0 where
   pub aborted : (v : UnitNo) → w.units.phase v ≡ Finished → w.manager.verdict v ≡ Aborted → (n : ℕ) × InBatch h n v × HasEnded h n
   pub doubted : (n : ℕ) → Happened h (Doubt n) → w.manager.doubt ≡ None → ⊥
   pub doubts : (n : ℕ) (v : UnitNo) → InBatch h n v → Happened h (Doubt n) → (is_final (w.manager.verdict v) ≡ true) ⊎ (w.manager.verdict v ≡ Chosen)
@@ -44,7 +44,7 @@ pub record Endings (h : List Applied) (w : World) : Type 0 where
   pub condemned : (n : ℕ) (v : UnitNo) → InBatch h n v → Happened h (Decide n) → w.manager.verdict v ≡ Condemned → (x : UnitNo) × InBatch h n x × (w.manager.verdict x ≡ Chosen)
 
 -- a batch that has ended has ended for good
-ended-more : (opening : GrainId → List Value) (h : List Applied) (w : World) (e : CoreEvent) (w' : World) → Change w e w' → Step opening h w e w' → (n : ℕ) → HasEnded h n → HasEnded (more h (answered w e)) n
+ended-more : (opening : GrainId → List Value) (h : List Applied) (w : CoreState) (e : CoreEvent) (w' : CoreState) → Change w e w' → Step opening h w e w' → (n : ℕ) → HasEnded h n → HasEnded (more h (answered w e)) n
 ended-more opening h w e w' c s n (on_disk m) = on_disk (happened-before h (answered w e) (Sealed n) m)
 ended-more opening h w e w' c s n (not_on_disk m) = not_on_disk (happened-before h (answered w e) (NotSealed n) m)
 ended-more opening h w e w' c s n (in_doubt m) = in_doubt (happened-before h (answered w e) (Doubt n) m)
@@ -56,11 +56,11 @@ ended-more opening h w e w' c s n (all_dead d f) =
 abbrev Over : List Applied → UnitNo → Type 0
 Over h v = (n : ℕ) × InBatch h n v × HasEnded h n
 
-over-more : (opening : GrainId → List Value) (h : List Applied) (w : World) (e : CoreEvent) (w' : World) → Change w e w' → Step opening h w e w' → (v : UnitNo) → Over h v → Over (more h (answered w e)) v
+over-more : (opening : GrainId → List Value) (h : List Applied) (w : CoreState) (e : CoreEvent) (w' : CoreState) → Change w e w' → Step opening h w e w' → (v : UnitNo) → Over h v → Over (more h (answered w e)) v
 over-more opening h w e w' c s v t = (t.0, batch-before h (answered w e) t.0 v t.1, ended-more opening h w e w' c s t.0 t.2)
 
 -- in a batch that is decided and closed at once all are dead
-closed-dead : (opening : GrainId → List Value) (h : List Applied) (w : World) (n : ℕ) (w' : World) → Change w (Decide n) w' → Step opening h w (Decide n) w' → (b : Batch) → w.manager.batch ≡ Some b → b.number ≡ n → b.decisions ≡ None →
+closed-dead : (opening : GrainId → List Value) (h : List Applied) (w : CoreState) (n : ℕ) (w' : CoreState) → Change w (Decide n) w' → Step opening h w (Decide n) w' → (b : Batch) → w.manager.batch ≡ Some b → b.number ≡ n → b.decisions ≡ None →
     any is_commit (decisions_of w b) ≡ false → (u : UnitNo) → InBatch (more h (answered w (Decide n))) n u → IsDeadIn (more h (answered w (Decide n))) u
 closed-dead opening h w n w' c s b q number d none u i =
     let o = old-batch opening h w (Decide n) w' s n u (Decide n) refl (λ z. cc) i (happened-now h (answered w (Decide n))) in
@@ -73,7 +73,7 @@ closed-dead opening h w n w' c s b q number d none u i =
     to_abort (decision.Dependency on) z = refl
 
 -- who is aborted after an event
-aborted-after : (opening : GrainId → List Value) (h : List Applied) (w : World) (e : CoreEvent) (w' : World) → Change w e w' → Step opening h w e w' → Endings h w → (v : UnitNo) → w'.units.phase v ≡ Finished → w'.manager.verdict v ≡ Aborted →
+aborted-after : (opening : GrainId → List Value) (h : List Applied) (w : CoreState) (e : CoreEvent) (w' : CoreState) → Change w e w' → Step opening h w e w' → Endings h w → (v : UnitNo) → w'.units.phase v ≡ Finished → w'.manager.verdict v ≡ Aborted →
     Over (more h (answered w e)) v
 aborted-after opening h w e w' (begin origin call plain ok) s k v =
     put-from w.units.phase (new_unit w) Running (λ p. p ≡ Finished) (w.manager.verdict v ≡ Aborted → Over (more h (answered w e)) v) v (λ z f. cc)
@@ -117,7 +117,7 @@ aborted-after opening h w e w' (doubt_batch n b ds q number d) s k v = λ f a.
 aborted-after opening h w e w' c s k v = λ f a. over-more opening h w e w' c s v (k.aborted v f a)
 
 -- after a doubt there is one
-doubted-after : (opening : GrainId → List Value) (h : List Applied) (w : World) (e : CoreEvent) (w' : World) → Change w e w' → Endings h w → (n : ℕ) → Happened (more h (answered w e)) (Doubt n) → w'.manager.doubt ≡ None → ⊥
+doubted-after : (opening : GrainId → List Value) (h : List Applied) (w : CoreState) (e : CoreEvent) (w' : CoreState) → Change w e w' → Endings h w → (n : ℕ) → Happened (more h (answered w e)) (Doubt n) → w'.manager.doubt ≡ None → ⊥
 doubted-after opening h w e w' (doubt_batch m b ds q number d) k n = λ x z. cc
 doubted-after opening h w e w' c k n = λ x z. elim (happened-cases h (answered w e) (Doubt n) x) [ inl old ↦ k.doubted n old z | inr y ↦ cc ]
 
@@ -129,18 +129,18 @@ leave-cases Condemned n = inl refl
 leave-cases Committed n = inl refl
 leave-cases Aborted n = inl refl
 
-doubts-old : (opening : GrainId → List Value) (h : List Applied) (w : World) (e : CoreEvent) (w' : World) → Change w e w' → Step opening h w e w' → Endings h w → (n : ℕ) (v : UnitNo) → InBatch h n v → Happened h (Doubt n) → (is_final (w'.manager.verdict v) ≡ true) ⊎ (w'.manager.verdict v ≡ Chosen)
+doubts-old : (opening : GrainId → List Value) (h : List Applied) (w : CoreState) (e : CoreEvent) (w' : CoreState) → Change w e w' → Step opening h w e w' → Endings h w → (n : ℕ) (v : UnitNo) → InBatch h n v → Happened h (Doubt n) → (is_final (w'.manager.verdict v) ≡ true) ⊎ (w'.manager.verdict v ≡ Chosen)
 doubts-old opening h w e w' (release u g over held) s k n v i m = k.doubts n v i m
 doubts-old opening h w e w' (emit q) s k n v i m = k.doubts n v i m
 doubts-old opening h w e w' c s k n v i m = absurd (k.doubted n m (no_doubt w e s.applied refl))
 
-doubts-now : (opening : GrainId → List Value) (h : List Applied) (w : World) (e : CoreEvent) (w' : World) → Change w e w' → Step opening h w e w' → (n : ℕ) (v : UnitNo) → InBatch h n v → Doubt n ≡ e → (is_final (w'.manager.verdict v) ≡ true) ⊎ (w'.manager.verdict v ≡ Chosen)
+doubts-now : (opening : GrainId → List Value) (h : List Applied) (w : CoreState) (e : CoreEvent) (w' : CoreState) → Change w e w' → Step opening h w e w' → (n : ℕ) (v : UnitNo) → InBatch h n v → Doubt n ≡ e → (is_final (w'.manager.verdict v) ≡ true) ⊎ (w'.manager.verdict v ≡ Chosen)
 doubts-now opening h w e w' (doubt_batch m b ds q number d) s n v i z =
     (let is : n ≡ b.number = (let y : n ≡ m = cc in y ∙ sym number) in
     leave-cases (w.manager.verdict v) (member-judged opening w b ds s.core q d v (open-member h w b s.told q v (subst (λ k. InBatch h k v) is i))).0)
 doubts-now opening h w e w' c s n v i z = cc
 
-doubts-after : (opening : GrainId → List Value) (h : List Applied) (w : World) (e : CoreEvent) (w' : World) → Change w e w' → Step opening h w e w' → Endings h w → (n : ℕ) (v : UnitNo) → InBatch (more h (answered w e)) n v → Happened (more h (answered w e)) (Doubt n) →
+doubts-after : (opening : GrainId → List Value) (h : List Applied) (w : CoreState) (e : CoreEvent) (w' : CoreState) → Change w e w' → Step opening h w e w' → Endings h w → (n : ℕ) (v : UnitNo) → InBatch (more h (answered w e)) n v → Happened (more h (answered w e)) (Doubt n) →
     (is_final (w'.manager.verdict v) ≡ true) ⊎ (w'.manager.verdict v ≡ Chosen)
 doubts-after opening h w e w' c s k n v i m =
     let b = old-batch opening h w e w' s n v (Doubt n) refl (λ q. cc) i m in
@@ -198,12 +198,12 @@ verdict-open decision.Commit e = cc
 verdict-open (decision.Vote g) e = cc
 verdict-open (decision.Dependency on) e = cc
 
-judged-open : (opening : GrainId → List Value) (h : List Applied) (w : World) (e : CoreEvent) (w' : World) → Step opening h w e w' → (b : Batch) → w.manager.batch ≡ Some b → b.decisions ≡ None → (x : UnitNo) → Member x (members w b) →
+judged-open : (opening : GrainId → List Value) (h : List Applied) (w : CoreState) (e : CoreEvent) (w' : CoreState) → Step opening h w e w' → (b : Batch) → w.manager.batch ≡ Some b → b.decisions ≡ None → (x : UnitNo) → Member x (members w b) →
     judged (members w b) (decisions_of w b) w.manager.verdict x ≡ Open → ⊥
 judged-open opening h w e w' s b q d x m z = (let t = decided-reason opening h w e w' s b q d x m in verdict-open t.0 (sym t.2 ∙ z))
 
 -- who is decided stays so
-decided-old : (opening : GrainId → List Value) (h : List Applied) (w : World) (e : CoreEvent) (w' : World) → Change w e w' → Step opening h w e w' → (v : UnitNo) → (w.manager.verdict v ≡ Open → ⊥) → w'.manager.verdict v ≡ Open → ⊥
+decided-old : (opening : GrainId → List Value) (h : List Applied) (w : CoreState) (e : CoreEvent) (w' : CoreState) → Change w e w' → Step opening h w e w' → (v : UnitNo) → (w.manager.verdict v ≡ Open → ⊥) → w'.manager.verdict v ≡ Open → ⊥
 decided-old opening h w e w' (refuse u g mode why running q) s v fixed = put-from w.manager.verdict u Aborted (λ z. z ≡ Open) ⊥ v (λ z y. cc) (λ z y. fixed y)
 decided-old opening h w e w' (decide_some n b q number d voted some) s v fixed = λ z. elim (member-or-not v (members w b)) [
   | inl m ↦ judged-open opening h w (Decide n) w' s b q d v m z
@@ -220,7 +220,7 @@ decided-old opening h w e w' (spoil_batch n b ds q number d) s v fixed = λ z. f
 decided-old opening h w e w' (doubt_batch n b ds q number d) s v fixed = λ z. fixed (leave-open (w.manager.verdict v) z)
 decided-old opening h w e w' c s v fixed = fixed
 
-decided-now : (opening : GrainId → List Value) (h : List Applied) (w : World) (e : CoreEvent) (w' : World) → Change w e w' → Step opening h w e w' → (n : ℕ) (v : UnitNo) → InBatch h n v → Decide n ≡ e → w'.manager.verdict v ≡ Open → ⊥
+decided-now : (opening : GrainId → List Value) (h : List Applied) (w : CoreState) (e : CoreEvent) (w' : CoreState) → Change w e w' → Step opening h w e w' → (n : ℕ) (v : UnitNo) → InBatch h n v → Decide n ≡ e → w'.manager.verdict v ≡ Open → ⊥
 decided-now opening h w e w' (decide_some m b q number d voted some) s n v i z = λ y.
     (let is : n ≡ b.number = (let t : n ≡ m = cc in t ∙ sym number) in
     judged-open opening h w (Decide m) w' s b q d v (open-member h w b s.told q v (subst (λ k. InBatch h k v) is i)) y)
@@ -229,7 +229,7 @@ decided-now opening h w e w' (decide_none m b q number d voted none) s n v i z =
     judged-open opening h w (Decide m) w' s b q d v (open-member h w b s.told q v (subst (λ k. InBatch h k v) is i)) (seal-open (judged (members w b) (decisions_of w b) w.manager.verdict v) y))
 decided-now opening h w e w' c s n v i z = cc
 
-decided-after : (opening : GrainId → List Value) (h : List Applied) (w : World) (e : CoreEvent) (w' : World) → Change w e w' → Step opening h w e w' → Endings h w → (n : ℕ) (v : UnitNo) → InBatch (more h (answered w e)) n v → Happened (more h (answered w e)) (Decide n) → w'.manager.verdict v ≡ Open → ⊥
+decided-after : (opening : GrainId → List Value) (h : List Applied) (w : CoreState) (e : CoreEvent) (w' : CoreState) → Change w e w' → Step opening h w e w' → Endings h w → (n : ℕ) (v : UnitNo) → InBatch (more h (answered w e)) n v → Happened (more h (answered w e)) (Decide n) → w'.manager.verdict v ≡ Open → ⊥
 decided-after opening h w e w' c s k n v i m =
     let b = old-batch opening h w e w' s n v (Decide n) refl (λ q. cc) i m in
     elim (happened-cases h (answered w e) (Decide n) m) [
@@ -238,7 +238,7 @@ decided-after opening h w e w' c s k n v i m =
     ]
 
 -- somebody of the batch is to commit
-abbrev SomeCommits : List Applied → World → ℕ → Type 0
+abbrev SomeCommits : List Applied → CoreState → ℕ → Type 0
 SomeCommits h w n = (x : UnitNo) × InBatch h n x × (w.manager.verdict x ≡ Chosen)
 
 -- a decision to commit has its unit
@@ -251,7 +251,7 @@ commit-unit votes writes deps verdict (u ∷ us) (decision.Commit ∷ ds) r e = 
 commit-unit votes writes deps verdict (u ∷ us) (decision.Vote g ∷ ds) r e = (let t = commit-unit votes writes deps verdict us ds r.2 e in (t.0, inr t.1, t.2))
 commit-unit votes writes deps verdict (u ∷ us) (decision.Dependency on ∷ ds) r e = (let t = commit-unit votes writes deps verdict us ds r.2 e in (t.0, inr t.1, t.2))
 
-condemned-old : (opening : GrainId → List Value) (h : List Applied) (w : World) (e : CoreEvent) (w' : World) → Change w e w' → Step opening h w e w' → Endings h w → (n : ℕ) (v : UnitNo) → InBatch h n v → Happened h (Decide n) → w'.manager.verdict v ≡ Condemned →
+condemned-old : (opening : GrainId → List Value) (h : List Applied) (w : CoreState) (e : CoreEvent) (w' : CoreState) → Change w e w' → Step opening h w e w' → Endings h w → (n : ℕ) (v : UnitNo) → InBatch h n v → Happened h (Decide n) → w'.manager.verdict v ≡ Condemned →
     SomeCommits (more h (answered w e)) w' n
 condemned-old opening h w e w' (refuse u g mode why running q) s k n v i m =
     put-from w.manager.verdict u Aborted (λ z. z ≡ Condemned) (SomeCommits (more h (answered w e)) w' n) v (λ z y. cc)
@@ -270,7 +270,7 @@ condemned-old opening h w e w' (spoil_batch j b ds q number d) s k n v i m = λ 
 condemned-old opening h w e w' (doubt_batch j b ds q number d) s k n v i m = λ z. absurd (leave-condemned (w.manager.verdict v) z)
 condemned-old opening h w e w' c s k n v i m = λ z. (let t = k.condemned n v i m z in (t.0, batch-before h (answered w e) n t.0 t.1, t.2))
 
-condemned-now : (opening : GrainId → List Value) (h : List Applied) (w : World) (e : CoreEvent) (w' : World) → Change w e w' → Step opening h w e w' → (n : ℕ) (v : UnitNo) → Decide n ≡ e → w'.manager.verdict v ≡ Condemned → SomeCommits (more h (answered w e)) w' n
+condemned-now : (opening : GrainId → List Value) (h : List Applied) (w : CoreState) (e : CoreEvent) (w' : CoreState) → Change w e w' → Step opening h w e w' → (n : ℕ) (v : UnitNo) → Decide n ≡ e → w'.manager.verdict v ≡ Condemned → SomeCommits (more h (answered w e)) w' n
 condemned-now opening h w e w' (decide_some m b q number d voted some) s n v z = λ y.
     (let is : b.number ≡ n = (let t : n ≡ m = cc in number ∙ sym t) in
     let t = commit-unit b.votes w.manager.writes w.units.deps (judged (members w b) (decisions_of w b) w.manager.verdict) (members w b) (decisions_of w b) (argued-decided opening w b s.core.kept s.core.depends q d) some in
@@ -278,7 +278,7 @@ condemned-now opening h w e w' (decide_some m b q number d voted some) s n v z =
 condemned-now opening h w e w' (decide_none m b q number d voted none) s n v z = λ y. absurd (seal-condemned (judged (members w b) (decisions_of w b) w.manager.verdict v) y)
 condemned-now opening h w e w' c s n v z = cc
 
-condemned-after : (opening : GrainId → List Value) (h : List Applied) (w : World) (e : CoreEvent) (w' : World) → Change w e w' → Step opening h w e w' → Endings h w → (n : ℕ) (v : UnitNo) → InBatch (more h (answered w e)) n v → Happened (more h (answered w e)) (Decide n) →
+condemned-after : (opening : GrainId → List Value) (h : List Applied) (w : CoreState) (e : CoreEvent) (w' : CoreState) → Change w e w' → Step opening h w e w' → Endings h w → (n : ℕ) (v : UnitNo) → InBatch (more h (answered w e)) n v → Happened (more h (answered w e)) (Decide n) →
     w'.manager.verdict v ≡ Condemned → SomeCommits (more h (answered w e)) w' n
 condemned-after opening h w e w' c s k n v i m =
     let b = old-batch opening h w e w' s n v (Decide n) refl (λ q. cc) i m in
@@ -288,7 +288,7 @@ condemned-after opening h w e w' c s k n v i m =
     ]
 
 -- all that after an event
-pub endings-after : (opening : GrainId → List Value) (h : List Applied) (w : World) (e : CoreEvent) (w' : World) → Change w e w' → Step opening h w e w' → Endings h w → Endings (more h (answered w e)) w'
+pub endings-after : (opening : GrainId → List Value) (h : List Applied) (w : CoreState) (e : CoreEvent) (w' : CoreState) → Change w e w' → Step opening h w e w' → Endings h w → Endings (more h (answered w e)) w'
 endings-after opening h w e w' c s k = record {
   aborted = aborted-after opening h w e w' c s k;
   doubted = doubted-after opening h w e w' c k;
@@ -298,11 +298,11 @@ endings-after opening h w e w' c s k = record {
 }
 
 -- a finished unit that is aborted is decided dead by the history
-pub decided-dead-in : (h : List Applied) (w : World) → FatesOf h w → Endings h w → (v : UnitNo) → w.units.phase v ≡ Finished → w.manager.verdict v ≡ Aborted → IsDecidedDead h v
+pub decided-dead-in : (h : List Applied) (w : CoreState) → FatesOf h w → Endings h w → (v : UnitNo) → w.units.phase v ≡ Finished → w.manager.verdict v ≡ Aborted → IsDecidedDead h v
 decided-dead-in h w f k v fin a = (let t = k.aborted v fin a in record { dead = f.dies v (ap is_bad a); batch = t.0; within = t.1; ended = t.2 })
 
 -- and the other way round
-pub decided-dead-by : (opening : GrainId → List Value) (h : List Applied) (w : World) → Core opening w → Tells h w → FatesOf h w → Endings h w → (v : UnitNo) → IsDecidedDead h v → w.manager.verdict v ≡ Aborted
+pub decided-dead-by : (opening : GrainId → List Value) (h : List Applied) (w : CoreState) → Core opening w → Tells h w → FatesOf h w → Endings h w → (v : UnitNo) → IsDecidedDead h v → w.manager.verdict v ≡ Aborted
 decided-dead-by opening h w c t f k v x = go x.ended
   where
     alive : (u : UnitNo) → is_good (w.manager.verdict u) ≡ true → IsDeadIn h u → ⊥

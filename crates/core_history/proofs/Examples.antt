@@ -1,7 +1,7 @@
 -- The histories of the computed runs tell what is said of them.
 use Rattle.std.proofs.Common.{[], ◌∷◌, ◌++◌, false, inl, inr, refl}
 use Rattle.core_model.specs.declared.events.CoreEvent.TheVariants.{Vote, Decide, NotSealed}
-use Rattle.core_model.specs.World.{put, put_grain}
+use Rattle.core_model.specs.CoreState.{put, put_grain}
 use Rattle.core_model.specs.ComputedRuns.{account, unit, state, found}
 use Rattle.core_history.specs.Histories.{Happened}
 use Rattle.core_history.specs.Fates.{IsDeadIn, voted_down, not_sealed, by_source}

@@ -13,7 +13,7 @@ use Rattle.core_model.specs.declared.effects.Read.{Read}
 use Rattle.core_model.specs.declared.phases.Phase.TheVariants.{Running, Finished}
 use Rattle.core_model.specs.declared.phases.Verdict.{Verdict}
 use Rattle.core_model.specs.declared.phases.Verdict.TheVariants.{Chosen, Committed, Aborted}
-use Rattle.core_model.specs.World.{UnitNo, GrainId, Mode, Value, Batch, World, Member}
+use Rattle.core_model.specs.CoreState.{UnitNo, GrainId, Mode, Value, Batch, CoreState, Member}
 use Rattle.core_model.specs.Tests.{is_bad, is_good, is_final, written, members, has_failed, is_vote_on}
 use Rattle.core_model.specs.Chains.{Wrote}
 use Rattle.core_model.specs.Dead.{IsDead, itself, by_source as dead_source}
@@ -65,11 +65,11 @@ pub record Fates (h : List Applied) (verdict : UnitNo → Verdict) (batches : �
   pub commits : (u : UnitNo) → verdict u ≡ Committed → (n : ℕ) × InBatch h n u × Happened h (Sealed n)
 
 -- that of a state
-abbrev pub FatesOf : List Applied → World → Type 0
+abbrev pub FatesOf : List Applied → CoreState → Type 0
 FatesOf h w = Fates h w.manager.verdict w.manager.batches w.manager.batch
 
 -- what is known where an event applies
-pub record Step (opening : GrainId → List Value) (h : List Applied) (w : World) (e : CoreEvent) (w' : World) : Type 0 where
+pub record Step (opening : GrainId → List Value) (h : List Applied) (w : CoreState) (e : CoreEvent) (w' : CoreState) : Type 0 where
   pub core : Core opening w
   pub told : Tells h w
   pub next : Tells (more h (answered w e)) w'
@@ -78,25 +78,25 @@ pub record Step (opening : GrainId → List Value) (h : List Applied) (w : World
   pub grows : Grows w w'
 
 -- what a unit wrote, by the state and by the history
-pub wrote-in : (h : List Applied) (w : World) → Tells h w → (u : UnitNo) (g : GrainId) → Wrote w.manager.writes u g → WroteIn h u g
+pub wrote-in : (h : List Applied) (w : CoreState) → Tells h w → (u : UnitNo) (g : GrainId) → Wrote w.manager.writes u g → WroteIn h u g
 wrote-in h w t u g wr = (wr.0, ap (written g) (sym (t.writes u)) ∙ wr.1)
 
-pub wrote-by : (h : List Applied) (w : World) → Tells h w → (u : UnitNo) (g : GrainId) → WroteIn h u g → Wrote w.manager.writes u g
+pub wrote-by : (h : List Applied) (w : CoreState) → Tells h w → (u : UnitNo) (g : GrainId) → WroteIn h u g → Wrote w.manager.writes u g
 wrote-by h w t u g wr = (wr.0, ap (written g) (t.writes u) ∙ wr.1)
 
 -- what a finished unit wrote stays
-writes-stay : (w : World) (e : CoreEvent) (w' : World) → Change w e w' → (u : UnitNo) → w.units.phase u ≡ Finished → w'.manager.writes u ≡ w.manager.writes u
+writes-stay : (w : CoreState) (e : CoreEvent) (w' : CoreState) → Change w e w' → (u : UnitNo) → w.units.phase u ≡ Finished → w'.manager.writes u ≡ w.manager.writes u
 writes-stay w e w' (finish x effect running plain of_call reads alone) u f = put-other w.manager.writes x effect.writes u (λ q. (let t : Finished ≡ Running = sym f ∙ ap w.units.phase q ∙ running in cc))
 writes-stay w e w' c u f = refl
 
 -- what a unit of a batch wrote stays what it wrote
-wrote-more : (opening : GrainId → List Value) (h : List Applied) (w : World) (e : CoreEvent) (w' : World) → Change w e w' → Step opening h w e w' → (n : ℕ) (u : UnitNo) (g : GrainId) → InBatch h n u → WroteIn h u g → WroteIn (more h (answered w e)) u g
+wrote-more : (opening : GrainId → List Value) (h : List Applied) (w : CoreState) (e : CoreEvent) (w' : CoreState) → Change w e w' → Step opening h w e w' → (n : ℕ) (u : UnitNo) (g : GrainId) → InBatch h n u → WroteIn h u g → WroteIn (more h (answered w e)) u g
 wrote-more opening h w e w' c s n u g b wr =
     let t = wrote-by h w s.told u g wr in
     wrote-in (more h (answered w e)) w' s.next u g (t.0, ap (written g) (writes-stay w e w' c u (batch-finished opening h w s.core.kept s.told n u b)) ∙ t.1)
 
 -- and was so before
-wrote-less : (opening : GrainId → List Value) (h : List Applied) (w : World) (e : CoreEvent) (w' : World) → Change w e w' → Step opening h w e w' → (n : ℕ) (u : UnitNo) (g : GrainId) → InBatch h n u → WroteIn (more h (answered w e)) u g → Wrote w.manager.writes u g
+wrote-less : (opening : GrainId → List Value) (h : List Applied) (w : CoreState) (e : CoreEvent) (w' : CoreState) → Change w e w' → Step opening h w e w' → (n : ℕ) (u : UnitNo) (g : GrainId) → InBatch h n u → WroteIn (more h (answered w e)) u g → Wrote w.manager.writes u g
 wrote-less opening h w e w' c s n u g b wr =
     let t = wrote-by (more h (answered w e)) w' s.next u g wr in
     (t.0, ap (written g) (sym (writes-stay w e w' c u (batch-finished opening h w s.core.kept s.told n u b))) ∙ t.1)
@@ -107,7 +107,7 @@ read-stays reads None r m = m
 read-stays reads (Some x) r m = cond_both (has_read x.grain reads) reads (reads ++ x ∷ []) (Member r) (λ e. m) (λ e. Member-left r reads (x ∷ []) m)
 
 -- the dead stay dead
-pub dead-more : (opening : GrainId → List Value) (h : List Applied) (w : World) (e : CoreEvent) (w' : World) → Change w e w' → Step opening h w e w' → (u : UnitNo) → IsDeadIn h u → IsDeadIn (more h (answered w e)) u
+pub dead-more : (opening : GrainId → List Value) (h : List Applied) (w : CoreState) (e : CoreEvent) (w' : CoreState) → Change w e w' → Step opening h w e w' → (u : UnitNo) → IsDeadIn h u → IsDeadIn (more h (answered w e)) u
 dead-more opening h w e w' c s u (refused g mode m) = refused g mode (happened-before h (answered w e) (Refuse u g mode) m)
 dead-more opening h w e w' c s u (voted_down n g b d wr v) =
     voted_down n g (batch-before h (answered w e) n u b) (happened-before h (answered w e) (Decide n) d) (wrote-more opening h w e w' c s n u g b wr) (happened-before h (answered w e) (Vote n g false) v)
@@ -116,16 +116,16 @@ dead-more opening h w e w' c s u (by_source r m d) =
     by_source r (subst (Member r) (sym (reads-more u h (answered w e))) (read-stays (reads_in u h) (shown u e (reply_with w e)) r m)) (dead-more opening h w e w' c s r.source d)
 
 -- the open batch has the last number
-open-number : (w : World) (b : Batch) → Parted w → w.manager.batch ≡ Some b → b.number ≡ w.manager.batches
+open-number : (w : CoreState) (b : Batch) → Parted w → w.manager.batch ≡ Some b → b.number ≡ w.manager.batches
 open-number w b p q = p.3 b q ∙ sym (p.2 ∙ ap (λ o. length w.manager.past + length (open_sizes o)) q)
 
 -- no batch goes
-batches-grow : (w : World) (e : CoreEvent) (w' : World) → Change w e w' → w.manager.batches ≤ w'.manager.batches
+batches-grow : (w : CoreState) (e : CoreEvent) (w' : CoreState) → Change w e w' → w.manager.batches ≤ w'.manager.batches
 batches-grow w e w' (take_batch none some) = omega arith
 batches-grow w e w' c = le_refl w.manager.batches
 
 -- an event speaks of a batch that was taken
-number-now : (w : World) (e : CoreEvent) (w' : World) → Change w e w' → Parted w → number_of e ≤ w'.manager.batches
+number-now : (w : CoreState) (e : CoreEvent) (w' : CoreState) → Change w e w' → Parted w → number_of e ≤ w'.manager.batches
 number-now w e w' (vote n g kept b q number d planned fresh) p = omega (arith, number, open-number w b p q)
 number-now w e w' (decide_some n b q number d voted some) p = omega (arith, number, open-number w b p q)
 number-now w e w' (decide_none n b q number d voted none) p = omega (arith, number, open-number w b p q)
@@ -135,18 +135,18 @@ number-now w e w' (doubt_batch n b ds q number d) p = omega (arith, number, open
 number-now w e w' c p = omega arith
 
 -- events speak of batches that were taken
-numbers-after : (opening : GrainId → List Value) (h : List Applied) (w : World) (e : CoreEvent) (w' : World) → Change w e w' → Step opening h w e w' → (x : CoreEvent) → Happened (more h (answered w e)) x → number_of x ≤ w'.manager.batches
+numbers-after : (opening : GrainId → List Value) (h : List Applied) (w : CoreState) (e : CoreEvent) (w' : CoreState) → Change w e w' → Step opening h w e w' → (x : CoreEvent) → Happened (more h (answered w e)) x → number_of x ≤ w'.manager.batches
 numbers-after opening h w e w' c s x m = elim (happened-cases h (answered w e) x m) [
   | inl old ↦ omega (arith, s.fates.numbers x old, batches-grow w e w' c)
   | inr q ↦ subst (λ z. number_of z ≤ w'.manager.batches) (sym q) (number-now w e w' c s.told.parted)
 ]
 
 -- what speaks of a later batch hasn't happened
-too-late : (opening : GrainId → List Value) (h : List Applied) (w : World) (e : CoreEvent) (w' : World) → Step opening h w e w' → (x : CoreEvent) → Happened h x → w.manager.batches + 1 ≤ number_of x → ⊥
+too-late : (opening : GrainId → List Value) (h : List Applied) (w : CoreState) (e : CoreEvent) (w' : CoreState) → Step opening h w e w' → (x : CoreEvent) → Happened h x → w.manager.batches + 1 ≤ number_of x → ⊥
 too-late opening h w e w' s x m le = omega (arith, s.fates.numbers x m, le)
 
 -- an undecided batch has had no decision
-undecided-after : (opening : GrainId → List Value) (h : List Applied) (w : World) (e : CoreEvent) (w' : World) → Change w e w' → Step opening h w e w' → (c : Batch) → w'.manager.batch ≡ Some c → c.decisions ≡ None →
+undecided-after : (opening : GrainId → List Value) (h : List Applied) (w : CoreState) (e : CoreEvent) (w' : CoreState) → Change w e w' → Step opening h w e w' → (c : Batch) → w'.manager.batch ≡ Some c → c.decisions ≡ None →
     Happened (more h (answered w e)) (Decide c.number) → ⊥
 undecided-after opening h w e w' (take_batch none some) s c z n = λ m.
     (let is = ap (λ (t : Batch). t.number) (some-is _ c z) in
@@ -181,7 +181,7 @@ failed-before : (votes : List (GrainId × Bool)) (k : GrainId) (kept : Bool) (g 
 failed-before votes k kept g e = list_any-append (λ (v : GrainId × Bool). is_vote_on g v && not v.1) votes ((k, kept) ∷ []) ∙ or_left (has_failed votes g) (has_failed ((k, kept) ∷ []) g) e
 
 -- a file that failed has its vote of no
-failed-after : (opening : GrainId → List Value) (h : List Applied) (w : World) (e : CoreEvent) (w' : World) → Change w e w' → Step opening h w e w' → (c : Batch) (k : GrainId) → w'.manager.batch ≡ Some c → has_failed c.votes k ≡ true →
+failed-after : (opening : GrainId → List Value) (h : List Applied) (w : CoreState) (e : CoreEvent) (w' : CoreState) → Change w e w' → Step opening h w e w' → (c : Batch) (k : GrainId) → w'.manager.batch ≡ Some c → has_failed c.votes k ≡ true →
     Happened (more h (answered w e)) (Vote c.number k false)
 failed-after opening h w e w' (take_batch none some) s c k z f = (let y : false ≡ true = ap (λ (t : Batch). has_failed t.votes k) (some-is (new_batch w (batch_size w)) c z) ∙ f in cc)
 failed-after opening h w e w' (vote m g kept b q number d planned fresh) s c k z f =
@@ -202,7 +202,7 @@ failed-after opening h w e w' (doubt_batch m b ds q number d) s c k z f = cc
 failed-after opening h w e w' ch s c k z f = happened-before h (answered w e) (Vote c.number k false) (s.fates.failed c k z f)
 
 -- and a vote of no is of a file that failed
-voted-after : (opening : GrainId → List Value) (h : List Applied) (w : World) (e : CoreEvent) (w' : World) → Change w e w' → Step opening h w e w' → (c : Batch) (k : GrainId) → w'.manager.batch ≡ Some c →
+voted-after : (opening : GrainId → List Value) (h : List Applied) (w : CoreState) (e : CoreEvent) (w' : CoreState) → Change w e w' → Step opening h w e w' → (c : Batch) (k : GrainId) → w'.manager.batch ≡ Some c →
     Happened (more h (answered w e)) (Vote c.number k false) → has_failed c.votes k ≡ true
 voted-after opening h w e w' (take_batch none some) s c k z = λ m.
     (let is = ap (λ (t : Batch). t.number) (some-is _ c z) in
@@ -228,19 +228,19 @@ voted-after opening h w e w' (doubt_batch m b ds q number d) s c k z = cc
 voted-after opening h w e w' ch s c k z = λ x. elim (happened-cases h (answered w e) (Vote c.number k false) x) [ inl old ↦ s.fates.voted c k z old | inr y ↦ cc ]
 
 -- a refusal
-refused-now : (w : World) (e : CoreEvent) (w' : World) → Change w e w' → (u : UnitNo) (g : GrainId) (mode : Mode) → Refuse u g mode ≡ e → w'.manager.verdict u ≡ Aborted
+refused-now : (w : CoreState) (e : CoreEvent) (w' : CoreState) → Change w e w' → (u : UnitNo) (g : GrainId) (mode : Mode) → Refuse u g mode ≡ e → w'.manager.verdict u ≡ Aborted
 refused-now w e w' (refuse x k m why running q) u g mode z = (let is : u ≡ x = cc in put-is w.manager.verdict x Aborted u is)
 refused-now w e w' c u g mode z = cc
 
 -- who was refused is aborted
-refusals-after : (opening : GrainId → List Value) (h : List Applied) (w : World) (e : CoreEvent) (w' : World) → Change w e w' → Step opening h w e w' → (u : UnitNo) (g : GrainId) (mode : Mode) → Happened (more h (answered w e)) (Refuse u g mode) → w'.manager.verdict u ≡ Aborted
+refusals-after : (opening : GrainId → List Value) (h : List Applied) (w : CoreState) (e : CoreEvent) (w' : CoreState) → Change w e w' → Step opening h w e w' → (u : UnitNo) (g : GrainId) (mode : Mode) → Happened (more h (answered w e)) (Refuse u g mode) → w'.manager.verdict u ≡ Aborted
 refusals-after opening h w e w' c s u g mode m = elim (happened-cases h (answered w e) (Refuse u g mode) m) [
   | inl old ↦ (let a = s.fates.refusals u g mode old in s.grows.1 u (ap is_final a) ∙ a)
   | inr q ↦ refused-now w e w' c u g mode q
 ]
 
 -- no batch is new where something has happened in it
-pub old-batch : (opening : GrainId → List Value) (h : List Applied) (w : World) (e : CoreEvent) (w' : World) → Step opening h w e w' → (n : ℕ) (u : UnitNo) (x : CoreEvent) → number_of x ≡ n → (x ≡ Take → ⊥) → InBatch (more h (answered w e)) n u → Happened (more h (answered w e)) x → InBatch h n u
+pub old-batch : (opening : GrainId → List Value) (h : List Applied) (w : CoreState) (e : CoreEvent) (w' : CoreState) → Step opening h w e w' → (n : ℕ) (u : UnitNo) (x : CoreEvent) → number_of x ≡ n → (x ≡ Take → ⊥) → InBatch (more h (answered w e)) n u → Happened (more h (answered w e)) x → InBatch h n u
 old-batch opening h w e w' s n u x is not_take b m = elim (batch-cases h (answered w e) n u b) [
   | inl o ↦ o
   | inr t ↦ elim (happened-cases h (answered w e) x m) [
@@ -250,13 +250,13 @@ old-batch opening h w e w' s n u x is not_take b m = elim (batch-cases h (answer
 ]
 
 -- the verdicts of a batch that is decided now
-pub decided-reason : (opening : GrainId → List Value) (h : List Applied) (w : World) (e : CoreEvent) (w' : World) → Step opening h w e w' → (b : Batch) → w.manager.batch ≡ Some b → b.decisions ≡ None → (x : UnitNo) → Member x (members w b) →
+pub decided-reason : (opening : GrainId → List Value) (h : List Applied) (w : CoreState) (e : CoreEvent) (w' : CoreState) → Step opening h w e w' → (b : Batch) → w.manager.batch ≡ Some b → b.decisions ≡ None → (x : UnitNo) → Member x (members w b) →
     (d : Decision) × Member d (decisions_of w b) × (judged (members w b) (decisions_of w b) w.manager.verdict x ≡ verdict_of d) × Reason b.votes (w.manager.writes x) (w.units.deps x) (judged (members w b) (decisions_of w b) w.manager.verdict) d
 decided-reason opening h w e w' s b q d x m =
     reasons-at b.votes w.manager.writes w.units.deps (judged (members w b) (decisions_of w b) w.manager.verdict) (members w b) (decisions_of w b) x (argued-decided opening w b s.core.kept s.core.depends q d) m
 
 -- whose file failed is to abort
-decided-down : (opening : GrainId → List Value) (h : List Applied) (w : World) (e : CoreEvent) (w' : World) → Step opening h w e w' → (b : Batch) → w.manager.batch ≡ Some b → b.decisions ≡ None → (x : UnitNo) (g : GrainId) → InBatch h b.number x → Wrote w.manager.writes x g →
+decided-down : (opening : GrainId → List Value) (h : List Applied) (w : CoreState) (e : CoreEvent) (w' : CoreState) → Step opening h w e w' → (b : Batch) → w.manager.batch ≡ Some b → b.decisions ≡ None → (x : UnitNo) (g : GrainId) → InBatch h b.number x → Wrote w.manager.writes x g →
     Happened h (Vote b.number g false) → is_bad (judged (members w b) (decisions_of w b) w.manager.verdict x) ≡ true
 decided-down opening h w e w' s b q d x g i wr v = (let t = decided-reason opening h w e w' s b q d x (open-member h w b s.told q x i) in go t.0 t.2 t.3)
   where
@@ -270,7 +270,7 @@ decided-down opening h w e w' s b q d x g i wr v = (let t = decided-reason openi
     go (decision.Dependency on) e r = (let z : true ≡ false = sym f ∙ failed-none b.votes (w.manager.writes x) r.0 g wr in cc)
 
 -- a decision aborts whose file failed
-down-now : (opening : GrainId → List Value) (h : List Applied) (w : World) (e : CoreEvent) (w' : World) → Change w e w' → Step opening h w e w' → (n : ℕ) (u : UnitNo) (g : GrainId) → Decide n ≡ e → InBatch h n u → Wrote w.manager.writes u g → Happened h (Vote n g false) → is_bad (w'.manager.verdict u) ≡ true
+down-now : (opening : GrainId → List Value) (h : List Applied) (w : CoreState) (e : CoreEvent) (w' : CoreState) → Change w e w' → Step opening h w e w' → (n : ℕ) (u : UnitNo) (g : GrainId) → Decide n ≡ e → InBatch h n u → Wrote w.manager.writes u g → Happened h (Vote n g false) → is_bad (w'.manager.verdict u) ≡ true
 down-now opening h w e w' (decide_some m b q number d voted some) s n u g z i wr v =
     (let is : n ≡ b.number = (let y : n ≡ m = cc in y ∙ sym number) in
     decided-down opening h w (Decide m) w' s b q d u g (subst (λ k. InBatch h k u) is i) wr (subst (λ k. Happened h (Vote k g false)) is v))
@@ -280,12 +280,12 @@ down-now opening h w e w' (decide_none m b q number d voted none) s n u g z i wr
 down-now opening h w e w' c s n u g z i wr v = cc
 
 -- no vote comes after the decision
-vote-now : (opening : GrainId → List Value) (h : List Applied) (w : World) (e : CoreEvent) (w' : World) → Change w e w' → Step opening h w e w' → (n : ℕ) (g : GrainId) → Vote n g false ≡ e → Happened h (Decide n) → ⊥
+vote-now : (opening : GrainId → List Value) (h : List Applied) (w : CoreState) (e : CoreEvent) (w' : CoreState) → Change w e w' → Step opening h w e w' → (n : ℕ) (g : GrainId) → Vote n g false ≡ e → Happened h (Decide n) → ⊥
 vote-now opening h w e w' (vote m k kept b q number d planned fresh) s n g z x = (let is : n ≡ m = cc in s.fates.undecided b q d (subst (λ y. Happened h (Decide y)) (is ∙ sym number) x))
 vote-now opening h w e w' c s n g z x = cc
 
 -- who was voted down is to abort
-down-after : (opening : GrainId → List Value) (h : List Applied) (w : World) (e : CoreEvent) (w' : World) → Change w e w' → Step opening h w e w' → (n : ℕ) (u : UnitNo) (g : GrainId) → InBatch (more h (answered w e)) n u → Happened (more h (answered w e)) (Decide n) →
+down-after : (opening : GrainId → List Value) (h : List Applied) (w : CoreState) (e : CoreEvent) (w' : CoreState) → Change w e w' → Step opening h w e w' → (n : ℕ) (u : UnitNo) (g : GrainId) → InBatch (more h (answered w e)) n u → Happened (more h (answered w e)) (Decide n) →
     WroteIn (more h (answered w e)) u g → Happened (more h (answered w e)) (Vote n g false) → is_bad (w'.manager.verdict u) ≡ true
 down-after opening h w e w' c s n u g i d wr v =
     let b = old-batch opening h w e w' s n u (Decide n) refl (λ q. cc) i d in
@@ -302,14 +302,14 @@ down-after opening h w e w' c s n u g i d wr v =
     ]
 
 -- a batch that comes to disk is decided for good
-sealed-now : (opening : GrainId → List Value) (h : List Applied) (w : World) (e : CoreEvent) (w' : World) → Change w e w' → Step opening h w e w' → (n : ℕ) (u : UnitNo) → Sealed n ≡ e → InBatch h n u → is_final (w'.manager.verdict u) ≡ true
+sealed-now : (opening : GrainId → List Value) (h : List Applied) (w : CoreState) (e : CoreEvent) (w' : CoreState) → Change w e w' → Step opening h w e w' → (n : ℕ) (u : UnitNo) → Sealed n ≡ e → InBatch h n u → is_final (w'.manager.verdict u) ≡ true
 sealed-now opening h w e w' (seal_batch m b ds q number d) s n u z i =
     (let is : n ≡ b.number = (let y : n ≡ m = cc in y ∙ sym number) in
     seal-final (w.manager.verdict u) (member-judged opening w b ds s.core q d u (open-member h w b s.told q u (subst (λ k. InBatch h k u) is i))).0)
 sealed-now opening h w e w' c s n u z i = cc
 
 -- and stays so
-ends-after : (opening : GrainId → List Value) (h : List Applied) (w : World) (e : CoreEvent) (w' : World) → Change w e w' → Step opening h w e w' → (n : ℕ) (u : UnitNo) → InBatch (more h (answered w e)) n u → Happened (more h (answered w e)) (Sealed n) → is_final (w'.manager.verdict u) ≡ true
+ends-after : (opening : GrainId → List Value) (h : List Applied) (w : CoreState) (e : CoreEvent) (w' : CoreState) → Change w e w' → Step opening h w e w' → (n : ℕ) (u : UnitNo) → InBatch (more h (answered w e)) n u → Happened (more h (answered w e)) (Sealed n) → is_final (w'.manager.verdict u) ≡ true
 ends-after opening h w e w' c s n u i m =
     let b = old-batch opening h w e w' s n u (Sealed n) refl (λ q. cc) i m in
     elim (happened-cases h (answered w e) (Sealed n) m) [
@@ -318,7 +318,7 @@ ends-after opening h w e w' c s n u i m =
     ]
 
 -- a batch that never will be on disk is aborted
-spoiled-now : (opening : GrainId → List Value) (h : List Applied) (w : World) (e : CoreEvent) (w' : World) → Change w e w' → Step opening h w e w' → (n : ℕ) (u : UnitNo) → NotSealed n ≡ e → InBatch h n u → w'.manager.verdict u ≡ Aborted
+spoiled-now : (opening : GrainId → List Value) (h : List Applied) (w : CoreState) (e : CoreEvent) (w' : CoreState) → Change w e w' → Step opening h w e w' → (n : ℕ) (u : UnitNo) → NotSealed n ≡ e → InBatch h n u → w'.manager.verdict u ≡ Aborted
 spoiled-now opening h w e w' (spoil_batch m b ds q number d) s n u z i =
     (let is : n ≡ b.number = (let y : n ≡ m = cc in y ∙ sym number) in
     let t = member-judged opening w b ds s.core q d u (open-member h w b s.told q u (subst (λ k. InBatch h k u) is i)) in
@@ -326,7 +326,7 @@ spoiled-now opening h w e w' (spoil_batch m b ds q number d) s n u z i =
 spoiled-now opening h w e w' c s n u z i = cc
 
 -- and stays so
-spoils-after : (opening : GrainId → List Value) (h : List Applied) (w : World) (e : CoreEvent) (w' : World) → Change w e w' → Step opening h w e w' → (n : ℕ) (u : UnitNo) → InBatch (more h (answered w e)) n u → Happened (more h (answered w e)) (NotSealed n) → w'.manager.verdict u ≡ Aborted
+spoils-after : (opening : GrainId → List Value) (h : List Applied) (w : CoreState) (e : CoreEvent) (w' : CoreState) → Change w e w' → Step opening h w e w' → (n : ℕ) (u : UnitNo) → InBatch (more h (answered w e)) n u → Happened (more h (answered w e)) (NotSealed n) → w'.manager.verdict u ≡ Aborted
 spoils-after opening h w e w' c s n u i m =
     let b = old-batch opening h w e w' s n u (NotSealed n) refl (λ q. cc) i m in
     elim (happened-cases h (answered w e) (NotSealed n) m) [
@@ -335,7 +335,7 @@ spoils-after opening h w e w' c s n u i m =
     ]
 
 -- Who is to abort by a decision is dead. The history goes on with that decision; the units are taken by their places.
-decided-dies : (opening : GrainId → List Value) (h : List Applied) (w : World) (m : ℕ) (w' : World) → Change w (Decide m) w' → Step opening h w (Decide m) w' → (b : Batch) → w.manager.batch ≡ Some b → b.number ≡ m → b.decisions ≡ None →
+decided-dies : (opening : GrainId → List Value) (h : List Applied) (w : CoreState) (m : ℕ) (w' : CoreState) → Change w (Decide m) w' → Step opening h w (Decide m) w' → (b : Batch) → w.manager.batch ≡ Some b → b.number ≡ m → b.decisions ≡ None →
     ((u : UnitNo) → w.units.reads u ≡ reads_in u (more h (answered w (Decide m)))) → (k : ℕ) (x : UnitNo) → w.manager.place x < k → w.units.phase x ≡ Finished → is_bad (judged (members w b) (decisions_of w b) w.manager.verdict x) ≡ true →
     IsDeadIn (more h (answered w (Decide m))) x
 decided-dies opening h w m w' c s b q number d reads zero x lt f bd = absurd (omega (arith, lt))
@@ -366,7 +366,7 @@ decided-dies opening h w m w' c s b q number d reads (suc k) x lt f bd = elim (m
         by_source t.0 (subst (Member t.0) (reads x) t.1) (subst (IsDeadIn h') (sym t.2) (ih on a.0 a.1 r.2))
 
 -- the same of every unit
-pub decided-dead : (opening : GrainId → List Value) (h : List Applied) (w : World) (m : ℕ) (w' : World) → Change w (Decide m) w' → Step opening h w (Decide m) w' → (b : Batch) → w.manager.batch ≡ Some b → b.number ≡ m → b.decisions ≡ None →
+pub decided-dead : (opening : GrainId → List Value) (h : List Applied) (w : CoreState) (m : ℕ) (w' : CoreState) → Change w (Decide m) w' → Step opening h w (Decide m) w' → (b : Batch) → w.manager.batch ≡ Some b → b.number ≡ m → b.decisions ≡ None →
     ((u : UnitNo) → w.units.reads u ≡ reads_in u (more h (answered w (Decide m)))) → (x : UnitNo) → is_bad (judged (members w b) (decisions_of w b) w.manager.verdict x) ≡ true → IsDeadIn (more h (answered w (Decide m))) x
 decided-dead opening h w m w' c s b q number d reads x bd = elim (member-or-not x (members w b)) [
   | inr n ↦ dead-more opening h w (Decide m) w' c s x (s.fates.dies x (ap is_bad (sym (judged-other (members w b) (decisions_of w b) w.manager.verdict x n)) ∙ bd))
@@ -374,7 +374,7 @@ decided-dead opening h w m w' c s b q number d reads x bd = elim (member-or-not 
 ]
 
 -- who is aborted, or to abort, is dead by the history
-dies-after : (opening : GrainId → List Value) (h : List Applied) (w : World) (e : CoreEvent) (w' : World) → Change w e w' → Step opening h w e w' → (x : UnitNo) → is_bad (w'.manager.verdict x) ≡ true → IsDeadIn (more h (answered w e)) x
+dies-after : (opening : GrainId → List Value) (h : List Applied) (w : CoreState) (e : CoreEvent) (w' : CoreState) → Change w e w' → Step opening h w e w' → (x : UnitNo) → is_bad (w'.manager.verdict x) ≡ true → IsDeadIn (more h (answered w e)) x
 dies-after opening h w e w' (refuse u g mode why running q) s x =
     put-from w.manager.verdict u Aborted (λ v. is_bad v ≡ true) (IsDeadIn (more h (answered w (Refuse u g mode))) x) x
     (λ z bd. refused g mode (subst (λ y. Happened (more h (answered w (Refuse u g mode))) (Refuse y g mode)) (sym z) (happened-now h (answered w (Refuse u g mode)))))
@@ -396,7 +396,7 @@ commits-more : (h : List Applied) (a : Applied) (x : UnitNo) → (n : ℕ) × In
 commits-more h a x t = (t.0, batch-before h a t.0 x t.1, happened-before h a (Sealed t.0) t.2)
 
 -- a decision commits nobody for good, and chooses nobody where no unit commits
-judged-committed : (opening : GrainId → List Value) (h : List Applied) (w : World) (e : CoreEvent) (w' : World) → Step opening h w e w' → (b : Batch) → w.manager.batch ≡ Some b → b.decisions ≡ None → (x : UnitNo) →
+judged-committed : (opening : GrainId → List Value) (h : List Applied) (w : CoreState) (e : CoreEvent) (w' : CoreState) → Step opening h w e w' → (b : Batch) → w.manager.batch ≡ Some b → b.decisions ≡ None → (x : UnitNo) →
     judged (members w b) (decisions_of w b) w.manager.verdict x ≡ Committed → w.manager.verdict x ≡ Committed
 judged-committed opening h w e w' s b q d x j = elim (member-or-not x (members w b)) [
   | inr n ↦ sym (judged-other (members w b) (decisions_of w b) w.manager.verdict x n) ∙ j
@@ -409,7 +409,7 @@ judged-committed opening h w e w' s b q d x j = elim (member-or-not x (members w
     go (decision.Dependency on) e = cc
 
 -- nobody is to commit where no decision commits
-pub judged-chosen : (opening : GrainId → List Value) (h : List Applied) (w : World) (e : CoreEvent) (w' : World) → Step opening h w e w' → (b : Batch) → w.manager.batch ≡ Some b → b.decisions ≡ None → w.manager.doubt ≡ None → any is_commit (decisions_of w b) ≡ false → (x : UnitNo) →
+pub judged-chosen : (opening : GrainId → List Value) (h : List Applied) (w : CoreState) (e : CoreEvent) (w' : CoreState) → Step opening h w e w' → (b : Batch) → w.manager.batch ≡ Some b → b.decisions ≡ None → w.manager.doubt ≡ None → any is_commit (decisions_of w b) ≡ false → (x : UnitNo) →
     judged (members w b) (decisions_of w b) w.manager.verdict x ≡ Chosen → ⊥
 judged-chosen opening h w e w' s b q d none nobodys x j = elim (member-or-not x (members w b)) [
   | inr n ↦ chosen-undecided opening w b s.core none q d x (sym (judged-other (members w b) (decisions_of w b) w.manager.verdict x n) ∙ j)
@@ -422,7 +422,7 @@ judged-chosen opening h w e w' s b q d none nobodys x j = elim (member-or-not x 
     go (decision.Dependency on) n e = cc
 
 -- who is committed has its batch on disk
-commits-after : (opening : GrainId → List Value) (h : List Applied) (w : World) (e : CoreEvent) (w' : World) → Change w e w' → Step opening h w e w' → (x : UnitNo) → w'.manager.verdict x ≡ Committed →
+commits-after : (opening : GrainId → List Value) (h : List Applied) (w : CoreState) (e : CoreEvent) (w' : CoreState) → Change w e w' → Step opening h w e w' → (x : UnitNo) → w'.manager.verdict x ≡ Committed →
     (n : ℕ) × InBatch (more h (answered w e)) n x × Happened (more h (answered w e)) (Sealed n)
 commits-after opening h w e w' (refuse u g mode why running q) s x =
     put-from w.manager.verdict u Aborted (λ v. v ≡ Committed) ((n : ℕ) × InBatch (more h (answered w (Refuse u g mode))) n x × Happened (more h (answered w (Refuse u g mode))) (Sealed n)) x
@@ -442,7 +442,7 @@ commits-after opening h w e w' (doubt_batch m b ds q number d) s x = λ v. commi
 commits-after opening h w e w' c s x = λ v. commits-more h (answered w e) x (s.fates.commits x v)
 
 -- all that after an event
-pub fates-after : (opening : GrainId → List Value) (h : List Applied) (w : World) (e : CoreEvent) (w' : World) → Change w e w' → Step opening h w e w' → FatesOf (more h (answered w e)) w'
+pub fates-after : (opening : GrainId → List Value) (h : List Applied) (w : CoreState) (e : CoreEvent) (w' : CoreState) → Change w e w' → Step opening h w e w' → FatesOf (more h (answered w e)) w'
 fates-after opening h w e w' c s = record {
   numbers = numbers-after opening h w e w' c s;
   undecided = undecided-after opening h w e w' c s;
@@ -457,24 +457,24 @@ fates-after opening h w e w' c s = record {
 }
 
 -- who is dead by the state is dead by the history
-pub dead-in : (h : List Applied) (w : World) → Tells h w → FatesOf h w → (u : UnitNo) → IsDead w u → IsDeadIn h u
+pub dead-in : (h : List Applied) (w : CoreState) → Tells h w → FatesOf h w → (u : UnitNo) → IsDead w u → IsDeadIn h u
 dead-in h w t f u (itself e) = f.dies u e
 dead-in h w t f u (dead_source r m d) = by_source r (subst (Member r) (t.reads u) m) (dead-in h w t f r.source d)
 
 -- and the other way round
-pub dead-by : (h : List Applied) (w : World) → Tells h w → FatesOf h w → (u : UnitNo) → IsDeadIn h u → IsDead w u
+pub dead-by : (h : List Applied) (w : CoreState) → Tells h w → FatesOf h w → (u : UnitNo) → IsDeadIn h u → IsDead w u
 dead-by h w t f u (refused g mode m) = itself (ap is_bad (f.refusals u g mode m))
 dead-by h w t f u (voted_down n g b d wr v) = itself (f.down n u g b d wr v)
 dead-by h w t f u (not_sealed n b m) = itself (ap is_bad (f.spoils n u b m))
 dead-by h w t f u (by_source r m d) = dead_source r (subst (Member r) (sym (t.reads u)) m) (dead-by h w t f r.source d)
 
 -- who is committed by the state is so by the history
-pub committed-in : (opening : GrainId → List Value) (h : List Applied) (w : World) → Core opening w → Tells h w → FatesOf h w → (u : UnitNo) → w.manager.verdict u ≡ Committed → IsCommittedIn h u
+pub committed-in : (opening : GrainId → List Value) (h : List Applied) (w : CoreState) → Core opening w → Tells h w → FatesOf h w → (u : UnitNo) → w.manager.verdict u ≡ Committed → IsCommittedIn h u
 committed-in opening h w c t f u v =
     let x = f.commits u v in
     (x.0, x.1, x.2, λ d. good-alive opening _ w c.kept.0 u (ap is_good v) (dead-by h w t f u d))
 
-pub committed-by : (h : List Applied) (w : World) → Tells h w → FatesOf h w → (u : UnitNo) → IsCommittedIn h u → w.manager.verdict u ≡ Committed
+pub committed-by : (h : List Applied) (w : CoreState) → Tells h w → FatesOf h w → (u : UnitNo) → IsCommittedIn h u → w.manager.verdict u ≡ Committed
 committed-by h w t f u c = elim (is_final-cases (w.manager.verdict u) (f.ends c.0 u c.1 c.2)) [
   | inl v ↦ v
   | inr v ↦ absurd (c.3 (f.dies u (ap is_bad v)))

@@ -7,7 +7,7 @@ use Rattle.cell_model.proofs.Units.{same_unit-true, same_unit-false, same_unit-i
 use Rattle.core_model.specs.declared.events.CoreEvent.{CoreEvent}
 use Rattle.core_model.specs.declared.phases.Phase.{Phase}
 use Rattle.core_model.specs.declared.phases.Phase.TheVariants.{Unborn, Running, Finished, Refused, Ended}
-use Rattle.core_model.specs.World.{UnitNo, GrainId, Mode, Hold, Batch, World, same_unit, same_grain, put, put_grain}
+use Rattle.core_model.specs.CoreState.{UnitNo, GrainId, Mode, Hold, Batch, CoreState, same_unit, same_grain, put, put_grain}
 use Rattle.core_model.specs.Tests.{is_over, is_running}
 use Rattle.core_model.specs.Changes.{new_unit}
 use Rattle.core_model.specs.Events.{reply_with, decided_reply}
@@ -18,7 +18,7 @@ use Rattle.core_history.specs.Units.{finisher, is_begin_of, is_end_of, mode_afte
 use Rattle.core_history.specs.States.{mode_of}
 
 -- the finish order after an event
-pub order-after : (w : World) (e : CoreEvent) (w' : World) → Change w e w' → w'.manager.order ≡ w.manager.order ++ finisher e
+pub order-after : (w : CoreState) (e : CoreEvent) (w' : CoreState) → Change w e w' → w'.manager.order ≡ w.manager.order ++ finisher e
 order-after w e w' (finish u effect running plain of_call reads alone) = refl
 order-after w e w' c = sym (append-nil w.manager.order)
 
@@ -31,14 +31,14 @@ is_born _ = true
 born-put : (phase : UnitNo → Phase) (u : UnitNo) (end : Phase) → is_born end ≡ true → is_born (phase u) ≡ true → (x : UnitNo) → is_born (put phase u end x) ≡ (is_born (phase x) || false)
 born-put phase u end e b x = put-at phase u end (λ p. is_born p ≡ (is_born (phase x) || false)) x (λ q. e ∙ sym b ∙ ap (λ z. is_born (phase z)) (sym q) ∙ sym (or-false (is_born (phase x)))) (λ q. sym (or-false (is_born (phase x))))
 
-decided-begins : (x : UnitNo) (w : World) (o : Option Batch) → is_begin_of x (decided_reply w o) ≡ false
+decided-begins : (x : UnitNo) (w : CoreState) (o : Option Batch) → is_begin_of x (decided_reply w o) ≡ false
 decided-begins x w None = refl
 decided-begins x w (Some b) = refl
 
-decided-born : (w : World) (x : UnitNo) → is_born (w.units.phase x) ≡ (is_born (w.units.phase x) || is_begin_of x (decided_reply w w.manager.batch))
+decided-born : (w : CoreState) (x : UnitNo) → is_born (w.units.phase x) ≡ (is_born (w.units.phase x) || is_begin_of x (decided_reply w w.manager.batch))
 decided-born w x = sym (or-false (is_born (w.units.phase x))) ∙ ap (λ t. is_born (w.units.phase x) || t) (sym (decided-begins x w w.manager.batch))
 
-pub begun-after : (w : World) (e : CoreEvent) (w' : World) → Change w e w' → (x : UnitNo) → is_born (w'.units.phase x) ≡ (is_born (w.units.phase x) || is_begin_of x (reply_with w e))
+pub begun-after : (w : CoreState) (e : CoreEvent) (w' : CoreState) → Change w e w' → (x : UnitNo) → is_born (w'.units.phase x) ≡ (is_born (w.units.phase x) || is_begin_of x (reply_with w e))
 begun-after w e w' (begin origin call plain c) x = put-at w.units.phase (new_unit w) Running (λ p. is_born p ≡ (is_born (w.units.phase x) || same_unit (new_unit w) x)) x
     (λ q. sym (or_right (is_born (w.units.phase x)) (same_unit (new_unit w) x) (same_unit-is (new_unit w) x (sym q))))
     (λ q. sym (or-false (is_born (w.units.phase x))) ∙ ap (λ t. is_born (w.units.phase x) || t) (sym (same_unit-not (new_unit w) x (λ z. q (sym z)))))
@@ -55,7 +55,7 @@ over-put phase u end e x = put-at phase u end (λ p. is_over p ≡ (is_over (pha
     (λ q. e ∙ sym (or_right (is_over (phase x)) (same_unit u x) (same_unit-is u x (sym q))))
     (λ q. sym (or-false (is_over (phase x))) ∙ ap (λ t. is_over (phase x) || t) (sym (same_unit-not u x (λ z. q (sym z)))))
 
-pub ended-after : (w : World) (e : CoreEvent) (w' : World) → Change w e w' → w.units.phase (new_unit w) ≡ Unborn → (x : UnitNo) → is_over (w'.units.phase x) ≡ (is_over (w.units.phase x) || is_end_of x e)
+pub ended-after : (w : CoreState) (e : CoreEvent) (w' : CoreState) → Change w e w' → w.units.phase (new_unit w) ≡ Unborn → (x : UnitNo) → is_over (w'.units.phase x) ≡ (is_over (w.units.phase x) || is_end_of x e)
 ended-after w e w' (begin origin call plain c) fresh x =
     put-at w.units.phase (new_unit w) Running (λ p. is_over p ≡ is_over (w.units.phase x)) x (λ q. sym (ap (λ z. is_over (w.units.phase z)) q ∙ ap is_over fresh)) (λ q. refl)
     ∙ sym (or-false (is_over (w.units.phase x)))
@@ -72,7 +72,7 @@ Fresh next phase = (u : UnitNo) → next ≤ u.0 → phase u ≡ Unborn
 fresh-put : (next : ℕ) (phase : UnitNo → Phase) (u : UnitNo) (end : Phase) → phase u ≡ Running → Fresh next phase → Fresh next (put phase u end)
 fresh-put next phase u end running f x le = put-at phase u end (λ p. p ≡ Unborn) x (λ q. (let t : Unborn ≡ Running = sym (f x le) ∙ ap phase q ∙ running in cc)) (λ q. f x le)
 
-pub fresh-after : (w : World) (e : CoreEvent) (w' : World) → Change w e w' → Fresh w.units.next w.units.phase → Fresh w'.units.next w'.units.phase
+pub fresh-after : (w : CoreState) (e : CoreEvent) (w' : CoreState) → Change w e w' → Fresh w.units.next w.units.phase → Fresh w'.units.next w'.units.phase
 fresh-after w e w' (begin origin call plain c) f = λ x le. put-at w.units.phase (new_unit w) Running (λ p. p ≡ Unborn) x (λ q. absurd (omega (arith, ap (λ (z : UnitNo). z.0) q, le))) (λ q. f x (omega (arith, le)))
 fresh-after w e w' (refuse u g mode why running q) f = fresh-put w.units.next w.units.phase u Refused running f
 fresh-after w e w' (finish u effect running plain of_call reads alone) f = fresh-put w.units.next w.units.phase u Finished running f
@@ -159,7 +159,7 @@ put-mode holds g hs u x k new e = grain-at holds g hs (λ t. mode_of x t ≡ (if
     apart a b n = elim (cases_Bool (same_grain a b)) [ inl t ↦ absurd (n (same_grain-true a b t)) | inr f ↦ f ]
 
 -- the modes after an event
-pub mode-after : (w : World) (e : CoreEvent) (w' : World) → Change w e w' → (x : UnitNo) (k : GrainId) → mode_of x (w'.cells.holds k) ≡ mode_after x k (mode_of x (w.cells.holds k)) e
+pub mode-after : (w : CoreState) (e : CoreEvent) (w' : CoreState) → Change w e w' → (x : UnitNo) (k : GrainId) → mode_of x (w'.cells.holds k) ≡ mode_after x k (mode_of x (w.cells.holds k)) e
 mode-after w e w' (lock u g mode running free first here) x k = put-mode w.cells.holds g (granted (w.cells.holds g) u mode) u x k (Some mode) (granted-mode x u mode (w.cells.holds g))
 mode-after w e w' (raise u g mode running free held here uncovered) x k = put-mode w.cells.holds g (granted (w.cells.holds g) u mode) u x k (Some mode) (granted-mode x u mode (w.cells.holds g))
 mode-after w e w' (release u g over held) x k = put-mode w.cells.holds g (dropped (w.cells.holds g) u) u x k None (dropped-mode x u (w.cells.holds g))

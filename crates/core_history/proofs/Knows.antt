@@ -5,7 +5,7 @@ use Rattle.core_model.specs.declared.events.CoreEvent.{CoreEvent}
 use Rattle.core_model.specs.declared.effects.Effect.{Effect}
 use Rattle.core_model.specs.declared.phases.Phase.TheVariants.{Finished}
 use Rattle.core_model.specs.declared.phases.Verdict.TheVariants.{Committed, Aborted}
-use Rattle.core_model.specs.World.{UnitNo, GrainId, Value, World}
+use Rattle.core_model.specs.CoreState.{UnitNo, GrainId, Value, CoreState}
 use Rattle.core_model.specs.Dead.{IsDead}
 use Rattle.core_model.specs.Serial.{AllLoadsTrue}
 use Rattle.core_model.specs.Events.{applies, step}
@@ -28,7 +28,7 @@ use Rattle.core_history.proofs.Causing.{CausesOf, causes-after}
 use Rattle.core_history.proofs.Stopping.{AbortsOf, aborts-after}
 
 -- the state is a core's, and the history tells it
-pub record Knows (opening : GrainId → List Value) (h : List Applied) (w : World) : Type 0 where
+pub record Knows (opening : GrainId → List Value) (h : List Applied) (w : CoreState) : Type 0 where
   pub core : Core opening w
   pub tells : Tells h w
   pub fates : FatesOf h w
@@ -40,15 +40,15 @@ pub record Knows (opening : GrainId → List Value) (h : List Applied) (w : Worl
   pub aborts : AbortsOf h w
 
 -- what is known at an event
-pub at-event : (opening : GrainId → List Value) (h : List Applied) (w : World) (e : CoreEvent) (w' : World) → applies w e ≡ true → Knows opening h w → Change w e w' → Step opening h w e w'
+pub at-event : (opening : GrainId → List Value) (h : List Applied) (w : CoreState) (e : CoreEvent) (w' : CoreState) → applies w e ≡ true → Knows opening h w → Change w e w' → Step opening h w e w'
 at-event opening h w e w' a k c = record { core = k.core; told = k.tells; next = tells-after h w e w' c k.tells; fates = k.fates; applied = a; grows = grows-change opening w e w' c a k.core.kept }
 
 -- which grains are in memory doesn't matter
-endings-here : (h : List Applied) (w : World) (here : GrainId → Bool) → Endings h w → Endings h (with_here w here)
+endings-here : (h : List Applied) (w : CoreState) (here : GrainId → Bool) → Endings h w → Endings h (with_here w here)
 endings-here h w here k = record { aborted = k.aborted; doubted = k.doubted; doubts = k.doubts; decided = k.decided; condemned = k.condemned }
 
 -- each step keeps it
-knows-step : (opening : GrainId → List Value) (h : List Applied) (w : World) (e : CoreEvent) (es : List CoreEvent) → AllLoadsTrue opening w (e ∷ es) → applies w e ≡ true → Knows opening h w → Knows opening (more h (answered w e)) (step w e)
+knows-step : (opening : GrainId → List Value) (h : List Applied) (w : CoreState) (e : CoreEvent) (es : List CoreEvent) → AllLoadsTrue opening w (e ∷ es) → applies w e ≡ true → Knows opening h w → Knows opening (more h (answered w e)) (step w e)
 knows-step opening h w e es l a k = record {
   core = core-step opening w e l.0 k.core;
   tells = tells-step h w e a k.tells;

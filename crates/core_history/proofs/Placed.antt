@@ -5,7 +5,7 @@ use Rattle.std.proofs.lemmas.List.{length-map, get_or_append_left, get_or_at, ge
 use Rattle.core_model.specs.declared.events.CoreEvent.{CoreEvent}
 use Rattle.core_model.specs.declared.events.CoreEvent.TheVariants.{Take}
 use Rattle.core_model.specs.declared.phases.Phase.TheVariants.{Finished}
-use Rattle.core_model.specs.World.{UnitNo, GrainId, nobody, Value, Batch, World, Member}
+use Rattle.core_model.specs.CoreState.{UnitNo, GrainId, nobody, Value, Batch, CoreState, Member}
 use Rattle.core_model.specs.Tests.{members, waiting}
 use Rattle.core_model.proofs.Invariant.{Inv}
 use Rattle.core_model.proofs.Orders.{in_drop, take_length, at_part, Member-take, Member-get}
@@ -36,13 +36,13 @@ within bs i u m = elim (cases_lt i (length bs)) [
 ]
 
 -- who stands in a batch has finished
-pub batch-finished : (opening : GrainId → List Value) (h : List Applied) (w : World) → Kept opening w → Tells h w → (n : ℕ) (u : UnitNo) → InBatch h n u → w.units.phase u ≡ Finished
+pub batch-finished : (opening : GrainId → List Value) (h : List Applied) (w : CoreState) → Kept opening w → Tells h w → (n : ℕ) (u : UnitNo) → InBatch h n u → w.units.phase u ≡ Finished
 batch-finished opening h w k t n u b =
     let m : Member u w.manager.order = parts-member (sizes_of w.manager.past w.manager.batch) w.manager.order b.0 u (subst (λ (bs : List (List UnitNo)). Member u (get_or bs b.0 [])) (sym t.batches) b.2) in
     (in_drop opening _ w k.0 0 u m).0
 
 -- how many batches there are
-pub batch-count : (h : List Applied) (w : World) → Tells h w → length (batches_in h) ≡ w.manager.batches
+pub batch-count : (h : List Applied) (w : CoreState) → Tells h w → length (batches_in h) ≡ w.manager.batches
 batch-count h w t =
     ap length (sym t.batches) ∙ parts-length (sizes_of w.manager.past w.manager.batch) w.manager.order
     ∙ length-append (map (λ (b : Batch). b.size) w.manager.past) (open_sizes w.manager.batch)
@@ -78,7 +78,7 @@ batch-cases h a n u b = elim (is-take a.event) [
 ]
 
 -- the open batch is the last one
-open-last : (h : List Applied) (w : World) (b : Batch) → Tells h w → w.manager.batch ≡ Some b → get_or (batches_in h) (length w.manager.past) [] ≡ members w b
+open-last : (h : List Applied) (w : CoreState) (b : Batch) → Tells h w → w.manager.batch ≡ Some b → get_or (batches_in h) (length w.manager.past) [] ≡ members w b
 open-last h w b t q =
     let ns : List ℕ = map (λ (b : Batch). b.size) w.manager.past in
     let is : batches_in h ≡ parts ns w.manager.order ++ members w b ∷ [] =
@@ -88,17 +88,17 @@ open-last h w b t q =
     ∙ get_or_at (parts ns w.manager.order) (members w b) [] [] (length w.manager.past) (parts-length ns w.manager.order ∙ length-map w.manager.past (λ (b : Batch). b.size))
 
 -- the units of the open batch are those of its number
-pub open-batch : (h : List Applied) (w : World) (b : Batch) → Tells h w → w.manager.batch ≡ Some b → (u : UnitNo) → Member u (members w b) → InBatch h b.number u
+pub open-batch : (h : List Applied) (w : CoreState) (b : Batch) → Tells h w → w.manager.batch ≡ Some b → (u : UnitNo) → Member u (members w b) → InBatch h b.number u
 open-batch h w b t q u m = (length w.manager.past, t.parted.3 b q, subst (Member u) (sym (open-last h w b t q)) m)
 
 -- and the other way round
-pub open-member : (h : List Applied) (w : World) (b : Batch) → Tells h w → w.manager.batch ≡ Some b → (u : UnitNo) → InBatch h b.number u → Member u (members w b)
+pub open-member : (h : List Applied) (w : CoreState) (b : Batch) → Tells h w → w.manager.batch ≡ Some b → (u : UnitNo) → InBatch h b.number u → Member u (members w b)
 open-member h w b t q u i =
     let at : i.0 ≡ length w.manager.past = omega (arith, i.1, t.parted.3 b q) in
     subst (Member u) (open-last h w b t q) (subst (λ k. Member u (get_or (batches_in h) k [])) at i.2)
 
 -- a finished unit after the closed batches and up to the open one's end is in the open one
-pub placed-member : (opening : GrainId → List Value) (n : ℕ) (w : World) (b : Batch) → Inv opening n w → w.manager.closed + b.size ≤ length w.manager.order → (x : UnitNo) → w.units.phase x ≡ Finished →
+pub placed-member : (opening : GrainId → List Value) (n : ℕ) (w : CoreState) (b : Batch) → Inv opening n w → w.manager.closed + b.size ≤ length w.manager.order → (x : UnitNo) → w.units.phase x ≡ Finished →
     w.manager.closed < w.manager.place x → w.manager.place x ≤ w.manager.closed + b.size → Member x (members w b)
 placed-member opening n w b i le x f new last =
     let t = i.placed x f in

@@ -6,7 +6,7 @@ use Rattle.cell_model.specs.declared.outcomes.Decision.TheVariants as decision
 use Rattle.core_model.specs.declared.events.CoreEvent.{CoreEvent}
 use Rattle.core_model.specs.declared.events.CoreEvent.TheVariants.{Refuse, Decide, Sealed, NotSealed, Doubt}
 use Rattle.core_model.specs.declared.phases.Verdict.TheVariants.{Aborted}
-use Rattle.core_model.specs.World.{UnitNo, GrainId, Mode, Value, Settled, World}
+use Rattle.core_model.specs.CoreState.{UnitNo, GrainId, Mode, Value, Settled, CoreState}
 use Rattle.core_model.specs.Tests.{ask, members}
 use Rattle.core_model.specs.Causes.{IsAbort}
 use Rattle.core_model.specs.Changes.{told, decisions_of, judged, seal, spoil, leave, refusal}
@@ -26,7 +26,7 @@ use Rattle.core_history.proofs.Going.{SameGone}
 use Rattle.core_history.proofs.Causing.{refused-in, ended-in, closed-in}
 
 -- each aborted unit of a state has its cause in the history
-abbrev pub AbortsOf : List Applied → World → Type 0
+abbrev pub AbortsOf : List Applied → CoreState → Type 0
 AbortsOf h w = (u : UnitNo) → w.manager.verdict u ≡ Aborted → (why : Settled) × IsAbortedIn h u why
 
 -- a cause stays one
@@ -58,14 +58,14 @@ told-abort (decision.Vote g) = tt
 told-abort (decision.Dependency on) = tt
 
 -- a refusal is an abort
-refused-abort : (w : World) (u : UnitNo) (g : GrainId) (mode : Mode) (why : Settled) → refusal g (ask w u g mode) ≡ Some why → IsAbort why
+refused-abort : (w : CoreState) (u : UnitNo) (g : GrainId) (mode : Mode) (why : Settled) → refusal g (ask w u g mode) ≡ Some why → IsAbort why
 refused-abort w u g mode why q = elim (ask-refused w u g mode why q).1 [
   | inl d ↦ subst IsAbort (sym d.2) tt
   | inr d ↦ subst IsAbort (sym d.3) tt
 ]
 
 -- the causes of aborted units after an event
-pub aborts-after : (opening : GrainId → List Value) (h : List Applied) (w : World) (e : CoreEvent) (w' : World) → Change w e w' → Step opening h w e w' → DependsOf h w → SameGone h w → AbortsOf h w → AbortsOf (more h (answered w e)) w'
+pub aborts-after : (opening : GrainId → List Value) (h : List Applied) (w : CoreState) (e : CoreEvent) (w' : CoreState) → Change w e w' → Step opening h w e w' → DependsOf h w → SameGone h w → AbortsOf h w → AbortsOf (more h (answered w e)) w'
 aborts-after opening h w e w' (refuse u g mode why running q) s dep same k = λ x.
     put-from w.manager.verdict u Aborted (λ z. z ≡ Aborted) ((c : Settled) × IsAbortedIn (more h (answered w (Refuse u g mode))) x c) x
     (λ z y. subst (λ j. (c : Settled) × IsAbortedIn (more h (answered w (Refuse u g mode))) j c) (sym z)

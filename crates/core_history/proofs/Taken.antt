@@ -6,7 +6,7 @@ use Rattle.std.proofs.lemmas.List.{take-take, map_push, take-append-le, drop-app
 use Rattle.cell_model.specs.Locks.{holds_lock}
 use Rattle.core_model.specs.declared.events.CoreEvent.{CoreEvent}
 use Rattle.core_model.specs.declared.effects.Read.{Read}
-use Rattle.core_model.specs.World.{UnitNo, GrainId, Batch, World}
+use Rattle.core_model.specs.CoreState.{UnitNo, GrainId, Batch, CoreState}
 use Rattle.core_model.specs.Tests.{free_prefix, is_free, waiting}
 use Rattle.core_model.specs.Changes.{new_batch, decisions_of}
 use Rattle.core_model.specs.Events.{batch_size}
@@ -70,7 +70,7 @@ sizes-closed past o b c q s =
     append-nil (map (λ (b : Batch). b.size) (past ++ c ∷ [])) ∙ map_push (λ (b : Batch). b.size) past c ∙ ap (λ n. map (λ (b : Batch). b.size) past ++ n ∷ []) s ∙ sym (sizes-open past o b q)
 
 -- the batches of a state follow one another
-abbrev pub Parted : World → Type 0
+abbrev pub Parted : CoreState → Type 0
 Parted w =
     (total (map (λ (b : Batch). b.size) w.manager.past) ≡ w.manager.closed)
     × (w.manager.closed + size_of w.manager.batch ≤ length w.manager.order)
@@ -78,7 +78,7 @@ Parted w =
     × ((b : Batch) → w.manager.batch ≡ Some b → b.number ≡ length w.manager.past + 1)
 
 -- how many units stand in all batches
-pub total-sizes : (w : World) → Parted w → total (sizes_of w.manager.past w.manager.batch) ≡ w.manager.closed + size_of w.manager.batch
+pub total-sizes : (w : CoreState) → Parted w → total (sizes_of w.manager.past w.manager.batch) ≡ w.manager.closed + size_of w.manager.batch
 total-sizes w p = go w.manager.batch refl
   where
     go : (o : Option Batch) → w.manager.batch ≡ o → total (sizes_of w.manager.past w.manager.batch) ≡ w.manager.closed + size_of w.manager.batch
@@ -86,11 +86,11 @@ total-sizes w p = go w.manager.batch refl
     go (Some b) q = ap total (sizes-open w.manager.past w.manager.batch b q) ∙ total-more (map (λ (b : Batch). b.size) w.manager.past) b.size ∙ omega (arith, p.0, ap size_of q)
 
 -- and that they are finished ones
-pub all-in : (w : World) → Parted w → total (sizes_of w.manager.past w.manager.batch) ≤ length w.manager.order
+pub all-in : (w : CoreState) → Parted w → total (sizes_of w.manager.past w.manager.batch) ≤ length w.manager.order
 all-in w p = omega (arith, total-sizes w p, p.1)
 
 -- where the open batch keeps its size
-parted-same : (w : World) (b c : Batch) → w.manager.batch ≡ Some b → c.number ≡ b.number → c.size ≡ b.size → Parted w → (
+parted-same : (w : CoreState) (b c : Batch) → w.manager.batch ≡ Some b → c.number ≡ b.number → c.size ≡ b.size → Parted w → (
     (total (map (λ (b : Batch). b.size) w.manager.past) ≡ w.manager.closed)
     × (w.manager.closed + c.size ≤ length w.manager.order)
     × (w.manager.batches ≡ length w.manager.past + 1)
@@ -99,7 +99,7 @@ parted-same w b c q n s p =
     (p.0, omega (arith, p.1, ap size_of q, s), p.2 ∙ ap (λ o. length w.manager.past + length (open_sizes o)) q, λ d e. ap (λ (t : Batch). t.number) (sym (some-is c d e)) ∙ n ∙ p.3 b q)
 
 -- where it closes
-parted-closed : (w : World) (b c : Batch) → w.manager.batch ≡ Some b → c.size ≡ b.size → Parted w → (
+parted-closed : (w : CoreState) (b c : Batch) → w.manager.batch ≡ Some b → c.size ≡ b.size → Parted w → (
     (total (map (λ (b : Batch). b.size) (w.manager.past ++ c ∷ [])) ≡ w.manager.closed + b.size)
     × (w.manager.closed + b.size + 0 ≤ length w.manager.order)
     × (w.manager.batches ≡ length (w.manager.past ++ c ∷ []) + 0)
@@ -112,7 +112,7 @@ parted-closed w b c q s p = (
 )
 
 -- the batches after an event follow one another
-pub parted-after : (w : World) (e : CoreEvent) (w' : World) → Change w e w' → Parted w → Parted w'
+pub parted-after : (w : CoreState) (e : CoreEvent) (w' : CoreState) → Change w e w' → Parted w → Parted w'
 parted-after w e w' (finish u effect running plain of_call reads alone) p = (p.0, omega (arith, p.1, length_push w.manager.order u), p.2, p.3)
 parted-after w e w' (take_batch none some) p = (
   p.0,
@@ -129,7 +129,7 @@ parted-after w e w' (doubt_batch n b ds q number d) p = parted-closed w b (recor
 parted-after w e w' c p = p
 
 -- who is free by the state is free by the history
-free-is : (h : List Applied) (w : World) → ((u : UnitNo) (g : GrainId) → mode_of u (w.cells.holds g) ≡ held u g h) → ((u : UnitNo) → w.units.reads u ≡ reads_in u h) → (u : UnitNo) → holds_nothing h u ≡ is_free w u
+free-is : (h : List Applied) (w : CoreState) → ((u : UnitNo) (g : GrainId) → mode_of u (w.cells.holds g) ≡ held u g h) → ((u : UnitNo) → w.units.reads u ≡ reads_in u h) → (u : UnitNo) → holds_nothing h u ≡ is_free w u
 free-is h w modes reads u = ap (all (λ r. is_none (held u r.grain h))) (sym (reads u)) ∙ go (w.units.reads u)
   where
     no : {A : Type 0} (o : Option A) → is_none o ≡ not (is_some o)
@@ -143,14 +143,14 @@ free-is h w modes reads u = ap (all (λ r. is_none (held u r.grain h))) (sym (re
         let rest = go rs in λ i. head i && rest i
 
 -- the longest free prefix is the same
-prefix-is : (h : List Applied) (w : World) → ((u : UnitNo) → holds_nothing h u ≡ is_free w u) → (us : List UnitNo) → prefix_len (holds_nothing h) us ≡ free_prefix w us
+prefix-is : (h : List Applied) (w : CoreState) → ((u : UnitNo) → holds_nothing h u ≡ is_free w u) → (us : List UnitNo) → prefix_len (holds_nothing h) us ≡ free_prefix w us
 prefix-is h w free [] = refl
 prefix-is h w free (u ∷ us) =
     let n : 1 + prefix_len (holds_nothing h) us ≡ free_prefix w us + 1 = (let t = prefix-is h w free us in omega (arith, t)) in
     (λ i. if free u i then n i else 0)
 
 -- the batch that a state takes is the history's next
-next-is : (h : List Applied) (w : World) → w.manager.order ≡ finish_order h → ((u : UnitNo) (g : GrainId) → mode_of u (w.cells.holds g) ≡ held u g h) → ((u : UnitNo) → w.units.reads u ≡ reads_in u h) → Parted w →
+next-is : (h : List Applied) (w : CoreState) → w.manager.order ≡ finish_order h → ((u : UnitNo) (g : GrainId) → mode_of u (w.cells.holds g) ≡ held u g h) → ((u : UnitNo) → w.units.reads u ≡ reads_in u h) → Parted w →
     w.manager.batch ≡ None → take (batch_size w) (waiting w) ≡ next_batch h (batches_of w)
 next-is h w order modes reads p none =
     let first : List UnitNo = take 64 (waiting w) in
@@ -161,7 +161,7 @@ next-is h w order modes reads p none =
     ∙ ap (λ n. take n first) (sym size) ∙ ap (λ us. take (prefix_len (holds_nothing h) (take 64 us)) (take 64 us)) (sym left)
 
 -- the batches after an event
-pub batches-after : (h : List Applied) (w : World) (e : CoreEvent) (w' : World) → Change w e w' → w.manager.order ≡ finish_order h → ((u : UnitNo) (g : GrainId) → mode_of u (w.cells.holds g) ≡ held u g h) →
+pub batches-after : (h : List Applied) (w : CoreState) (e : CoreEvent) (w' : CoreState) → Change w e w' → w.manager.order ≡ finish_order h → ((u : UnitNo) (g : GrainId) → mode_of u (w.cells.holds g) ≡ held u g h) →
     ((u : UnitNo) → w.units.reads u ≡ reads_in u h) → Parted w → batches_of w' ≡ with_taken h (batches_of w) e
 batches-after h w e w' (finish u effect running plain of_call reads alone) order modes rs p = parts-longer (sizes_of w.manager.past w.manager.batch) w.manager.order u (all-in w p)
 batches-after h w e w' (take_batch none some) order modes rs p =

@@ -2,7 +2,7 @@
 use Rattle.std.proofs.Common.{Bool, ◌≡◌, List, [], ◌++◌, true, arith, ◌&&◌, ◌||◌, not, refl, sym, ap, ◌∙◌, subst, le_refl}
 use Rattle.std.specs.Prelude.{⊤}
 use Rattle.core_model.specs.declared.events.CoreEvent.{CoreEvent}
-use Rattle.core_model.specs.World.{UnitNo, GrainId, World}
+use Rattle.core_model.specs.CoreState.{UnitNo, GrainId, CoreState}
 use Rattle.core_model.specs.Tests.{is_over, is_running}
 use Rattle.core_model.specs.Changes.{new_unit}
 use Rattle.core_model.specs.Events.{applies, step, reply_with}
@@ -21,7 +21,7 @@ use Rattle.core_history.proofs.Taken.{Parted, parted-after, batches-after}
 use Rattle.core_history.specs.Units.{finisher}
 
 -- what a history tells of a state
-pub record Tells (h : List Applied) (w : World) : Type 0 where
+pub record Tells (h : List Applied) (w : CoreState) : Type 0 where
   pub order : w.manager.order ≡ finish_order h
   pub born : (u : UnitNo) → is_born (w.units.phase u) ≡ has_begun u h
   pub over : (u : UnitNo) → is_over (w.units.phase u) ≡ has_ended u h
@@ -36,7 +36,7 @@ pub record Tells (h : List Applied) (w : World) : Type 0 where
   pub lines : LinesOf h w
 
 -- each event keeps it
-pub tells-after : (h : List Applied) (w : World) (e : CoreEvent) (w' : World) → Change w e w' → Tells h w → Tells (more h (answered w e)) w'
+pub tells-after : (h : List Applied) (w : CoreState) (e : CoreEvent) (w' : CoreState) → Change w e w' → Tells h w → Tells (more h (answered w e)) w'
 tells-after h w e w' c t = record {
   order = order-after w e w' c ∙ ap (λ z. z ++ finisher e) t.order ∙ sym (order-more h (answered w e));
   born = λ u. begun-after w e w' c u ∙ ap (λ z. z || is_begin_of u (reply_with w e)) (t.born u) ∙ sym (begun-more u h (answered w e));
@@ -53,7 +53,7 @@ tells-after h w e w' c t = record {
 }
 
 -- which grains are in memory doesn't matter
-tells-here : (h : List Applied) (w : World) (here : GrainId → Bool) → Tells h w → Tells h (with_here w here)
+tells-here : (h : List Applied) (w : CoreState) (here : GrainId → Bool) → Tells h w → Tells h (with_here w here)
 tells-here h w here t = record {
   order = t.order;
   born = t.born;
@@ -70,7 +70,7 @@ tells-here h w here t = record {
 }
 
 -- each step keeps it
-pub tells-step : (h : List Applied) (w : World) (e : CoreEvent) → applies w e ≡ true → Tells h w → Tells (more h (answered w e)) (step w e)
+pub tells-step : (h : List Applied) (w : CoreState) (e : CoreEvent) → applies w e ≡ true → Tells h w → Tells (more h (answered w e)) (step w e)
 tells-step h w e a t = after-step (Tells (more h (answered w e))) w e a (λ c. tells-after h w e _ c t) (λ v here k. tells-here (more h (answered w e)) v here k)
 
 -- it holds where a run begins

@@ -7,7 +7,7 @@ use Rattle.std.proofs.lemmas.List.Folds.{list_any-append}
 use Rattle.core_model.specs.declared.events.CoreEvent.{CoreEvent}
 use Rattle.core_model.specs.declared.effects.Read.{Read}
 use Rattle.core_model.specs.declared.effects.Effect.{Effect}
-use Rattle.core_model.specs.World.{UnitNo, GrainId, Mode}
+use Rattle.core_model.specs.CoreState.{UnitNo, GrainId, Mode}
 use Rattle.core_history.specs.Histories.{Applied, Happened}
 use Rattle.core_history.specs.Units.{finisher, finish_order, is_begin_of, is_end_of, has_begun, has_ended, mode_after, held, shown, with_read, reads_in, effect_after, effect_in}
 use Rattle.core_history.specs.Batches.{with_taken, batches_from, batches_in}

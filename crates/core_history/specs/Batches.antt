@@ -1,7 +1,7 @@
 -- The batches that a history takes.
 use Rattle.std.specs.Prelude.{◌≡◌, ℕ, ◌+◌, List, [], ◌∷◌, ◌++◌, Bool, is_none, length, take, drop, get_or}
 use Rattle.std.specs.List.{list_all as all, flat_map, take_while}
-use Rattle.core_model.specs.World.{UnitNo, Member}
+use Rattle.core_model.specs.CoreState.{UnitNo, Member}
 use Rattle.core_model.specs.declared.events.CoreEvent.{CoreEvent}
 use Rattle.core_model.specs.declared.events.CoreEvent.TheVariants.{Take}
 use Rattle.core_history.specs.Histories.{Applied}

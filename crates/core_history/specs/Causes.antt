@@ -3,7 +3,7 @@ use Rattle.std.specs.Prelude.{◌≡◌, ◌⊎◌, ◌≤◌, ◌<◌, ℕ, Lis
 use Rattle.base_types.specs.declared.entries.Settled.TheVariants as settled
 use Rattle.cell_model.specs.Locks.{is_update}
 use Rattle.core_model.specs.declared.effects.Read.{Read}
-use Rattle.core_model.specs.World.{UnitNo, GrainId, Mode, Outcome, Entry, Settled, Member, nobody}
+use Rattle.core_model.specs.CoreState.{UnitNo, GrainId, Mode, Outcome, Entry, Settled, Member, nobody}
 use Rattle.core_model.specs.Tests.{is_before}
 use Rattle.core_model.specs.Causes.{Settles, IsAbort}
 use Rattle.core_model.specs.declared.events.CoreEvent.{CoreEvent}

@@ -1,7 +1,7 @@
 -- On whom a unit depends.
 use Rattle.std.specs.Prelude.{◌≡◌, List, ◌∷◌, ◌++◌, false, Some}
 use Rattle.core_model.specs.declared.effects.Read.{Read}
-use Rattle.core_model.specs.World.{UnitNo, nobody}
+use Rattle.core_model.specs.CoreState.{UnitNo, nobody}
 use Rattle.core_history.specs.Histories.{Applied}
 use Rattle.core_history.specs.Units.{shown, has_read, reads_in}
 use Rattle.core_history.specs.Fates.{IsCommittedIn}

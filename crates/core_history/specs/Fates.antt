@@ -1,7 +1,7 @@
 -- Who is dead, and who is committed.
 use Rattle.std.specs.Prelude.{ℕ, List, false}
 use Rattle.core_model.specs.declared.effects.Read.{Read}
-use Rattle.core_model.specs.World.{UnitNo, GrainId, Mode, Member}
+use Rattle.core_model.specs.CoreState.{UnitNo, GrainId, Mode, Member}
 use Rattle.core_model.specs.declared.events.CoreEvent.TheVariants.{Refuse, Vote, Decide, Sealed, NotSealed}
 use Rattle.core_history.specs.Histories.{Applied, Happened}
 use Rattle.core_history.specs.Units.{reads_in, WroteIn}

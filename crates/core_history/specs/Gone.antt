@@ -1,7 +1,7 @@
 -- Which versions that a unit read were taken off their grain's stack.
 use Rattle.std.specs.Prelude.{◌≡◌, ℕ, List, ◌∷◌, ◌++◌}
 use Rattle.core_model.specs.declared.effects.Read.{Read}
-use Rattle.core_model.specs.World.{UnitNo, GrainId, Member}
+use Rattle.core_model.specs.CoreState.{UnitNo, GrainId, Member}
 use Rattle.core_model.specs.declared.events.CoreEvent.{CoreEvent}
 use Rattle.core_model.specs.declared.events.CoreEvent.TheVariants.{Grant, Decide, Sealed, NotSealed, Doubt, Learn}
 use Rattle.core_history.specs.Histories.{Applied, Happened}

@@ -1,7 +1,7 @@
 -- Histories: the events that applied, with their replies, oldest first.
 use Rattle.std.specs.Prelude.{◌≡◌, ◌⊎◌, List, [], ◌∷◌, if◌then◌else◌}
 use Rattle.core_model.specs.declared.events.CoreReply.{CoreReply}
-use Rattle.core_model.specs.World.{World}
+use Rattle.core_model.specs.CoreState.{CoreState}
 use Rattle.core_model.specs.declared.events.CoreEvent.{CoreEvent}
 use Rattle.core_model.specs.Events.{applies, reply_to, step}
 use Rattle.core_model.specs.Legal.{Run, begins}
@@ -12,11 +12,11 @@ pub record Applied : Type 0 where
   pub reply : CoreReply
 
 -- the event stands before these, where it applies
-abbrev pub with_event : World → CoreEvent → List Applied → List Applied
+abbrev pub with_event : CoreState → CoreEvent → List Applied → List Applied
 with_event w e later = if applies w e then record { event = e; reply = reply_to w e } ∷ later else later
 
 -- those of these events that apply
-abbrev pub history_from : World → List CoreEvent → List Applied
+abbrev pub history_from : CoreState → List CoreEvent → List Applied
 history_from w [] = []
 history_from w (e ∷ events) = with_event w e (history_from (step w e) events)
 

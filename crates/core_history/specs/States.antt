@@ -1,6 +1,6 @@
 -- What a state tells, in the form in which a history tells it.
 use Rattle.std.specs.Prelude.{ℕ, List, [], ◌∷◌, ◌++◌, Option, Some, None, if◌then◌else◌, take, drop, map}
-use Rattle.core_model.specs.World.{UnitNo, Mode, Hold, Batch, World, same_unit}
+use Rattle.core_model.specs.CoreState.{UnitNo, Mode, Hold, Batch, CoreState, same_unit}
 
 -- the mode of the unit's first lock of these, none where it has none
 abbrev pub mode_of : UnitNo → List Hold → Option Mode
@@ -22,5 +22,5 @@ abbrev pub sizes_of : List Batch → Option Batch → List ℕ
 sizes_of past batch = map (λ (b : Batch). b.size) past ++ open_sizes batch
 
 -- the batches that were taken, each as its units
-abbrev pub batches_of : World → List (List UnitNo)
+abbrev pub batches_of : CoreState → List (List UnitNo)
 batches_of w = parts (sizes_of w.manager.past w.manager.batch) w.manager.order

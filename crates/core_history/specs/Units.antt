@@ -6,7 +6,7 @@ use Rattle.core_model.specs.declared.events.CoreReply.{CoreReply}
 use Rattle.core_model.specs.declared.events.CoreReply.TheVariants as reply
 use Rattle.core_model.specs.declared.effects.Read.{Read}
 use Rattle.core_model.specs.declared.effects.Effect.{Effect}
-use Rattle.core_model.specs.World.{UnitNo, GrainId, Mode, Value, Call, Outcome, Write, Member, same_unit, same_grain}
+use Rattle.core_model.specs.CoreState.{UnitNo, GrainId, Mode, Value, Call, Outcome, Write, Member, same_unit, same_grain}
 use Rattle.core_model.specs.Tests.{written}
 use Rattle.core_model.specs.declared.events.CoreEvent.{CoreEvent}
 use Rattle.core_model.specs.declared.events.CoreEvent.TheVariants.{Begin, Grant, Refuse, Finish, EndPlain, EndSnapshot, Release}

@@ -3,7 +3,7 @@ ghost use Rattle.core_model.specs.declared.effects.Effect.{Effect};
 ghost use Rattle.core_model.specs.declared.effects.Read.{Read};
 ghost use Rattle.core_model.specs.declared.phases.Phase.TheVariants.{Running, Finished};
 ghost use Rattle.core_model.specs.declared.phases.Verdict.TheVariants.{Committed, Aborted};
-ghost use Rattle.core_model.specs.World.{UnitNo, GrainId, Entry, Settled, Batch, Member};
+ghost use Rattle.core_model.specs.CoreState.{UnitNo, GrainId, Entry, Settled, Batch, Member};
 ghost use Rattle.core_model.specs.Tests.{is_running, is_gone, members};
 ghost use Rattle.core_model.specs.Lines.{HasBegun};
 ghost use Rattle.core_model.specs.Dead.{IsDead};

@@ -4,7 +4,7 @@ use Rattle.std.proofs.lemmas.Bool.{and_parts, cond-true, cond-false, cases_lt}
 use Rattle.base_types.specs.declared.entries.Settled.{Settled}
 use Rattle.base_types.specs.declared.entries.Settled.TheVariants as settled
 use Rattle.cell_model.specs.declared.outcomes.Decision.TheVariants as decision
-use Rattle.core_model.specs.World.{UnitNo, GrainId, nobody, put, Member, Value, Mode, Write, Batch, Decision, World}
+use Rattle.core_model.specs.CoreState.{UnitNo, GrainId, nobody, put, Member, Value, Mode, Write, Batch, Decision, CoreState}
 use Rattle.core_model.specs.declared.effects.Effect.{Effect}
 use Rattle.core_model.specs.declared.phases.Phase.TheVariants.{Running, Finished}
 use Rattle.core_model.specs.declared.phases.Verdict.{Verdict}
@@ -30,7 +30,7 @@ use Rattle.core_model.proofs.Caused.{voted-down, depends-on, can-commit, refused
 use Rattle.core_model.proofs.Ends.{kept-begins}
 
 -- the event aborts the unit, with a cause
-abbrev pub Stopped : World → CoreEvent → World → UnitNo → Type 0
+abbrev pub Stopped : CoreState → CoreEvent → CoreState → UnitNo → Type 0
 Stopped w e next u = (why : Settled) × IsAbort why × HasCause w e next u why
 
 -- a member of a decided batch has its decision, with the reason
@@ -56,7 +56,7 @@ judged-aborted (u ∷ us) (d ∷ ds) v x e =
     never (decision.Dependency on) h = absurd cc
 
 -- who is to commit or to abort has finished, and stands behind the closed batches, among those that are judged
-pending : (opening : GrainId → List Value) (n : ℕ) (w : World) → Inv opening n w → Split w → w.manager.doubt ≡ None → Turned w → (u : UnitNo) → (w.manager.verdict u ≡ Open → ⊥) → is_final (w.manager.verdict u) ≡ false
+pending : (opening : GrainId → List Value) (n : ℕ) (w : CoreState) → Inv opening n w → Split w → w.manager.doubt ≡ None → Turned w → (u : UnitNo) → (w.manager.verdict u ≡ Open → ⊥) → is_final (w.manager.verdict u) ≡ false
     → (w.units.phase u ≡ Finished) × (w.manager.closed < w.manager.place u) × (w.manager.place u ≤ n)
 pending opening n w i s none t u fixed final =
     let done : w.units.phase u ≡ Finished = elim (t.0 u fixed) [
@@ -76,7 +76,7 @@ pending opening n w i s none t u fixed final =
     )
 
 -- such a unit is one of the open batch
-in_batch : (opening : GrainId → List Value) (n : ℕ) (w : World) (b : Batch) → Inv opening n w → w.manager.closed + b.size ≤ length w.manager.order → (u : UnitNo) → w.units.phase u ≡ Finished → w.manager.closed < w.manager.place u → w.manager.place u ≤ w.manager.closed + b.size
+in_batch : (opening : GrainId → List Value) (n : ℕ) (w : CoreState) (b : Batch) → Inv opening n w → w.manager.closed + b.size ≤ length w.manager.order → (u : UnitNo) → w.units.phase u ≡ Finished → w.manager.closed < w.manager.place u → w.manager.place u ≤ w.manager.closed + b.size
     → Member u (members w b)
 in_batch opening n w b i le u f new old =
     let len : length (members w b) ≡ b.size = take_length b.size (waiting w) (omega (arith, length-drop w.manager.closed w.manager.order, le)) in
@@ -89,7 +89,7 @@ in_batch opening n w b i le u f new old =
     (Member-get (members w b) j (omega (arith, len, lt)))
 
 -- Who is aborted as a batch closes, decided in the state v, was so before, or is told of it by its decision.
-close-stops : (w v : World) (f : Verdict → Verdict) (b : Batch) (ds : List Decision) (u : UnitNo) (IsTold : Type 0)
+close-stops : (w v : CoreState) (f : Verdict → Verdict) (b : Batch) (ds : List Decision) (u : UnitNo) (IsTold : Type 0)
     → f Open ≡ Open → f Committed ≡ Committed → Reasons b.votes v.manager.writes v.units.deps v.manager.verdict (members v b) ds
     → (v.manager.verdict u ≡ Aborted → w.manager.verdict u ≡ Aborted) → ((v.manager.verdict u ≡ Open → ⊥) → is_final (v.manager.verdict u) ≡ false → Member u (members v b))
     → ((d : Decision) → Member u (members v b) → v.manager.verdict u ≡ verdict_of d → f (v.manager.verdict u) ≡ Aborted → Reason b.votes (v.manager.writes u) (v.units.deps u) v.manager.verdict d → IsTold)
@@ -112,7 +112,7 @@ close-stops w v f b ds u IsTold still sure reasons before within tells = from (v
     from Aborted q h = inl (before q)
 
 -- the same where the event decides the batch
-pub decided-stops : (opening : GrainId → List Value) (w : World) (b : Batch) (u : UnitNo) (IsTold : Type 0) → Kept opening w → Depends w → Split w → Turned w → w.manager.doubt ≡ None → w.manager.batch ≡ Some b → b.decisions ≡ None
+pub decided-stops : (opening : GrainId → List Value) (w : CoreState) (b : Batch) (u : UnitNo) (IsTold : Type 0) → Kept opening w → Depends w → Split w → Turned w → w.manager.doubt ≡ None → w.manager.batch ≡ Some b → b.decisions ≡ None
     → ((d : Decision) → Member u (members w b) → judged (members w b) (decisions_of w b) w.manager.verdict u ≡ verdict_of d → seal (judged (members w b) (decisions_of w b) w.manager.verdict u) ≡ Aborted
     → Reason b.votes (w.manager.writes u) (w.units.deps u) (judged (members w b) (decisions_of w b) w.manager.verdict) d → IsTold)
     → seal (judged (members w b) (decisions_of w b) w.manager.verdict u) ≡ Aborted → (w.manager.verdict u ≡ Aborted) ⊎ IsTold
@@ -127,7 +127,7 @@ decided-stops opening w b u IsTold k dep s t none q d tells =
     tells
 
 -- and where it ends a decided one
-pub ended-stops : (opening : GrainId → List Value) (w : World) (f : Verdict → Verdict) (b : Batch) (ds : List Decision) (u : UnitNo) (IsTold : Type 0) → f Open ≡ Open → f Committed ≡ Committed
+pub ended-stops : (opening : GrainId → List Value) (w : CoreState) (f : Verdict → Verdict) (b : Batch) (ds : List Decision) (u : UnitNo) (IsTold : Type 0) → f Open ≡ Open → f Committed ≡ Committed
     → Kept opening w → Argued w → Split w → Turned w → w.manager.doubt ≡ None → w.manager.batch ≡ Some b → b.decisions ≡ Some ds
     → ((d : Decision) → Member u (members w b) → w.manager.verdict u ≡ verdict_of d → f (w.manager.verdict u) ≡ Aborted → Reason b.votes (w.manager.writes u) (w.units.deps u) w.manager.verdict d → IsTold)
     → f (w.manager.verdict u) ≡ Aborted → (w.manager.verdict u ≡ Aborted) ⊎ IsTold
@@ -145,8 +145,8 @@ pub leave-commit : (v : Verdict) → v ≡ Chosen → leave v ≡ Aborted → �
 leave-commit v q h = (let z : Chosen ≡ Aborted = sym (ap leave q) ∙ h in absurd cc)
 
 -- the cause of a member of a batch, by its reason
-by-reason : (opening : GrainId → List Value) (w v : World) (e : CoreEvent) (next : World) (b : Batch) (u : UnitNo) → Inv opening (v.manager.closed + b.size) v → Depends v → Member u (members v b)
-    → ((Holds : World → Batch → Type 0) → Holds v b → AtDecision w e u Holds)
+by-reason : (opening : GrainId → List Value) (w v : CoreState) (e : CoreEvent) (next : CoreState) (b : Batch) (u : UnitNo) → Inv opening (v.manager.closed + b.size) v → Depends v → Member u (members v b)
+    → ((Holds : CoreState → Batch → Type 0) → Holds v b → AtDecision w e u Holds)
     → (d : Decision) → Reason b.votes (v.manager.writes u) (v.units.deps u) v.manager.verdict d → (d ≡ decision.Commit → CanCommit v b u → Stopped w e next u) → Stopped w e next u
 by-reason opening w v e next b u i s m at decision.Commit r commit = commit refl (can-commit opening v b i s u m r)
 by-reason opening w v e next b u i s m at (decision.Vote g) r commit = (settled.Vote g, tt, at (λ v b. IsVotedDown v b u g) (voted-down v b u g r))
@@ -154,7 +154,7 @@ by-reason opening w v e next b u i s m at (decision.Dependency on) r commit =
     (settled.Dependency on, tt, inr (at (λ v b. DependsOnDead v b u on) (depends-on opening v b i s u on m r)))
 
 -- who is refused is aborted for it
-refuse-stops : (opening : GrainId → List Value) (w : World) (u : UnitNo) (g : GrainId) (mode : Mode) (why : Settled) (next : World) → Kept opening w → w.units.phase u ≡ Running → refusal g (ask w u g mode) ≡ Some why → Stopped w (Refuse u g mode) next u
+refuse-stops : (opening : GrainId → List Value) (w : CoreState) (u : UnitNo) (g : GrainId) (mode : Mode) (why : Settled) (next : CoreState) → Kept opening w → w.units.phase u ≡ Running → refusal g (ask w u g mode) ≡ Some why → Stopped w (Refuse u g mode) next u
 refuse-stops opening w u g mode why next k running q = (
   why,
   elim (ask-refused w u g mode why q).1 [
@@ -165,7 +165,7 @@ refuse-stops opening w u g mode why next k running q = (
 )
 
 -- who is aborted after an event was so before, or the event did it
-stops-change : (opening : GrainId → List Value) (w : World) (e : CoreEvent) (w' : World) → Change w e w' → applies w e ≡ true → Kept opening w → Depends w → Argued w → Split w → Turned w → (next : World) → (u : UnitNo) → w'.manager.verdict u ≡ Aborted
+stops-change : (opening : GrainId → List Value) (w : CoreState) (e : CoreEvent) (w' : CoreState) → Change w e w' → applies w e ≡ true → Kept opening w → Depends w → Argued w → Split w → Turned w → (next : CoreState) → (u : UnitNo) → w'.manager.verdict u ≡ Aborted
     → (w.manager.verdict u ≡ Aborted) ⊎ Stopped w e next u
 stops-change opening w e w' (bad line why q) a k dep arg s t next x h = inl h
 stops-change opening w e w' (begin origin call plain c) a k dep arg s t next x h = inl h
@@ -209,11 +209,11 @@ stops-change opening w e w' (halt_run q) a k dep arg s t next x h = inl h
 stops-change opening w e w' (want u g running free fresh) a k dep arg s t next x h = inl h
 stops-change opening w e w' (load g u state gone wanted) a k dep arg s t next x h = inl h
 
-stops-step : (opening : GrainId → List Value) (w : World) (e : CoreEvent) → Kept opening w → Depends w → Argued w → Split w → Turned w → (u : UnitNo) → (step w e).manager.verdict u ≡ Aborted
+stops-step : (opening : GrainId → List Value) (w : CoreState) (e : CoreEvent) → Kept opening w → Depends w → Argued w → Split w → Turned w → (u : UnitNo) → (step w e).manager.verdict u ≡ Aborted
     → (w.manager.verdict u ≡ Aborted) ⊎ ((applies w e ≡ true) × Stopped w e (step w e) u)
 stops-step opening w e k dep arg s t u = by_test (applies w e) refl
   where
-    swept-verdict : (v : World) → (swept v).manager.verdict u ≡ v.manager.verdict u
+    swept-verdict : (v : CoreState) → (swept v).manager.verdict u ≡ v.manager.verdict u
     swept-verdict v = go v.cells.capacity
       where
         go : (c : Option ℕ) → (swept_by v c).manager.verdict u ≡ v.manager.verdict u
@@ -221,20 +221,20 @@ stops-step opening w e k dep arg s t u = by_test (applies w e) refl
         go (Some m) = refl
 
     by_test : (b : Bool) → applies w e ≡ b → (step w e).manager.verdict u ≡ Aborted → (w.manager.verdict u ≡ Aborted) ⊎ ((applies w e ≡ true) × Stopped w e (step w e) u)
-    by_test false a h = inl (sym (ap (λ (v : World). v.manager.verdict u) (cond-false (applies w e) (swept (does w e)) w a)) ∙ h)
+    by_test false a h = inl (sym (ap (λ (v : CoreState). v.manager.verdict u) (cond-false (applies w e) (swept (does w e)) w a)) ∙ h)
     by_test true a h =
         let is : step w e ≡ swept (does w e) = cond-true (applies w e) (swept (does w e)) w a in
-        let now : (does w e).manager.verdict u ≡ Aborted = sym (ap (λ (v : World). v.manager.verdict u) is ∙ swept-verdict (does w e)) ∙ h in
+        let now : (does w e).manager.verdict u ≡ Aborted = sym (ap (λ (v : CoreState). v.manager.verdict u) is ∙ swept-verdict (does w e)) ∙ h in
         elim (stops-change opening w e (does w e) (decode w e (and_parts (is_allowed w e) (can w e) a).1) a k dep arg s t (step w e) u now) [
           | inl y ↦ inl y
           | inr y ↦ inr (a, y)
         ]
 
 -- an event of the list aborted the unit
-abbrev pub StoppedFrom : World → List CoreEvent → UnitNo → Type 0
+abbrev pub StoppedFrom : CoreState → List CoreEvent → UnitNo → Type 0
 StoppedFrom w es u = (before : List CoreEvent) × ((e : CoreEvent) × ((later : List CoreEvent) × (es ≡ before ++ (e ∷ later)) × (applies (run w before) e ≡ true) × Stopped (run w before) e (step (run w before) e) u))
 
-stops-run : (opening : GrainId → List Value) (es : List CoreEvent) (w : World) → AllLoadsTrue opening w es → Kept opening w → Depends w → Argued w → Split w → Turned w → (u : UnitNo) → (run w es).manager.verdict u ≡ Aborted
+stops-run : (opening : GrainId → List Value) (es : List CoreEvent) (w : CoreState) → AllLoadsTrue opening w es → Kept opening w → Depends w → Argued w → Split w → Turned w → (u : UnitNo) → (run w es).manager.verdict u ≡ Aborted
     → (w.manager.verdict u ≡ Aborted) ⊎ StoppedFrom w es u
 stops-run opening [] w l k dep arg s t u h = inl h
 stops-run opening (e ∷ es) w l k dep arg s t u h =

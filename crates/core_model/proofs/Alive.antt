@@ -1,13 +1,13 @@
 -- Committed units are alive.
 use Rattle.std.proofs.Common.{◌≡◌, ℕ, List, true, false, ◌⊎◌, inl, inr, sym, ap, ◌∙◌, subst}
-use Rattle.core_model.specs.World.{UnitNo, GrainId, nobody, Member, Value, World}
+use Rattle.core_model.specs.CoreState.{UnitNo, GrainId, nobody, Member, Value, CoreState}
 use Rattle.core_model.specs.Tests.{is_bad, is_good}
 use Rattle.core_model.specs.Dead.{Dead}
 use Rattle.core_model.proofs.Basics.{Dead-not, not_both}
 use Rattle.core_model.proofs.Invariant.{Inv}
 
 -- no unit that is committed or to commit is dead
-pub good-alive : (opening : GrainId → List Value) (n : ℕ) (w : World) → Inv opening n w → (u : UnitNo) → is_good (w.manager.verdict u) ≡ true → Dead w.manager.verdict w.units.reads u → ⊥
+pub good-alive : (opening : GrainId → List Value) (n : ℕ) (w : CoreState) → Inv opening n w → (u : UnitNo) → is_good (w.manager.verdict u) ≡ true → Dead w.manager.verdict w.units.reads u → ⊥
 good-alive opening n w i u c d =
     Dead-not w.manager.verdict w.units.reads (λ x. (is_good (w.manager.verdict x) ≡ true) ⊎ (x ≡ nobody))
     (λ x o b. elim o [

@@ -9,7 +9,7 @@ use Rattle.cell_model.proofs.Units.{filter-member, filter-stays, oldest-some, ol
 use Rattle.cell_model.proofs.Asking.{ask-exact}
 use Rattle.core_model.specs.declared.questions.AskAnswer.{AskAnswer}
 use Rattle.core_model.specs.declared.questions.AskAnswer.TheVariants as answer
-use Rattle.core_model.specs.World.{UnitNo, GrainId, Member, Mode, Read, Running, Effect, Batch, World}
+use Rattle.core_model.specs.CoreState.{UnitNo, GrainId, Member, Mode, Read, Running, Effect, Batch, CoreState}
 use Rattle.core_model.specs.Tests.{is_running, is_gone, is_active, doomed_by, ask, ask_lock, ask_doom}
 use Rattle.core_model.specs.Causes.{IsRemoved, GoneIsRemoved}
 use Rattle.core_model.specs.Asked.{IsActive, IsOldestRemoved, AskExactly, IsGoing, GrantApplies, TakeApplies, TakesBatch}
@@ -30,7 +30,7 @@ member-source [] r m = absurd m
 member-source (x ∷ rs) r (inl q) = inl (ap (λ (z : Read). z.source) q)
 member-source (x ∷ rs) r (inr m) = inr (member-source rs r m)
 
-module _ (w : World) (gone : GoneIsRemoved w) (u : UnitNo) (g : GrainId) (mode : Mode) where
+module _ (w : CoreState) (gone : GoneIsRemoved w) (u : UnitNo) (g : GrainId) (mode : Mode) where
   active-is : is_active w u g ≡ true → IsActive w u g
   active-is e = (let p = and_parts (is_running (w.units.phase u)) (nat_lt g.kind w.units.kinds) e in (is_running-true _ p.0, ltb-true _ _ p.1))
 
@@ -78,12 +78,12 @@ or-false true e = refl
 or-false false e = cc
 
 -- an event that no stop lets through
-going-is : (w : World) (e : CoreEvent) → is_after_doubt e ≡ false → is_after_halt e ≡ false → is_allowed w e ≡ true → IsGoing w
+going-is : (w : CoreState) (e : CoreEvent) → is_after_doubt e ≡ false → is_after_halt e ≡ false → is_allowed w e ≡ true → IsGoing w
 going-is w e d h a =
     let p = and_parts (is_none w.manager.doubt || is_after_doubt e) (not w.units.halt || is_after_halt e) a in
     (none-true _ (or-false _ (ap (λ b. is_none w.manager.doubt || b) (sym d) ∙ p.0)), not-true _ (or-false _ (ap (λ b. not w.units.halt || b) (sym h) ∙ p.1)))
 
-allowed-by : (w : World) (e : CoreEvent) → IsGoing w → is_allowed w e ≡ true
+allowed-by : (w : CoreState) (e : CoreEvent) → IsGoing w → is_allowed w e ≡ true
 allowed-by w e t = and_from (is_none w.manager.doubt || is_after_doubt e) (not w.units.halt || is_after_halt e) (ap (λ o. is_none o || is_after_doubt e) t.0) (ap (λ b. not b || is_after_halt e) t.1)
 
 free-is : (a : AskAnswer) → is_free_answer a ≡ true → a ≡ answer.Free
@@ -95,13 +95,13 @@ free-is (answer.MustWait v) e = cc
 free-is answer.Absent e = cc
 free-is answer.Free e = refl
 
-pub grant-applies : (w : World) (u : UnitNo) (g : GrainId) (mode : Mode) → GrantApplies w u g mode
+pub grant-applies : (w : CoreState) (u : UnitNo) (g : GrainId) (mode : Mode) → GrantApplies w u g mode
 grant-applies w u g mode = (
   (λ a. (let p = and_parts (is_allowed w (Grant u g mode)) (can w (Grant u g mode)) a in (going-is w (Grant u g mode) refl refl p.0, free-is (ask w u g mode) p.1))),
   (λ t. and_from (is_allowed w (Grant u g mode)) (can w (Grant u g mode)) (allowed-by w (Grant u g mode) t.0) (ap is_free_answer t.1)),
 )
 
-pub take-applies : (w : World) → TakeApplies w
+pub take-applies : (w : CoreState) → TakeApplies w
 take-applies w = (
   (λ a.
       (let p = and_parts (is_allowed w Take) (can w Take) a in
@@ -112,7 +112,7 @@ take-applies w = (
       (and_from (is_none w.manager.batch) (nat_lt 0 (batch_size w)) (ap is_none t.1) (lt-ltb 0 (batch_size w) t.2))),
 )
 
-pub take-opens : (w : World) → applies w Take ≡ true → (b : Batch) × TakesBatch w (step w Take) b
+pub take-opens : (w : CoreState) → applies w Take ≡ true → (b : Batch) × TakesBatch w (step w Take) b
 take-opens w a = cond_both (applies w Take) (swept (does w Take)) w (λ v. (b : Batch) × TakesBatch w v b)
     (λ t. by w.cells.capacity)
     (λ f. (let z : true ≡ false = sym a ∙ f in cc))

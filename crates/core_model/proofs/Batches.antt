@@ -1,7 +1,7 @@
 -- Open batches, what they decide, and a batch in doubt.
 use Rattle.std.proofs.Common.{◌≡◌, ℕ, ◌+◌, ◌<◌, ◌≤◌, List, [], ◌∷◌, ◌++◌, length, true, false, ◌⊎◌, inl, inr, refl, sym, ap, ◌∙◌, subst, arith, Option, Some, None}
 use Rattle.std.proofs.lemmas.Bool.{and_parts, cond_both}
-use Rattle.core_model.specs.World.{UnitNo, GrainId, put, Value, Phase, Running, Finished, Refused, Ended, Verdict, Open, Chosen, Condemned, Committed, Aborted, Settled, Batch, Decision, World}
+use Rattle.core_model.specs.CoreState.{UnitNo, GrainId, put, Value, Phase, Running, Finished, Refused, Ended, Verdict, Open, Chosen, Condemned, Committed, Aborted, Settled, Batch, Decision, CoreState}
 use Rattle.core_model.specs.Tests.{is_final}
 use Rattle.core_model.proofs.Puts.{put-at, put-from, put-is, put-other}
 use Rattle.core_model.proofs.Invariant.{Inv}
@@ -21,16 +21,16 @@ use Rattle.core_model.proofs.Kept.{Kept, kept-step, inv-open, inv-judged, inv-de
 
 -- an open batch has 1 to 64 units; who stands after the closed batches isn't decided for good; who stands in the batch in
 -- doubt is to commit or aborted
-abbrev pub Sized : World → Type 0
+abbrev pub Sized : CoreState → Type 0
 Sized w = (b : Batch) → w.manager.batch ≡ Some b → (0 < b.size) × (b.size ≤ 64)
 
-abbrev pub Later : World → Type 0
+abbrev pub Later : CoreState → Type 0
 Later w = (u : UnitNo) → w.units.phase u ≡ Finished → w.manager.closed < w.manager.place u → is_final (w.manager.verdict u) ≡ false
 
-abbrev pub Doubtful : World → Type 0
+abbrev pub Doubtful : CoreState → Type 0
 Doubtful w = (u : UnitNo) → w.units.phase u ≡ Finished → begin_of w < w.manager.place u → w.manager.place u ≤ w.manager.closed → (w.manager.verdict u ≡ Chosen) ⊎ (w.manager.verdict u ≡ Aborted)
 
-abbrev pub Batched : World → Type 0
+abbrev pub Batched : CoreState → Type 0
 Batched w = Sized w × Later w × Doubtful w
 
 verdict_of-final : (d : Decision) → is_final (verdict_of d) ≡ false
@@ -57,7 +57,7 @@ leave-cases Aborted e n = cc
 none-some : {A : Type 0} (o : Option A) (x y : A) → o ≡ None → o ≡ Some x → ⊥
 none-some o x y n s = (let t : None ≡ Some x = sym n ∙ s in cc)
 
-batched-closed : (opening : GrainId → List Value) (w : World) (f : Verdict → Verdict) (answer : UnitNo → Settled) (b : Batch) (ds : List Decision) → f Open ≡ Open →
+batched-closed : (opening : GrainId → List Value) (w : CoreState) (f : Verdict → Verdict) (answer : UnitNo → Settled) (b : Batch) (ds : List Decision) → f Open ≡ Open →
     Inv opening (w.manager.closed + b.size) w → w.manager.doubt ≡ None → Batched (closed w f answer b ds)
 batched-closed opening w f answer b ds still i none = (
   (λ c q. (let t : None ≡ Some c = q in cc)),
@@ -65,7 +65,7 @@ batched-closed opening w f answer b ds still i none = (
   (λ u p lt le. absurd (omega (arith, lt, le, ap (λ o. batch_begin o (w.manager.closed + b.size)) none))),
 )
 
-batched-decided : (opening : GrainId → List Value) (w : World) (b : Batch) (ds : List Decision) → Kept opening w → w.manager.batch ≡ Some b → b.decisions ≡ None → Batched w → Batched (with_decisions w b ds)
+batched-decided : (opening : GrainId → List Value) (w : CoreState) (b : Batch) (ds : List Decision) → Kept opening w → w.manager.batch ≡ Some b → b.decisions ≡ None → Batched w → Batched (with_decisions w b ds)
 batched-decided opening w b ds k q d s = (
   (λ c e. (let z : record b { decisions = Some ds } ≡ c = cc in
       let y = s.0 b q in subst (λ (t : Batch). (0 < t.size) × (t.size ≤ 64)) z y)),
@@ -76,14 +76,14 @@ batched-decided opening w b ds k q d s = (
 )
 
 -- a unit that isn't finished leaves the finished ones as they are
-batched-phase : (w : World) (u : UnitNo) (end : Phase) → (end ≡ Finished → ⊥) → Batched w → Batched (record w { units = record w.units { phase = put w.units.phase u end } })
+batched-phase : (w : CoreState) (u : UnitNo) (end : Phase) → (end ≡ Finished → ⊥) → Batched w → Batched (record w { units = record w.units { phase = put w.units.phase u end } })
 batched-phase w u end n s = (
   s.0,
   (λ x. put-from w.units.phase u end (λ p. p ≡ Finished) (w.manager.closed < w.manager.place x → is_final (w.manager.verdict x) ≡ false) x (λ q f. absurd (n f)) (λ q f. s.1 x f)),
   (λ x. put-from w.units.phase u end (λ p. p ≡ Finished) (begin_of w < w.manager.place x → w.manager.place x ≤ w.manager.closed → (w.manager.verdict x ≡ Chosen) ⊎ (w.manager.verdict x ≡ Aborted)) x (λ q f. absurd (n f)) (λ q f. s.2 x f)),
 )
 
-pub batched-change : (opening : GrainId → List Value) (w : World) (e : CoreEvent) (w' : World) → Change w e w' → applies w e ≡ true → Kept opening w → Batched w → Batched w'
+pub batched-change : (opening : GrainId → List Value) (w : CoreState) (e : CoreEvent) (w' : CoreState) → Change w e w' → applies w e ≡ true → Kept opening w → Batched w → Batched w'
 batched-change opening w e w' (bad line why q) a k s = s
 batched-change opening w e w' (begin origin call plain c) a k s = batched-phase w (new_unit w) Running (λ z. cc) s
 batched-change opening w e w' (lock u g mode running free first here) a k s = s
@@ -135,19 +135,19 @@ batched-change opening w e w' (halt_run q) a k s = s
 batched-change opening w e w' (want u g running free fresh) a k s = s
 batched-change opening w e w' (load g u state gone wanted) a k s = s
 
-swept-batched : (w : World) → Batched w → Batched (swept w)
+swept-batched : (w : CoreState) → Batched w → Batched (swept w)
 swept-batched w s = go w.cells.capacity
   where
     go : (c : Option ℕ) → Batched (swept_by w c)
     go None = s
     go (Some m) = s
 
-pub batched-step : (opening : GrainId → List Value) (w : World) (e : CoreEvent) → IsTrueLoad opening w e → Kept opening w → Batched w → Batched (step w e)
+pub batched-step : (opening : GrainId → List Value) (w : CoreState) (e : CoreEvent) → IsTrueLoad opening w e → Kept opening w → Batched w → Batched (step w e)
 batched-step opening w e t k s = cond_both (applies w e) (swept (does w e)) w Batched
     (λ a. (let c = decode w e (and_parts (is_allowed w e) (can w e) a).1 in
     swept-batched (does w e) (batched-change opening w e (does w e) c a k s)))
     (λ a. s)
 
-pub batched-run : (opening : GrainId → List Value) (es : List CoreEvent) (w : World) → AllLoadsTrue opening w es → Kept opening w → Batched w → Batched (run w es)
+pub batched-run : (opening : GrainId → List Value) (es : List CoreEvent) (w : CoreState) → AllLoadsTrue opening w es → Kept opening w → Batched w → Batched (run w es)
 batched-run opening [] w l k s = s
 batched-run opening (e ∷ es) w l k s = batched-run opening es (step w e) l.1 (kept-step opening w e l.0 k) (batched-step opening w e l.0 k s)

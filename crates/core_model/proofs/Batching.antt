@@ -3,7 +3,7 @@ use Rattle.std.proofs.Common.{◌≡◌, ℕ, zero, suc, ◌+◌, ◌<◌, ◌�
 use Rattle.std.proofs.lemmas.Bool.{and_parts, cases_lt, not-true, not-false, cond_both}
 use Rattle.cell_model.specs.Locks.{is_hold_of, holds_lock, dropped}
 use Rattle.cell_model.proofs.Units.{same_unit-true, same_unit-is, any-true, any-false, all-true}
-use Rattle.core_model.specs.World.{UnitNo, GrainId, nobody, put, put_grain, Member, Value, Phase, Running, Finished, Refused, Ended, Committed, Read, Hold, Mode, Batch, World}
+use Rattle.core_model.specs.CoreState.{UnitNo, GrainId, nobody, put, put_grain, Member, Value, Phase, Running, Finished, Refused, Ended, Committed, Read, Hold, Mode, Batch, CoreState}
 use Rattle.core_model.specs.Tests.{all}
 use Rattle.core_model.proofs.Puts.{put-from, put-is, put-other, grain-from}
 use Rattle.core_model.proofs.Invariant.{Inv}
@@ -24,7 +24,7 @@ use Rattle.std.proofs.lemmas.Bool.{and_cases}
 use Rattle.std.proofs.Common.{◌-◌}
 
 -- a unit that passes the test of freedom holds nothing
-pub free-holds : (opening : GrainId → List Value) (n : ℕ) (w : World) → Inv opening n w → (u : UnitNo) → is_free w u ≡ true → HoldsNothing w u
+pub free-holds : (opening : GrainId → List Value) (n : ℕ) (w : CoreState) → Inv opening n w → (u : UnitNo) → is_free w u ≡ true → HoldsNothing w u
 free-holds opening n w i u e g h m q =
     let t = i.told g h m in
     let s = i.seen g t.0 t.1 in
@@ -33,7 +33,7 @@ free-holds opening n w i u e g h m q =
     let z : true ≡ false = sym (same_unit-is h.unit u q) ∙ any-false (is_hold_of u) (w.cells.holds s.0.grain) no_hold h (subst (λ k. Member h (w.cells.holds k)) (sym s.2) m) in cc
 
 -- one that fails it holds something
-pub unfree-holds : (w : World) (u : UnitNo) → is_free w u ≡ false → (g : GrainId) × ((h : Hold) × Member h (w.cells.holds g) × (h.unit ≡ u))
+pub unfree-holds : (w : CoreState) (u : UnitNo) → is_free w u ≡ false → (g : GrainId) × ((h : Hold) × Member h (w.cells.holds g) × (h.unit ≡ u))
 unfree-holds w u e = go (w.units.reads u) e
   where
     go : (rs : List Read) → all (λ r. not (holds_lock u (w.cells.holds r.grain))) rs ≡ false → (g : GrainId) × ((h : Hold) × Member h (w.cells.holds g) × (h.unit ≡ u))
@@ -43,7 +43,7 @@ unfree-holds w u e = go (w.units.reads u) e
       | inr a ↦ go rs a
     ]
 
-free_prefix-free : (w : World) (us : List UnitNo) (u : UnitNo) → Member u (take (free_prefix w us) us) → is_free w u ≡ true
+free_prefix-free : (w : CoreState) (us : List UnitNo) (u : UnitNo) → Member u (take (free_prefix w us) us) → is_free w u ≡ true
 free_prefix-free w [] u m = absurd (none (free_prefix w []) m)
   where
     none : (k : ℕ) → Member u (take k []) → ⊥
@@ -57,7 +57,7 @@ free_prefix-free w (x ∷ xs) u m = cond_both (is_free w x) (free_prefix w xs + 
     ]))
     (λ e m'. absurd m') m
 
-free_prefix-next : (w : World) (us : List UnitNo) → (free_prefix w us ≡ length us) ⊎ ((free_prefix w us < length us) × (is_free w (get_or us (free_prefix w us) nobody) ≡ false))
+free_prefix-next : (w : CoreState) (us : List UnitNo) → (free_prefix w us ≡ length us) ⊎ ((free_prefix w us < length us) × (is_free w (get_or us (free_prefix w us) nobody) ≡ false))
 free_prefix-next w [] = inl refl
 free_prefix-next w (x ∷ xs) = cond_both (is_free w x) (free_prefix w xs + 1) 0 (λ k. (k ≡ length (x ∷ xs)) ⊎ ((k < length (x ∷ xs)) × (is_free w (get_or (x ∷ xs) k nobody) ≡ false)))
     (λ e. (let q : suc (free_prefix w xs) ≡ free_prefix w xs + 1 = omega arith in
@@ -73,7 +73,7 @@ take-take-64 (suc k) zero xs h = absurd (omega arith)
 take-take-64 (suc k) (suc m) [] h = refl
 take-take-64 (suc k) (suc m) (x ∷ xs) h = ap (λ t. x ∷ t) (take-take-64 k m xs (omega arith))
 
-pub longest : (opening : GrainId → List Value) (n : ℕ) (w : World) → Inv opening n w → IsLongestFreePrefix w (batch_size w)
+pub longest : (opening : GrainId → List Value) (n : ℕ) (w : CoreState) → Inv opening n w → IsLongestFreePrefix w (batch_size w)
 longest opening n w i = record {
   limit = omega (arith, short, length-take 64 (waiting w));
   within = omega (arith, short, length-take 64 (waiting w));
@@ -100,10 +100,10 @@ longest opening n w i = record {
     next lt = at_take 64 (batch_size w) (waiting w) (omega (arith, lt, length-take 64 (waiting w)))
 
 -- who stands in a batch that was taken holds nothing
-abbrev pub Unheld : World → Type 0
+abbrev pub Unheld : CoreState → Type 0
 Unheld w = (u : UnitNo) → w.units.phase u ≡ Finished → w.manager.place u ≤ w.manager.closed + size_of w.manager.batch → HoldsNothing w u
 
-unheld-held : (w : World) (u : UnitNo) (g : GrainId) (mode : Mode) → w.units.phase u ≡ Running → Unheld w → (x : UnitNo) → w.units.phase x ≡ Finished → w.manager.place x ≤ w.manager.closed + size_of w.manager.batch →
+unheld-held : (w : CoreState) (u : UnitNo) (g : GrainId) (mode : Mode) → w.units.phase u ≡ Running → Unheld w → (x : UnitNo) → w.units.phase x ≡ Finished → w.manager.place x ≤ w.manager.closed + size_of w.manager.batch →
     (k : GrainId) (h : Hold) → Member h (put_grain w.cells.holds g (granted (w.cells.holds g) u mode) k) → h.unit ≡ x → ⊥
 unheld-held w u g mode running s x f le k h m q = grain-from w.cells.holds g (granted (w.cells.holds g) u mode) (Member h) ⊥ k
     (λ e m'. elim (granted-member (w.cells.holds g) u mode h m') [
@@ -112,11 +112,11 @@ unheld-held w u g mode running s x f le k h m q = grain-from w.cells.holds g (gr
     ])
     (λ e m'. s x f le k h m' q) m
 
-unheld-phase : (w : World) (u : UnitNo) (end : Phase) → (end ≡ Finished → ⊥) → Unheld w → Unheld (record w { units = record w.units { phase = put w.units.phase u end } })
+unheld-phase : (w : CoreState) (u : UnitNo) (end : Phase) → (end ≡ Finished → ⊥) → Unheld w → Unheld (record w { units = record w.units { phase = put w.units.phase u end } })
 unheld-phase w u end n s x = put-from w.units.phase u end (λ p. p ≡ Finished) (w.manager.place x ≤ w.manager.closed + size_of w.manager.batch → HoldsNothing w x) x (λ q f. absurd (n f)) (λ q f. s x f)
 
 -- an open batch stands in the finish order
-size-within : (opening : GrainId → List Value) (w : World) → Kept opening w → w.manager.closed + size_of w.manager.batch ≤ length w.manager.order
+size-within : (opening : GrainId → List Value) (w : CoreState) → Kept opening w → w.manager.closed + size_of w.manager.batch ≤ length w.manager.order
 size-within opening w k = go w.manager.batch refl
   where
     go : (o : Option Batch) → w.manager.batch ≡ o → w.manager.closed + size_of w.manager.batch ≤ length w.manager.order
@@ -124,7 +124,7 @@ size-within opening w k = go w.manager.batch refl
     go (Some b) q = omega (arith, k.1, ap open_size q, ap size_of q)
 
 -- a finished unit after the closed batches and up to the batch's end is one of the batch
-free_member : (opening : GrainId → List Value) (w : World) → Kept opening w → (x : UnitNo) → w.units.phase x ≡ Finished → w.manager.closed < w.manager.place x → IsLongestFreePrefix w (batch_size w) →
+free_member : (opening : GrainId → List Value) (w : CoreState) → Kept opening w → (x : UnitNo) → w.units.phase x ≡ Finished → w.manager.closed < w.manager.place x → IsLongestFreePrefix w (batch_size w) →
     w.manager.place x ≤ w.manager.closed + batch_size w → HoldsNothing w x
 free_member opening w k x f new l le =
     let t = k.0.placed x f in
@@ -136,7 +136,7 @@ free_member opening w k x f new l le =
     (at_part (batch_size w) w.manager.closed w.manager.order j lt ∙ ap (λ z. get_or w.manager.order z nobody) at ∙ t.3)
     (Member-get (take (batch_size w) (waiting w)) j (omega (arith, short, lt))))
 
-pub unheld-change : (opening : GrainId → List Value) (w : World) (e : CoreEvent) (w' : World) → Change w e w' → applies w e ≡ true → Kept opening w → Unheld w → Unheld w'
+pub unheld-change : (opening : GrainId → List Value) (w : CoreState) (e : CoreEvent) (w' : CoreState) → Change w e w' → applies w e ≡ true → Kept opening w → Unheld w → Unheld w'
 unheld-change opening w e w' (bad line why q) a k s = s
 unheld-change opening w e w' (begin origin call plain c) a k s = unheld-phase w (new_unit w) Running (λ z. cc) s
 unheld-change opening w e w' (lock u g mode running free first here) a k s = λ x f le. unheld-held w u g mode running s x f le
@@ -168,24 +168,24 @@ unheld-change opening w e w' (halt_run q) a k s = s
 unheld-change opening w e w' (want u g running free fresh) a k s = s
 unheld-change opening w e w' (load g u state gone wanted) a k s = s
 
-swept-unheld : (w : World) → Unheld w → Unheld (swept w)
+swept-unheld : (w : CoreState) → Unheld w → Unheld (swept w)
 swept-unheld w s = go w.cells.capacity
   where
     go : (c : Option ℕ) → Unheld (swept_by w c)
     go None = s
     go (Some m) = s
 
-pub unheld-step : (opening : GrainId → List Value) (w : World) (e : CoreEvent) → IsTrueLoad opening w e → Kept opening w → Unheld w → Unheld (step w e)
+pub unheld-step : (opening : GrainId → List Value) (w : CoreState) (e : CoreEvent) → IsTrueLoad opening w e → Kept opening w → Unheld w → Unheld (step w e)
 unheld-step opening w e t k s = cond_both (applies w e) (swept (does w e)) w Unheld
     (λ a. (let c = decode w e (and_parts (is_allowed w e) (can w e) a).1 in
     swept-unheld (does w e) (unheld-change opening w e (does w e) c a k s)))
     (λ a. s)
 
-pub unheld-run : (opening : GrainId → List Value) (es : List CoreEvent) (w : World) → AllLoadsTrue opening w es → Kept opening w → Unheld w → Unheld (run w es)
+pub unheld-run : (opening : GrainId → List Value) (es : List CoreEvent) (w : CoreState) → AllLoadsTrue opening w es → Kept opening w → Unheld w → Unheld (run w es)
 unheld-run opening [] w l k s = s
 unheld-run opening (e ∷ es) w l k s = unheld-run opening es (step w e) l.1 (kept-step opening w e l.0 k) (unheld-step opening w e l.0 k s)
 
-pub no-lock : (opening : GrainId → List Value) (w : World) → Kept opening w → Unheld w → ((u : UnitNo) → w.manager.verdict u ≡ Committed → (w.units.phase u ≡ Finished) × (w.manager.place u ≤ w.manager.closed)) → NoLockIsHeldUntilCommit w
+pub no-lock : (opening : GrainId → List Value) (w : CoreState) → Kept opening w → Unheld w → ((u : UnitNo) → w.manager.verdict u ≡ Committed → (w.units.phase u ≡ Finished) × (w.manager.place u ≤ w.manager.closed)) → NoLockIsHeldUntilCommit w
 no-lock opening w k s done = record {
   committed = done;
   closed = λ u f le. s u f (omega (arith, le));

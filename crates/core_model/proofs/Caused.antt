@@ -3,7 +3,7 @@ use Rattle.std.proofs.Common.{◌≡◌, ℕ, ◌+◌, ◌≤◌, List, [], ◌�
 use Rattle.std.proofs.lemmas.Bool.{and_parts, cases_Bool, cond-true, cond-false, not-true, or_parts}
 use Rattle.cell_model.specs.Locks.{is_update, is_hold_of, holds_lock, conflicts, covers, dropped}
 use Rattle.cell_model.proofs.Units.{same_unit-false, Member-append, filter-member, filter-stays}
-use Rattle.core_model.specs.World.{UnitNo, GrainId, nobody, Member, Value, Origin, Running, Finished, Ended, Verdict, Chosen, Read, Write, Mode, Effect, Settled, Batch, Decision, World}
+use Rattle.core_model.specs.CoreState.{UnitNo, GrainId, nobody, Member, Value, Origin, Running, Finished, Ended, Verdict, Chosen, Read, Write, Mode, Effect, Settled, Batch, Decision, CoreState}
 use Rattle.core_model.specs.Tests.{any, is_bad}
 use Rattle.cell_model.specs.Decisions.{is_commit}
 use Rattle.core_model.specs.Dead.{Dead, itself}
@@ -16,7 +16,7 @@ use Rattle.base_types.specs.declared.entries.Settled.TheVariants as settled
 use Rattle.cell_model.specs.declared.outcomes.Decision.TheVariants as decision
 use Rattle.cell_model.proofs.Units.{oldest-some}
 use Rattle.cell_model.proofs.Asking.{ask-die}
-use Rattle.core_model.specs.World.{Entry, Outcome}
+use Rattle.core_model.specs.CoreState.{Entry, Outcome}
 use Rattle.cell_model.specs.Locks as locks
 use Rattle.cell_model.specs.declared.locks.Ask.TheVariants.{MustDie}
 use Rattle.core_model.specs.Tests.{doomed_by, members, waiting, outcome_of, outcome_in, is_gone, ask}
@@ -37,17 +37,17 @@ use Rattle.core_model.proofs.Ends.{kept-begins}
 use Rattle.core_model.proofs.Kept.{Kept, kept-step, inv-judged, inv-decided}
 
 -- an entry has its cause and its line
-abbrev pub Told : World → CoreEvent → World → Entry → Type 0
+abbrev pub Told : CoreState → CoreEvent → CoreState → Entry → Type 0
 Told w e next x = HasCause w e next x.unit x.what × HasLine w x x.what
 
-told-from : (w : World) (e : CoreEvent) (next : World) (x : Entry) (u : UnitNo) (what : Settled) → x.unit ≡ u → x.what ≡ what → HasCause w e next u what → HasLine w x what → Told w e next x
+told-from : (w : CoreState) (e : CoreEvent) (next : CoreState) (x : Entry) (u : UnitNo) (what : Settled) → x.unit ≡ u → x.what ≡ what → HasCause w e next u what → HasLine w x what → Told w e next x
 told-from w e next x u what p q cause line = (
   subst (λ z. HasCause w e next z x.what) (sym p) (subst (HasCause w e next u) (sym q) cause),
   subst (HasLine w x) (sym q) line,
 )
 
 -- the entry of a unit
-pub entry-parts : (w : World) (u : UnitNo) (what : Settled) (x : Entry) → Member x (entry_for (w.units.origin u) u what) → (x.unit ≡ u) × (x.what ≡ what) × (w.units.origin u ≡ Line x.line)
+pub entry-parts : (w : CoreState) (u : UnitNo) (what : Settled) (x : Entry) → Member x (entry_for (w.units.origin u) u what) → (x.unit ≡ u) × (x.what ≡ what) × (w.units.origin u ≡ Line x.line)
 entry-parts w u what x = go (w.units.origin u) refl
   where
     go : (o : Origin) → w.units.origin u ≡ o → Member x (entry_for o u what) → (x.unit ≡ u) × (x.what ≡ what) × (w.units.origin u ≡ Line x.line)
@@ -58,7 +58,7 @@ entry-parts w u what x = go (w.units.origin u) refl
     go (Child p i d) q m = absurd m
 
 -- the entries of a batch
-pub entries-parts : (w : World) (answer : UnitNo → Settled) (votes : List (GrainId × Bool)) (verdict : UnitNo → Verdict) (us : List UnitNo) (ds : List Decision) (x : Entry) →
+pub entries-parts : (w : CoreState) (answer : UnitNo → Settled) (votes : List (GrainId × Bool)) (verdict : UnitNo → Verdict) (us : List UnitNo) (ds : List Decision) (x : Entry) →
     Reasons votes w.manager.writes w.units.deps verdict us ds → Member x (entries_in w answer us ds) →
     (u : UnitNo) × ((d : Decision) × Member u us × (verdict u ≡ verdict_of d) × Reason votes (w.manager.writes u) (w.units.deps u) verdict d × (x.unit ≡ u) × (x.what ≡ told (answer u) d) × (w.units.origin u ≡ Line x.line))
 entries-parts w answer votes verdict [] [] x r m = absurd m
@@ -70,7 +70,7 @@ entries-parts w answer votes verdict (u ∷ us) (d ∷ ds) x r m =
       | inr h ↦ (let t = entries-parts w answer votes verdict us ds x r.2 h in (t.0, (t.1.0, inr t.1.1, t.1.2, t.1.3, t.1.4, t.1.5, t.1.6)))
     ]
 
-pub member-place : (opening : GrainId → List Value) (n : ℕ) (w : World) (b : Batch) → Inv opening n w → (u : UnitNo) → Member u (members w b) → (w.units.phase u ≡ Finished) × (w.manager.place u ≤ w.manager.closed + b.size)
+pub member-place : (opening : GrainId → List Value) (n : ℕ) (w : CoreState) (b : Batch) → Inv opening n w → (u : UnitNo) → Member u (members w b) → (w.units.phase u ≡ Finished) × (w.manager.place u ≤ w.manager.closed + b.size)
 member-place opening n w b i u m =
     let t = Member-at u (members w b) m in
     let len = length-take b.size (waiting w) in
@@ -79,7 +79,7 @@ member-place opening n w b i u m =
     (subst (λ z. w.units.phase z ≡ Finished) e l.0, subst (λ z. w.manager.place z ≤ w.manager.closed + b.size) e (omega (arith, l.1, t.1, len)))
 
 -- in a decided batch a dependency that is dead is aborted, or to abort
-pub dead-bad : (opening : GrainId → List Value) (v : World) (b : Batch) → Inv opening (v.manager.closed + b.size) v → Depends v → (u : UnitNo) → Member u (members v b) → (d : UnitNo) → Member d (v.units.deps u) →
+pub dead-bad : (opening : GrainId → List Value) (v : CoreState) (b : Batch) → Inv opening (v.manager.closed + b.size) v → Depends v → (u : UnitNo) → Member u (members v b) → (d : UnitNo) → Member d (v.units.deps u) →
     Dead v.manager.verdict v.units.reads d → is_bad (v.manager.verdict d) ≡ true
 dead-bad opening v b i s u m d n dead =
     let p = member-place opening _ v b i u m in
@@ -90,10 +90,10 @@ dead-bad opening v b i s u m d n dead =
     ]
 
 -- what a reason says in terms of the dead
-pub voted-down : (v : World) (b : Batch) (u : UnitNo) (g : GrainId) → Reason b.votes (v.manager.writes u) (v.units.deps u) v.manager.verdict (decision.Vote g) → IsVotedDown v b u g
+pub voted-down : (v : CoreState) (b : Batch) (u : UnitNo) (g : GrainId) → Reason b.votes (v.manager.writes u) (v.units.deps u) v.manager.verdict (decision.Vote g) → IsVotedDown v b u g
 voted-down v b u g r = (let t = failed-some b.votes (v.manager.writes u) g r in record { wrote = t.0; failed = t.1; first = t.2 })
 
-pub depends-on : (opening : GrainId → List Value) (v : World) (b : Batch) → Inv opening (v.manager.closed + b.size) v → Depends v → (u on : UnitNo) → Member u (members v b) →
+pub depends-on : (opening : GrainId → List Value) (v : CoreState) (b : Batch) → Inv opening (v.manager.closed + b.size) v → Depends v → (u on : UnitNo) → Member u (members v b) →
     Reason b.votes (v.manager.writes u) (v.units.deps u) v.manager.verdict (decision.Dependency on) → DependsOnDead v b u on
 depends-on opening v b i s u on m r = record {
   written = failed-none b.votes (v.manager.writes u) r.0;
@@ -102,7 +102,7 @@ depends-on opening v b i s u on m r = record {
   oldest = λ d n dead. r.3 d n (dead-bad opening v b i s u m d n dead);
 }
 
-pub can-commit : (opening : GrainId → List Value) (v : World) (b : Batch) → Inv opening (v.manager.closed + b.size) v → Depends v → (u : UnitNo) → Member u (members v b) →
+pub can-commit : (opening : GrainId → List Value) (v : CoreState) (b : Batch) → Inv opening (v.manager.closed + b.size) v → Depends v → (u : UnitNo) → Member u (members v b) →
     Reason b.votes (v.manager.writes u) (v.units.deps u) v.manager.verdict decision.Commit → CanCommit v b u
 can-commit opening v b i s u m r = record {
   written = failed-none b.votes (v.manager.writes u) r.0;
@@ -110,9 +110,9 @@ can-commit opening v b i s u m r = record {
 }
 
 -- the entries of a batch that an event closes, decided in the state v
-batch-told : (opening : GrainId → List Value) (w v : World) (e : CoreEvent) (next : World) (answer : UnitNo → Settled) (b : Batch) (ds : List Decision) →
+batch-told : (opening : GrainId → List Value) (w v : CoreState) (e : CoreEvent) (next : CoreState) (answer : UnitNo → Settled) (b : Batch) (ds : List Decision) →
     Inv opening (v.manager.closed + b.size) v → Depends v → w.manager.batch ≡ Some b → members v b ≡ members w b → v.units.origin ≡ w.units.origin →
-    ((u : UnitNo) (Holds : World → Batch → Type 0) → Member u (members w b) → Holds v b → AtDecision w e u Holds) →
+    ((u : UnitNo) (Holds : CoreState → Batch → Type 0) → Member u (members w b) → Holds v b → AtDecision w e u Holds) →
     Reasons b.votes v.manager.writes v.units.deps v.manager.verdict (members v b) ds →
     ((u : UnitNo) → Member u (members v b) → v.units.phase u ≡ Finished → v.manager.verdict u ≡ Chosen → CanCommit v b u → HasCause w e next u (answer u) × ((x : Entry) → w.units.origin x.unit ≡ Line x.line → HasLine w x (answer u))) →
     (x : Entry) → Member x (entries_in v answer (members v b) ds) → Told w e next x
@@ -139,11 +139,11 @@ batch-told opening w v e next answer b ds i s q same origin at reasons commits x
         (inr (at t.0 (λ v b. DependsOnDead v b t.0 on) (subst (Member t.0) same t.1.1) (depends-on opening v b i s t.0 on t.1.1 r))) line
 
 -- a unit to commit has its result where the batch is sealed
-sealed-outcome : (v : World) (u : UnitNo) → v.units.phase u ≡ Finished → v.manager.verdict u ≡ Chosen → outcome_in (v.units.phase u) (seal (v.manager.verdict u)) (v.manager.result u) ≡ Some (v.manager.result u)
+sealed-outcome : (v : CoreState) (u : UnitNo) → v.units.phase u ≡ Finished → v.manager.verdict u ≡ Chosen → outcome_in (v.units.phase u) (seal (v.manager.verdict u)) (v.manager.result u) ≡ Some (v.manager.result u)
 sealed-outcome v u p q = λ i. outcome_in (p i) (seal (q i)) (v.manager.result u)
 
 -- a refusal's cause
-pub refused-cause : (opening : GrainId → List Value) (w : World) (u : UnitNo) (g : GrainId) (mode : Mode) (why : Settled) (next : World) → Kept opening w → w.units.phase u ≡ Running → refusal g (ask w u g mode) ≡ Some why →
+pub refused-cause : (opening : GrainId → List Value) (w : CoreState) (u : UnitNo) (g : GrainId) (mode : Mode) (why : Settled) (next : CoreState) → Kept opening w → w.units.phase u ≡ Running → refusal g (ask w u g mode) ≡ Some why →
     HasCause w (Refuse u g mode) next u why × ((x : Entry) → w.units.origin x.unit ≡ Line x.line → HasLine w x why)
 refused-cause opening w u g mode why next k running q = elim (ask-refused w u g mode why q).1 [
   | inl d ↦ (
@@ -197,7 +197,7 @@ no-commit votes writes deps verdict (y ∷ us) (d ∷ ds) r none u (inl q) c = j
     judged_so (decision.Dependency on) n e = cc
 no-commit votes writes deps verdict (y ∷ us) (d ∷ ds) r none u (inr m) c = no-commit votes writes deps verdict us ds r.2 (or_parts (is_commit d) (any is_commit ds) none).1 u m c
 
-ended-cause : (w : World) (e : CoreEvent) (next : World) (u : UnitNo) (answers : List Outcome) (result : Outcome) (at : Option ℕ) → EndsWith w e u result → ((x : UnitNo) → outcome_of next x ≡ outcome_of (ended w u answers result at) x) →
+ended-cause : (w : CoreState) (e : CoreEvent) (next : CoreState) (u : UnitNo) (answers : List Outcome) (result : Outcome) (at : Option ℕ) → EndsWith w e u result → ((x : UnitNo) → outcome_of next x ≡ outcome_of (ended w u answers result at) x) →
     (x : Entry) → Member x (w.manager.settled ++ entry_for (w.units.origin u) u (settled.Done result)) → Member x w.manager.settled ⊎ Told w e next x
 ended-cause w e next u answers result at end same x m = elim (Member-append x w.manager.settled (entry_for (w.units.origin u) u (settled.Done result)) m) [
   | inl h ↦ inl h
@@ -207,7 +207,7 @@ ended-cause w e next u answers result at end same x m = elim (Member-append x w.
       (ap w.units.origin t.0 ∙ t.2)))
 ]
 
-pub caused-change : (opening : GrainId → List Value) (w : World) (e : CoreEvent) (w' : World) → Change w e w' → Kept opening w → Depends w → Argued w → (next : World) → ((u : UnitNo) → outcome_of next u ≡ outcome_of w' u) →
+pub caused-change : (opening : GrainId → List Value) (w : CoreState) (e : CoreEvent) (w' : CoreState) → Change w e w' → Kept opening w → Depends w → Argued w → (next : CoreState) → ((u : UnitNo) → outcome_of next u ≡ outcome_of w' u) →
     (x : Entry) → Member x w'.manager.settled → Member x w.manager.settled ⊎ Told w e next x
 caused-change opening w e w' (bad line why q) k dep s next same x m =
     elim (Member-append x w.manager.settled (record { line = line; unit = nobody; what = settled.Bad why } ∷ []) m) [
@@ -235,7 +235,7 @@ caused-change opening w e w' (take_batch none some) k dep s next same x m = inl 
 caused-change opening w e w' (vote n g kept b q number d planned fresh) k dep s next same x m = inl m
 caused-change opening w e w' (decide_some n b q number d voted some) k dep s next same x m = inl m
 caused-change opening w e w' (decide_none n b q number d voted none) k dep s next same x m =
-    (let v : World = with_decisions w b (decisions_of w b) in
+    (let v : CoreState = with_decisions w b (decisions_of w b) in
     elim (Member-append x w.manager.settled (entries_in v (result_told v) (members w b) (decisions_of w b)) m) [
       | inl h ↦ inl h
       | inr h ↦ inr (batch-told opening w v (Decide n) next (result_told v) b (decisions_of w b) (inv-decided opening w b k q d) dep q refl refl
@@ -269,18 +269,18 @@ caused-change opening w e w' (halt_run q) k dep s next same x m = inl m
 caused-change opening w e w' (want u g running free fresh) k dep s next same x m = inl m
 caused-change opening w e w' (load g u state gone wanted) k dep s next same x m = inl m
 
-caused-step : (opening : GrainId → List Value) (w : World) (e : CoreEvent) → Kept opening w → Depends w → Argued w → (x : Entry) → Member x (step w e).manager.settled →
+caused-step : (opening : GrainId → List Value) (w : CoreState) (e : CoreEvent) → Kept opening w → Depends w → Argued w → (x : Entry) → Member x (step w e).manager.settled →
     Member x w.manager.settled ⊎ ((applies w e ≡ true) × Told w e (step w e) x)
 caused-step opening w e k dep s x = by_test (applies w e) refl
   where
-    swept-outcome : (v : World) (u : UnitNo) → outcome_of (swept v) u ≡ outcome_of v u
+    swept-outcome : (v : CoreState) (u : UnitNo) → outcome_of (swept v) u ≡ outcome_of v u
     swept-outcome v u = go v.cells.capacity
       where
         go : (c : Option ℕ) → outcome_of (swept_by v c) u ≡ outcome_of v u
         go None = refl
         go (Some m) = refl
 
-    swept-settled : (v : World) → (swept v).manager.settled ≡ v.manager.settled
+    swept-settled : (v : CoreState) → (swept v).manager.settled ≡ v.manager.settled
     swept-settled v = go v.cells.capacity
       where
         go : (c : Option ℕ) → (swept_by v c).manager.settled ≡ v.manager.settled
@@ -288,20 +288,20 @@ caused-step opening w e k dep s x = by_test (applies w e) refl
         go (Some m) = refl
 
     by_test : (t : Bool) → applies w e ≡ t → Member x (step w e).manager.settled → Member x w.manager.settled ⊎ ((applies w e ≡ true) × Told w e (step w e) x)
-    by_test false a m = inl (subst (λ (v : World). Member x v.manager.settled) (cond-false (applies w e) (swept (does w e)) w a) m)
+    by_test false a m = inl (subst (λ (v : CoreState). Member x v.manager.settled) (cond-false (applies w e) (swept (does w e)) w a) m)
     by_test true a m =
         let is : step w e ≡ swept (does w e) = cond-true (applies w e) (swept (does w e)) w a in
-        let n = subst (Member x) (ap (λ (v : World). v.manager.settled) is ∙ swept-settled (does w e)) m in
+        let n = subst (Member x) (ap (λ (v : CoreState). v.manager.settled) is ∙ swept-settled (does w e)) m in
         elim (caused-change opening w e (does w e) (decode w e (and_parts (is_allowed w e) (can w e) a).1) k dep s (step w e) (λ u. ap (λ v. outcome_of v u) is ∙ swept-outcome (does w e) u) x n) [
           | inl h ↦ inl h
           | inr h ↦ inr (a, h)
         ]
 
 -- an event of the list settled the entry
-abbrev CausedFrom : World → List CoreEvent → Entry → Type 0
+abbrev CausedFrom : CoreState → List CoreEvent → Entry → Type 0
 CausedFrom w es x = (before : List CoreEvent) × ((e : CoreEvent) × ((later : List CoreEvent) × (es ≡ before ++ e ∷ later) × (applies (run w before) e ≡ true) × Told (run w before) e (step (run w before) e) x))
 
-caused-run : (opening : GrainId → List Value) (es : List CoreEvent) (w : World) → AllLoadsTrue opening w es → Kept opening w → Depends w → Argued w → (x : Entry) → Member x (run w es).manager.settled → Member x w.manager.settled ⊎ CausedFrom w es x
+caused-run : (opening : GrainId → List Value) (es : List CoreEvent) (w : CoreState) → AllLoadsTrue opening w es → Kept opening w → Depends w → Argued w → (x : Entry) → Member x (run w es).manager.settled → Member x w.manager.settled ⊎ CausedFrom w es x
 caused-run opening [] w l k dep s x m = inl m
 caused-run opening (e ∷ es) w l k dep s x m =
     elim (caused-run opening es (step w e) l.1 (kept-step opening w e l.0 k) (depends-step opening w e l.0 k dep) (argued-step opening w e k dep s) x m) [

@@ -5,7 +5,7 @@ use Rattle.std.proofs.lemmas.Bool.{cond_both, or_cases}
 use Rattle.cell_model.specs.Stacks.{is_of, committed}
 use Rattle.cell_model.proofs.Units.{same_unit-true}
 use Rattle.cell_model.proofs.Stacks.{committed-top}
-use Rattle.core_model.specs.World.{UnitNo, Version, top, cut}
+use Rattle.core_model.specs.CoreState.{UnitNo, Version, top, cut}
 use Rattle.core_model.specs.Chains.{Chain}
 
 pub Chain-more : (B B' : Version → Type 0) (L L' : Version → Version → Type 0)

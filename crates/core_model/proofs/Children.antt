@@ -2,12 +2,12 @@
 use Rattle.std.proofs.Common.{◌≡◌, ℕ, ◌<◌, List, [], ◌∷◌, ◌++◌, length, get_or, Bool, true, ◌⊎◌, inl, inr, refl, sym, ap, ◌∙◌, subst, arith, Option, Some, None}
 use Rattle.std.proofs.lemmas.Bool.{and_parts, cases_lt, cond_both}
 use Rattle.cell_model.proofs.Units.{cases_unit, Member-append}
-use Rattle.core_model.specs.World.{UnitNo, GrainId, nobody, put, Member, Value, Origin, Phase, Unborn, Running, Finished, Refused, Ended, World}
+use Rattle.core_model.specs.CoreState.{UnitNo, GrainId, nobody, put, Member, Value, Origin, Phase, Unborn, Running, Finished, Refused, Ended, CoreState}
 use Rattle.core_model.proofs.Puts.{put-at, put-from, put-same, put-is, put-other}
 use Rattle.std.proofs.Common.{map, le_refl, eqb-true}
 use Rattle.std.specs.Prelude.{◌==◌}
 use Rattle.base_types.specs.declared.calls.Origin.TheVariants.{Line, Child}
-use Rattle.core_model.specs.World.{Outcome, Call}
+use Rattle.core_model.specs.CoreState.{Outcome, Call}
 use Rattle.core_model.specs.Tests.{is_running, is_over, outcome_of, is_answer, answered_by, is_empty}
 use Rattle.core_model.specs.Laws.{AnswersAreOutcomes}
 use Rattle.core_model.specs.Changes.{begun, new_unit, kids_with, swept, swept_by}
@@ -22,13 +22,13 @@ use Rattle.core_model.proofs.Growth.{Grows, grows-change, grows-outcome}
 use Rattle.core_model.proofs.Kept.{Kept, kept-step}
 
 -- a child is known by its parent and index, and is younger
-abbrev pub Kin : World → Type 0
+abbrev pub Kin : CoreState → Type 0
 Kin w =
     ((c p : UnitNo) (i d : ℕ) → (w.units.phase c ≡ Unborn → ⊥) → w.units.origin c ≡ Child p i d → (i < length (w.units.kids p)) × (get_or (w.units.kids p) i nobody ≡ c))
     × ((p : UnitNo) (i : ℕ) → i < length (w.units.kids p) → (d : ℕ) × (w.units.origin (get_or (w.units.kids p) i nobody) ≡ Child p i d) × (w.units.phase (get_or (w.units.kids p) i nobody) ≡ Unborn → ⊥))
     × ((p c : UnitNo) → Member c (w.units.kids p) → p.0 < c.0)
 
-kin-phase : (w : World) (u : UnitNo) (end : Phase) → w.units.phase u ≡ Running → (end ≡ Unborn → ⊥) → Kin w → Kin (record w { units = record w.units { phase = put w.units.phase u end } })
+kin-phase : (w : CoreState) (u : UnitNo) (end : Phase) → w.units.phase u ≡ Running → (end ≡ Unborn → ⊥) → Kin w → Kin (record w { units = record w.units { phase = put w.units.phase u end } })
 kin-phase w u end running n s = (
   (λ c p i d. put-from w.units.phase u end (λ z. z ≡ Unborn → ⊥) (w.units.origin c ≡ Child p i d → (i < length (w.units.kids p)) × (get_or (w.units.kids p) i nobody ≡ c)) c
       (λ q m. s.0 c p i d (λ z. (let t : Unborn ≡ Running = sym z ∙ ap w.units.phase q ∙ running in cc)))
@@ -37,7 +37,7 @@ kin-phase w u end running n s = (
   s.2,
 )
 
-kin-begun : (opening : GrainId → List Value) (w : World) (origin : Origin) (call : Call) (plain : Bool) → Kept opening w → can_begin w origin ≡ true → Kin w → Kin (begun w origin call plain)
+kin-begun : (opening : GrainId → List Value) (w : CoreState) (origin : Origin) (call : Call) (plain : Bool) → Kept opening w → can_begin w origin ≡ true → Kin w → Kin (begun w origin call plain)
 kin-begun opening w (Line m) call plain k c s = (
   (λ x p i d born. put-from w.units.origin n (Line m) (λ z. z ≡ Child p i d) ((i < length (w.units.kids p)) × (get_or (w.units.kids p) i nobody ≡ x)) x
       (λ q e. cc)
@@ -113,7 +113,7 @@ kin-begun opening w (Child q i0 d0) call plain k c s = (
         let apart : x ≡ n → ⊥ = λ z. t.2 (ap w.units.phase z ∙ k.0.unborn (new_unit w) (le_refl w.units.next)) in
         (t.0, put-other w.units.origin n (Child q i0 d0) x apart ∙ t.1, λ z. t.2 (sym (put-other w.units.phase n Running x apart) ∙ z))
 
-pub kin-change : (opening : GrainId → List Value) (w : World) (e : CoreEvent) (w' : World) → Change w e w' → applies w e ≡ true → Kept opening w → Kin w → Kin w'
+pub kin-change : (opening : GrainId → List Value) (w : CoreState) (e : CoreEvent) (w' : CoreState) → Change w e w' → applies w e ≡ true → Kept opening w → Kin w → Kin w'
 kin-change opening w e w' (bad line why q) a k s = s
 kin-change opening w e w' (begin origin call plain c) a k s = kin-begun opening w origin call plain k c s
 kin-change opening w e w' (lock u g mode running free first here) a k s = s
@@ -136,33 +136,33 @@ kin-change opening w e w' (halt_run q) a k s = s
 kin-change opening w e w' (want u g running free fresh) a k s = s
 kin-change opening w e w' (load g u state gone wanted) a k s = s
 
-swept-kin : (w : World) → Kin w → Kin (swept w)
+swept-kin : (w : CoreState) → Kin w → Kin (swept w)
 swept-kin w s = go w.cells.capacity
   where
     go : (c : Option ℕ) → Kin (swept_by w c)
     go None = s
     go (Some m) = s
 
-pub kin-step : (opening : GrainId → List Value) (w : World) (e : CoreEvent) → IsTrueLoad opening w e → Kept opening w → Kin w → Kin (step w e)
+pub kin-step : (opening : GrainId → List Value) (w : CoreState) (e : CoreEvent) → IsTrueLoad opening w e → Kept opening w → Kin w → Kin (step w e)
 kin-step opening w e t k s = cond_both (applies w e) (swept (does w e)) w Kin
     (λ a. (let c = decode w e (and_parts (is_allowed w e) (can w e) a).1 in
     swept-kin (does w e) (kin-change opening w e (does w e) c a k s)))
     (λ a. s)
 
-pub kin-run : (opening : GrainId → List Value) (es : List CoreEvent) (w : World) → AllLoadsTrue opening w es → Kept opening w → Kin w → Kin (run w es)
+pub kin-run : (opening : GrainId → List Value) (es : List CoreEvent) (w : CoreState) → AllLoadsTrue opening w es → Kept opening w → Kin w → Kin (run w es)
 kin-run opening [] w l k s = s
 kin-run opening (e ∷ es) w l k s = kin-run opening es (step w e) l.1 (kept-step opening w e l.0 k) (kin-step opening w e l.0 k s)
 
 -- the unit came to its end
-abbrev pub IsAtEnd : World → UnitNo → Type 0
+abbrev pub IsAtEnd : CoreState → UnitNo → Type 0
 IsAtEnd w p = (w.units.phase p ≡ Finished) ⊎ (w.units.phase p ≡ Ended)
 
-end-over : (w : World) (p : UnitNo) → IsAtEnd w p → is_over (w.units.phase p) ≡ true
+end-over : (w : CoreState) (p : UnitNo) → IsAtEnd w p → is_over (w.units.phase p) ≡ true
 end-over w p (inl f) = ap is_over f
 end-over w p (inr f) = ap is_over f
 
 -- outcomes that are known stay
-map-outcomes : (w w' : World) → Grows w w' → (ks : List UnitNo) (os : List Outcome) → map (outcome_of w) ks ≡ map Some os → map (outcome_of w') ks ≡ map Some os
+map-outcomes : (w w' : CoreState) → Grows w w' → (ks : List UnitNo) (os : List Outcome) → map (outcome_of w) ks ≡ map Some os → map (outcome_of w') ks ≡ map Some os
 map-outcomes w w' g [] [] e = refl
 map-outcomes w w' g [] (o ∷ os) e = cc
 map-outcomes w w' g (k ∷ ks) [] e = cc
@@ -172,7 +172,7 @@ map-outcomes w w' g (k ∷ ks) (o ∷ os) e =
     let h = grows-outcome w w' g k o head in let r = map-outcomes w w' g ks os rest in
     λ i. h i ∷ r i
 
-answered-outcomes : (w : World) (ks : List UnitNo) (os : List Outcome) → answered_by w ks os ≡ true → map (outcome_of w) ks ≡ map Some os
+answered-outcomes : (w : CoreState) (ks : List UnitNo) (os : List Outcome) → answered_by w ks os ≡ true → map (outcome_of w) ks ≡ map Some os
 answered-outcomes w [] [] e = refl
 answered-outcomes w [] (o ∷ os) e = cc
 answered-outcomes w (k ∷ ks) [] e = cc
@@ -186,33 +186,33 @@ answered-outcomes w (k ∷ ks) (o ∷ os) e =
     one (Some y) q t = q ∙ ap Some (same_outcome-true y o t)
 
 -- the answers of who is at its end are as before, or are tested now
-answered-from : (w w' : World) → Grows w w' → AnswersAreOutcomes w → ((p : UnitNo) → IsAtEnd w' p → IsAtEnd w p ⊎ (answered_by w (w'.units.kids p) (w'.manager.answers p) ≡ true)) → AnswersAreOutcomes w'
+answered-from : (w w' : CoreState) → Grows w w' → AnswersAreOutcomes w → ((p : UnitNo) → IsAtEnd w' p → IsAtEnd w p ⊎ (answered_by w (w'.units.kids p) (w'.manager.answers p) ≡ true)) → AnswersAreOutcomes w'
 answered-from w w' g s from p end = elim (from p end) [
   | inl old ↦ (let t = g.3 p (end-over w p old) in
       ap (map (outcome_of w')) t.3 ∙ map-outcomes w w' g (w.units.kids p) (w.manager.answers p) (s p old) ∙ ap (map Some) (sym t.2))
   | inr now ↦ map-outcomes w w' g (w'.units.kids p) (w'.manager.answers p) (answered-outcomes w (w'.units.kids p) (w'.manager.answers p) now)
 ]
 
-answers-empty : (w : World) (ks : List UnitNo) → is_empty ks ≡ true → answered_by w ks [] ≡ true
+answers-empty : (w : CoreState) (ks : List UnitNo) → is_empty ks ≡ true → answered_by w ks [] ≡ true
 answers-empty w [] e = refl
 answers-empty w (k ∷ ks) e = cc
 
-at-end-put : (w : World) (u : UnitNo) (end : Phase) (p : UnitNo) (Q : Type 0) → (p ≡ u → Q) → ((p ≡ u → ⊥) → IsAtEnd w p → Q) → (put w.units.phase u end p ≡ Finished) ⊎ (put w.units.phase u end p ≡ Ended) → Q
+at-end-put : (w : CoreState) (u : UnitNo) (end : Phase) (p : UnitNo) (Q : Type 0) → (p ≡ u → Q) → ((p ≡ u → ⊥) → IsAtEnd w p → Q) → (put w.units.phase u end p ≡ Finished) ⊎ (put w.units.phase u end p ≡ Ended) → Q
 at-end-put w u end p Q same other o = elim (cases_unit p u) [
   | inl e ↦ same e
   | inr n ↦ other n (elim o [ inl f ↦ inl (sym (put-other w.units.phase u end p n) ∙ f) | inr f ↦ inr (sym (put-other w.units.phase u end p n) ∙ f) ])
 ]
 
-not-at-end : (w : World) (u : UnitNo) (end : Phase) (p : UnitNo) → (end ≡ Finished → ⊥) → (end ≡ Ended → ⊥) → p ≡ u → (put w.units.phase u end p ≡ Finished) ⊎ (put w.units.phase u end p ≡ Ended) → ⊥
+not-at-end : (w : CoreState) (u : UnitNo) (end : Phase) (p : UnitNo) → (end ≡ Finished → ⊥) → (end ≡ Ended → ⊥) → p ≡ u → (put w.units.phase u end p ≡ Finished) ⊎ (put w.units.phase u end p ≡ Ended) → ⊥
 not-at-end w u end p n m e o = elim o [ inl f ↦ n (sym (put-is w.units.phase u end p e) ∙ f) | inr f ↦ m (sym (put-is w.units.phase u end p e) ∙ f) ]
 
-answered-now : (w : World) (u : UnitNo) (answers : List Outcome) (p : UnitNo) → p ≡ u → answered_by w (w.units.kids u) answers ≡ true → answered_by w (w.units.kids p) (put w.manager.answers u answers p) ≡ true
+answered-now : (w : CoreState) (u : UnitNo) (answers : List Outcome) (p : UnitNo) → p ≡ u → answered_by w (w.units.kids u) answers ≡ true → answered_by w (w.units.kids p) (put w.manager.answers u answers p) ≡ true
 answered-now w u answers p z e = (λ i. answered_by w (w.units.kids (z i)) (put-is w.manager.answers u answers p z i)) ∙ e
 
-pub answered-change : (opening : GrainId → List Value) (w : World) (e : CoreEvent) (w' : World) → Change w e w' → applies w e ≡ true → Kept opening w → AnswersAreOutcomes w → AnswersAreOutcomes w'
+pub answered-change : (opening : GrainId → List Value) (w : CoreState) (e : CoreEvent) (w' : CoreState) → Change w e w' → applies w e ≡ true → Kept opening w → AnswersAreOutcomes w → AnswersAreOutcomes w'
 answered-change opening w e w' c a k s = answered-from w w' (grows-change opening w e w' c a k) s (from opening w e w' c a k s)
   where
-    from : (opening : GrainId → List Value) (w : World) (e : CoreEvent) (w' : World) → Change w e w' → applies w e ≡ true → Kept opening w → AnswersAreOutcomes w →
+    from : (opening : GrainId → List Value) (w : CoreState) (e : CoreEvent) (w' : CoreState) → Change w e w' → applies w e ≡ true → Kept opening w → AnswersAreOutcomes w →
         (p : UnitNo) → IsAtEnd w' p → IsAtEnd w p ⊎ (answered_by w (w'.units.kids p) (w'.manager.answers p) ≡ true)
     from opening w e w' (bad line why q) a k s = λ p o. inl o
     from opening w e w' (begin origin call plain c) a k s = λ p o. at-end-put w (new_unit w) Running p (IsAtEnd w p ⊎ (answered_by w (kids_with w.units.kids origin (new_unit w) p) (w.manager.answers p) ≡ true)) (λ z. absurd (not-at-end w (new_unit w) Running p (λ y. cc) (λ y. cc) z o)) (λ z q. inl q) o
@@ -236,18 +236,18 @@ answered-change opening w e w' c a k s = answered-from w w' (grows-change openin
     from opening w e w' (want u g running free fresh) a k s = λ p o. inl o
     from opening w e w' (load g u state gone wanted) a k s = λ p o. inl o
 
-pub answered-step : (opening : GrainId → List Value) (w : World) (e : CoreEvent) → Kept opening w → AnswersAreOutcomes w → AnswersAreOutcomes (step w e)
+pub answered-step : (opening : GrainId → List Value) (w : CoreState) (e : CoreEvent) → Kept opening w → AnswersAreOutcomes w → AnswersAreOutcomes (step w e)
 answered-step opening w e k s = cond_both (applies w e) (swept (does w e)) w AnswersAreOutcomes
     (λ a. swept-answered (does w e) (answered-change opening w e (does w e) (decode w e (and_parts (is_allowed w e) (can w e) a).1) a k s))
     (λ a. s)
   where
-    swept-answered : (w : World) → AnswersAreOutcomes w → AnswersAreOutcomes (swept w)
+    swept-answered : (w : CoreState) → AnswersAreOutcomes w → AnswersAreOutcomes (swept w)
     swept-answered w s = go w.cells.capacity
       where
         go : (c : Option ℕ) → AnswersAreOutcomes (swept_by w c)
         go None = s
         go (Some m) = s
 
-pub answered-run : (opening : GrainId → List Value) (es : List CoreEvent) (w : World) → AllLoadsTrue opening w es → Kept opening w → AnswersAreOutcomes w → AnswersAreOutcomes (run w es)
+pub answered-run : (opening : GrainId → List Value) (es : List CoreEvent) (w : CoreState) → AllLoadsTrue opening w es → Kept opening w → AnswersAreOutcomes w → AnswersAreOutcomes (run w es)
 answered-run opening [] w l k s = s
 answered-run opening (e ∷ es) w l k s = answered-run opening es (step w e) l.1 (kept-step opening w e l.0 k) (answered-step opening w e k s)

@@ -2,7 +2,7 @@
 use Rattle.std.proofs.Common.{◌≡◌, ℕ, ◌+◌, ◌<◌, ◌≤◌, List, [], ◌∷◌, length, Bool, true, false, ◌⊎◌, inl, inr, refl, sym, ap, ◌∙◌, subst, arith, Option, Some, None}
 use Rattle.std.proofs.lemmas.Bool.{cases_lt}
 use Rattle.cell_model.specs.Locks.{is_update}
-use Rattle.core_model.specs.World.{UnitNo, GrainId, Member, Value, Finished, Committed, Version, top, Hold, Effect, Batch, World}
+use Rattle.core_model.specs.CoreState.{UnitNo, GrainId, Member, Value, Finished, Committed, Version, top, Hold, Effect, Batch, CoreState}
 use Rattle.core_model.specs.Tests.{is_good, written}
 use Rattle.core_model.specs.Dead.{Dead}
 use Rattle.core_model.specs.Chains.{Chain, Wrote, IsBottom, IsLink}
@@ -20,7 +20,7 @@ use Rattle.core_model.proofs.Played.{Valid}
 use Rattle.core_model.proofs.Ends.{kept-begins, kept-ends, valid-ends, split-ends}
 
 -- A released writer that isn't dead is in the stack, or stands before the bottom's unit.
-pub in_stack_or_below : (opening : GrainId → List Value) (n : ℕ) (w : World) → Inv opening n w →
+pub in_stack_or_below : (opening : GrainId → List Value) (n : ℕ) (w : CoreState) → Inv opening n w →
     (u : UnitNo) (g : GrainId) → w.units.phase u ≡ Finished → Wrote w.manager.writes u g → ((h : Hold) → Member h (w.cells.holds g) → h.unit ≡ u → is_update h.mode ≡ true → ⊥) →
     Dead w.manager.verdict w.units.reads u ⊎ (((x : Version) × Member x (w.cells.stack g) × (x.unit ≡ u)) ⊎ (w.manager.place u < w.manager.place (bottom (w.cells.stack g)).unit))
 in_stack_or_below opening n w i u g f wr free =
@@ -52,7 +52,7 @@ in_stack_or_below opening n w i u g f wr free =
     ]
 
 -- the stack of a grain out of memory is its last committed version
-pub last-version : (opening : GrainId → List Value) (n : ℕ) (w : World) → Inv opening n w → (g : GrainId) → w.cells.here g ≡ false → (x : Version) × (w.cells.stack g ≡ x ∷ []) × IsLastVersion opening w g x.unit x.state
+pub last-version : (opening : GrainId → List Value) (n : ℕ) (w : CoreState) → Inv opening n w → (g : GrainId) → w.cells.here g ≡ false → (x : Version) × (w.cells.stack g ≡ x ∷ []) × IsLastVersion opening w g x.unit x.state
 last-version opening n w i g h =
     let t = i.away g h in
     (t.1.0, t.1.1, go t.0 t.1.0 t.1.1 (subst (Chain (IsBottom opening w.units.phase w.manager.writes w.manager.verdict g) (IsLink w.units.phase w.manager.writes w.units.reads g)) t.1.1 (i.chain g)))
@@ -76,7 +76,7 @@ last-version opening n w i g h =
     go none x is (inr a) = inr (record { commits = a.0; wrote = a.1.1; last = below none x is })
 
 -- a dependency of a finished unit is finished before it
-pub depends-earlier : (opening : GrainId → List Value) (n : ℕ) (w : World) → Inv opening n w → Depends w → (u d : UnitNo) → w.units.phase u ≡ Finished → Member d (w.units.deps u) → (w.units.phase d ≡ Finished) × (w.manager.place d < w.manager.place u)
+pub depends-earlier : (opening : GrainId → List Value) (n : ℕ) (w : CoreState) → Inv opening n w → Depends w → (u d : UnitNo) → w.units.phase u ≡ Finished → Member d (w.units.deps u) → (w.units.phase d ≡ Finished) × (w.manager.place d < w.manager.place u)
 depends-earlier opening n w i s u d f m =
     let t = s.1 u d m in
     elim (i.source u t.0 t.1) [
@@ -84,7 +84,7 @@ depends-earlier opening n w i s u d f m =
       | inr o ↦ subst (λ z. (w.units.phase z ≡ Finished) × (w.manager.place z < w.manager.place u)) t.2 (o.0, o.2 f)
     ]
 
-pub consistent : (plays : Effect → Bool) (opening : GrainId → List Value) (w : World) → Kept opening w → Valid plays w → Split w → Gone w → Depends w → Batched w → IsConsistent plays opening w
+pub consistent : (plays : Effect → Bool) (opening : GrainId → List Value) (w : CoreState) → Kept opening w → Valid plays w → Split w → Gone w → Depends w → Batched w → IsConsistent plays opening w
 consistent plays opening w k v s gone depends batched = record {
   closed_batches_are_a_prefix = record {
     order = record { listed = k.0.listed; placed = k.0.placed };

@@ -12,14 +12,14 @@ use Rattle.cell_model.specs.declared.locks.Ask.TheVariants.{Free, Held, MustWait
 use Rattle.cell_model.specs.Decisions.{is_commit}
 use Rattle.cell_model.proofs.Asking.{ask-free}
 use Rattle.core_model.specs.declared.questions.AskAnswer.TheVariants as answer
-use Rattle.core_model.specs.World.{UnitNo, GrainId, Member, same_unit, same_grain, Value, Call, Outcome, Origin, Settled, Running, Hold, Mode, Effect, Batch, Decision, World}
+use Rattle.core_model.specs.CoreState.{UnitNo, GrainId, Member, same_unit, same_grain, Value, Call, Outcome, Origin, Settled, Running, Hold, Mode, Effect, Batch, Decision, CoreState}
 use Rattle.core_model.specs.Tests.{any, all, is_running, is_over, is_final, written, ask, ask_lock, ask_doom, doomed_by, is_active, is_planned, is_vote_on, is_voted, is_wanted, is_empty}
 use Rattle.core_model.specs.Equality.{same_reads, same_outcome}
 use Rattle.core_model.specs.Changes.{spoiled_line, begun, restacked, cleaned, locked, raised, refusal, refused, refused_by, finished, ended, released, taken, voted, decisions_of, with_decisions, decided, on_batch, on_decided, on_decisions, sealed, spoiled, in_doubt, learned, loaded}
 use Rattle.core_model.specs.Events.{CoreEvent, Bad, Begin, Grant, Refuse, Finish, EndPlain, EndSnapshot, Release, Take, Vote, Decide, Sealed, NotSealed, Doubt, Learn, Emitted, Halt, Want, Load, is_free_answer, can_begin, is_of_call, holds_alone, batch_size, is_open, is_judged, can, does}
 use Rattle.core_model.proofs.Basics.{is_running-true, same_reads-true}
 
-pub data Change (w : World) : CoreEvent → World → Type 0 where
+pub data Change (w : CoreState) : CoreEvent → CoreState → Type 0 where
   bad : (line : ℕ) (why : BadRequest) → line ≡ w.units.lines + 1 → Change w (Bad line why) (spoiled_line w line why)
   begin : (origin : Origin) (call : Call) (plain : Bool) → can_begin w origin ≡ true → Change w (Begin origin call plain) (begun w origin call plain)
   lock : (u : UnitNo) (g : GrainId) (mode : Mode) → w.units.phase u ≡ Running → ((h : Hold) → Member h (w.cells.holds g) → conflicts u mode h ≡ false) →
@@ -71,11 +71,11 @@ is_judged-true n (Some b) e =
     let p = and_parts (b.number == n) (is_some b.decisions) e in
     (b, refl, eqb-true _ _ p.0, some-true b.decisions p.1)
 
-judged-is : (w : World) (f : Batch → List Decision → World) (b : Batch) (ds : List Decision) → w.manager.batch ≡ Some b → b.decisions ≡ Some ds → on_decided w f w.manager.batch ≡ f b ds
+judged-is : (w : CoreState) (f : Batch → List Decision → CoreState) (b : Batch) (ds : List Decision) → w.manager.batch ≡ Some b → b.decisions ≡ Some ds → on_decided w f w.manager.batch ≡ f b ds
 judged-is w f b ds e d = ap (on_decided w f) e ∙ ap (on_decisions w (f b)) d
 
 -- what the tests of a grant say
-pub ask-granted : (w : World) (u : UnitNo) (g : GrainId) (mode : Mode) → is_free_answer (ask w u g mode) ≡ true →
+pub ask-granted : (w : CoreState) (u : UnitNo) (g : GrainId) (mode : Mode) → is_free_answer (ask w u g mode) ≡ true →
     (is_active w u g ≡ true) × (doomed_by w u ≡ None) × (locks.ask (w.cells.holds g) u mode ≡ Free) × (w.cells.here g ≡ true)
 ask-granted w u g mode e = by_active (is_active w u g) refl e
   where
@@ -97,7 +97,7 @@ ask-granted w u g mode e = by_active (is_active w u g) refl e
     by_active false q t = cc
 
 -- what the tests of a refusal say
-pub ask-refused : (w : World) (u : UnitNo) (g : GrainId) (mode : Mode) (why : Settled) → refusal g (ask w u g mode) ≡ Some why →
+pub ask-refused : (w : CoreState) (u : UnitNo) (g : GrainId) (mode : Mode) (why : Settled) → refusal g (ask w u g mode) ≡ Some why →
     (is_active w u g ≡ true)
     × (((source : UnitNo) × (doomed_by w u ≡ Some source) × (why ≡ settled.Dependency source))
     ⊎ ((holder : UnitNo) × (doomed_by w u ≡ None) × (locks.ask (w.cells.holds g) u mode ≡ MustDie holder) × (why ≡ settled.Lock holder g)))
@@ -123,10 +123,10 @@ ask-refused w u g mode why e = by_active (is_active w u g) refl e
     by_active true q t = (q, by_doom (doomed_by w u) refl t)
     by_active false q t = cc
 
-active-running : (w : World) (u : UnitNo) (g : GrainId) → is_active w u g ≡ true → w.units.phase u ≡ Running
+active-running : (w : CoreState) (u : UnitNo) (g : GrainId) → is_active w u g ≡ true → w.units.phase u ≡ Running
 active-running w u g e = is_running-true _ (and_parts (is_running (w.units.phase u)) (nat_lt g.kind w.units.kinds) e).0
 
-pub decode : (w : World) (e : CoreEvent) → can w e ≡ true → Change w e (does w e)
+pub decode : (w : CoreState) (e : CoreEvent) → can w e ≡ true → Change w e (does w e)
 decode w (Bad line why) c = bad line why (eqb-true _ _ c)
 decode w (Begin origin call plain) c = begin origin call plain c
 decode w (Grant u g mode) c =

@@ -2,7 +2,7 @@
 use Rattle.std.proofs.Common.{◌≡◌, ℕ, List, [], ◌∷◌, ◌++◌, true, ◌⊎◌, inl, inr, sym, ◌∙◌, subst, Option, Some, None}
 use Rattle.std.proofs.lemmas.Bool.{and_parts, or_parts, cond_both}
 use Rattle.cell_model.proofs.Units.{same_unit-false, Member-left, Member-last}
-use Rattle.core_model.specs.World.{UnitNo, GrainId, nobody, same_unit, put, Member, Value, Read, top, Mode, World}
+use Rattle.core_model.specs.CoreState.{UnitNo, GrainId, nobody, same_unit, put, Member, Value, Read, top, Mode, CoreState}
 use Rattle.core_model.specs.Tests.{is_committed}
 use Rattle.core_model.proofs.Puts.{put-at, put-from, put-is}
 use Rattle.cell_model.specs.Sources.{with_source, IsAscending}
@@ -13,12 +13,12 @@ use Rattle.core_model.specs.Serial.{IsTrueLoad, AllLoadsTrue}
 use Rattle.core_model.proofs.Decoded.{Change, bad, begin, lock, raise, refuse, finish, end_plain, end_snapshot, release, take_batch, vote, decide_some, decide_none, seal_batch, spoil_batch, doubt_batch, learn, emit, halt_run, want, load, decode}
 use Rattle.core_model.proofs.Kept.{Kept, kept-step}
 
-abbrev pub Depends : World → Type 0
+abbrev pub Depends : CoreState → Type 0
 Depends w =
     ((u : UnitNo) → IsAscending (w.units.deps u))
     × ((u d : UnitNo) → Member d (w.units.deps u) → (r : Read) × Member r (w.units.reads u) × (r.source ≡ d) × (d ≡ nobody → ⊥))
 
-depends-locked : (w : World) (u : UnitNo) (g : GrainId) (mode : Mode) → Depends w → Depends (locked w u g mode)
+depends-locked : (w : CoreState) (u : UnitNo) (g : GrainId) (mode : Mode) → Depends w → Depends (locked w u g mode)
 depends-locked w u g mode s = (
   (λ x. put-at w.units.deps u new_deps IsAscending x
       (λ e. cond_both (is_sure w source) (w.units.deps u) (with_source (w.units.deps u) source) IsAscending (λ q. s.0 u) (λ q. with-ascending (w.units.deps u) source (s.0 u)))
@@ -54,7 +54,7 @@ depends-locked w u g mode s = (
     more : (x d : UnitNo) → (r : Read) × Member r (w.units.reads x) × (r.source ≡ d) × (d ≡ nobody → ⊥) → (r : Read) × Member r (put w.units.reads u reads_u x) × (r.source ≡ d) × (d ≡ nobody → ⊥)
     more x d t = (t.0, put-at w.units.reads u reads_u (Member t.0) x (λ e. Member-left t.0 (w.units.reads u) (new ∷ []) (subst (λ z. Member t.0 (w.units.reads z)) e t.1)) (λ e. t.1), t.2, t.3)
 
-pub depends-change : (opening : GrainId → List Value) (w : World) (e : CoreEvent) (w' : World) → Change w e w' → applies w e ≡ true → Kept opening w → Depends w → Depends w'
+pub depends-change : (opening : GrainId → List Value) (w : CoreState) (e : CoreEvent) (w' : CoreState) → Change w e w' → applies w e ≡ true → Kept opening w → Depends w → Depends w'
 depends-change opening w e w' (bad line why q) a k s = s
 depends-change opening w e w' (begin origin call plain c) a k s = s
 depends-change opening w e w' (lock u g mode running free first here) a k s = depends-locked (restacked w g (cleaned w g)) u g mode s
@@ -77,19 +77,19 @@ depends-change opening w e w' (halt_run q) a k s = s
 depends-change opening w e w' (want u g running free fresh) a k s = s
 depends-change opening w e w' (load g u state gone wanted) a k s = s
 
-swept-depends : (w : World) → Depends w → Depends (swept w)
+swept-depends : (w : CoreState) → Depends w → Depends (swept w)
 swept-depends w s = go w.cells.capacity
   where
     go : (c : Option ℕ) → Depends (swept_by w c)
     go None = s
     go (Some m) = s
 
-pub depends-step : (opening : GrainId → List Value) (w : World) (e : CoreEvent) → IsTrueLoad opening w e → Kept opening w → Depends w → Depends (step w e)
+pub depends-step : (opening : GrainId → List Value) (w : CoreState) (e : CoreEvent) → IsTrueLoad opening w e → Kept opening w → Depends w → Depends (step w e)
 depends-step opening w e t k s = cond_both (applies w e) (swept (does w e)) w Depends
     (λ a. (let c = decode w e (and_parts (is_allowed w e) (can w e) a).1 in
     swept-depends (does w e) (depends-change opening w e (does w e) c a k s)))
     (λ a. s)
 
-pub depends-run : (opening : GrainId → List Value) (es : List CoreEvent) (w : World) → AllLoadsTrue opening w es → Kept opening w → Depends w → Depends (run w es)
+pub depends-run : (opening : GrainId → List Value) (es : List CoreEvent) (w : CoreState) → AllLoadsTrue opening w es → Kept opening w → Depends w → Depends (run w es)
 depends-run opening [] w l k s = s
 depends-run opening (e ∷ es) w l k s = depends-run opening es (step w e) l.1 (kept-step opening w e l.0 k) (depends-step opening w e l.0 k s)

@@ -1,6 +1,6 @@
 -- What holds after a legal run.
 use Rattle.std.proofs.Common.{◌++◌, Bool, subst, arith}
-use Rattle.core_model.specs.World.{Effect}
+use Rattle.core_model.specs.CoreState.{Effect}
 use Rattle.core_model.specs.Legal.{Run, IsLegal, begins, ends}
 use Rattle.core_model.specs.Serial.{IsSerial, committed, chosen}
 use Rattle.core_model.proofs.Kept.{Kept, kept-start, kept-run}

@@ -1,6 +1,6 @@
 -- The computed runs come to what is said of them.
 use Rattle.std.proofs.Common.{refl}
-use Rattle.core_model.specs.World.{put, put_grain}
+use Rattle.core_model.specs.CoreState.{put, put_grain}
 use Rattle.core_model.specs.ComputedRuns.{RunsAreComputed}
 
 pub computed : RunsAreComputed

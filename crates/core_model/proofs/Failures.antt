@@ -3,7 +3,7 @@ use Rattle.std.proofs.Common.{◌≡◌, ◌<◌, ◌≤◌, List, [], ◌∷◌
 use Rattle.std.specs.Prelude.{◌==◌, if◌then◌else◌}
 use Rattle.std.proofs.lemmas.Bool.{cases_Bool, or_cases, or_parts, and_parts, and_cases, ltb-true, ltb-false, eqb-false, cond-true, cond-false, cases_order}
 use Rattle.cell_model.proofs.Units.{same_grain-true, same_grain-is, filter-member, filter-stays}
-use Rattle.core_model.specs.World.{GrainId, Member, Value, Write, same_grain}
+use Rattle.core_model.specs.CoreState.{GrainId, Member, Value, Write, same_grain}
 use Rattle.core_model.specs.Tests.{written, is_before, first_of_two, first_grain, has_failed, failed_in}
 
 pub before-true : (a b : GrainId) → is_before a b ≡ true → (a.kind < b.kind) ⊎ ((a.kind ≡ b.kind) × (a.key < b.key))

@@ -1,9 +1,9 @@
 -- The further laws after a legal run.
 use Rattle.std.proofs.Common.{◌≡◌, ◌≤◌, List, [], ◌∷◌, ◌++◌, Bool, true, false, inl, inr, refl, sym, ap, ◌∙◌, subst, arith, Some}
 use Rattle.std.proofs.lemmas.Bool.{cases_lt}
-use Rattle.core_model.specs.World.{UnitNo, GrainId, Value, Finished, Open, Committed, Aborted, Effect, World}
+use Rattle.core_model.specs.CoreState.{UnitNo, GrainId, Value, Finished, Open, Committed, Aborted, Effect, CoreState}
 use Rattle.core_model.specs.Tests.{is_final}
-use Rattle.core_model.specs.World.{Outcome}
+use Rattle.core_model.specs.CoreState.{Outcome}
 use Rattle.core_model.specs.Tests.{outcome_of}
 use Rattle.core_model.specs.Events.{CoreEvent, run, step, batch_size}
 use Rattle.core_model.specs.Serial.{AllPlay, AllLoadsTrue}
@@ -49,11 +49,11 @@ no-lock-ends plays r l =
     (unheld-run r.opening r.events (begins r) l.loads (kept-begins plays r l) (λ u f. cc))
     (committed-closed plays r l)
 
-pub run-append : (w : World) (es more : List CoreEvent) → run w (es ++ more) ≡ run (run w es) more
+pub run-append : (w : CoreState) (es more : List CoreEvent) → run w (es ++ more) ≡ run (run w es) more
 run-append w [] more = refl
 run-append w (e ∷ es) more = run-append (step w e) es more
 
-pub loads-append : (opening : GrainId → List Value) (w : World) (es more : List CoreEvent) → AllLoadsTrue opening w (es ++ more) → AllLoadsTrue opening w es × AllLoadsTrue opening (run w es) more
+pub loads-append : (opening : GrainId → List Value) (w : CoreState) (es more : List CoreEvent) → AllLoadsTrue opening w (es ++ more) → AllLoadsTrue opening w es × AllLoadsTrue opening (run w es) more
 loads-append opening w [] more l = (tt, l)
 loads-append opening w (e ∷ es) more l = (let t = loads-append opening (step w e) es more l.1 in ((l.0, t.0), t.1))
 

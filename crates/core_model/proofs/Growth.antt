@@ -2,12 +2,12 @@
 use Rattle.std.proofs.Common.{◌≡◌, ℕ, List, [], ◌∷◌, ◌++◌, Bool, true, false, inr, refl, sym, ap, ◌∙◌, subst, Option, Some, None}
 use Rattle.std.proofs.lemmas.Bool.{and_parts, cond_both}
 use Rattle.cell_model.proofs.Units.{Member-left}
-use Rattle.core_model.specs.World.{UnitNo, GrainId, put_grain, Member, Value, Origin, Phase, Unborn, Running, Finished, Refused, Ended, Verdict, Open, Chosen, Condemned, Committed, Aborted, Read, top, Batch, Decision, World}
+use Rattle.core_model.specs.CoreState.{UnitNo, GrainId, put_grain, Member, Value, Origin, Phase, Unborn, Running, Finished, Refused, Ended, Verdict, Open, Chosen, Condemned, Committed, Aborted, Read, top, Batch, Decision, CoreState}
 use Rattle.core_model.specs.Tests.{is_bad, is_final}
 use Rattle.core_model.specs.Dead.{Dead}
 use Rattle.core_model.proofs.Puts.{put-at, put-other}
 use Rattle.core_model.proofs.Basics.{Dead-more}
-use Rattle.core_model.specs.World.{Outcome, Call, Units}
+use Rattle.core_model.specs.CoreState.{Outcome, Call, Units}
 use Rattle.core_model.specs.Tests.{is_running}
 use Rattle.core_model.proofs.Basics.{is_running-true}
 use Rattle.std.proofs.Common.{le_refl}
@@ -22,17 +22,17 @@ use Rattle.core_model.proofs.Orders.{judged-other}
 use Rattle.core_model.proofs.Kept.{Kept, kept-step, inv-open, members-open}
 
 -- Bad verdicts stay bad, final ones stay, reads stay, and a unit that is over stays as it is.
-abbrev pub Grows : World → World → Type 0
+abbrev pub Grows : CoreState → CoreState → Type 0
 Grows w w' =
     ((x : UnitNo) → is_bad (w.manager.verdict x) ≡ true → is_bad (w'.manager.verdict x) ≡ true)
     × ((x : UnitNo) → is_final (w.manager.verdict x) ≡ true → w'.manager.verdict x ≡ w.manager.verdict x)
     × ((x : UnitNo) (r : Read) → Member r (w.units.reads x) → Member r (w'.units.reads x))
     × ((x : UnitNo) → is_over (w.units.phase x) ≡ true → (w'.units.phase x ≡ w.units.phase x) × (w'.manager.result x ≡ w.manager.result x) × (w'.manager.answers x ≡ w.manager.answers x) × (w'.units.kids x ≡ w.units.kids x))
 
-pub grows-same : (w : World) → Grows w w
+pub grows-same : (w : CoreState) → Grows w w
 grows-same w = ((λ x e. e), (λ x e. refl), (λ x r m. m), (λ x o. (refl, refl, refl, refl)))
 
-pub grows-more : (a b c : World) → Grows a b → Grows b c → Grows a c
+pub grows-more : (a b c : CoreState) → Grows a b → Grows b c → Grows a c
 grows-more a b c g h = (
   (λ x e. h.0 x (g.0 x e)),
   (λ x e. h.1 x (ap is_final (g.1 x e) ∙ e) ∙ g.1 x e),
@@ -54,8 +54,8 @@ open-final : (v : Verdict) → v ≡ Open → is_final v ≡ true → ⊥
 open-final v q b = (let t : false ≡ true = sym (ap is_final q) ∙ b in cc)
 
 -- a change of verdicts in one way
-grows-mapped : (w : World) (f : Verdict → Verdict) → ((v : Verdict) → is_bad v ≡ true → is_bad (f v) ≡ true) → ((v : Verdict) → is_final v ≡ true → f v ≡ v) →
-    (w' : World) → w'.manager.verdict ≡ (λ u. f (w.manager.verdict u)) → w'.units ≡ w.units → w'.manager.result ≡ w.manager.result → w'.manager.answers ≡ w.manager.answers → Grows w w'
+grows-mapped : (w : CoreState) (f : Verdict → Verdict) → ((v : Verdict) → is_bad v ≡ true → is_bad (f v) ≡ true) → ((v : Verdict) → is_final v ≡ true → f v ≡ v) →
+    (w' : CoreState) → w'.manager.verdict ≡ (λ u. f (w.manager.verdict u)) → w'.units ≡ w.units → w'.manager.result ≡ w.manager.result → w'.manager.answers ≡ w.manager.answers → Grows w w'
 grows-mapped w f bad' final' w' v u r a = (
   (λ x e. ap (λ g. is_bad (g x)) v ∙ bad' (w.manager.verdict x) e),
   (λ x e. ap (λ g. g x) v ∙ final' (w.manager.verdict x) e),
@@ -105,7 +105,7 @@ leave-final Condemned e = cc
 leave-final Committed e = refl
 leave-final Aborted e = refl
 
-pub grows-decided : (opening : GrainId → List Value) (w : World) (b : Batch) (ds : List Decision) → Kept opening w → w.manager.batch ≡ Some b → b.decisions ≡ None → Grows w (with_decisions w b ds)
+pub grows-decided : (opening : GrainId → List Value) (w : CoreState) (b : Batch) (ds : List Decision) → Kept opening w → w.manager.batch ≡ Some b → b.decisions ≡ None → Grows w (with_decisions w b ds)
 grows-decided opening w b ds k q d = (
   (λ x e. ap is_bad (other x (λ m. open-bad _ (is_open x m) e)) ∙ e),
   (λ x e. other x (λ m. open-final _ (is_open x m) e)),
@@ -119,7 +119,7 @@ grows-decided opening w b ds k q d = (
     other : (x : UnitNo) → (Member x (members w b) → ⊥) → judged (members w b) ds w.manager.verdict x ≡ w.manager.verdict x
     other x n = judged-other (members w b) ds w.manager.verdict x n
 
-grows-ended : (w : World) (u : UnitNo) (answers : List Outcome) (result : Outcome) (at : Option ℕ) → w.units.phase u ≡ Running → Grows w (ended w u answers result at)
+grows-ended : (w : CoreState) (u : UnitNo) (answers : List Outcome) (result : Outcome) (at : Option ℕ) → w.units.phase u ≡ Running → Grows w (ended w u answers result at)
 grows-ended w u answers result at running = (
   (λ x e. e),
   (λ x e. refl),
@@ -128,7 +128,7 @@ grows-ended w u answers result at running = (
       (put-other w.units.phase u Ended x apart, put-other w.manager.result u result x apart, put-other w.manager.answers u answers x apart, refl))),
 )
 
-grows-begun : (opening : GrainId → List Value) (w : World) (origin : Origin) (call : Call) (plain : Bool) → Kept opening w → can_begin w origin ≡ true → Grows w (begun w origin call plain)
+grows-begun : (opening : GrainId → List Value) (w : CoreState) (origin : Origin) (call : Call) (plain : Bool) → Kept opening w → can_begin w origin ≡ true → Grows w (begun w origin call plain)
 grows-begun opening w origin call plain k c = (
   (λ x e. e),
   (λ x e. refl),
@@ -140,7 +140,7 @@ grows-begun opening w origin call plain k c = (
     kids (Line n) x c o = refl
     kids (Child p i d) x c o = put-other w.units.kids p _ x (λ q. running-over _ (ap w.units.phase q ∙ is_running-true _ (and_parts (is_running (w.units.phase p)) _ c).0) o)
 
-pub grows-change : (opening : GrainId → List Value) (w : World) (e : CoreEvent) (w' : World) → Change w e w' → applies w e ≡ true → Kept opening w → Grows w w'
+pub grows-change : (opening : GrainId → List Value) (w : CoreState) (e : CoreEvent) (w' : CoreState) → Change w e w' → applies w e ≡ true → Kept opening w → Grows w w'
 grows-change opening w e w' (bad line why q) a k = grows-same w
 grows-change opening w e w' (begin origin call plain c) a k = grows-begun opening w origin call plain k c
 grows-change opening w e w' (lock u g mode running free first here) a k = (
@@ -181,28 +181,28 @@ grows-change opening w e w' (halt_run q) a k = grows-same w
 grows-change opening w e w' (want u g running free fresh) a k = grows-same w
 grows-change opening w e w' (load g u state gone wanted) a k = grows-same w
 
-pub grows-swept : (w w' : World) → Grows w w' → Grows w (swept w')
+pub grows-swept : (w w' : CoreState) → Grows w w' → Grows w (swept w')
 grows-swept w w' g = go w'.cells.capacity
   where
     go : (c : Option ℕ) → Grows w (swept_by w' c)
     go None = g
     go (Some m) = g
 
-pub grows-step : (opening : GrainId → List Value) (w : World) (e : CoreEvent) → Kept opening w → Grows w (step w e)
+pub grows-step : (opening : GrainId → List Value) (w : CoreState) (e : CoreEvent) → Kept opening w → Grows w (step w e)
 grows-step opening w e k = cond_both (applies w e) (swept (does w e)) w (Grows w)
     (λ a. grows-swept w (does w e) (grows-change opening w e (does w e) (decode w e (and_parts (is_allowed w e) (can w e) a).1) a k))
     (λ a. grows-same w)
 
-pub grows-run : (opening : GrainId → List Value) (es : List CoreEvent) (w : World) → AllLoadsTrue opening w es → Kept opening w → Grows w (run w es)
+pub grows-run : (opening : GrainId → List Value) (es : List CoreEvent) (w : CoreState) → AllLoadsTrue opening w es → Kept opening w → Grows w (run w es)
 grows-run opening [] w l k = grows-same w
 grows-run opening (e ∷ es) w l k = grows-more w (step w e) (run (step w e) es) (grows-step opening w e k) (grows-run opening es (step w e) l.1 (kept-step opening w e l.0 k))
 
 -- the dead stay dead
-pub grows-dead : (w w' : World) → Grows w w' → (u : UnitNo) → Dead w.manager.verdict w.units.reads u → Dead w'.manager.verdict w'.units.reads u
+pub grows-dead : (w w' : CoreState) → Grows w w' → (u : UnitNo) → Dead w.manager.verdict w.units.reads u → Dead w'.manager.verdict w'.units.reads u
 grows-dead w w' g = Dead-more w.manager.verdict w'.manager.verdict w.units.reads w'.units.reads g.0 g.2
 
 -- what is decided of a unit stays
-pub grows-outcome : (w w' : World) → Grows w w' → (u : UnitNo) (o : Outcome) → outcome_of w u ≡ Some o → outcome_of w' u ≡ Some o
+pub grows-outcome : (w w' : CoreState) → Grows w w' → (u : UnitNo) (o : Outcome) → outcome_of w u ≡ Some o → outcome_of w' u ≡ Some o
 grows-outcome w w' g u o e = go (w.units.phase u) refl (w.manager.verdict u) refl
   where
     over : (p : Phase) → w.units.phase u ≡ p → is_over p ≡ true → (w'.units.phase u ≡ p) × (w'.manager.result u ≡ w.manager.result u)

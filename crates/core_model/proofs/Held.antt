@@ -3,7 +3,7 @@ use Rattle.std.proofs.Common.{◌≡◌, ℕ, ◌+◌, ◌<◌, List, [], ◌∷
 use Rattle.std.proofs.lemmas.Bool.{and_parts, cond_both}
 use Rattle.cell_model.specs.Locks.{is_update, is_hold_of, holds_lock, dropped}
 use Rattle.cell_model.proofs.Units.{same_unit-true, same_unit-false, cases_unit, any-true, any-false, all-true, Member-append, Member-left, filter-member}
-use Rattle.core_model.specs.World.{UnitNo, GrainId, put, put_grain, Member, Value, Running, Verdict, Aborted, Read, Write, top, Hold, Mode, Reading, Effect, World}
+use Rattle.core_model.specs.CoreState.{UnitNo, GrainId, put, put_grain, Member, Value, Running, Verdict, Aborted, Read, Write, top, Hold, Mode, Reading, Effect, CoreState}
 use Rattle.core_model.specs.Tests.{any, all, is_final, written}
 use Rattle.core_model.specs.Chains.{Wrote}
 use Rattle.core_model.proofs.Puts.{put-at, put-is, put-other, grain-at, grain-other}
@@ -28,7 +28,7 @@ use Rattle.core_model.proofs.Loadless.{LoadlessAt}
 use Rattle.core_model.proofs.LoadlessRuns.{LoadlessKept, loadless-change, loadless-begins}
 use Rattle.core_model.proofs.Everywhere.{run-keeps}
 
-abbrev pub Tidy : World → Type 0
+abbrev pub Tidy : CoreState → Type 0
 Tidy w =
     ((g : GrainId) → DifferInUnit (λ (h : Hold). h.unit) (w.cells.holds g))
     × ((g : GrainId) → DifferInUnit (λ (s : Reading). s.unit) (w.cells.readings g))
@@ -61,14 +61,14 @@ differ-reading rs u source d = cond_both (any (is_reading_of u) rs) rs (rs ++ re
     (λ e. d)
     (λ e. differ-last (λ (s : Reading). s.unit) rs (record { unit = u; source = source }) d (λ y m. same_unit-false y.unit u (any-false (is_reading_of u) rs e y m)))
 
-tidy-held : (w : World) (u : UnitNo) (g : GrainId) (mode : Mode) → Tidy w → ((k : GrainId) → DifferInUnit (λ (h : Hold). h.unit) (put_grain w.cells.holds g (granted (w.cells.holds g) u mode) k))
+tidy-held : (w : CoreState) (u : UnitNo) (g : GrainId) (mode : Mode) → Tidy w → ((k : GrainId) → DifferInUnit (λ (h : Hold). h.unit) (put_grain w.cells.holds g (granted (w.cells.holds g) u mode) k))
     × ((k : GrainId) → DifferInUnit (λ (s : Reading). s.unit) (put_grain w.cells.readings g (with_reading (w.cells.readings g) u (top (w.cells.stack g)).unit) k))
 tidy-held w u g mode s = (
   (λ k. grain-at w.cells.holds g (granted (w.cells.holds g) u mode) (DifferInUnit (λ (h : Hold). h.unit)) k (λ e. differ-granted (w.cells.holds g) u mode (s.0 g)) (λ e. s.0 k)),
   (λ k. grain-at w.cells.readings g (with_reading (w.cells.readings g) u (top (w.cells.stack g)).unit) (DifferInUnit (λ (s : Reading). s.unit)) k (λ e. differ-reading (w.cells.readings g) u (top (w.cells.stack g)).unit (s.1 g)) (λ e. s.1 k)),
 )
 
-tidy-locked : (n : ℕ) (w : World) (u : UnitNo) (g : GrainId) (mode : Mode) → LoadlessAt n w → w.units.phase u ≡ Running → holds_lock u (w.cells.holds g) ≡ false → Tidy w → Tidy (locked w u g mode)
+tidy-locked : (n : ℕ) (w : CoreState) (u : UnitNo) (g : GrainId) (mode : Mode) → LoadlessAt n w → w.units.phase u ≡ Running → holds_lock u (w.cells.holds g) ≡ false → Tidy w → Tidy (locked w u g mode)
 tidy-locked n w u g mode i running first s = (
   (tidy-held w u g mode s).0,
   (tidy-held w u g mode s).1,
@@ -103,7 +103,7 @@ tidy-locked n w u g mode i running first s = (
         let h = i.keeps u r running m in
         same_unit-false h.0.unit u (any-false (is_hold_of u) (w.cells.holds g) first h.0 (subst (λ j. Member h.0 (w.cells.holds j)) q h.1)) h.2
 
-tidy-released : (w : World) (u : UnitNo) (g : GrainId) → Tidy w → Tidy (released w u g)
+tidy-released : (w : CoreState) (u : UnitNo) (g : GrainId) → Tidy w → Tidy (released w u g)
 tidy-released w u g s = (
   (λ k. grain-at w.cells.holds g (dropped (w.cells.holds g) u) (DifferInUnit (λ (h : Hold). h.unit)) k (λ e. differ-filter (λ (h : Hold). h.unit) (λ h. not (is_hold_of u h)) (w.cells.holds g) (s.0 g)) (λ e. s.0 k)),
   (λ k. grain-at w.cells.readings g (without_reading (w.cells.readings g) u) (DifferInUnit (λ (s : Reading). s.unit)) k (λ e. differ-filter (λ (s : Reading). s.unit) (λ r. not (is_reading_of u r)) (w.cells.readings g) (s.1 g)) (λ e. s.1 k)),
@@ -111,7 +111,7 @@ tidy-released w u g s = (
   s.3,
 )
 
-tidy-finished : (n : ℕ) (w : World) (u : UnitNo) (effect : Effect) → LoadlessAt n w → all (λ x. holds_alone w u x.0) effect.writes ≡ true → Tidy w → Tidy (finished w u effect)
+tidy-finished : (n : ℕ) (w : CoreState) (u : UnitNo) (effect : Effect) → LoadlessAt n w → all (λ x. holds_alone w u x.0) effect.writes ≡ true → Tidy w → Tidy (finished w u effect)
 tidy-finished n w u effect i alone s = (
   s.0,
   s.1,
@@ -127,7 +127,7 @@ tidy-finished n w u effect i alone s = (
   ]),
 )
 
-pub tidy-change : (w : World) (e : CoreEvent) (w' : World) → Change w e w' → applies w e ≡ true → LoadlessAt (w.manager.closed + decided_size w.manager.batch) w → Tidy w → Tidy w'
+pub tidy-change : (w : CoreState) (e : CoreEvent) (w' : CoreState) → Change w e w' → applies w e ≡ true → LoadlessAt (w.manager.closed + decided_size w.manager.batch) w → Tidy w → Tidy w'
 tidy-change w e w' (bad line why q) a k s = s
 tidy-change w e w' (begin origin call plain c) a k s = s
 tidy-change w e w' (lock u g mode running free first here) a k s = tidy-locked _ (restacked w g (cleaned w g)) u g mode k running first s
@@ -150,14 +150,14 @@ tidy-change w e w' (halt_run q) a k s = s
 tidy-change w e w' (want u g running free fresh) a k s = s
 tidy-change w e w' (load g u state gone wanted) a k s = s
 
-swept-tidy : (w : World) → Tidy w → Tidy (swept w)
+swept-tidy : (w : CoreState) → Tidy w → Tidy (swept w)
 swept-tidy w s = go w.cells.capacity
   where
     go : (c : Option ℕ) → Tidy (swept_by w c)
     go None = s
     go (Some m) = s
 
-pub tidy-step : (opening : GrainId → List Value) (w : World) (e : CoreEvent) → IsTrueLoad opening w e → Kept opening w → Tidy w → Tidy (step w e)
+pub tidy-step : (opening : GrainId → List Value) (w : CoreState) (e : CoreEvent) → IsTrueLoad opening w e → Kept opening w → Tidy w → Tidy (step w e)
 tidy-step opening w e t k s = cond_both (applies w e) (swept (does w e)) w Tidy
     (λ a. (let c = decode w e (and_parts (is_allowed w e) (can w e) a).1 in
     swept-tidy (does w e) (tidy-change w e (does w e) c a (loadless-of opening _ w k.0) s)))
@@ -169,10 +169,10 @@ tidy-ends r above = (run-keeps (λ w. LoadlessKept w × Tidy w) (λ w e w' c a t
     (loadless-begins r above, ((λ g. tt), (λ g. tt), (λ u r s m. absurd m), (λ u g wr. (let z = wr.1 in cc))))).1
 
 -- what a grain has learnt
-abbrev pub Knows : World → Type 0
+abbrev pub Knows : CoreState → Type 0
 Knows w = (u : UnitNo) (g : GrainId) → w.cells.learnt u g ≡ true → (is_final (w.manager.verdict u) ≡ true) × Wrote w.manager.writes u g
 
-knows-from : (w : World) (verdict : UnitNo → Verdict) → ((x : UnitNo) → is_final (w.manager.verdict x) ≡ true → verdict x ≡ w.manager.verdict x) → Knows w →
+knows-from : (w : CoreState) (verdict : UnitNo → Verdict) → ((x : UnitNo) → is_final (w.manager.verdict x) ≡ true → verdict x ≡ w.manager.verdict x) → Knows w →
     (u : UnitNo) (g : GrainId) → w.cells.learnt u g ≡ true → (is_final (verdict u) ≡ true) × Wrote w.manager.writes u g
 knows-from w verdict same s u g e = (let t = s u g e in (ap is_final (same u t.0) ∙ t.0, t.1))
 
@@ -180,7 +180,7 @@ wrote-some : (o : Option (List Value)) → is_some o ≡ true → (v : List Valu
 wrote-some None e = cc
 wrote-some (Some v) e = (v, refl)
 
-pub knows-change : (opening : GrainId → List Value) (w : World) (e : CoreEvent) (w' : World) → Change w e w' → applies w e ≡ true → Kept opening w → Knows w → Knows w'
+pub knows-change : (opening : GrainId → List Value) (w : CoreState) (e : CoreEvent) (w' : CoreState) → Change w e w' → applies w e ≡ true → Kept opening w → Knows w → Knows w'
 knows-change opening w e w' (bad line why q) a k s = s
 knows-change opening w e w' (begin origin call plain c) a k s = s
 knows-change opening w e w' (lock u g mode running free first here) a k s = s
@@ -214,20 +214,20 @@ knows-change opening w e w' (halt_run q) a k s = s
 knows-change opening w e w' (want u g running free fresh) a k s = s
 knows-change opening w e w' (load g u state gone wanted) a k s = s
 
-swept-knows : (w : World) → Knows w → Knows (swept w)
+swept-knows : (w : CoreState) → Knows w → Knows (swept w)
 swept-knows w s = go w.cells.capacity
   where
     go : (c : Option ℕ) → Knows (swept_by w c)
     go None = s
     go (Some m) = s
 
-pub knows-step : (opening : GrainId → List Value) (w : World) (e : CoreEvent) → IsTrueLoad opening w e → Kept opening w → Knows w → Knows (step w e)
+pub knows-step : (opening : GrainId → List Value) (w : CoreState) (e : CoreEvent) → IsTrueLoad opening w e → Kept opening w → Knows w → Knows (step w e)
 knows-step opening w e t k s = cond_both (applies w e) (swept (does w e)) w Knows
     (λ a. (let c = decode w e (and_parts (is_allowed w e) (can w e) a).1 in
     swept-knows (does w e) (knows-change opening w e (does w e) c a k s)))
     (λ a. s)
 
-pub knows-run : (opening : GrainId → List Value) (es : List CoreEvent) (w : World) → AllLoadsTrue opening w es → Kept opening w → Knows w → Knows (run w es)
+pub knows-run : (opening : GrainId → List Value) (es : List CoreEvent) (w : CoreState) → AllLoadsTrue opening w es → Kept opening w → Knows w → Knows (run w es)
 knows-run opening [] w l k s = s
 knows-run opening (e ∷ es) w l k s = knows-run opening es (step w e) l.1 (kept-step opening w e l.0 k) (knows-step opening w e l.0 k s)
 

@@ -2,7 +2,7 @@
 use Rattle.std.proofs.Common.{◌≡◌, ℕ, ◌+◌, ◌<◌, ◌≤◌, List, [], ◌∷◌, length, get_or, Bool, true, false, ◌⊎◌, inl, inr, refl, sym, ap, ◌∙◌, subst, arith, Some, None}
 use Rattle.std.proofs.lemmas.Bool.{cases_lt}
 use Rattle.cell_model.specs.Locks.{is_update}
-use Rattle.core_model.specs.World.{UnitNo, GrainId, nobody, Member, Value, Phase, Unborn, Running, Finished, Refused, Ended, Verdict, Open, Committed, Read, Write, Version, top, Hold, Reading, World}
+use Rattle.core_model.specs.CoreState.{UnitNo, GrainId, nobody, Member, Value, Phase, Unborn, Running, Finished, Refused, Ended, Verdict, Open, Committed, Read, Write, Version, top, Hold, Reading, CoreState}
 use Rattle.core_model.specs.Tests.{is_good, written}
 use Rattle.core_model.specs.Dead.{Dead}
 use Rattle.core_model.specs.Chains.{Chain, Wrote, IsBottom, IsLink}
@@ -46,13 +46,13 @@ pub record Facts (opening : GrainId → List Value) (n : ℕ) (next : ℕ) (phas
   pub away : (g : GrainId) → here g ≡ false → (holds g ≡ []) × ((x : Version) × (stack g ≡ x ∷ []))
 
 -- that of a state
-abbrev pub Inv : (GrainId → List Value) → ℕ → World → Type 0
+abbrev pub Inv : (GrainId → List Value) → ℕ → CoreState → Type 0
 Inv opening n w =
     Facts opening n w.units.next w.units.phase w.units.reads w.manager.place w.manager.order w.manager.writes w.manager.verdict
     w.cells.holds w.cells.readings w.cells.stack w.cells.here
 
 -- what of it needs no true loads
-pub loadless-of : (opening : GrainId → List Value) (n : ℕ) (w : World) → Inv opening n w → LoadlessAt n w
+pub loadless-of : (opening : GrainId → List Value) (n : ℕ) (w : CoreState) → Inv opening n w → LoadlessAt n w
 loadless-of opening n w i = record {
   fresh = i.fresh;
   unborn = i.unborn;
@@ -74,7 +74,7 @@ loadless-of opening n w i = record {
 }
 
 -- two finished units have different places
-pub same_place : (opening : GrainId → List Value) (n : ℕ) (w : World) → Inv opening n w →
+pub same_place : (opening : GrainId → List Value) (n : ℕ) (w : CoreState) → Inv opening n w →
     (u x : UnitNo) → w.units.phase u ≡ Finished → w.units.phase x ≡ Finished → w.manager.place u ≡ w.manager.place x → u ≡ x
 same_place opening n w i u x fu fx e =
     let a = i.placed u fu in
@@ -83,7 +83,7 @@ same_place opening n w i u x fu fx e =
     sym a.3 ∙ ap (λ k. get_or w.manager.order k nobody) same ∙ b.3
 
 -- a unit that wrote has finished
-pub wrote-finished : (opening : GrainId → List Value) (n : ℕ) (w : World) → Inv opening n w →
+pub wrote-finished : (opening : GrainId → List Value) (n : ℕ) (w : CoreState) → Inv opening n w →
     (u : UnitNo) (g : GrainId) (v : List Value) → written g (w.manager.writes u) ≡ Some v → w.units.phase u ≡ Finished
 wrote-finished opening n w i u g v e = go (w.units.phase u) refl
   where
@@ -98,7 +98,7 @@ wrote-finished opening n w i u g v e = go (w.units.phase u) refl
     go Ended q = absurd (no_write (λ f. cc))
 
 -- The step down a stack in the proof that the latest live writer is on top: between two neighbours all writers are dead.
-pub down-latest : (opening : GrainId → List Value) (n : ℕ) (w : World) → Inv opening n w →
+pub down-latest : (opening : GrainId → List Value) (n : ℕ) (w : CoreState) → Inv opening n w →
     (u : UnitNo) (g : GrainId) → w.units.phase u ≡ Finished → Wrote w.manager.writes u g → (x y : Version) → IsLink w.units.phase w.manager.writes w.units.reads g x y → Dead w.manager.verdict w.units.reads x.unit →
     Dead w.manager.verdict w.units.reads u ⊎ (w.manager.place u ≤ w.manager.place x.unit) → Dead w.manager.verdict w.units.reads u ⊎ (w.manager.place u ≤ w.manager.place y.unit)
 down-latest opening n w i u g fu wu x y l d (inl h) = inl h

@@ -3,7 +3,7 @@ use Rattle.std.proofs.Common.{◌≡◌, ℕ, List, [], ◌∷◌, Bool, true, f
 use Rattle.std.proofs.lemmas.Bool.{and_parts, and_from, cond_both}
 use Rattle.cell_model.specs.Locks.{is_update, is_hold_of, covers, dropped}
 use Rattle.cell_model.proofs.Units.{same_unit-false, same_unit-is, cases_unit, any-false}
-use Rattle.core_model.specs.World.{UnitNo, GrainId, put, put_grain, Member, Value, Phase, Unborn, Running, Finished, Refused, Ended, Hold, Mode, Effect, World}
+use Rattle.core_model.specs.CoreState.{UnitNo, GrainId, put, put_grain, Member, Value, Phase, Unborn, Running, Finished, Refused, Ended, Hold, Mode, Effect, CoreState}
 use Rattle.core_model.proofs.Puts.{put-at, grain-at}
 use Rattle.core_model.proofs.Invariant.{Inv}
 use Rattle.std.proofs.lemmas.Bool.{or_left}
@@ -24,17 +24,17 @@ use Rattle.core_model.proofs.Ends.{kept-ends}
 use Rattle.core_model.proofs.Kept.{Kept, kept-step}
 
 -- a holder has begun
-holder-born : (opening : GrainId → List Value) (n : ℕ) (w : World) → Inv opening n w → (g : GrainId) (h : Hold) → Member h (w.cells.holds g) → w.units.phase h.unit ≡ Unborn → ⊥
+holder-born : (opening : GrainId → List Value) (n : ℕ) (w : CoreState) → Inv opening n w → (g : GrainId) (h : Hold) → Member h (w.cells.holds g) → w.units.phase h.unit ≡ Unborn → ⊥
 holder-born opening n w i g h m p =
     let t = i.told g h m in
     let s = i.seen g t.0 t.1 in
     subst (Member s.0) (i.blank h.unit p) (subst (λ z. Member s.0 (w.units.reads z)) t.2 s.1)
 
-pub born-put : (w : World) (u : UnitNo) (end : Phase) → (end ≡ Unborn → ⊥) → (x : UnitNo) → (w.units.phase x ≡ Unborn → ⊥) → put w.units.phase u end x ≡ Unborn → ⊥
+pub born-put : (w : CoreState) (u : UnitNo) (end : Phase) → (end ≡ Unborn → ⊥) → (x : UnitNo) → (w.units.phase x ≡ Unborn → ⊥) → put w.units.phase u end x ≡ Unborn → ⊥
 born-put w u end n x b = put-at w.units.phase u end (λ p. p ≡ Unborn → ⊥) x (λ q. n) (λ q. b)
 
 -- who has begun has begun
-pub born-change : (w : World) (e : CoreEvent) (w' : World) → Change w e w' → (x : UnitNo) → (w.units.phase x ≡ Unborn → ⊥) → w'.units.phase x ≡ Unborn → ⊥
+pub born-change : (w : CoreState) (e : CoreEvent) (w' : CoreState) → Change w e w' → (x : UnitNo) → (w.units.phase x ≡ Unborn → ⊥) → w'.units.phase x ≡ Unborn → ⊥
 born-change w e w' (bad line why q) x born = born
 born-change w e w' (begin origin call plain c) x born = born-put w (new_unit w) Running (λ z. cc) x born
 born-change w e w' (lock u g mode running free first here) x born = born
@@ -58,10 +58,10 @@ born-change w e w' (want u g running free fresh) x born = born
 born-change w e w' (load g u state gone wanted) x born = born
 
 -- the locks after an event, for who runs then
-abbrev KeptBy : World → World → Type 0
+abbrev KeptBy : CoreState → CoreState → Type 0
 KeptBy w w' = (g : GrainId) (h : Hold) → Member h (w.cells.holds g) → w'.units.phase h.unit ≡ Running → (k : Hold) × Member k (w'.cells.holds g) × (k.unit ≡ h.unit) × (is_update h.mode ≡ true → is_update k.mode ≡ true)
 
-kept-held : (w : World) (u : UnitNo) (g : GrainId) (mode : Mode) → ((h : Hold) → Member h (w.cells.holds g) → h.unit ≡ u → is_update h.mode ≡ true → is_update mode ≡ true) → (j : GrainId) (h : Hold) → Member h (w.cells.holds j) →
+kept-held : (w : CoreState) (u : UnitNo) (g : GrainId) (mode : Mode) → ((h : Hold) → Member h (w.cells.holds g) → h.unit ≡ u → is_update h.mode ≡ true → is_update mode ≡ true) → (j : GrainId) (h : Hold) → Member h (w.cells.holds j) →
     (k : Hold) × Member k (put_grain w.cells.holds g (granted (w.cells.holds g) u mode) j) × (k.unit ≡ h.unit) × (is_update h.mode ≡ true → is_update k.mode ≡ true)
 kept-held w u g mode stronger j h m = grain-at w.cells.holds g (granted (w.cells.holds g) u mode) (λ hs. (k : Hold) × Member k hs × (k.unit ≡ h.unit) × (is_update h.mode ≡ true → is_update k.mode ≡ true)) j
     (λ e. (let n = subst (λ z. Member h (w.cells.holds z)) e m in elim (cases_unit h.unit u) [
@@ -70,7 +70,7 @@ kept-held w u g mode stronger j h m = grain-at w.cells.holds g (granted (w.cells
     ]))
     (λ e. (h, m, refl, λ z. z))
 
-keeping-change : (w : World) (e : CoreEvent) (w' : World) → Change w e w' → KeptBy w w'
+keeping-change : (w : CoreState) (e : CoreEvent) (w' : CoreState) → Change w e w' → KeptBy w w'
 keeping-change w e w' (bad line why q) = λ j h m p. (h, m, refl, λ z. z)
 keeping-change w e w' (begin origin call plain c) = λ j h m p. (h, m, refl, λ z. z)
 keeping-change w e w' (lock u g mode running free first here) = λ j h m p. kept-held w u g mode (λ x n q z. absurd (same_unit-false x.unit u (any-false (is_hold_of u) (w.cells.holds g) first x n) q)) j h m
@@ -105,12 +105,12 @@ keeping-change w e w' (halt_run q) = λ j h m p. (h, m, refl, λ z. z)
 keeping-change w e w' (want u g running free fresh) = λ j h m p. (h, m, refl, λ z. z)
 keeping-change w e w' (load g u state gone wanted) = λ j h m p. (h, m, refl, λ z. z)
 
-keeping-step : (w : World) (e : CoreEvent) → KeptBy w (step w e) × ((x : UnitNo) → (w.units.phase x ≡ Unborn → ⊥) → (step w e).units.phase x ≡ Unborn → ⊥)
+keeping-step : (w : CoreState) (e : CoreEvent) → KeptBy w (step w e) × ((x : UnitNo) → (w.units.phase x ≡ Unborn → ⊥) → (step w e).units.phase x ≡ Unborn → ⊥)
 keeping-step w e = cond_both (applies w e) (swept (does w e)) w (λ v. KeptBy w v × ((x : UnitNo) → (w.units.phase x ≡ Unborn → ⊥) → v.units.phase x ≡ Unborn → ⊥))
     (λ a. (let c = decode w e (and_parts (is_allowed w e) (can w e) a).1 in after-sweep (does w e) (keeping-change w e (does w e) c) (born-change w e (does w e) c)))
     (λ a. ((λ g h m p. (h, m, refl, λ z. z)), (λ x b. b)))
   where
-    after-sweep : (v : World) → KeptBy w v → ((x : UnitNo) → (w.units.phase x ≡ Unborn → ⊥) → v.units.phase x ≡ Unborn → ⊥) → KeptBy w (swept v) × ((x : UnitNo) → (w.units.phase x ≡ Unborn → ⊥) → (swept v).units.phase x ≡ Unborn → ⊥)
+    after-sweep : (v : CoreState) → KeptBy w v → ((x : UnitNo) → (w.units.phase x ≡ Unborn → ⊥) → v.units.phase x ≡ Unborn → ⊥) → KeptBy w (swept v) × ((x : UnitNo) → (w.units.phase x ≡ Unborn → ⊥) → (swept v).units.phase x ≡ Unborn → ⊥)
     after-sweep v s b = go v.cells.capacity
       where
         go : (c : Option ℕ) → KeptBy w (swept_by v c) × ((x : UnitNo) → (w.units.phase x ≡ Unborn → ⊥) → (swept_by v c).units.phase x ≡ Unborn → ⊥)
@@ -118,7 +118,7 @@ keeping-step w e = cond_both (applies w e) (swept (does w e)) w (λ v. KeptBy w 
         go (Some m) = (s, b)
 
 -- who runs later and has begun runs now
-runs-now : (w later : World) → Grows w later → (u : UnitNo) → (w.units.phase u ≡ Unborn → ⊥) → later.units.phase u ≡ Running → w.units.phase u ≡ Running
+runs-now : (w later : CoreState) → Grows w later → (u : UnitNo) → (w.units.phase u ≡ Unborn → ⊥) → later.units.phase u ≡ Running → w.units.phase u ≡ Running
 runs-now w later g u born p = go (w.units.phase u) refl
   where
     over : (q : Phase) → w.units.phase u ≡ q → is_over q ≡ true → w.units.phase u ≡ Running
@@ -131,7 +131,7 @@ runs-now w later g u born p = go (w.units.phase u) refl
     go Refused e = over Refused e refl
     go Ended e = over Ended e refl
 
-keeping-run : (opening : GrainId → List Value) (es : List CoreEvent) (w : World) → AllLoadsTrue opening w es → Kept opening w → RunnersKeepLocks w (run w es)
+keeping-run : (opening : GrainId → List Value) (es : List CoreEvent) (w : CoreState) → AllLoadsTrue opening w es → Kept opening w → RunnersKeepLocks w (run w es)
 keeping-run opening [] w l k g h m p = (h, m, refl, λ z. z)
 keeping-run opening (e ∷ es) w l k g h m p =
     let s = keeping-step w e in

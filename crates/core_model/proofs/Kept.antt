@@ -4,7 +4,7 @@ use Rattle.std.specs.Prelude.{if◌then◌else◌}
 use Rattle.std.proofs.lemmas.Bool.{and_parts, cases_Bool, cond-false, cond_both}
 use Rattle.cell_model.specs.Locks.{covers}
 use Rattle.cell_model.proofs.Units.{same_unit-true, Member-append}
-use Rattle.core_model.specs.World.{UnitNo, GrainId, nobody, same_unit, put, Member, Value, Finished, Ended, Verdict, Open, Committed, Aborted, Read, top, Mode, Settled, Batch, Decision, World}
+use Rattle.core_model.specs.CoreState.{UnitNo, GrainId, nobody, same_unit, put, Member, Value, Finished, Ended, Verdict, Open, Committed, Aborted, Read, top, Mode, Settled, Batch, Decision, CoreState}
 use Rattle.core_model.specs.Tests.{is_bad, is_committed}
 use Rattle.core_model.proofs.Puts.{put-at, put-from, put-is, put-other}
 use Rattle.core_model.proofs.Basics.{is_committed-true}
@@ -41,7 +41,7 @@ open_size None = 0
 open_size (Some b) = b.size
 
 -- the invariant, with as many units decided as stand in closed batches and in a decided open one
-abbrev pub Kept : (GrainId → List Value) → World → Type 0
+abbrev pub Kept : (GrainId → List Value) → CoreState → Type 0
 Kept opening w =
     Inv opening (w.manager.closed + decided_size w.manager.batch) w
     × (w.manager.closed + open_size w.manager.batch ≤ length w.manager.order)
@@ -53,10 +53,10 @@ covers-more reads deps v v' keeps covers u r m = elim (covers u r m) [
   | inr o ↦ inr (elim o [ inl c ↦ inl (keeps r.source c) | inr d ↦ inr d ])
 ]
 
-deps-keeps : (w : World) (deps : List UnitNo) (source d : UnitNo) → Member d deps → Member d (deps_with w deps source)
+deps-keeps : (w : CoreState) (deps : List UnitNo) (source d : UnitNo) → Member d deps → Member d (deps_with w deps source)
 deps-keeps w deps source d m = cond_both (is_sure w source) deps (with_source deps source) (Member d) (λ e. m) (λ e. with-keeps deps source d m)
 
-covers-locked : (w : World) (u : UnitNo) (g : GrainId) (mode : Mode) → Covers w.units.reads w.units.deps w.manager.verdict → Covers (locked w u g mode).units.reads (locked w u g mode).units.deps w.manager.verdict
+covers-locked : (w : CoreState) (u : UnitNo) (g : GrainId) (mode : Mode) → Covers w.units.reads w.units.deps w.manager.verdict → Covers (locked w u g mode).units.reads (locked w u g mode).units.deps w.manager.verdict
 covers-locked w u g mode covers x r = put-from w.units.reads u _ (Member r) ((r.source ≡ nobody) ⊎ ((w.manager.verdict r.source ≡ Committed) ⊎ Member r.source (put w.units.deps u new_deps x))) x
     (λ e m. elim (Member-append r (w.units.reads u) (read_of g (top (w.cells.stack g)) ∷ []) m) [
       | inl o ↦ old x r (subst (λ z. Member r (w.units.reads z)) (sym e) o)
@@ -88,7 +88,7 @@ covers-locked w u g mode covers x r = put-from w.units.reads u _ (Member r) ((r.
       | inr s ↦ inr (inr (subst (Member source) (sym (put-is w.units.deps u new_deps x e ∙ cond-false (is_sure w source) (w.units.deps u) (with_source (w.units.deps u) source) s)) (with-has (w.units.deps u) source)))
     ]
 
-kept-closed : (opening : GrainId → List Value) (w : World) (f : Verdict → Verdict) (answer : UnitNo → Settled) (b : Batch) (ds : List Decision) → Ends f →
+kept-closed : (opening : GrainId → List Value) (w : CoreState) (f : Verdict → Verdict) (answer : UnitNo → Settled) (b : Batch) (ds : List Decision) → Ends f →
     Inv opening (w.manager.closed + b.size) w → w.manager.closed + b.size ≤ length w.manager.order → Covers w.units.reads w.units.deps w.manager.verdict → Kept opening (closed w f answer b ds)
 kept-closed opening w f answer b ds ends i le covers =
     let e : w.manager.closed + b.size ≡ w.manager.closed + b.size + 0 = omega arith in (
@@ -98,24 +98,24 @@ kept-closed opening w f answer b ds ends i le covers =
     )
 
 -- the invariant where the open batch is known
-pub inv-open : (opening : GrainId → List Value) (w : World) (b : Batch) → Kept opening w → w.manager.batch ≡ Some b → b.decisions ≡ None → Inv opening w.manager.closed w
+pub inv-open : (opening : GrainId → List Value) (w : CoreState) (b : Batch) → Kept opening w → w.manager.batch ≡ Some b → b.decisions ≡ None → Inv opening w.manager.closed w
 inv-open opening w b k e d =
     subst (λ m. Inv opening m w) (ap (λ z. w.manager.closed + decided_size z) e ∙ ap (λ (z : Option (List Decision)). w.manager.closed + (if is_some z then b.size else 0)) d ∙ omega arith) k.0
 
-pub inv-judged : (opening : GrainId → List Value) (w : World) (b : Batch) (ds : List Decision) → Kept opening w → w.manager.batch ≡ Some b → b.decisions ≡ Some ds → Inv opening (w.manager.closed + b.size) w
+pub inv-judged : (opening : GrainId → List Value) (w : CoreState) (b : Batch) (ds : List Decision) → Kept opening w → w.manager.batch ≡ Some b → b.decisions ≡ Some ds → Inv opening (w.manager.closed + b.size) w
 inv-judged opening w b ds k e d =
     subst (λ m. Inv opening m w) (ap (λ z. w.manager.closed + decided_size z) e ∙ ap (λ (z : Option (List Decision)). w.manager.closed + (if is_some z then b.size else 0)) d) k.0
 
-pub size-open : (opening : GrainId → List Value) (w : World) (b : Batch) → Kept opening w → w.manager.batch ≡ Some b → w.manager.closed + b.size ≤ length w.manager.order
+pub size-open : (opening : GrainId → List Value) (w : CoreState) (b : Batch) → Kept opening w → w.manager.batch ≡ Some b → w.manager.closed + b.size ≤ length w.manager.order
 size-open opening w b k e = subst (λ z. w.manager.closed + open_size z ≤ length w.manager.order) e k.1
 
 -- the units of an open batch are undecided until it is decided
-pub members-open : (opening : GrainId → List Value) (w : World) (b : Batch) → Inv opening w.manager.closed w → (x : UnitNo) → Member x (members w b) → (w.units.phase x ≡ Finished) × (w.manager.verdict x ≡ Open)
+pub members-open : (opening : GrainId → List Value) (w : CoreState) (b : Batch) → Inv opening w.manager.closed w → (x : UnitNo) → Member x (members w b) → (w.units.phase x ≡ Finished) × (w.manager.verdict x ≡ Open)
 members-open opening w b i x m =
     let t = in_part opening w.manager.closed w i w.manager.closed b.size x m in
     (t.0, i.late x t.0 t.1)
 
-pub inv-decided : (opening : GrainId → List Value) (w : World) (b : Batch) → Kept opening w → w.manager.batch ≡ Some b → b.decisions ≡ None →
+pub inv-decided : (opening : GrainId → List Value) (w : CoreState) (b : Batch) → Kept opening w → w.manager.batch ≡ Some b → b.decisions ≡ None →
     Inv opening (w.manager.closed + b.size) (with_decisions w b (decisions_of w b))
 inv-decided opening w b k e d =
     let us : List UnitNo = members w b in
@@ -125,12 +125,12 @@ inv-decided opening w b k e d =
     (kept-decide opening (λ u. is_bad (w.manager.verdict u)) (λ u. failed_in b.votes (w.manager.writes u)) us w.manager.closed w (inv-open opening w b k e d) (λ x. refl) k.2
     (λ j h. (omega (arith, l, h, le), at_part b.size w.manager.closed w.manager.order j (omega (arith, l, h)))))
 
-covers-decided : (opening : GrainId → List Value) (w : World) (b : Batch) (ds : List Decision) → Kept opening w → w.manager.batch ≡ Some b → b.decisions ≡ None →
+covers-decided : (opening : GrainId → List Value) (w : CoreState) (b : Batch) (ds : List Decision) → Kept opening w → w.manager.batch ≡ Some b → b.decisions ≡ None →
     Covers w.units.reads w.units.deps (with_decisions w b ds).manager.verdict
 covers-decided opening w b ds k e d = covers-more w.units.reads w.units.deps w.manager.verdict _
     (λ x c. judged-other (members w b) ds w.manager.verdict x (λ m. (let t : Open ≡ Committed = sym (members-open opening w b (inv-open opening w b k e d) x m).1 ∙ c in cc)) ∙ c) k.2
 
-pub kept-change : (opening : GrainId → List Value) (w : World) (e : CoreEvent) (w' : World) → Change w e w' → applies w e ≡ true → IsTrueLoad opening w e → Kept opening w → Kept opening w'
+pub kept-change : (opening : GrainId → List Value) (w : CoreState) (e : CoreEvent) (w' : CoreState) → Change w e w' → applies w e ≡ true → IsTrueLoad opening w e → Kept opening w → Kept opening w'
 kept-change opening w e w' (bad line why q) a t k = k
 kept-change opening w e w' (begin origin call plain c) a t k = (kept-begun opening _ w origin call plain k.0, k.1, k.2)
 kept-change opening w e w' (lock u g mode running free first here) a t k =
@@ -175,19 +175,19 @@ kept-change opening w e w' (halt_run q) a t k = k
 kept-change opening w e w' (want u g running free fresh) a t k = k
 kept-change opening w e w' (load g u state gone wanted) a t k = (kept-loaded opening _ w g u state k.0 gone (t a), k.1, k.2)
 
-swept-kept : (opening : GrainId → List Value) (w : World) → Kept opening w → Kept opening (swept w)
+swept-kept : (opening : GrainId → List Value) (w : CoreState) → Kept opening w → Kept opening (swept w)
 swept-kept opening w k = go w.cells.capacity (kept-swept opening _ w k.0)
   where
     go : (c : Option ℕ) → Inv opening (w.manager.closed + decided_size w.manager.batch) (swept_by w c) → Kept opening (swept_by w c)
     go None i = (i, k.1, k.2)
     go (Some m) i = (i, k.1, k.2)
 
-pub kept-step : (opening : GrainId → List Value) (w : World) (e : CoreEvent) → IsTrueLoad opening w e → Kept opening w → Kept opening (step w e)
+pub kept-step : (opening : GrainId → List Value) (w : CoreState) (e : CoreEvent) → IsTrueLoad opening w e → Kept opening w → Kept opening (step w e)
 kept-step opening w e t k = cond_both (applies w e) (swept (does w e)) w (Kept opening)
     (λ a. swept-kept opening (does w e) (kept-change opening w e (does w e) (decode w e (and_parts (is_allowed w e) (can w e) a).1) a t k))
     (λ a. k)
 
-pub kept-run : (opening : GrainId → List Value) (es : List CoreEvent) (w : World) → AllLoadsTrue opening w es → Kept opening w → Kept opening (run w es)
+pub kept-run : (opening : GrainId → List Value) (es : List CoreEvent) (w : CoreState) → AllLoadsTrue opening w es → Kept opening w → Kept opening (run w es)
 kept-run opening [] w l k = k
 kept-run opening (e ∷ es) w l k = kept-run opening es (step w e) l.1 (kept-step opening w e l.0 k)
 

@@ -3,7 +3,7 @@ use Rattle.std.proofs.Common.{◌≡◌, ℕ, suc, ◌+◌, ◌<◌, List, [], �
 use Rattle.std.proofs.lemmas.Bool.{cases_Bool}
 use Rattle.cell_model.specs.Locks.{covers}
 use Rattle.cell_model.proofs.Units.{same_unit-true, same_unit-false, cases_unit}
-use Rattle.core_model.specs.World.{UnitNo, GrainId, nobody, same_unit, put, Member, Value, Finished, Verdict, Open, Chosen, Condemned, Committed, Aborted, Read, Decision, World}
+use Rattle.core_model.specs.CoreState.{UnitNo, GrainId, nobody, same_unit, put, Member, Value, Finished, Verdict, Open, Chosen, Condemned, Committed, Aborted, Read, Decision, CoreState}
 use Rattle.core_model.specs.Tests.{is_bad, is_good}
 use Rattle.core_model.specs.Dead.{Dead}
 use Rattle.core_model.specs.Chains.{IsBottom, IsLink}
@@ -15,14 +15,14 @@ use Rattle.std.proofs.Common.{map}
 use Rattle.cell_model.specs.declared.outcomes.Decision.TheVariants as decision
 use Rattle.cell_model.specs.Decisions.{is_commit, decision, decided, and_itself}
 use Rattle.cell_model.proofs.Decisions.{commits-exactly}
-use Rattle.core_model.specs.World.{Prepared}
+use Rattle.core_model.specs.CoreState.{Prepared}
 use Rattle.core_model.specs.Changes.{verdict_of, judged, seal, spoil, leave}
 use Rattle.core_model.proofs.Invariant.{loadless-of}
 use Rattle.core_model.proofs.LoadlessEvents.{with_verdict, mapped, loadless-judged}
 use Rattle.core_model.proofs.Invariant.{loadless-of}
 use Rattle.core_model.proofs.LoadlessEvents.{loadless-mapped}
 
-pub kept-judged : (opening : GrainId → List Value) (n : ℕ) (w : World) (u : UnitNo) (d : Verdict) → Inv opening n w →
+pub kept-judged : (opening : GrainId → List Value) (n : ℕ) (w : CoreState) (u : UnitNo) (d : Verdict) → Inv opening n w →
     n < length w.manager.order → u ≡ get_or w.manager.order n nobody → (d ≡ Open → ⊥) → (d ≡ Committed → ⊥) →
     (is_good d ≡ true → (r : Read) → Member r (w.units.reads u) → (r.source ≡ nobody) ⊎ (is_good (w.manager.verdict r.source) ≡ true)) → Inv opening (n + 1) (with_verdict w u d)
 kept-judged opening n w u d i lt is d_not_open d_not_committed alive =
@@ -128,7 +128,7 @@ dead-agrees dead verdict p agree open_p x = elim (cases_Bool (same_unit x p.unit
     or_false false = refl
 
 -- a source of a unit whose turn it is to be decided is decided
-source_decided : (opening : GrainId → List Value) (n : ℕ) (w : World) → Inv opening n w → (u : UnitNo) (r : Read) → Member r (w.units.reads u) →
+source_decided : (opening : GrainId → List Value) (n : ℕ) (w : CoreState) → Inv opening n w → (u : UnitNo) (r : Read) → Member r (w.units.reads u) →
     u ≡ get_or w.manager.order n nobody → n < length w.manager.order → (r.source ≡ nobody → ⊥) → w.manager.verdict r.source ≡ Open → ⊥
 source_decided opening n w i u r m is lt apart = elim (i.source u r m) [
   | inl o ↦ absurd (apart o.0)
@@ -139,7 +139,7 @@ source_decided opening n w i u r m is lt apart = elim (i.source u r m) [
 ]
 
 -- A batch that is decided, unit by unit.
-pub kept-decide : (opening : GrainId → List Value) (dead : UnitNo → Bool) (failed : UnitNo → Option GrainId) (us : List UnitNo) (n : ℕ) (w : World) → Inv opening n w →
+pub kept-decide : (opening : GrainId → List Value) (dead : UnitNo → Bool) (failed : UnitNo → Option GrainId) (us : List UnitNo) (n : ℕ) (w : CoreState) → Inv opening n w →
     ((x : UnitNo) → dead x ≡ is_bad (w.manager.verdict x)) → Covers w.units.reads w.units.deps w.manager.verdict →
     ((k : ℕ) → k < length us → (n + k < length w.manager.order) × (get_or us k nobody ≡ get_or w.manager.order (n + k) nobody)) →
     Inv opening (n + length us) (record w { manager = record w.manager { verdict = judged us (decided dead (map (prepare failed w.units.deps) us)) w.manager.verdict } })
@@ -186,7 +186,7 @@ pub record Ends (f : Verdict → Verdict) : Type 0 where
   pub good : (v : Verdict) → is_good (f v) ≡ true → (v ≡ Committed) ⊎ ((is_good v ≡ true) × ((x : Verdict) → is_good x ≡ true → is_good (f x) ≡ true))
   pub from : (v : Verdict) → f v ≡ Committed → (v ≡ Committed) ⊎ ((is_good v ≡ true) × ((x : Verdict) → is_good x ≡ true → f x ≡ Committed))
 
-pub kept-mapped : (opening : GrainId → List Value) (n : ℕ) (w : World) (f : Verdict → Verdict) → Ends f → Inv opening n w → Inv opening n (mapped f w)
+pub kept-mapped : (opening : GrainId → List Value) (n : ℕ) (w : CoreState) (f : Verdict → Verdict) → Ends f → Inv opening n w → Inv opening n (mapped f w)
 kept-mapped opening n w f ends i =
     let p = loadless-mapped n w f ends.still ends.opens (loadless-of opening n w i) in
     record {

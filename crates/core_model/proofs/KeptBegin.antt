@@ -1,6 +1,6 @@
 -- A unit that begins keeps the invariant.
 use Rattle.std.proofs.Common.{◌≡◌, ℕ, List, Bool, inl, inr, sym, ap, ◌∙◌, subst, le_refl}
-use Rattle.core_model.specs.World.{UnitNo, GrainId, put, Member, Value, Call, Origin, Unborn, Running, Finished, Read, World}
+use Rattle.core_model.specs.CoreState.{UnitNo, GrainId, put, Member, Value, Call, Origin, Unborn, Running, Finished, Read, CoreState}
 use Rattle.core_model.specs.Changes.{begun, new_unit}
 use Rattle.core_model.specs.Chains.{IsBottom, IsLink}
 use Rattle.core_model.proofs.Puts.{put-at}
@@ -9,7 +9,7 @@ use Rattle.core_model.proofs.Invariant.{Inv}
 use Rattle.core_model.proofs.Invariant.{loadless-of}
 use Rattle.core_model.proofs.LoadlessEvents.{loadless-begun}
 
-pub kept-begun : (opening : GrainId → List Value) (n : ℕ) (w : World) (origin : Origin) (call : Call) (plain : Bool) → Inv opening n w → Inv opening n (begun w origin call plain)
+pub kept-begun : (opening : GrainId → List Value) (n : ℕ) (w : CoreState) (origin : Origin) (call : Call) (plain : Bool) → Inv opening n w → Inv opening n (begun w origin call plain)
 kept-begun opening n w origin call plain i =
     let p = loadless-begun n w origin call plain (loadless-of opening n w i) in
     record {

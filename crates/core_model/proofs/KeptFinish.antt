@@ -3,7 +3,7 @@ use Rattle.std.proofs.Common.{◌≡◌, ℕ, ◌+◌, ◌<◌, ◌≤◌, List,
 use Rattle.std.proofs.lemmas.Bool.{and_parts}
 use Rattle.cell_model.specs.Locks.{is_update, is_hold_of}
 use Rattle.cell_model.proofs.Units.{same_unit-true, cases_unit, any-true, all-true}
-use Rattle.core_model.specs.World.{UnitNo, GrainId, nobody, put, Member, Value, Unborn, Running, Finished, Read, Write, Version, top, Hold, Effect, World}
+use Rattle.core_model.specs.CoreState.{UnitNo, GrainId, nobody, put, Member, Value, Unborn, Running, Finished, Read, Write, Version, top, Hold, Effect, CoreState}
 use Rattle.core_model.specs.Tests.{any, all, written}
 use Rattle.core_model.specs.Chains.{Wrote, IsVersion, IsBottom, IsLink}
 use Rattle.core_model.proofs.Puts.{put-at, put-from, put-other}
@@ -15,7 +15,7 @@ use Rattle.core_model.specs.Events.{holds_alone}
 use Rattle.core_model.proofs.Invariant.{loadless-of}
 use Rattle.core_model.proofs.LoadlessEvents.{is_alone, loadless-finished}
 
-pub kept-finished : (opening : GrainId → List Value) (n : ℕ) (w : World) (u : UnitNo) (effect : Effect) → Inv opening n w →
+pub kept-finished : (opening : GrainId → List Value) (n : ℕ) (w : CoreState) (u : UnitNo) (effect : Effect) → Inv opening n w →
     w.units.phase u ≡ Running → all (λ x. holds_alone w u x.0) effect.writes ≡ true → Inv opening n (finished w u effect)
 kept-finished opening n w u effect i running holds =
     let p = loadless-finished n w u effect (loadless-of opening n w i) running holds in

@@ -2,7 +2,7 @@
 use Rattle.std.proofs.Common.{◌≡◌, ℕ, ◌<◌, List, [], ◌∷◌, ◌++◌, true, false, ◌⊎◌, inl, inr, refl, sym, ap, ◌∙◌, subst, arith, Some}
 use Rattle.cell_model.specs.Locks.{is_hold_of, holds_lock, conflicts}
 use Rattle.cell_model.proofs.Units.{same_unit-true, same_unit-false, any-true, any-false, Member-append, Member-left}
-use Rattle.core_model.specs.World.{UnitNo, GrainId, nobody, put, put_grain, Member, Value, Running, Finished, Read, top, Hold, Mode, Reading, World}
+use Rattle.core_model.specs.CoreState.{UnitNo, GrainId, nobody, put, put_grain, Member, Value, Running, Finished, Read, top, Hold, Mode, Reading, CoreState}
 use Rattle.core_model.specs.Tests.{is_good, written}
 use Rattle.core_model.specs.Dead.{Dead}
 use Rattle.core_model.specs.Chains.{Wrote, IsBottom, IsLink}
@@ -21,11 +21,11 @@ use Rattle.core_model.proofs.Invariant.{loadless-of}
 use Rattle.core_model.proofs.LoadlessEvents.{loadless-raised}
 
 -- where a read came from
-abbrev Src : (GrainId → List Value) → World → UnitNo → Read → Type 0
+abbrev Src : (GrainId → List Value) → CoreState → UnitNo → Read → Type 0
 Src opening w x r = ((r.source ≡ nobody) × (r.state ≡ opening r.grain))
     ⊎ ((w.units.phase r.source ≡ Finished) × (written r.grain (w.manager.writes r.source) ≡ Some r.state) × (w.units.phase x ≡ Finished → w.manager.place r.source < w.manager.place x))
 
-pub kept-locked : (opening : GrainId → List Value) (n : ℕ) (w : World) (u : UnitNo) (g : GrainId) (mode : Mode) → Inv opening n w →
+pub kept-locked : (opening : GrainId → List Value) (n : ℕ) (w : CoreState) (u : UnitNo) (g : GrainId) (mode : Mode) → Inv opening n w →
     w.units.phase u ≡ Running → ((h : Hold) → Member h (w.cells.holds g) → conflicts u mode h ≡ false) → holds_lock u (w.cells.holds g) ≡ false → w.cells.here g ≡ true → Inv opening n (locked w u g mode)
 kept-locked opening n w u g mode i running free first here_g =
     let p = loadless-locked n w u g mode (loadless-of opening n w i) running free first here_g in
@@ -137,7 +137,7 @@ kept-locked opening n w u g mode i running free first here_g =
     undecided_u x e q = (let t : false ≡ true = sym (ap is_good (ap w.manager.verdict e ∙ i.undecided u (inr running))) ∙ q in cc)
 
 -- the unit's own lock becomes one for an update
-pub kept-raised : (opening : GrainId → List Value) (n : ℕ) (w : World) (u : UnitNo) (g : GrainId) (mode : Mode) → Inv opening n w →
+pub kept-raised : (opening : GrainId → List Value) (n : ℕ) (w : CoreState) (u : UnitNo) (g : GrainId) (mode : Mode) → Inv opening n w →
     w.units.phase u ≡ Running → ((h : Hold) → Member h (w.cells.holds g) → conflicts u mode h ≡ false) → holds_lock u (w.cells.holds g) ≡ true → w.cells.here g ≡ true → Inv opening n (raised w u g mode)
 kept-raised opening n w u g mode i running free held here_g =
     let p = loadless-raised n w u g mode (loadless-of opening n w i) running free held here_g in

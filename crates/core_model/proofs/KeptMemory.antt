@@ -1,7 +1,7 @@
 -- Grains that come into memory and leave it keep the invariant.
 use Rattle.std.proofs.Common.{◌≡◌, ℕ, ◌≤◌, List, [], ◌∷◌, Bool, true, false, ◌||◌, not, ◌⊎◌, inl, inr, refl, sym, ap, ◌∙◌, subst, arith, Option, Some, None}
 use Rattle.std.proofs.lemmas.Bool.{and_parts, not-false, or_parts}
-use Rattle.core_model.specs.World.{UnitNo, GrainId, put_grain, Member, Value, Finished, Committed, Version, top, World}
+use Rattle.core_model.specs.CoreState.{UnitNo, GrainId, put_grain, Member, Value, Finished, Committed, Version, top, CoreState}
 use Rattle.core_model.specs.Tests.{is_good, written}
 use Rattle.core_model.specs.Dead.{Dead}
 use Rattle.core_model.specs.Chains.{Chain, Wrote, IsBottom, IsLink}
@@ -15,7 +15,7 @@ use Rattle.core_model.proofs.KeptStack.{kept-restacked}
 use Rattle.core_model.proofs.Alive.{good-alive}
 
 -- which grains are in memory is in one part of the invariant
-pub kept-here : (opening : GrainId → List Value) (n : ℕ) (w : World) (here : GrainId → Bool) → Inv opening n w →
+pub kept-here : (opening : GrainId → List Value) (n : ℕ) (w : CoreState) (here : GrainId → Bool) → Inv opening n w →
     ((g : GrainId) → here g ≡ false → (w.cells.holds g ≡ []) × ((x : Version) × (w.cells.stack g ≡ x ∷ []))) → Inv opening n (record w { cells = record w.cells { here = here } })
 kept-here opening n w here i away =
     record {
@@ -58,7 +58,7 @@ is_single-true (x ∷ []) e = (x, refl)
 is_single-true (x ∷ y ∷ ys) e = cc
 
 -- idle grains that leave
-pub kept-swept : (opening : GrainId → List Value) (n : ℕ) (w : World) → Inv opening n w → Inv opening n (swept w)
+pub kept-swept : (opening : GrainId → List Value) (n : ℕ) (w : CoreState) → Inv opening n w → Inv opening n (swept w)
 kept-swept opening n w i = go w.cells.capacity
   where
     go : (c : Option ℕ) → Inv opening n (swept_by w c)
@@ -72,7 +72,7 @@ kept-swept opening n w i = go w.cells.capacity
     ])
 
 -- A load of the last committed version finds what the stack was when the cell left.
-load-same : (opening : GrainId → List Value) (n : ℕ) (w : World) (g : GrainId) (u : UnitNo) (s : List Value) (x : Version) → Inv opening n w →
+load-same : (opening : GrainId → List Value) (n : ℕ) (w : CoreState) (g : GrainId) (u : UnitNo) (s : List Value) (x : Version) → Inv opening n w →
     w.cells.holds g ≡ [] → w.cells.stack g ≡ x ∷ [] → IsLastVersion opening w g u s → x ≡ record { unit = u; state = s }
 load-same opening n w g u s x i none is last =
     go (subst (λ t. Chain (IsBottom opening w.units.phase w.manager.writes w.manager.verdict g) (IsLink w.units.phase w.manager.writes w.units.reads g) t) is (i.chain g)) last
@@ -97,7 +97,7 @@ load-same opening n w g u s x i none is last =
         let r : x.state ≡ s = cc in
         λ j. record { unit = e j; state = r j }
 
-pub kept-loaded : (opening : GrainId → List Value) (n : ℕ) (w : World) (g : GrainId) (u : UnitNo) (s : List Value) → Inv opening n w → w.cells.here g ≡ false → IsLastVersion opening w g u s → Inv opening n (loaded w g u s)
+pub kept-loaded : (opening : GrainId → List Value) (n : ℕ) (w : CoreState) (g : GrainId) (u : UnitNo) (s : List Value) → Inv opening n w → w.cells.here g ≡ false → IsLastVersion opening w g u s → Inv opening n (loaded w g u s)
 kept-loaded opening n w g u s i gone last =
     kept-here opening n (restacked w g xs) (put_grain w.cells.here g true) kept
     (λ k. grain-at w.cells.here g true (λ b. b ≡ false → (w.cells.holds k ≡ []) × ((x : Version) × (put_grain w.cells.stack g xs k ≡ x ∷ []))) k (λ e h. cc) (λ e h. kept.away k h))

@@ -1,6 +1,6 @@
 -- A unit that is over keeps the invariant.
 use Rattle.std.proofs.Common.{◌≡◌, ℕ, List, true, false, ◌⊎◌, inl, inr, refl, sym, ap, ◌∙◌}
-use Rattle.core_model.specs.World.{UnitNo, GrainId, nobody, put, Member, Value, Phase, Unborn, Running, Finished, Refused, Open, Committed, Aborted, Settled, World}
+use Rattle.core_model.specs.CoreState.{UnitNo, GrainId, nobody, put, Member, Value, Phase, Unborn, Running, Finished, Refused, Open, Committed, Aborted, Settled, CoreState}
 use Rattle.core_model.specs.Tests.{is_bad, is_good}
 use Rattle.core_model.specs.Dead.{Dead}
 use Rattle.core_model.specs.Chains.{IsBottom, IsLink}
@@ -15,7 +15,7 @@ use Rattle.core_model.proofs.Invariant.{loadless-of}
 use Rattle.core_model.proofs.LoadlessEvents.{loadless-aborted}
 
 -- a running unit that ends without an effect
-pub kept-over : (opening : GrainId → List Value) (n : ℕ) (w : World) (u : UnitNo) (end : Phase) → Inv opening n w → w.units.phase u ≡ Running →
+pub kept-over : (opening : GrainId → List Value) (n : ℕ) (w : CoreState) (u : UnitNo) (end : Phase) → Inv opening n w → w.units.phase u ≡ Running →
     (end ≡ Unborn → ⊥) → (end ≡ Running → ⊥) → (end ≡ Finished → ⊥) → Inv opening n (record w { units = record w.units { phase = put w.units.phase u end } })
 kept-over opening n w u end i running n0 n1 n2 =
     let p = loadless-over n w u end (loadless-of opening n w i) running n0 n1 n2 in
@@ -64,7 +64,7 @@ kept-over opening n w u end i running n0 n1 n2 =
     run x = put-at w.units.phase u end (λ p. p ≡ Running → w.units.phase x ≡ Running) x (λ e h. absurd (n1 h)) (λ k h. h)
 
 -- a unit that has no effect, and isn't decided, is aborted
-pub kept-aborted : (opening : GrainId → List Value) (n : ℕ) (w : World) (u : UnitNo) → Inv opening n w → w.units.phase u ≡ Refused → w.manager.verdict u ≡ Open →
+pub kept-aborted : (opening : GrainId → List Value) (n : ℕ) (w : CoreState) (u : UnitNo) → Inv opening n w → w.units.phase u ≡ Refused → w.manager.verdict u ≡ Open →
     Inv opening n (record w { manager = record w.manager { verdict = put w.manager.verdict u Aborted } })
 kept-aborted opening n w u i refused_u open_u =
     let p = loadless-aborted n w u (loadless-of opening n w i) refused_u open_u in
@@ -111,7 +111,7 @@ kept-aborted opening n w u i refused_u open_u =
     more : (x : UnitNo) → Dead w.manager.verdict w.units.reads x → Dead (put w.manager.verdict u Aborted) w.units.reads x
     more = Dead-more w.manager.verdict (put w.manager.verdict u Aborted) w.units.reads w.units.reads (λ k h. put-at w.manager.verdict u Aborted (λ v. is_bad v ≡ true) k (λ e. refl) (λ e. h)) (λ k r m. m)
 
-pub kept-refused : (opening : GrainId → List Value) (n : ℕ) (w : World) (u : UnitNo) (why : Settled) → Inv opening n w → w.units.phase u ≡ Running → Inv opening n (refused w u why)
+pub kept-refused : (opening : GrainId → List Value) (n : ℕ) (w : CoreState) (u : UnitNo) (why : Settled) → Inv opening n w → w.units.phase u ≡ Running → Inv opening n (refused w u why)
 kept-refused opening n w u why i running =
     kept-aborted opening n (record w { units = record w.units { phase = put w.units.phase u Refused } }) u
     (kept-over opening n w u Refused i running (λ e. cc) (λ e. cc) (λ e. cc)) (put-same w.units.phase u Refused) (i.undecided u (inr running))

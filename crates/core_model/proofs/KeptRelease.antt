@@ -3,7 +3,7 @@ use Rattle.std.proofs.Common.{◌≡◌, ℕ, ◌<◌, ◌≤◌, List, true, fa
 use Rattle.std.proofs.lemmas.Bool.{cases_Bool, cond-true, cond-false}
 use Rattle.cell_model.specs.Locks.{is_update, is_hold_of, holds_lock, dropped}
 use Rattle.cell_model.proofs.Units.{same_unit-true, cases_unit, any-true}
-use Rattle.core_model.specs.World.{UnitNo, GrainId, put_grain, Member, Value, Running, Finished, Read, Version, top, Hold, Reading, World}
+use Rattle.core_model.specs.CoreState.{UnitNo, GrainId, put_grain, Member, Value, Running, Finished, Read, Version, top, Hold, Reading, CoreState}
 use Rattle.core_model.specs.Tests.{written}
 use Rattle.core_model.specs.Dead.{Dead, by_source}
 use Rattle.core_model.specs.Chains.{Chain, Wrote, IsBottom, IsLink}
@@ -18,7 +18,7 @@ use Rattle.core_model.proofs.Readings.{without_reading-member, reads_top-true, r
 use Rattle.core_model.proofs.Invariant.{loadless-of}
 use Rattle.core_model.proofs.LoadlessEvents.{loadless-released}
 
-pub kept-released : (opening : GrainId → List Value) (n : ℕ) (w : World) (u : UnitNo) (g : GrainId) → Inv opening n w →
+pub kept-released : (opening : GrainId → List Value) (n : ℕ) (w : CoreState) (u : UnitNo) (g : GrainId) → Inv opening n w →
     (w.units.phase u ≡ Running → ⊥) → holds_lock u (w.cells.holds g) ≡ true → Inv opening n (released w u g)
 kept-released opening n w u g i stopped held =
     let p = loadless-released n w u g (loadless-of opening n w i) stopped held in

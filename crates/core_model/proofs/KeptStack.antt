@@ -1,7 +1,7 @@
 -- A stack whose top falls keeps the invariant.
 use Rattle.std.proofs.Common.{◌≡◌, ℕ, ◌≤◌, List, [], ◌∷◌, Bool, true, false, ◌⊎◌, inl, inr, sym, ap, ◌∙◌, subst}
 use Rattle.cell_model.proofs.Units.{same_unit-true}
-use Rattle.core_model.specs.World.{UnitNo, GrainId, nobody, Value, Finished, Open, Committed, Aborted, Version, top, cut, World}
+use Rattle.core_model.specs.CoreState.{UnitNo, GrainId, nobody, Value, Finished, Open, Committed, Aborted, Version, top, cut, CoreState}
 use Rattle.core_model.specs.Tests.{is_bad, is_aborted, is_committed, is_final}
 use Rattle.core_model.specs.Dead.{Dead, itself, by_source}
 use Rattle.core_model.specs.Chains.{Chain, Wrote, IsBottom, IsLink}
@@ -15,12 +15,12 @@ use Rattle.cell_model.specs.Cells.{learnt}
 use Rattle.cell_model.proofs.Stacks.{committed-top}
 
 -- A fact about the top that passes down from a dead version to the one under it, passes to the new top.
-abbrev pub Lowers : World → GrainId → List Version → Type 0
+abbrev pub Lowers : CoreState → GrainId → List Version → Type 0
 Lowers w g xs = (u : UnitNo) →
     ((w.units.phase u ≡ Finished → Wrote w.manager.writes u g → Dead w.manager.verdict w.units.reads u ⊎ (w.manager.place u ≤ w.manager.place (top (w.cells.stack g)).unit) → Dead w.manager.verdict w.units.reads u ⊎ (w.manager.place u ≤ w.manager.place (top xs).unit))
     × ((u ≡ (top (w.cells.stack g)).unit) ⊎ Dead w.manager.verdict w.units.reads u → (u ≡ (top xs).unit) ⊎ Dead w.manager.verdict w.units.reads u))
 
-pub kept-restacked : (opening : GrainId → List Value) (n : ℕ) (w : World) (g : GrainId) (xs : List Version) → Inv opening n w →
+pub kept-restacked : (opening : GrainId → List Value) (n : ℕ) (w : CoreState) (g : GrainId) (xs : List Version) → Inv opening n w →
     (w.cells.here g ≡ false → (x : Version) × (xs ≡ x ∷ [])) →
     Chain (IsBottom opening w.units.phase w.manager.writes w.manager.verdict g) (IsLink w.units.phase w.manager.writes w.units.reads g) xs → Lowers w g xs → Inv opening n (restacked w g xs)
 kept-restacked opening n w g xs i gone c lowers =
@@ -61,7 +61,7 @@ kept-restacked opening n w g xs i gone c lowers =
     }
 
 -- versions of aborted units are cut off
-pub kept-cut : (opening : GrainId → List Value) (n : ℕ) (w : World) (g : GrainId) (p : Version → Bool) → Inv opening n w →
+pub kept-cut : (opening : GrainId → List Value) (n : ℕ) (w : CoreState) (g : GrainId) (p : Version → Bool) → Inv opening n w →
     ((x : Version) → p x ≡ true → w.manager.verdict x.unit ≡ Aborted) → Inv opening n (restacked w g (cut p (w.cells.stack g)))
 kept-cut opening n w g p i only =
     kept-restacked opening n w g (cut p (w.cells.stack g)) i single
@@ -98,11 +98,11 @@ kept-cut opening n w g p i only =
     up : (x y : Version) → IsLink w.units.phase w.manager.writes w.units.reads g x y → Dead w.manager.verdict w.units.reads y.unit → Dead w.manager.verdict w.units.reads x.unit
     up x y l d = by_source l.1.0 l.1.1 (subst (Dead w.manager.verdict w.units.reads) (sym l.1.3) d)
 
-pub kept-cleaned : (opening : GrainId → List Value) (n : ℕ) (w : World) (g : GrainId) → Inv opening n w → Inv opening n (restacked w g (cleaned w g))
+pub kept-cleaned : (opening : GrainId → List Value) (n : ℕ) (w : CoreState) (g : GrainId) → Inv opening n w → Inv opening n (restacked w g (cleaned w g))
 kept-cleaned opening n w g i = kept-cut opening n w g (λ x. is_aborted (w.manager.verdict x.unit)) i (λ x e. is_aborted-true _ e)
 
 -- a decided unit's verdict is learnt
-pub kept-learnt : (opening : GrainId → List Value) (n : ℕ) (w : World) (u : UnitNo) (g : GrainId) → Inv opening n w → is_final (w.manager.verdict u) ≡ true →
+pub kept-learnt : (opening : GrainId → List Value) (n : ℕ) (w : CoreState) (u : UnitNo) (g : GrainId) → Inv opening n w → is_final (w.manager.verdict u) ≡ true →
     Inv opening n (restacked w g (learnt (is_committed (w.manager.verdict u)) u (w.cells.stack g)))
 kept-learnt opening n w u g i final = elim (is_final-cases (w.manager.verdict u) final) [
   | inl c ↦ subst (λ b. Inv opening n (restacked w g (learnt b u (w.cells.stack g)))) (sym (ap is_committed c)) (commits c)

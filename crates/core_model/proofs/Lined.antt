@@ -2,14 +2,14 @@
 use Rattle.std.proofs.Common.{◌≡◌, ℕ, suc, ◌+◌, ◌<◌, ◌≤◌, List, [], ◌∷◌, ◌++◌, length, get_or, Bool, true, ◌⊎◌, inl, inr, refl, sym, ap, ◌∙◌, subst, arith, Option, Some, None}
 use Rattle.std.proofs.lemmas.Bool.{and_parts, cases_lt, cond_both}
 use Rattle.cell_model.proofs.Units.{cases_unit, Member-append, Member-left}
-use Rattle.core_model.specs.World.{UnitNo, GrainId, nobody, put, Member, Value, Origin, Phase, Unborn, Running, Finished, Refused, Ended, Verdict, Write, Effect, Settled, Batch, Decision, World}
+use Rattle.core_model.specs.CoreState.{UnitNo, GrainId, nobody, put, Member, Value, Origin, Phase, Unborn, Running, Finished, Refused, Ended, Verdict, Write, Effect, Settled, Batch, Decision, CoreState}
 use Rattle.core_model.proofs.Puts.{put-from, put-is, put-other}
 use Rattle.core_model.proofs.Invariant.{Inv}
 use Rattle.std.specs.Prelude.{⊤}
 use Rattle.std.proofs.Common.{◌-◌, le_refl, length-append, append-nil, length-drop, eqb-true}
 use Rattle.base_types.specs.declared.calls.Origin.TheVariants.{Line, Child}
 use Rattle.base_types.specs.declared.entries.Settled.TheVariants as settled
-use Rattle.core_model.specs.World.{Entry, Outcome, Call}
+use Rattle.core_model.specs.CoreState.{Entry, Outcome, Call}
 use Rattle.core_model.specs.Tests.{members, waiting}
 use Rattle.core_model.specs.Lines.{HasBegun, IsSettled, DifferInLine, StandInOrder, LinesAreTaken, EntriesAreOnce}
 use Rattle.core_model.proofs.TakenLines.{taken-change}
@@ -27,7 +27,7 @@ use Rattle.core_model.proofs.Ends.{kept-begins}
 use Rattle.core_model.proofs.Kept.{Kept, kept-step, inv-decided, size-open}
 
 -- all of it, in parts
-abbrev pub Once : World → Type 0
+abbrev pub Once : CoreState → Type 0
 Once w =
     ((u : UnitNo) (n : ℕ) → HasBegun w u n → (0 < n) × (n ≤ w.units.lines))
     × ((u v : UnitNo) (n : ℕ) → HasBegun w u n → HasBegun w v n → u ≡ v)
@@ -44,7 +44,7 @@ differ-append (x ∷ xs) ys a b c = (
   differ-append xs ys a.1 b (λ z y m n. c z y (inr m) n),
 )
 
-order-append : (w : World) (xs ys : List Entry) → StandInOrder w xs → StandInOrder w ys →
+order-append : (w : CoreState) (xs ys : List Entry) → StandInOrder w xs → StandInOrder w ys →
     ((x y : Entry) → Member x xs → Member y ys → w.units.phase x.unit ≡ Finished → w.units.phase y.unit ≡ Finished → w.manager.place x.unit < w.manager.place y.unit) → StandInOrder w (xs ++ ys)
 order-append w [] ys a b c = b
 order-append w (x ∷ xs) ys a b c = (
@@ -53,7 +53,7 @@ order-append w (x ∷ xs) ys a b c = (
 )
 
 -- entries whose units keep their places
-order-same : (w w' : World) (xs : List Entry) → ((x : Entry) → Member x xs → w'.units.phase x.unit ≡ Finished → (w.units.phase x.unit ≡ Finished) × (w'.manager.place x.unit ≡ w.manager.place x.unit)) → StandInOrder w xs → StandInOrder w' xs
+order-same : (w w' : CoreState) (xs : List Entry) → ((x : Entry) → Member x xs → w'.units.phase x.unit ≡ Finished → (w.units.phase x.unit ≡ Finished) × (w'.manager.place x.unit ≡ w.manager.place x.unit)) → StandInOrder w xs → StandInOrder w' xs
 order-same w w' [] same s = tt
 order-same w w' (x ∷ xs) same s = (
   (λ y m f g. (let a = same x (inl refl) f in let b = same y (inr m) g in omega (arith, s.0 y m a.0 b.0, a.1, b.1))),
@@ -61,7 +61,7 @@ order-same w w' (x ∷ xs) same s = (
 )
 
 -- new entries of units that weren't settled
-pub record Settles (w w' : World) (new : List Entry) : Type 0 where
+pub record Settles (w w' : CoreState) (new : List Entry) : Type 0 where
   pub all : w'.manager.settled ≡ w.manager.settled ++ new
   pub emitted : w'.manager.emitted ≡ w.manager.emitted
   pub lines : w'.units.lines ≡ w.units.lines
@@ -75,7 +75,7 @@ pub record Settles (w w' : World) (new : List Entry) : Type 0 where
   pub same : (x : Entry) → Member x w.manager.settled → w'.units.phase x.unit ≡ Finished → (w.units.phase x.unit ≡ Finished) × (w'.manager.place x.unit ≡ w.manager.place x.unit)
   pub after : (x y : Entry) → Member x w.manager.settled → Member y new → w'.units.phase x.unit ≡ Finished → w'.units.phase y.unit ≡ Finished → w'.manager.place x.unit < w'.manager.place y.unit
 
-once-settles : (w w' : World) (new : List Entry) → Settles w w' new → Once w → Once w'
+once-settles : (w w' : CoreState) (new : List Entry) → Settles w w' new → Once w → Once w'
 once-settles w w' new t s = (
   (λ u n b. (let z = s.0 u n (t.back u n b) in (z.0, omega (arith, z.1, t.lines)))),
   (λ u v n a b. s.1 u v n (t.back u n a) (t.back v n b)),
@@ -109,31 +109,31 @@ once-settles w w' new t s = (
     member-right x (y ∷ ys) m = inr (member-right x ys m)
 
 -- a settled unit doesn't run
-settled-running : (w : World) (u : UnitNo) → IsSettled w u → w.units.phase u ≡ Running → ⊥
+settled-running : (w : CoreState) (u : UnitNo) → IsSettled w u → w.units.phase u ≡ Running → ⊥
 settled-running w u (inl o) p = (let t : Refused ≡ Running = sym o ∙ p in cc)
 settled-running w u (inr (inl o)) p = (let t : Ended ≡ Running = sym o ∙ p in cc)
 settled-running w u (inr (inr o)) p = (let t : Finished ≡ Running = sym o.0 ∙ p in cc)
 
 -- an entry isn't of a unit that runs
-entry-running : (opening : GrainId → List Value) (n : ℕ) (w : World) → Inv opening n w → Once w → (x : Entry) → Member x w.manager.settled → w.units.phase x.unit ≡ Running → ⊥
+entry-running : (opening : GrainId → List Value) (n : ℕ) (w : CoreState) → Inv opening n w → Once w → (x : Entry) → Member x w.manager.settled → w.units.phase x.unit ≡ Running → ⊥
 entry-running opening n w i s x m p = elim (s.3 x m).2 [
   | inl o ↦ (let t : Unborn ≡ Running = sym i.outside ∙ ap w.units.phase (sym o.0) ∙ p in cc)
   | inr o ↦ settled-running w x.unit o.1 p
 ]
 
-one-entry : (w : World) (u : UnitNo) (what : Settled) → DifferInLine (entry_for (w.units.origin u) u what) × ((w' : World) → StandInOrder w' (entry_for (w.units.origin u) u what))
+one-entry : (w : CoreState) (u : UnitNo) (what : Settled) → DifferInLine (entry_for (w.units.origin u) u what) × ((w' : CoreState) → StandInOrder w' (entry_for (w.units.origin u) u what))
 one-entry w u what = go (w.units.origin u)
   where
-    go : (o : Origin) → DifferInLine (entry_for o u what) × ((w' : World) → StandInOrder w' (entry_for o u what))
+    go : (o : Origin) → DifferInLine (entry_for o u what) × ((w' : CoreState) → StandInOrder w' (entry_for o u what))
     go (Line n) = (((λ y m. absurd m), tt), λ w'. ((λ y m. absurd m), tt))
     go (Child p i d) = (tt, λ w'. tt)
 
 -- a line's unit has its entry
-its-entry : (w : World) (u : UnitNo) (what : Settled) (n : ℕ) → w.units.origin u ≡ Line n → (y : Entry) × Member y (entry_for (w.units.origin u) u what) × (y.unit ≡ u) × (y.line ≡ n)
+its-entry : (w : CoreState) (u : UnitNo) (what : Settled) (n : ℕ) → w.units.origin u ≡ Line n → (y : Entry) × Member y (entry_for (w.units.origin u) u what) × (y.unit ≡ u) × (y.line ≡ n)
 its-entry w u what n q = (record { line = n; unit = u; what = what }, subst (λ o. Member (record { line = n; unit = u; what = what }) (entry_for o u what)) (sym q) (inl refl), refl, refl)
 
 -- a running unit ends, and its line is settled
-pub record Stops (w w' : World) (u : UnitNo) (end : Phase) (what : Settled) : Type 0 where
+pub record Stops (w w' : CoreState) (u : UnitNo) (end : Phase) (what : Settled) : Type 0 where
   pub phase : w'.units.phase ≡ put w.units.phase u end
   pub origin : w'.units.origin ≡ w.units.origin
   pub lines : w'.units.lines ≡ w.units.lines
@@ -142,7 +142,7 @@ pub record Stops (w w' : World) (u : UnitNo) (end : Phase) (what : Settled) : Ty
   pub emitted : w'.manager.emitted ≡ w.manager.emitted
   pub all : w'.manager.settled ≡ w.manager.settled ++ entry_for (w.units.origin u) u what
 
-settles-stops : (opening : GrainId → List Value) (n : ℕ) (w w' : World) (u : UnitNo) (end : Phase) (what : Settled) → Inv opening n w → w.units.phase u ≡ Running → (end ≡ Refused) ⊎ (end ≡ Ended) → Stops w w' u end what → Once w →
+settles-stops : (opening : GrainId → List Value) (n : ℕ) (w w' : CoreState) (u : UnitNo) (end : Phase) (what : Settled) → Inv opening n w → w.units.phase u ≡ Running → (end ≡ Refused) ⊎ (end ≡ Ended) → Stops w w' u end what → Once w →
     Settles w w' (entry_for (w.units.origin u) u what)
 settles-stops opening n w w' u end what i running kind t s = record {
   all = t.all;
@@ -210,7 +210,7 @@ settles-stops opening n w w' u end what i running kind t s = record {
     ])
 
 -- the entries of a batch are of its units, each with its line
-entries-of : (w : World) (answer : UnitNo → Settled) (us : List UnitNo) (ds : List Decision) (x : Entry) → Member x (entries_in w answer us ds) → Member x.unit us × (w.units.origin x.unit ≡ Line x.line)
+entries-of : (w : CoreState) (answer : UnitNo → Settled) (us : List UnitNo) (ds : List Decision) (x : Entry) → Member x (entries_in w answer us ds) → Member x.unit us × (w.units.origin x.unit ≡ Line x.line)
 entries-of w answer [] ds x m = absurd m
 entries-of w answer (u ∷ us) [] x m = absurd m
 entries-of w answer (u ∷ us) (d ∷ ds) x m = elim (Member-append x (entry_for (w.units.origin u) u (told (answer u) d)) (entries_in w answer us ds) m) [
@@ -218,7 +218,7 @@ entries-of w answer (u ∷ us) (d ∷ ds) x m = elim (Member-append x (entry_for
   | inr h ↦ (let t = entries-of w answer us ds x h in (inr t.0, t.1))
 ]
 
-entries-complete : (w : World) (answer : UnitNo → Settled) (votes : List (GrainId × Bool)) (ws : UnitNo → List Write) (deps : UnitNo → List UnitNo) (v : UnitNo → Verdict) (us : List UnitNo) (ds : List Decision) → Reasons votes ws deps v us ds →
+entries-complete : (w : CoreState) (answer : UnitNo → Settled) (votes : List (GrainId × Bool)) (ws : UnitNo → List Write) (deps : UnitNo → List UnitNo) (v : UnitNo → Verdict) (us : List UnitNo) (ds : List Decision) → Reasons votes ws deps v us ds →
     (u : UnitNo) (n : ℕ) → Member u us → w.units.origin u ≡ Line n → (y : Entry) × Member y (entries_in w answer us ds) × (y.unit ≡ u) × (y.line ≡ n)
 entries-complete w answer votes ws deps v [] ds r u n m q = absurd m
 entries-complete w answer votes ws deps v (x ∷ us) [] r u n m q = absurd r
@@ -238,7 +238,7 @@ abbrev pub Rises : (UnitNo → ℕ) → List UnitNo → Type 0
 Rises place [] = ⊤
 Rises place (u ∷ us) = ((x : UnitNo) → Member x us → place u < place x) × Rises place us
 
-pub rises-part : (opening : GrainId → List Value) (n : ℕ) (w : World) → Inv opening n w → (us : List UnitNo) (k : ℕ) →
+pub rises-part : (opening : GrainId → List Value) (n : ℕ) (w : CoreState) → Inv opening n w → (us : List UnitNo) (k : ℕ) →
     ((j : ℕ) → j < length us → (k + j < length w.manager.order) × (get_or us j nobody ≡ get_or w.manager.order (k + j) nobody)) → Rises w.manager.place us
 rises-part opening n w i [] k at = tt
 rises-part opening n w i (u ∷ us) k at = (
@@ -263,7 +263,7 @@ rises-part opening n w i (u ∷ us) k at = (
         (omega (arith, b.0), b.1 ∙ ap (λ x. get_or w.manager.order x nobody) e)
 
 -- the entries of a batch differ in line, and stand in its order
-entries-differ : (w : World) (answer : UnitNo → Settled) (us : List UnitNo) (ds : List Decision) → Rises w.manager.place us → ((u : UnitNo) → Member u us → w.units.phase u ≡ Unborn → ⊥) → ((u v : UnitNo) (n : ℕ) → HasBegun w u n → HasBegun w v n → u ≡ v) → DifferInLine (entries_in w answer us ds)
+entries-differ : (w : CoreState) (answer : UnitNo → Settled) (us : List UnitNo) (ds : List Decision) → Rises w.manager.place us → ((u : UnitNo) → Member u us → w.units.phase u ≡ Unborn → ⊥) → ((u v : UnitNo) (n : ℕ) → HasBegun w u n → HasBegun w v n → u ≡ v) → DifferInLine (entries_in w answer us ds)
 entries-differ w answer [] ds rises born one = tt
 entries-differ w answer (u ∷ us) [] rises born one = tt
 entries-differ w answer (u ∷ us) (d ∷ ds) rises born one =
@@ -275,7 +275,7 @@ entries-differ w answer (u ∷ us) (d ∷ ds) rises born one =
     let lt = rises.0 y.unit b.0 in
     omega (arith, lt, ap w.manager.place e)))
 
-entries-order : (w w' : World) (answer : UnitNo → Settled) (us : List UnitNo) (ds : List Decision) → Rises w'.manager.place us → StandInOrder w' (entries_in w answer us ds)
+entries-order : (w w' : CoreState) (answer : UnitNo → Settled) (us : List UnitNo) (ds : List Decision) → Rises w'.manager.place us → StandInOrder w' (entries_in w answer us ds)
 entries-order w w' answer [] ds rises = tt
 entries-order w w' answer (u ∷ us) [] rises = tt
 entries-order w w' answer (u ∷ us) (d ∷ ds) rises =
@@ -285,7 +285,7 @@ entries-order w w' answer (u ∷ us) (d ∷ ds) rises =
     let b = entries-of w answer us ds y n in
     let lt = rises.0 y.unit b.0 in omega (arith, lt, ap w'.manager.place a.0)))
 
-once-closed : (opening : GrainId → List Value) (w : World) (f : Verdict → Verdict) (answer : UnitNo → Settled) (b : Batch) (ds : List Decision) → (n : ℕ) → Inv opening n w → w.manager.closed + b.size ≤ length w.manager.order →
+once-closed : (opening : GrainId → List Value) (w : CoreState) (f : Verdict → Verdict) (answer : UnitNo → Settled) (b : Batch) (ds : List Decision) → (n : ℕ) → Inv opening n w → w.manager.closed + b.size ≤ length w.manager.order →
     Reasons b.votes w.manager.writes w.units.deps w.manager.verdict (members w b) ds → Once w → Once (closed w f answer b ds)
 once-closed opening w f answer b ds n i le reasons s = once-settles w (closed w f answer b ds) (entries_in w answer (members w b) ds) (record {
   all = refl;
@@ -344,7 +344,7 @@ once-closed opening w f answer b ds n i le reasons s = once-settles w (closed w 
         (at_part b.size w.manager.closed w.manager.order j lt ∙ ap (λ z. get_or w.manager.order z nobody) at ∙ t.3)
         (Member-get (members w b) j (omega (arith, len, lt)))
 
-once-bad : (opening : GrainId → List Value) (n : ℕ) (w : World) (line : ℕ) (what : Settled) → Inv opening n w → line ≡ w.units.lines + 1 → Once w →
+once-bad : (opening : GrainId → List Value) (n : ℕ) (w : CoreState) (line : ℕ) (what : Settled) → Inv opening n w → line ≡ w.units.lines + 1 → Once w →
     Once (record w { units = record w.units { lines = w.units.lines + 1 }; manager = record w.manager { settled = w.manager.settled ++ record { line = line; unit = nobody; what = what } ∷ [] } })
 once-bad opening n w line what i q s = (
   (λ u m b. (let z = s.0 u m b in (z.0, omega (arith, z.1)))),
@@ -364,7 +364,7 @@ once-bad opening n w line what i q s = (
   omega (arith, s.6, length-append w.manager.settled (record { line = line; unit = nobody; what = what } ∷ [])),
 )
 
-once-begun : (opening : GrainId → List Value) (n : ℕ) (w : World) (origin : Origin) (call : Call) (plain : Bool) → Inv opening n w → can_begin w origin ≡ true → Once w → Once (begun w origin call plain)
+once-begun : (opening : GrainId → List Value) (n : ℕ) (w : CoreState) (origin : Origin) (call : Call) (plain : Bool) → Inv opening n w → can_begin w origin ≡ true → Once w → Once (begun w origin call plain)
 once-begun opening n w origin call plain i c s = (
   (λ u m b. elim (begun_of u m b) [ inl o ↦ (omega (arith, (new_line m o.1).0), omega (arith, (new_line m o.1).0, (new_line m o.1).1)) | inr o ↦ (let z = s.0 u m o in (z.0, omega (arith, z.1, more))) ]),
   (λ u v m a b. elim (begun_of u m a) [
@@ -419,13 +419,13 @@ once-begun opening n w origin call plain i c s = (
         go (Line m) = omega arith
         go (Child p j d) = omega arith
 
-once-ended : (opening : GrainId → List Value) (w : World) (u : UnitNo) (answers : List Outcome) (result : Outcome) (at : Option ℕ) → Kept opening w → w.units.phase u ≡ Running → Once w → Once (ended w u answers result at)
+once-ended : (opening : GrainId → List Value) (w : CoreState) (u : UnitNo) (answers : List Outcome) (result : Outcome) (at : Option ℕ) → Kept opening w → w.units.phase u ≡ Running → Once w → Once (ended w u answers result at)
 once-ended opening w u answers result at k running s =
     once-settles w (ended w u answers result at) (entry_for (w.units.origin u) u (settled.Done result))
     (settles-stops opening _ w (ended w u answers result at) u Ended (settled.Done result) k.0 running (inr refl) (record { phase = refl; origin = refl; lines = refl; place = refl; closed = refl; emitted = refl; all = refl }) s) s
 
 -- who finishes isn't settled yet
-once-finished : (opening : GrainId → List Value) (w : World) (u : UnitNo) (effect : Effect) → Kept opening w → w.units.phase u ≡ Running → Once w → Once (finished w u effect)
+once-finished : (opening : GrainId → List Value) (w : CoreState) (u : UnitNo) (effect : Effect) → Kept opening w → w.units.phase u ≡ Running → Once w → Once (finished w u effect)
 once-finished opening w u effect k running s = once-settles w (finished w u effect) [] (record {
   all = sym (append-nil _);
   emitted = refl;
@@ -457,7 +457,7 @@ once-finished opening w u effect k running s = once-settles w (finished w u effe
   after = λ x y m n. absurd n;
 }) s
 
-pub once-change : (opening : GrainId → List Value) (w : World) (e : CoreEvent) (w' : World) → Change w e w' → applies w e ≡ true → Kept opening w → Depends w → Argued w → Once w → Once w'
+pub once-change : (opening : GrainId → List Value) (w : CoreState) (e : CoreEvent) (w' : CoreState) → Change w e w' → applies w e ≡ true → Kept opening w → Depends w → Argued w → Once w → Once w'
 once-change opening w e w' (bad line why q) a k dep arg s = once-bad opening _ w line (settled.Bad why) k.0 q s
 once-change opening w e w' (begin origin call plain c) a k dep arg s = once-begun opening _ w origin call plain k.0 c s
 once-change opening w e w' (lock u g mode running free first here) a k dep arg s = s
@@ -483,37 +483,37 @@ once-change opening w e w' (halt_run q) a k dep arg s = s
 once-change opening w e w' (want u g running free fresh) a k dep arg s = s
 once-change opening w e w' (load g u state gone wanted) a k dep arg s = s
 
-once-step : (opening : GrainId → List Value) (w : World) (e : CoreEvent) → Kept opening w → Depends w → Argued w → Once w → Once (step w e)
+once-step : (opening : GrainId → List Value) (w : CoreState) (e : CoreEvent) → Kept opening w → Depends w → Argued w → Once w → Once (step w e)
 once-step opening w e k dep arg s = cond_both (applies w e) (swept (does w e)) w Once
     (λ a. swept-once (does w e) (once-change opening w e (does w e) (decode w e (and_parts (is_allowed w e) (can w e) a).1) a k dep arg s))
     (λ a. s)
   where
-    swept-once : (w : World) → Once w → Once (swept w)
+    swept-once : (w : CoreState) → Once w → Once (swept w)
     swept-once w s = go w.cells.capacity
       where
         go : (c : Option ℕ) → Once (swept_by w c)
         go None = s
         go (Some m) = s
 
-once-run : (opening : GrainId → List Value) (es : List CoreEvent) (w : World) → AllLoadsTrue opening w es → Kept opening w → Depends w → Argued w → Once w → Once (run w es)
+once-run : (opening : GrainId → List Value) (es : List CoreEvent) (w : CoreState) → AllLoadsTrue opening w es → Kept opening w → Depends w → Argued w → Once w → Once (run w es)
 once-run opening [] w l k dep arg s = s
 once-run opening (e ∷ es) w l k dep arg s =
     once-run opening es (step w e) l.1 (kept-step opening w e l.0 k) (depends-step opening w e l.0 k dep) (argued-step opening w e k dep arg) (once-step opening w e k dep arg s)
 
 -- and each line has its unit or its entry
-taken-step : (opening : GrainId → List Value) (w : World) (e : CoreEvent) → Kept opening w → LinesAreTaken w → LinesAreTaken (step w e)
+taken-step : (opening : GrainId → List Value) (w : CoreState) (e : CoreEvent) → Kept opening w → LinesAreTaken w → LinesAreTaken (step w e)
 taken-step opening w e k s = cond_both (applies w e) (swept (does w e)) w LinesAreTaken
     (λ a. swept-taken (does w e) (taken-change opening w e (does w e) (decode w e (and_parts (is_allowed w e) (can w e) a).1) k s))
     (λ a. s)
   where
-    swept-taken : (w : World) → LinesAreTaken w → LinesAreTaken (swept w)
+    swept-taken : (w : CoreState) → LinesAreTaken w → LinesAreTaken (swept w)
     swept-taken w s = go w.cells.capacity
       where
         go : (c : Option ℕ) → LinesAreTaken (swept_by w c)
         go None = s
         go (Some m) = s
 
-taken-run : (opening : GrainId → List Value) (es : List CoreEvent) (w : World) → AllLoadsTrue opening w es → Kept opening w → LinesAreTaken w → LinesAreTaken (run w es)
+taken-run : (opening : GrainId → List Value) (es : List CoreEvent) (w : CoreState) → AllLoadsTrue opening w es → Kept opening w → LinesAreTaken w → LinesAreTaken (run w es)
 taken-run opening [] w l k s = s
 taken-run opening (e ∷ es) w l k s = taken-run opening es (step w e) l.1 (kept-step opening w e l.0 k) (taken-step opening w e k s)
 

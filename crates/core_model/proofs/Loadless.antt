@@ -1,7 +1,7 @@
 -- What holds of the core after any events, whatever was loaded.
 use Rattle.std.proofs.Common.{◌≡◌, ℕ, ◌+◌, ◌<◌, ◌≤◌, List, [], length, get_or, true, ◌⊎◌}
 use Rattle.cell_model.specs.Locks.{is_update}
-use Rattle.core_model.specs.World.{UnitNo, GrainId, nobody, Member, Phase, Unborn, Running, Finished, Verdict, Open, Read, Write, Hold, Reading, World}
+use Rattle.core_model.specs.CoreState.{UnitNo, GrainId, nobody, Member, Phase, Unborn, Running, Finished, Verdict, Open, Read, Write, Hold, Reading, CoreState}
 use Rattle.core_model.specs.Chains.{Wrote}
 
 -- The first n units of the finish order are decided, or judged in the open batch. Each part of the state is an argument, so
@@ -27,6 +27,6 @@ pub record Loadless (n : ℕ) (next : ℕ) (phase : UnitNo → Phase) (reads : U
   pub kept : (g : GrainId) (s : Reading) → Member s (readings g) → (h : Hold) × Member h (holds g) × (h.unit ≡ s.unit)
 
 -- that of a state
-abbrev pub LoadlessAt : ℕ → World → Type 0
+abbrev pub LoadlessAt : ℕ → CoreState → Type 0
 LoadlessAt n w =
     Loadless n w.units.next w.units.phase w.units.reads w.manager.place w.manager.order w.manager.writes w.manager.verdict w.cells.holds w.cells.readings

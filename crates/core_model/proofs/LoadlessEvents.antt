@@ -5,7 +5,7 @@ use Rattle.cell_model.specs.Locks.{is_update, is_hold_of, holds_lock, conflicts,
 use Rattle.cell_model.specs.Cells.{with_reading, without_reading}
 use Rattle.cell_model.proofs.Units.{same_unit-true, same_unit-false, cases_unit, any-true, any-false, all-true, Member-append, Member-left, Member-last}
 use Rattle.cell_model.proofs.Asking.{no_conflict, granted-member, granted-new, granted-stays, dropped-member, dropped-stays}
-use Rattle.core_model.specs.World.{UnitNo, GrainId, nobody, put, put_grain, Member, Value, Call, Origin, Phase, Unborn, Running, Finished, Refused, Verdict, Open, Aborted, Read, Write, top, Hold, Mode, Reading, Effect, Settled, World}
+use Rattle.core_model.specs.CoreState.{UnitNo, GrainId, nobody, put, put_grain, Member, Value, Call, Origin, Phase, Unborn, Running, Finished, Refused, Verdict, Open, Aborted, Read, Write, top, Hold, Mode, Reading, Effect, Settled, CoreState}
 use Rattle.core_model.specs.Tests.{any, all, written}
 use Rattle.core_model.specs.Chains.{Wrote}
 use Rattle.core_model.specs.Changes.{begun, new_unit, finished, locked, raised, released, read_of, refused}
@@ -33,14 +33,14 @@ length-push [] x = refl
 length-push (y ∷ xs) x = omega (arith, length-push xs x)
 
 -- one unit's verdict
-abbrev pub with_verdict : World → UnitNo → Verdict → World
+abbrev pub with_verdict : CoreState → UnitNo → Verdict → CoreState
 with_verdict w u v = record w { manager = record w.manager { verdict = put w.manager.verdict u v } }
 
 -- every verdict is changed in one way
-abbrev pub mapped : (Verdict → Verdict) → World → World
+abbrev pub mapped : (Verdict → Verdict) → CoreState → CoreState
 mapped f w = record w { manager = record w.manager { verdict = λ u. f (w.manager.verdict u) } }
 
-pub loadless-begun : (n : ℕ) (w : World) (origin : Origin) (call : Call) (plain : Bool) → LoadlessAt n w → LoadlessAt n (begun w origin call plain)
+pub loadless-begun : (n : ℕ) (w : CoreState) (origin : Origin) (call : Call) (plain : Bool) → LoadlessAt n w → LoadlessAt n (begun w origin call plain)
 loadless-begun n w origin call plain i =
     record {
       fresh = omega (arith, i.fresh);
@@ -77,7 +77,7 @@ loadless-begun n w origin call plain i =
     run : (u : UnitNo) (r : Read) → Member r (w.units.reads u) → put w.units.phase (new_unit w) Running u ≡ Running → w.units.phase u ≡ Running
     run u r m = put-at w.units.phase (new_unit w) Running (λ p. p ≡ Running → w.units.phase u ≡ Running) u (λ e h. absurd (none u r e m)) (λ k h. h)
 
-pub loadless-over : (n : ℕ) (w : World) (u : UnitNo) (end : Phase) → LoadlessAt n w → w.units.phase u ≡ Running →
+pub loadless-over : (n : ℕ) (w : CoreState) (u : UnitNo) (end : Phase) → LoadlessAt n w → w.units.phase u ≡ Running →
     (end ≡ Unborn → ⊥) → (end ≡ Running → ⊥) → (end ≡ Finished → ⊥) → LoadlessAt n (record w { units = record w.units { phase = put w.units.phase u end } })
 loadless-over n w u end i running n0 n1 n2 =
     record {
@@ -117,7 +117,7 @@ loadless-over n w u end i running n0 n1 n2 =
     run : (x : UnitNo) → put w.units.phase u end x ≡ Running → w.units.phase x ≡ Running
     run x = put-at w.units.phase u end (λ p. p ≡ Running → w.units.phase x ≡ Running) x (λ e h. absurd (n1 h)) (λ k h. h)
 
-pub loadless-aborted : (n : ℕ) (w : World) (u : UnitNo) → LoadlessAt n w → w.units.phase u ≡ Refused → w.manager.verdict u ≡ Open →
+pub loadless-aborted : (n : ℕ) (w : CoreState) (u : UnitNo) → LoadlessAt n w → w.units.phase u ≡ Refused → w.manager.verdict u ≡ Open →
     LoadlessAt n (record w { manager = record w.manager { verdict = put w.manager.verdict u Aborted } })
 loadless-aborted n w u i refused_u open_u =
     record {
@@ -146,12 +146,12 @@ loadless-aborted n w u i refused_u open_u =
     not_finished : (x : UnitNo) → x ≡ u → w.units.phase x ≡ Finished → ⊥
     not_finished x q e = (let t : Finished ≡ Refused = sym e ∙ ap w.units.phase q ∙ refused_u in cc)
 
-pub loadless-refused : (n : ℕ) (w : World) (u : UnitNo) (why : Settled) → LoadlessAt n w → w.units.phase u ≡ Running → LoadlessAt n (refused w u why)
+pub loadless-refused : (n : ℕ) (w : CoreState) (u : UnitNo) (why : Settled) → LoadlessAt n w → w.units.phase u ≡ Running → LoadlessAt n (refused w u why)
 loadless-refused n w u why i running =
     loadless-aborted n (record w { units = record w.units { phase = put w.units.phase u Refused } }) u
     (loadless-over n w u Refused i running (λ e. cc) (λ e. cc) (λ e. cc)) (put-same w.units.phase u Refused) (i.undecided u (inr running))
 
-pub loadless-finished : (n : ℕ) (w : World) (u : UnitNo) (effect : Effect) → LoadlessAt n w →
+pub loadless-finished : (n : ℕ) (w : CoreState) (u : UnitNo) (effect : Effect) → LoadlessAt n w →
     w.units.phase u ≡ Running → all (λ x. holds_alone w u x.0) effect.writes ≡ true → LoadlessAt n (finished w u effect)
 loadless-finished n w u effect i running holds =
     record {
@@ -218,7 +218,7 @@ loadless-finished n w u effect i running holds =
     old_wrote : (x : UnitNo) (g : GrainId) → (x ≡ u → ⊥) → Wrote (put w.manager.writes u ws) x g → Wrote w.manager.writes x g
     old_wrote x g e wr = (wr.0, ap (written g) (sym (put-other w.manager.writes u ws x e)) ∙ wr.1)
 
-pub loadless-locked : (n : ℕ) (w : World) (u : UnitNo) (g : GrainId) (mode : Mode) → LoadlessAt n w →
+pub loadless-locked : (n : ℕ) (w : CoreState) (u : UnitNo) (g : GrainId) (mode : Mode) → LoadlessAt n w →
     w.units.phase u ≡ Running → ((h : Hold) → Member h (w.cells.holds g) → conflicts u mode h ≡ false) → holds_lock u (w.cells.holds g) ≡ false → w.cells.here g ≡ true → LoadlessAt n (locked w u g mode)
 loadless-locked n w u g mode i running free first here_g =
     record {
@@ -318,7 +318,7 @@ loadless-locked n w u g mode i running free first here_g =
       ]
     ]
 
-pub loadless-raised : (n : ℕ) (w : World) (u : UnitNo) (g : GrainId) (mode : Mode) → LoadlessAt n w →
+pub loadless-raised : (n : ℕ) (w : CoreState) (u : UnitNo) (g : GrainId) (mode : Mode) → LoadlessAt n w →
     w.units.phase u ≡ Running → ((h : Hold) → Member h (w.cells.holds g) → conflicts u mode h ≡ false) → holds_lock u (w.cells.holds g) ≡ true → w.cells.here g ≡ true → LoadlessAt n (raised w u g mode)
 loadless-raised n w u g mode i running free held here_g =
     record {
@@ -390,7 +390,7 @@ loadless-raised n w u g mode i running free held here_g =
         ])
         (λ e m. (h, m, refl))
 
-pub loadless-released : (n : ℕ) (w : World) (u : UnitNo) (g : GrainId) → LoadlessAt n w →
+pub loadless-released : (n : ℕ) (w : CoreState) (u : UnitNo) (g : GrainId) → LoadlessAt n w →
     (w.units.phase u ≡ Running → ⊥) → holds_lock u (w.cells.holds g) ≡ true → LoadlessAt n (released w u g)
 loadless-released n w u g i stopped held =
     record {
@@ -455,7 +455,7 @@ loadless-released n w u g i stopped held =
     apart_u : (k : GrainId) (h : Hold) → k ≡ g → Member h (put_grain w.cells.holds g holds_g k) → h.unit ≡ u → ⊥
     apart_u k h e m = (dropped-member u (w.cells.holds g) h (subst (Member h) (grain-is w.cells.holds g holds_g k e) m)).1
 
-pub loadless-judged : (n : ℕ) (w : World) (u : UnitNo) (d : Verdict) → LoadlessAt n w →
+pub loadless-judged : (n : ℕ) (w : CoreState) (u : UnitNo) (d : Verdict) → LoadlessAt n w →
     n < length w.manager.order → u ≡ get_or w.manager.order n nobody → (d ≡ Open → ⊥) → LoadlessAt (n + 1) (with_verdict w u d)
 loadless-judged n w u d i lt is d_not_open =
     record {
@@ -488,7 +488,7 @@ loadless-judged n w u d i lt is d_not_open =
     apart : (x : UnitNo) → w.units.phase x ≡ Finished → (x ≡ u → ⊥) → w.manager.place x ≡ n + 1 → ⊥
     apart x f e q = (let t = i.placed x f in let k : t.0 ≡ n = omega (arith, t.2, q) in e (sym t.3 ∙ ap (λ j. get_or w.manager.order j nobody) k ∙ sym is))
 
-pub loadless-mapped : (n : ℕ) (w : World) (f : Verdict → Verdict) → f Open ≡ Open → ((v : Verdict) → f v ≡ Open → v ≡ Open) → LoadlessAt n w → LoadlessAt n (mapped f w)
+pub loadless-mapped : (n : ℕ) (w : CoreState) (f : Verdict → Verdict) → f Open ≡ Open → ((v : Verdict) → f v ≡ Open → v ≡ Open) → LoadlessAt n w → LoadlessAt n (mapped f w)
 loadless-mapped n w f still opens i =
     record {
       fresh = i.fresh;

@@ -6,7 +6,7 @@ use Rattle.std.proofs.lemmas.List.{length-map}
 use Rattle.base_types.specs.declared.entries.Settled.TheVariants as settled
 use Rattle.cell_model.proofs.Decisions.{decided-length}
 use Rattle.cell_model.proofs.Units.{cases_unit}
-use Rattle.core_model.specs.World.{UnitNo, nobody, put, Member, Phase, Running, Finished, Refused, Ended, Verdict, Open, Chosen, Condemned, Committed, Aborted, Settled, Batch, Decision, World}
+use Rattle.core_model.specs.CoreState.{UnitNo, nobody, put, Member, Phase, Running, Finished, Refused, Ended, Verdict, Open, Chosen, Condemned, Committed, Aborted, Settled, Batch, Decision, CoreState}
 use Rattle.core_model.specs.Tests.{is_bad, is_final, members, waiting, prepared}
 use Rattle.core_model.specs.Told.{IsSteady, OnlyTheBatchIsJudged}
 use Rattle.core_model.specs.Changes.{new_unit, restacked, cleaned, new_batch, result_told, verdict_of, judged, decisions_of, with_decisions, closed, seal, spoil, leave}
@@ -25,14 +25,14 @@ use Rattle.core_model.proofs.Split.{seal-final, spoil-final}
 use Rattle.core_model.proofs.Verdicts.{Turned, member-or-not, turned-phase, turned-refused, turned-mapped}
 
 -- with as many units decided as stand in closed batches and in a decided open one
-abbrev pub LoadlessKept : World → Type 0
+abbrev pub LoadlessKept : CoreState → Type 0
 LoadlessKept w =
     LoadlessAt (w.manager.closed + decided_size w.manager.batch) w
     × (w.manager.closed + open_size w.manager.batch ≤ length w.manager.order)
     × ((b : Batch) → w.manager.batch ≡ Some b → (0 < b.size) × (b.size ≤ 64))
 
 -- a batch that is decided, unit by unit
-loadless-decide : (us : List UnitNo) (ds : List Decision) (n : ℕ) (w : World) → LoadlessAt n w → length ds ≡ length us →
+loadless-decide : (us : List UnitNo) (ds : List Decision) (n : ℕ) (w : CoreState) → LoadlessAt n w → length ds ≡ length us →
     ((k : ℕ) → k < length us → (n + k < length w.manager.order) × (get_or us k nobody ≡ get_or w.manager.order (n + k) nobody)) →
     LoadlessAt (n + length us) (record w { manager = record w.manager { verdict = judged us ds w.manager.verdict } })
 loadless-decide [] ds n w i same at = subst (λ k. LoadlessAt k w) (omega arith) i
@@ -48,18 +48,18 @@ loadless-decide (u ∷ us) (d ∷ ds) n w i same at =
     let e : n + suc k ≡ n + 1 + k = omega arith in
     (omega (arith, b.0), b.1 ∙ ap (λ j. get_or w.manager.order j nobody) e))))
 
-open-at : (w : World) (b : Batch) → LoadlessKept w → w.manager.batch ≡ Some b → b.decisions ≡ None → LoadlessAt w.manager.closed w
+open-at : (w : CoreState) (b : Batch) → LoadlessKept w → w.manager.batch ≡ Some b → b.decisions ≡ None → LoadlessAt w.manager.closed w
 open-at w b k e d =
     subst (λ m. LoadlessAt m w) (ap (λ z. w.manager.closed + decided_size z) e ∙ ap (λ (z : Option (List Decision)). w.manager.closed + (if is_some z then b.size else 0)) d ∙ omega arith) k.0
 
-judged-at : (w : World) (b : Batch) (ds : List Decision) → LoadlessKept w → w.manager.batch ≡ Some b → b.decisions ≡ Some ds → LoadlessAt (w.manager.closed + b.size) w
+judged-at : (w : CoreState) (b : Batch) (ds : List Decision) → LoadlessKept w → w.manager.batch ≡ Some b → b.decisions ≡ Some ds → LoadlessAt (w.manager.closed + b.size) w
 judged-at w b ds k e d =
     subst (λ m. LoadlessAt m w) (ap (λ z. w.manager.closed + decided_size z) e ∙ ap (λ (z : Option (List Decision)). w.manager.closed + (if is_some z then b.size else 0)) d) k.0
 
-size-at : (w : World) (b : Batch) → LoadlessKept w → w.manager.batch ≡ Some b → w.manager.closed + b.size ≤ length w.manager.order
+size-at : (w : CoreState) (b : Batch) → LoadlessKept w → w.manager.batch ≡ Some b → w.manager.closed + b.size ≤ length w.manager.order
 size-at w b k e = subst (λ z. w.manager.closed + open_size z ≤ length w.manager.order) e k.1
 
-decided-at : (w : World) (b : Batch) → LoadlessKept w → w.manager.batch ≡ Some b → b.decisions ≡ None → LoadlessAt (w.manager.closed + b.size) (with_decisions w b (decisions_of w b))
+decided-at : (w : CoreState) (b : Batch) → LoadlessKept w → w.manager.batch ≡ Some b → b.decisions ≡ None → LoadlessAt (w.manager.closed + b.size) (with_decisions w b (decisions_of w b))
 decided-at w b k e d =
     let le = size-at w b k e in
     let l : length (members w b) ≡ b.size = take_length b.size (waiting w) (omega (arith, length-drop w.manager.closed w.manager.order, le)) in
@@ -68,7 +68,7 @@ decided-at w b k e d =
     (decided-length (λ u. is_bad (w.manager.verdict u)) (map (prepared w b) (members w b)) ∙ length-map (members w b) (prepared w b))
     (λ j h. (omega (arith, l, h, le), at_part b.size w.manager.closed w.manager.order j (omega (arith, l, h)))))
 
-closed-at : (w : World) (f : Verdict → Verdict) (answer : UnitNo → Settled) (b : Batch) (ds : List Decision) → f Open ≡ Open → ((v : Verdict) → f v ≡ Open → v ≡ Open) →
+closed-at : (w : CoreState) (f : Verdict → Verdict) (answer : UnitNo → Settled) (b : Batch) (ds : List Decision) → f Open ≡ Open → ((v : Verdict) → f v ≡ Open → v ≡ Open) →
     LoadlessAt (w.manager.closed + b.size) w → w.manager.closed + b.size ≤ length w.manager.order → LoadlessKept (closed w f answer b ds)
 closed-at w f answer b ds still opens i le =
     let e : w.manager.closed + b.size ≡ w.manager.closed + b.size + 0 = omega arith in (
@@ -98,7 +98,7 @@ leave-open Condemned e = cc
 leave-open Committed e = cc
 leave-open Aborted e = cc
 
-pub loadless-change : (w : World) (e : CoreEvent) (w' : World) → Change w e w' → applies w e ≡ true → LoadlessKept w → LoadlessKept w'
+pub loadless-change : (w : CoreState) (e : CoreEvent) (w' : CoreState) → Change w e w' → applies w e ≡ true → LoadlessKept w → LoadlessKept w'
 loadless-change w e w' (bad line why q) a k = k
 loadless-change w e w' (begin origin call plain c) a k = (loadless-begun _ w origin call plain k.0, k.1, k.2)
 loadless-change w e w' (lock u g mode running free first here) a k = (loadless-locked _ (restacked w g (cleaned w g)) u g mode k.0 running free first here, k.1, k.2)
@@ -162,7 +162,7 @@ loadless-begins r above = (
 -- ---- verdicts
 
 -- who stands in an open batch stands after the closed ones
-member-late : (w : World) (n : ℕ) (b : Batch) → LoadlessAt n w → (u : UnitNo) → Member u (members w b) → (w.units.phase u ≡ Finished) × (w.manager.closed < w.manager.place u)
+member-late : (w : CoreState) (n : ℕ) (b : Batch) → LoadlessAt n w → (u : UnitNo) → Member u (members w b) → (w.units.phase u ≡ Finished) × (w.manager.closed < w.manager.place u)
 member-late w n b i u m =
     let t = Member-at u (members w b) m in
     let len = length-take b.size (waiting w) in
@@ -171,10 +171,10 @@ member-late w n b i u m =
     (subst (λ z. w.units.phase z ≡ Finished) e l.0, subst (λ z. w.manager.closed < w.manager.place z) e (omega (arith, l.1)))
 
 -- who is decided has finished or was refused; unless a batch is in doubt, who stands in a closed batch is decided for good
-abbrev pub Steady : World → Type 0
+abbrev pub Steady : CoreState → Type 0
 Steady w = LoadlessKept w × Turned w × (w.manager.doubt ≡ None → (u : UnitNo) → w.units.phase u ≡ Finished → w.manager.place u ≤ w.manager.closed → is_final (w.manager.verdict u) ≡ true)
 
-turned-judged : (w : World) (b : Batch) (ds : List Decision) → LoadlessKept w → Turned w → Turned (with_decisions w b ds)
+turned-judged : (w : CoreState) (b : Batch) (ds : List Decision) → LoadlessKept w → Turned w → Turned (with_decisions w b ds)
 turned-judged w b ds k s = (
   (λ x n. elim (member-or-not x (members w b)) [
     | inl m ↦ inl (member-late w _ b k.0 x m).0
@@ -184,16 +184,16 @@ turned-judged w b ds k s = (
 )
 
 -- a phase that a running unit takes
-final-phase : (w : World) (u : UnitNo) (end : Phase) → (end ≡ Finished → ⊥) → ((x : UnitNo) → w.units.phase x ≡ Finished → w.manager.place x ≤ w.manager.closed → is_final (w.manager.verdict x) ≡ true) →
+final-phase : (w : CoreState) (u : UnitNo) (end : Phase) → (end ≡ Finished → ⊥) → ((x : UnitNo) → w.units.phase x ≡ Finished → w.manager.place x ≤ w.manager.closed → is_final (w.manager.verdict x) ≡ true) →
     (x : UnitNo) → put w.units.phase u end x ≡ Finished → w.manager.place x ≤ w.manager.closed → is_final (w.manager.verdict x) ≡ true
 final-phase w u end n s x = put-from w.units.phase u end (λ p. p ≡ Finished) (w.manager.place x ≤ w.manager.closed → is_final (w.manager.verdict x) ≡ true) x (λ q h. absurd (n h)) (λ q h. s x h)
 
 -- a batch that closes
-final-closed : (w : World) (f : Verdict → Verdict) (b : Batch) → ((v : Verdict) → (v ≡ Open → ⊥) → is_final (f v) ≡ true) → LoadlessAt (w.manager.closed + b.size) w →
+final-closed : (w : CoreState) (f : Verdict → Verdict) (b : Batch) → ((v : Verdict) → (v ≡ Open → ⊥) → is_final (f v) ≡ true) → LoadlessAt (w.manager.closed + b.size) w →
     (u : UnitNo) → w.units.phase u ≡ Finished → w.manager.place u ≤ w.manager.closed + b.size → is_final (f (w.manager.verdict u)) ≡ true
 final-closed w f b final i u p le = final (w.manager.verdict u) (i.early u p le)
 
-steady-change : (w : World) (e : CoreEvent) (w' : World) → Change w e w' → applies w e ≡ true → Steady w → Steady w'
+steady-change : (w : CoreState) (e : CoreEvent) (w' : CoreState) → Change w e w' → applies w e ≡ true → Steady w → Steady w'
 steady-change w e w' (bad line why q) a s = (loadless-change w e w' (bad line why q) a s.0, s.1, s.2)
 steady-change w e w' (begin origin call plain c) a s = (loadless-change w e w' (begin origin call plain c) a s.0, turned-phase w (new_unit w) Running (s.0.0.undecided (new_unit w) (inl (s.0.0.unborn (new_unit w) (le_refl w.units.next)))) (λ z. cc) s.1, λ n. final-phase w (new_unit w) Running (λ z. cc) (s.2 n))
 steady-change w e w' (lock u g mode running free first here) a s = (loadless-change w e w' (lock u g mode running free first here) a s.0, s.1, s.2)
@@ -234,7 +234,7 @@ pub steady-ends : (r : Run) → 0 < r.base → Steady (ends r)
 steady-ends r above = run-keeps Steady steady-change (λ w here k. k) r.events (begins r) (loadless-begins r above, ((λ u n. absurd (n refl)), (λ u f. cc)), (λ n u f. cc))
 
 -- who is judged and not for good has finished after the closed batches
-judged-late : (w : World) → Steady w → w.manager.doubt ≡ None → (u : UnitNo) → IsSteady (w.manager.verdict u) ⊎ ((w.units.phase u ≡ Finished) × (w.manager.closed < w.manager.place u) × (w.manager.verdict u ≡ Open → ⊥))
+judged-late : (w : CoreState) → Steady w → w.manager.doubt ≡ None → (u : UnitNo) → IsSteady (w.manager.verdict u) ⊎ ((w.units.phase u ≡ Finished) × (w.manager.closed < w.manager.place u) × (w.manager.verdict u ≡ Open → ⊥))
 judged-late w s none u = go (w.manager.verdict u) refl
   where
     late : (v : Verdict) → w.manager.verdict u ≡ v → (v ≡ Open → ⊥) → (v ≡ Aborted → ⊥) → (is_final v ≡ true → ⊥) → (w.units.phase u ≡ Finished) × (w.manager.closed < w.manager.place u) × (w.manager.verdict u ≡ Open → ⊥)
@@ -260,7 +260,7 @@ judged-late w s none u = go (w.manager.verdict u) refl
     go Aborted q = inl (inr (ap is_final q))
 
 -- a finished unit after the closed batches and up to the batch's end is one of the batch
-in-batch : (w : World) (b : Batch) → LoadlessKept w → w.manager.batch ≡ Some b → (u : UnitNo) → w.units.phase u ≡ Finished → w.manager.closed < w.manager.place u → w.manager.place u ≤ w.manager.closed + b.size → Member u (members w b)
+in-batch : (w : CoreState) (b : Batch) → LoadlessKept w → w.manager.batch ≡ Some b → (u : UnitNo) → w.units.phase u ≡ Finished → w.manager.closed < w.manager.place u → w.manager.place u ≤ w.manager.closed + b.size → Member u (members w b)
 in-batch w b k q u f new le =
     let t = k.0.placed u f in
     let j : ℕ = t.0 - w.manager.closed in
@@ -272,14 +272,14 @@ in-batch w b k q u f new le =
     (Member-get (members w b) j (omega (arith, short, lt)))
 
 -- without a batch, or in one that isn't decided, nobody after the closed ones is judged
-late-open : (w : World) → LoadlessKept w → ((b : Batch) → w.manager.batch ≡ Some b → b.decisions ≡ None) → LoadlessAt w.manager.closed w
+late-open : (w : CoreState) → LoadlessKept w → ((b : Batch) → w.manager.batch ≡ Some b → b.decisions ≡ None) → LoadlessAt w.manager.closed w
 late-open w k free = go w.manager.batch refl
   where
     go : (o : Option Batch) → w.manager.batch ≡ o → LoadlessAt w.manager.closed w
     go None q = subst (λ m. LoadlessAt m w) (ap (λ z. w.manager.closed + decided_size z) q ∙ omega arith) k.0
     go (Some b) q = open-at w b k q (free b q)
 
-pub only-judged : (w : World) → Steady w → w.manager.doubt ≡ None → OnlyTheBatchIsJudged w
+pub only-judged : (w : CoreState) → Steady w → w.manager.doubt ≡ None → OnlyTheBatchIsJudged w
 only-judged w s none = record {
   undecided = λ free u. elim (judged-late w s none u) [
     | inl t ↦ t

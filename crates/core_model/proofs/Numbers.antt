@@ -5,7 +5,7 @@ use Rattle.base_types.specs.declared.calls.Origin.TheVariants.{Line}
 use Rattle.cell_model.specs.Locks.{dropped, granted, is_hold_of, is_update}
 use Rattle.cell_model.proofs.Units.{any-true, all-true}
 use Rattle.cell_model.proofs.Asking.{dropped-member}
-use Rattle.core_model.specs.World.{UnitNo, GrainId, put, put_grain, Member, Value, Phase, Unborn, Running, Finished, Refused, Ended, Mode, Write, Hold, World}
+use Rattle.core_model.specs.CoreState.{UnitNo, GrainId, put, put_grain, Member, Value, Phase, Unborn, Running, Finished, Refused, Ended, Mode, Write, Hold, CoreState}
 use Rattle.core_model.specs.Tests.{is_running, written}
 use Rattle.core_model.specs.Chains.{Wrote}
 use Rattle.core_model.specs.Changes.{new_unit}
@@ -18,11 +18,11 @@ use Rattle.core_model.proofs.Everywhere.{run-keeps}
 
 -- ---- units are numbered from the base on, and who hasn't begun has no line
 
-abbrev pub Numbered : ℕ → World → Type 0
+abbrev pub Numbered : ℕ → CoreState → Type 0
 Numbered base w = (base ≤ w.units.next) × ((u : UnitNo) → (w.units.phase u ≡ Unborn → ⊥) → base ≤ u.0)
 
 -- a phase of a unit that has begun
-numbered-phase : (base : ℕ) (w : World) (u : UnitNo) (end : Phase) → w.units.phase u ≡ Running → Numbered base w → Numbered base (record w { units = record w.units { phase = put w.units.phase u end } })
+numbered-phase : (base : ℕ) (w : CoreState) (u : UnitNo) (end : Phase) → w.units.phase u ≡ Running → Numbered base w → Numbered base (record w { units = record w.units { phase = put w.units.phase u end } })
 numbered-phase base w u end running s = (
   s.0,
   λ x. put-from w.units.phase u end (λ p. p ≡ Unborn → ⊥) (base ≤ x.0) x
@@ -30,7 +30,7 @@ numbered-phase base w u end running s = (
       (λ q n. s.1 x n),
 )
 
-numbered-change : (base : ℕ) (w : World) (e : CoreEvent) (w' : World) → Change w e w' → applies w e ≡ true → Numbered base w → Numbered base w'
+numbered-change : (base : ℕ) (w : CoreState) (e : CoreEvent) (w' : CoreState) → Change w e w' → applies w e ≡ true → Numbered base w → Numbered base w'
 numbered-change base w e w' (bad line why q) a s = s
 numbered-change base w e w' (begin origin call plain c) a s = (omega (arith, s.0), λ x. put-from w.units.phase (new_unit w) Running (λ p. p ≡ Unborn → ⊥) (base ≤ x.0) x (λ q n. omega (arith, s.0, ap (λ (z : UnitNo). z.0) q)) (λ q n. s.1 x n))
 numbered-change base w e w' (lock u g mode running free first here) a s = s
@@ -56,13 +56,13 @@ numbered-change base w e w' (load g u state gone wanted) a s = s
 pub numbered-ends : (r : Run) → Numbered r.base (ends r)
 numbered-ends r = run-keeps (Numbered r.base) (numbered-change r.base) (λ w here s. s) r.events (begins r) (omega arith, λ u n. absurd (n refl))
 
-abbrev pub Lineless : World → Type 0
+abbrev pub Lineless : CoreState → Type 0
 Lineless w = (u : UnitNo) → w.units.phase u ≡ Unborn → w.units.origin u ≡ Line 0
 
-lineless-phase : (w : World) (u : UnitNo) (end : Phase) → (end ≡ Unborn → ⊥) → Lineless w → Lineless (record w { units = record w.units { phase = put w.units.phase u end } })
+lineless-phase : (w : CoreState) (u : UnitNo) (end : Phase) → (end ≡ Unborn → ⊥) → Lineless w → Lineless (record w { units = record w.units { phase = put w.units.phase u end } })
 lineless-phase w u end n s = λ x. put-from w.units.phase u end (λ p. p ≡ Unborn) (w.units.origin x ≡ Line 0) x (λ q h. absurd (n h)) (λ q h. s x h)
 
-lineless-change : (w : World) (e : CoreEvent) (w' : World) → Change w e w' → applies w e ≡ true → Lineless w → Lineless w'
+lineless-change : (w : CoreState) (e : CoreEvent) (w' : CoreState) → Change w e w' → applies w e ≡ true → Lineless w → Lineless w'
 lineless-change w e w' (bad line why q) a s = s
 lineless-change w e w' (begin origin call plain c) a s = λ x. put-from w.units.phase (new_unit w) Running (λ p. p ≡ Unborn) (put w.units.origin (new_unit w) origin x ≡ Line 0) x (λ q h. cc) (λ q h. put-other w.units.origin (new_unit w) origin x q ∙ s x h)
 lineless-change w e w' (lock u g mode running free first here) a s = s
@@ -90,10 +90,10 @@ lineless-ends r = run-keeps Lineless lineless-change (λ w here s. s) r.events (
 
 -- ---- what only grows, and what stays
 
-abbrev pub Grown : ℕ → ℕ → World → Type 0
+abbrev pub Grown : ℕ → ℕ → CoreState → Type 0
 Grown next kinds w = (next ≤ w.units.next) × (w.units.kinds ≡ kinds)
 
-grown-change : (next kinds : ℕ) (w : World) (e : CoreEvent) (w' : World) → Change w e w' → applies w e ≡ true → Grown next kinds w → Grown next kinds w'
+grown-change : (next kinds : ℕ) (w : CoreState) (e : CoreEvent) (w' : CoreState) → Change w e w' → applies w e ≡ true → Grown next kinds w → Grown next kinds w'
 grown-change next kinds w e w' (bad line why q) a s = s
 grown-change next kinds w e w' (begin origin call plain c) a s = (omega (arith, s.0), s.1)
 grown-change next kinds w e w' (lock u g mode running free first here) a s = s
@@ -117,28 +117,28 @@ grown-change next kinds w e w' (want u g running free fresh) a s = s
 grown-change next kinds w e w' (load g u state gone wanted) a s = s
 
 -- the number of the next unit only grows, and the types stay
-pub grown-run : (w : World) (es : List CoreEvent) → Grown w.units.next w.units.kinds (run w es)
+pub grown-run : (w : CoreState) (es : List CoreEvent) → Grown w.units.next w.units.kinds (run w es)
 grown-run w es = run-keeps (Grown w.units.next w.units.kinds) (grown-change w.units.next w.units.kinds) (λ w here s. s) es w (le_refl w.units.next, refl)
 
 -- ---- who holds or wrote a grain, its type is one of the program's
 
-abbrev pub InKinds : World → Type 0
+abbrev pub InKinds : CoreState → Type 0
 InKinds w =
     ((g : GrainId) (h : Hold) → Member h (w.cells.holds g) → g.kind < w.units.kinds)
     × ((u : UnitNo) (g : GrainId) → Wrote w.manager.writes u g → g.kind < w.units.kinds)
 
 -- the type of a grain that is granted
-granted-kind : (w : World) (u : UnitNo) (g : GrainId) (mode : Mode) → applies w (Grant u g mode) ≡ true → g.kind < w.units.kinds
+granted-kind : (w : CoreState) (u : UnitNo) (g : GrainId) (mode : Mode) → applies w (Grant u g mode) ≡ true → g.kind < w.units.kinds
 granted-kind w u g mode a =
     let t = ask-granted w u g mode (and_parts (is_allowed w (Grant u g mode)) (can w (Grant u g mode)) a).1 in
     ltb-true g.kind w.units.kinds (and_parts (is_running (w.units.phase u)) (nat_lt g.kind w.units.kinds) t.0).1
 
-holds-in : (w : World) (u : UnitNo) (g : GrainId) (mode : Mode) → g.kind < w.units.kinds → InKinds w → (k : GrainId) (h : Hold) → Member h (put_grain w.cells.holds g (granted (w.cells.holds g) u mode) k) → k.kind < w.units.kinds
+holds-in : (w : CoreState) (u : UnitNo) (g : GrainId) (mode : Mode) → g.kind < w.units.kinds → InKinds w → (k : GrainId) (h : Hold) → Member h (put_grain w.cells.holds g (granted (w.cells.holds g) u mode) k) → k.kind < w.units.kinds
 holds-in w u g mode lt s k h = grain-from w.cells.holds g (granted (w.cells.holds g) u mode) (Member h) (k.kind < w.units.kinds) k
     (λ q m. subst (λ (z : GrainId). z.kind < w.units.kinds) (sym q) lt)
     (λ q m. s.0 k h m)
 
-in-kinds-change : (w : World) (e : CoreEvent) (w' : World) → Change w e w' → applies w e ≡ true → InKinds w → InKinds w'
+in-kinds-change : (w : CoreState) (e : CoreEvent) (w' : CoreState) → Change w e w' → applies w e ≡ true → InKinds w → InKinds w'
 in-kinds-change w e w' (bad line why q) a s = s
 in-kinds-change w e w' (begin origin call plain c) a s = s
 in-kinds-change w e w' (lock u g mode running free first here) a s = (holds-in w u g mode (granted-kind w u g mode a) s, s.1)

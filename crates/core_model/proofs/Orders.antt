@@ -1,13 +1,13 @@
 -- The finish order and its parts.
 use Rattle.std.proofs.Common.{◌≡◌, ℕ, zero, suc, ◌+◌, ◌<◌, ◌≤◌, List, [], ◌∷◌, length, get_or, take, drop, inl, inr, refl, sym, ap, ◌∙◌, subst, arith, length-drop, get_or-drop, get_or-take}
 use Rattle.std.proofs.lemmas.Bool.{cond_both}
-use Rattle.core_model.specs.World.{UnitNo, GrainId, nobody, put, Member, Value, Finished, Verdict, Decision, World}
+use Rattle.core_model.specs.CoreState.{UnitNo, GrainId, nobody, put, Member, Value, Finished, Verdict, Decision, CoreState}
 use Rattle.core_model.specs.Tests.{is_free, free_prefix}
 use Rattle.core_model.specs.Changes.{verdict_of, judged}
 use Rattle.core_model.proofs.Puts.{put-other}
 use Rattle.core_model.proofs.Invariant.{Inv}
 
-pub free_prefix-length : (w : World) (us : List UnitNo) → free_prefix w us ≤ length us
+pub free_prefix-length : (w : CoreState) (us : List UnitNo) → free_prefix w us ≤ length us
 free_prefix-length w [] = omega arith
 free_prefix-length w (u ∷ us) = cond_both (is_free w u) (free_prefix w us + 1) 0 (λ t. t ≤ length (u ∷ us)) (λ e. omega (arith, free_prefix-length w us)) (λ e. omega arith)
 
@@ -48,7 +48,7 @@ Member-take (suc m) x (y ∷ xs) (inl e) = inl e
 Member-take (suc m) x (y ∷ xs) (inr h) = inr (Member-take m x xs h)
 
 -- what stands after the first m has later places
-pub in_drop : (opening : GrainId → List Value) (n : ℕ) (w : World) → Inv opening n w → (m : ℕ) (x : UnitNo) → Member x (drop m w.manager.order) → (w.units.phase x ≡ Finished) × (m < w.manager.place x)
+pub in_drop : (opening : GrainId → List Value) (n : ℕ) (w : CoreState) → Inv opening n w → (m : ℕ) (x : UnitNo) → Member x (drop m w.manager.order) → (w.units.phase x ≡ Finished) × (m < w.manager.place x)
 in_drop opening n w i m x h =
     let t = Member-at x (drop m w.manager.order) h in
     let lt : m + t.0 < length w.manager.order = omega (arith, t.1, length-drop m w.manager.order) in
@@ -57,7 +57,7 @@ in_drop opening n w i m x h =
     (subst (λ z. w.units.phase z ≡ Finished) e l.0, subst (λ z. m < w.manager.place z) e (omega (arith, l.1)))
 
 -- the first m have the places up to m
-pub in_take : (opening : GrainId → List Value) (n : ℕ) (w : World) → Inv opening n w → (m : ℕ) (x : UnitNo) → Member x (take m w.manager.order) → m ≤ length w.manager.order → (w.units.phase x ≡ Finished) × (w.manager.place x ≤ m)
+pub in_take : (opening : GrainId → List Value) (n : ℕ) (w : CoreState) → Inv opening n w → (m : ℕ) (x : UnitNo) → Member x (take m w.manager.order) → m ≤ length w.manager.order → (w.units.phase x ≡ Finished) × (w.manager.place x ≤ m)
 in_take opening n w i m x h le =
     let t = Member-at x (take m w.manager.order) h in
     let lt : t.0 < m = at_most m w.manager.order t.0 t.1 in
@@ -72,7 +72,7 @@ in_take opening n w i m x h le =
     at_most (suc m) (y ∷ xs) (suc j) h = omega (arith, at_most m xs j (omega arith))
 
 -- the first m items of what stands after the first n
-pub in_part : (opening : GrainId → List Value) (n : ℕ) (w : World) → Inv opening n w → (k m : ℕ) (x : UnitNo) → Member x (take m (drop k w.manager.order)) → (w.units.phase x ≡ Finished) × (k < w.manager.place x)
+pub in_part : (opening : GrainId → List Value) (n : ℕ) (w : CoreState) → Inv opening n w → (k m : ℕ) (x : UnitNo) → Member x (take m (drop k w.manager.order)) → (w.units.phase x ≡ Finished) × (k < w.manager.place x)
 in_part opening n w i k m x h = in_drop opening n w i k x (Member-take m x (drop k w.manager.order) h)
 
 -- who isn't judged keeps the verdict

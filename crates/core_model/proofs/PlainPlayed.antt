@@ -1,9 +1,9 @@
 -- The effects of plain runs are plays.
 use Rattle.std.proofs.Common.{◌≡◌, ℕ, List, [], ◌∷◌, Bool, true, refl, sym, ap, ◌∙◌, Option, Some, None}
 use Rattle.std.proofs.lemmas.Bool.{and_parts, cond_both}
-use Rattle.core_model.specs.World.{UnitNo, GrainId, put, Value, Phase, Running, Finished, Refused, Ended, Effect, World}
+use Rattle.core_model.specs.CoreState.{UnitNo, GrainId, put, Value, Phase, Running, Finished, Refused, Ended, Effect, CoreState}
 use Rattle.core_model.proofs.Puts.{put-from, put-is, put-other}
-use Rattle.core_model.specs.World.{Outcome}
+use Rattle.core_model.specs.CoreState.{Outcome}
 use Rattle.core_model.specs.Tests.{is_empty}
 use Rattle.core_model.specs.Changes.{begun, new_unit, ended, finished, swept, swept_by}
 use Rattle.core_model.specs.Serial.{Plays, AllPlay}
@@ -17,21 +17,21 @@ use Rattle.core_model.proofs.Ends.{kept-begins}
 use Rattle.core_model.proofs.Kept.{Kept, kept-step}
 
 -- the parts of a plain run's effect that an event leaves alone
-other-plain : (w w' : World) (x : UnitNo) → w'.units.origin x ≡ w.units.origin x → w'.units.call x ≡ w.units.call x → w'.manager.answers x ≡ w.manager.answers x → w'.manager.result x ≡ w.manager.result x → plain_effect w' x ≡ plain_effect w x
+other-plain : (w w' : CoreState) (x : UnitNo) → w'.units.origin x ≡ w.units.origin x → w'.units.call x ≡ w.units.call x → w'.manager.answers x ≡ w.manager.answers x → w'.manager.result x ≡ w.manager.result x → plain_effect w' x ≡ plain_effect w x
 other-plain w w' x o c a s = λ i. record { unit = x; origin = o i; call = c i; answers = a i; reads = []; writes = []; result = s i }
 
 empty-list : {A : Type 0} (xs : List A) → is_empty xs ≡ true → xs ≡ []
 empty-list [] e = refl
 empty-list (x ∷ xs) e = cc
 
-plain-phase : (plays : Effect → Bool) (w : World) (u : UnitNo) (end : Phase) → (end ≡ Ended → ⊥) → PlainRunsArePlays plays w → PlainRunsArePlays plays (record w { units = record w.units { phase = put w.units.phase u end } })
+plain-phase : (plays : Effect → Bool) (w : CoreState) (u : UnitNo) (end : Phase) → (end ≡ Ended → ⊥) → PlainRunsArePlays plays w → PlainRunsArePlays plays (record w { units = record w.units { phase = put w.units.phase u end } })
 plain-phase plays w u end n v x = put-from w.units.phase u end (λ z. z ≡ Ended) (w.units.seen_at x ≡ None → plays (plain_effect w x) ≡ true) x (λ q f. absurd (n f)) (λ q f. v x f)
 
 -- who ended before isn't the unit that ends now
-plain-other : (w : World) (u : UnitNo) (answers : List Outcome) (result : Outcome) (at : Option ℕ) (x : UnitNo) → (x ≡ u → ⊥) → plain_effect (ended w u answers result at) x ≡ plain_effect w x
+plain-other : (w : CoreState) (u : UnitNo) (answers : List Outcome) (result : Outcome) (at : Option ℕ) (x : UnitNo) → (x ≡ u → ⊥) → plain_effect (ended w u answers result at) x ≡ plain_effect w x
 plain-other w u answers result at x q = other-plain w (ended w u answers result at) x refl refl (put-other w.manager.answers u answers x q) (put-other w.manager.result u result x q)
 
-plain-change : (opening : GrainId → List Value) (plays : Effect → Bool) (w : World) (e : CoreEvent) (w' : World) → Change w e w' → Plays plays e → Kept opening w → PlainRunsArePlays plays w → PlainRunsArePlays plays w'
+plain-change : (opening : GrainId → List Value) (plays : Effect → Bool) (w : CoreState) (e : CoreEvent) (w' : CoreState) → Change w e w' → Plays plays e → Kept opening w → PlainRunsArePlays plays w → PlainRunsArePlays plays w'
 plain-change opening plays w e w' (bad line why q) p k v = v
 plain-change opening plays w e w' (begin origin call plain c) p k v =
     λ x. put-from w.units.phase (new_unit w) Running (λ z. z ≡ Ended) (w.units.seen_at x ≡ None → plays (plain_effect (begun w origin call plain) x) ≡ true) x
@@ -75,19 +75,19 @@ plain-change opening plays w e w' (halt_run q) p k v = v
 plain-change opening plays w e w' (want u g running free fresh) p k v = v
 plain-change opening plays w e w' (load g u state gone wanted) p k v = v
 
-plain-step : (opening : GrainId → List Value) (plays : Effect → Bool) (w : World) (e : CoreEvent) → Plays plays e → Kept opening w → PlainRunsArePlays plays w → PlainRunsArePlays plays (step w e)
+plain-step : (opening : GrainId → List Value) (plays : Effect → Bool) (w : CoreState) (e : CoreEvent) → Plays plays e → Kept opening w → PlainRunsArePlays plays w → PlainRunsArePlays plays (step w e)
 plain-step opening plays w e p k v = cond_both (applies w e) (swept (does w e)) w (PlainRunsArePlays plays)
     (λ a. swept-plain (does w e) (plain-change opening plays w e (does w e) (decode w e (and_parts (is_allowed w e) (can w e) a).1) p k v))
     (λ a. v)
   where
-    swept-plain : (w : World) → PlainRunsArePlays plays w → PlainRunsArePlays plays (swept w)
+    swept-plain : (w : CoreState) → PlainRunsArePlays plays w → PlainRunsArePlays plays (swept w)
     swept-plain w v = go w.cells.capacity
       where
         go : (c : Option ℕ) → PlainRunsArePlays plays (swept_by w c)
         go None = v
         go (Some m) = v
 
-plain-run : (opening : GrainId → List Value) (plays : Effect → Bool) (es : List CoreEvent) (w : World) → AllPlay plays es → AllLoadsTrue opening w es → Kept opening w → PlainRunsArePlays plays w → PlainRunsArePlays plays (run w es)
+plain-run : (opening : GrainId → List Value) (plays : Effect → Bool) (es : List CoreEvent) (w : CoreState) → AllPlay plays es → AllLoadsTrue opening w es → Kept opening w → PlainRunsArePlays plays w → PlainRunsArePlays plays (run w es)
 plain-run opening plays [] w p l k v = v
 plain-run opening plays (e ∷ es) w p l k v = plain-run opening plays es (step w e) p.1 l.1 (kept-step opening w e l.0 k) (plain-step opening plays w e p.0 k v)
 

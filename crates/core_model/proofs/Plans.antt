@@ -3,7 +3,7 @@ use Rattle.std.proofs.Common.{◌≡◌, ℕ, ◌<◌, List, [], ◌∷◌, ◌+
 use Rattle.std.specs.Prelude.{if◌then◌else◌, flat_map, map}
 use Rattle.std.proofs.lemmas.Bool.{and_parts, cases_Bool, cases_lt, cond_both, cond-false}
 use Rattle.cell_model.proofs.Units.{any-true, any-none, any-member, same_grain-true, same_grain-false, same_grain-is, Member-append, Member-left, Member-right}
-use Rattle.core_model.specs.World.{UnitNo, GrainId, same_grain, Member, Value, Running, Finished, Aborted, Write, Effect, Batch, World}
+use Rattle.core_model.specs.CoreState.{UnitNo, GrainId, same_grain, Member, Value, Running, Finished, Aborted, Write, Effect, Batch, CoreState}
 use Rattle.core_model.specs.Tests.{any, is_bad, is_before, members, has_bad_source, with_grain, grains_of, grains_to_write, planned}
 use Rattle.core_model.specs.Chains.{Wrote}
 use Rattle.core_model.specs.Changes.{finished, taken, swept, swept_by}
@@ -110,7 +110,7 @@ flat-same f g (u ∷ us) h =
     λ i. a i ++ b i
 
 -- a grain is in the plan of these units exactly where one that doesn't read from an aborted unit wrote it
-pub planned-by : (w : World) (us : List UnitNo) (g : GrainId) → Member g (planned w us) → (u : UnitNo) × Member u us × (has_bad_source w u ≡ false) × Wrote w.manager.writes u g
+pub planned-by : (w : CoreState) (us : List UnitNo) (g : GrainId) → Member g (planned w us) → (u : UnitNo) × Member u us × (has_bad_source w u ≡ false) × Wrote w.manager.writes u g
 planned-by w us g m =
     let t = flat-member (grains_to_write w) us g (grains-only (flat_map (grains_to_write w) us) g m) in
     let s = by t.0 t.2 in (t.0, t.1, s.0, s.1)
@@ -120,13 +120,13 @@ planned-by w us g m =
         (λ b n. absurd n)
         (λ b n. (b, named-written g (w.manager.writes u) n))
 
-pub in-plan : (w : World) (us : List UnitNo) (g : GrainId) (u : UnitNo) → Member u us → has_bad_source w u ≡ false → Wrote w.manager.writes u g → Member g (planned w us)
+pub in-plan : (w : CoreState) (us : List UnitNo) (g : GrainId) (u : UnitNo) → Member u us → has_bad_source w u ≡ false → Wrote w.manager.writes u g → Member g (planned w us)
 in-plan w us g u m b wrote =
     grains-in (flat_map (grains_to_write w) us) g (member-flat (grains_to_write w) us g u m
     (subst (Member g) (sym (cond-false (has_bad_source w u) [] (map (λ (x : Write). x.0) (w.manager.writes u)) b)) (written-named g wrote.0 (w.manager.writes u) wrote.1)))
 
 -- what is planned of a batch is a plan
-plan-is : (w : World) (b : Batch) → b.plan ≡ planned w (members w b) → IsPlan w b
+plan-is : (w : CoreState) (b : Batch) → b.plan ≡ planned w (members w b) → IsPlan w b
 plan-is w b e = record {
   ascending = subst AreAscending (sym e) (grains-ascend (flat_map (grains_to_write w) (members w b)));
   work = λ g. (
@@ -136,7 +136,7 @@ plan-is w b e = record {
 }
 
 -- the plan of an open undecided batch is the grains that its units wrote, but for those that read from an aborted one
-abbrev pub Planned : World → Type 0
+abbrev pub Planned : CoreState → Type 0
 Planned w = (b : Batch) → w.manager.batch ≡ Some b → b.decisions ≡ None → b.plan ≡ planned w (members w b)
 
 some-is : {A : Type 0} (x y : A) → Some x ≡ Some y → x ≡ y
@@ -156,7 +156,7 @@ any-same p q xs h = elim (cases_Bool (any q xs)) [
 ]
 
 -- what is planned stays where the units' writes and dependencies and those dependencies' verdicts do
-planned-same : (w v : World) (us : List UnitNo) →
+planned-same : (w v : CoreState) (us : List UnitNo) →
     ((u : UnitNo) → Member u us → (v.manager.writes u ≡ w.manager.writes u) × (v.units.deps u ≡ w.units.deps u) × ((d : UnitNo) → Member d (w.units.deps u) → v.manager.verdict d ≡ w.manager.verdict d)) →
     planned v us ≡ planned w us
 planned-same w v us h = ap grains_of (flat-same (grains_to_write v) (grains_to_write w) us (λ u m.
@@ -166,7 +166,7 @@ planned-same w v us h = ap grains_of (flat-same (grains_to_write v) (grains_to_w
     ∙ any-same (λ d. is_bad (v.manager.verdict d)) (λ d. is_bad (w.manager.verdict d)) (w.units.deps u) (λ d n. ap is_bad (t.2 d n)) in
     λ i. if b i then [] else map (λ (x : Write). x.0) (t.0 i))))
 
-pub planned-change : (opening : GrainId → List Value) (w : World) (e : CoreEvent) (w' : World) → Change w e w' → applies w e ≡ true → Kept opening w → Depends w → Planned w → Planned w'
+pub planned-change : (opening : GrainId → List Value) (w : CoreState) (e : CoreEvent) (w' : CoreState) → Change w e w' → applies w e ≡ true → Kept opening w → Depends w → Planned w → Planned w'
 planned-change opening w e w' (bad line why q) a k dep s = s
 planned-change opening w e w' (begin origin call plain c) a k dep s = s
 planned-change opening w e w' (lock u g mode running free first here) a k dep s =
@@ -206,19 +206,19 @@ planned-change opening w e w' (halt_run q) a k dep s = s
 planned-change opening w e w' (want u g running free fresh) a k dep s = s
 planned-change opening w e w' (load g u state gone wanted) a k dep s = s
 
-swept-planned : (w : World) → Planned w → Planned (swept w)
+swept-planned : (w : CoreState) → Planned w → Planned (swept w)
 swept-planned w s = go w.cells.capacity
   where
     go : (c : Option ℕ) → Planned (swept_by w c)
     go None = s
     go (Some m) = s
 
-pub planned-step : (opening : GrainId → List Value) (w : World) (e : CoreEvent) → Kept opening w → Depends w → Planned w → Planned (step w e)
+pub planned-step : (opening : GrainId → List Value) (w : CoreState) (e : CoreEvent) → Kept opening w → Depends w → Planned w → Planned (step w e)
 planned-step opening w e k dep s = cond_both (applies w e) (swept (does w e)) w Planned
     (λ a. swept-planned (does w e) (planned-change opening w e (does w e) (decode w e (and_parts (is_allowed w e) (can w e) a).1) a k dep s))
     (λ a. s)
 
-planned-run : (opening : GrainId → List Value) (es : List CoreEvent) (w : World) → AllLoadsTrue opening w es → Kept opening w → Depends w → Planned w → Planned (run w es)
+planned-run : (opening : GrainId → List Value) (es : List CoreEvent) (w : CoreState) → AllLoadsTrue opening w es → Kept opening w → Depends w → Planned w → Planned (run w es)
 planned-run opening [] w l k dep s = s
 planned-run opening (e ∷ es) w l k dep s =
     planned-run opening es (step w e) l.1 (kept-step opening w e l.0 k) (depends-step opening w e l.0 k dep) (planned-step opening w e k dep s)
@@ -227,7 +227,7 @@ pub planned-ends : (plays : Effect → Bool) (r : Run) → IsLegal plays r → P
 planned-ends plays r l = planned-run r.opening r.events (begins r) l.loads (kept-begins plays r l) ((λ u. tt), (λ u d m. absurd m)) (λ b q. cc)
 
 -- a batch that is taken has its plan
-pub plan-taken : (w : World) → applies w Take ≡ true → (b : Batch) → (step w Take).manager.batch ≡ Some b → IsPlan (step w Take) b
+pub plan-taken : (w : CoreState) → applies w Take ≡ true → (b : Batch) → (step w Take).manager.batch ≡ Some b → IsPlan (step w Take) b
 plan-taken w a b q = plan-is (step w Take) b (cond_both (applies w Take) (swept (does w Take)) w (λ v. v.manager.batch ≡ Some b → b.plan ≡ planned v (members v b))
     (λ t. by w.cells.capacity)
     (λ f. (let z : true ≡ false = sym a ∙ f in cc)) q)

@@ -2,9 +2,9 @@
 use Rattle.std.proofs.Common.{◌≡◌, ℕ, List, [], ◌∷◌, ◌++◌, Bool, true, refl, sym, ap, ◌∙◌, Option, Some, None}
 use Rattle.std.proofs.lemmas.Bool.{and_parts, cond_both}
 use Rattle.cell_model.proofs.Units.{same_unit-true}
-use Rattle.core_model.specs.World.{UnitNo, GrainId, same_unit, put_grain, Value, Origin, Running, Finished, Refused, Ended, Read, Write, top, Effect, World}
+use Rattle.core_model.specs.CoreState.{UnitNo, GrainId, same_unit, put_grain, Value, Origin, Running, Finished, Refused, Ended, Read, Write, top, Effect, CoreState}
 use Rattle.core_model.proofs.Puts.{put-from, put-is, put-other}
-use Rattle.core_model.specs.World.{Call, Outcome}
+use Rattle.core_model.specs.CoreState.{Call, Outcome}
 use Rattle.core_model.specs.Equality.{same_origin, same_call}
 use Rattle.core_model.specs.Tests.{answered_by}
 use Rattle.core_model.specs.Changes.{locked, restacked, cleaned, read_of, begun, new_unit, ended, finished, swept, swept_by}
@@ -15,7 +15,7 @@ use Rattle.core_model.proofs.Basics.{same_origin-true, same_call-true}
 use Rattle.core_model.proofs.Decoded.{Change, bad, begin, lock, raise, refuse, finish, end_plain, end_snapshot, release, take_batch, vote, decide_some, decide_none, seal_batch, spoil_batch, doubt_batch, learn, emit, halt_run, want, load, decode}
 use Rattle.core_model.proofs.Kept.{Kept, kept-step}
 
-abbrev pub Valid : (Effect → Bool) → World → Type 0
+abbrev pub Valid : (Effect → Bool) → CoreState → Type 0
 Valid plays w = (u : UnitNo) → w.units.phase u ≡ Finished → plays (effect_of w u) ≡ true
 
 same-effect : (u : UnitNo) (origin origin' : Origin) (call call' : Call) (answers answers' : List Outcome) (reads reads' : List Read) (writes writes' : List Write) (result result' : Outcome) →
@@ -26,18 +26,18 @@ same-effect u o o' c c' a a' r r' w w' s s' p1 p2 p3 p4 p5 p6 e q0 q1 q2 q3 q4 q
     λ i. record { unit = q0 i; origin = t1 i; call = t2 i; answers = t3 i; reads = t4 i; writes = t5 i; result = t6 i }
 
 -- the parts of an effect that an event leaves alone
-other-effect : (w w' : World) (x : UnitNo) → w'.units.origin x ≡ w.units.origin x → w'.units.call x ≡ w.units.call x → w'.manager.answers x ≡ w.manager.answers x → w'.units.reads x ≡ w.units.reads x →
+other-effect : (w w' : CoreState) (x : UnitNo) → w'.units.origin x ≡ w.units.origin x → w'.units.call x ≡ w.units.call x → w'.manager.answers x ≡ w.manager.answers x → w'.units.reads x ≡ w.units.reads x →
     w'.manager.writes x ≡ w.manager.writes x → w'.manager.result x ≡ w.manager.result x → effect_of w' x ≡ effect_of w x
 other-effect w w' x o c a r v s = λ i. record { unit = x; origin = o i; call = c i; answers = a i; reads = r i; writes = v i; result = s i }
 
-pub parts-of : (w : World) (u : UnitNo) (e : Effect) → is_of_call w u e ≡ true → (e.unit ≡ u) × (e.origin ≡ w.units.origin u) × (e.call ≡ w.units.call u) × (answered_by w (w.units.kids u) e.answers ≡ true)
+pub parts-of : (w : CoreState) (u : UnitNo) (e : Effect) → is_of_call w u e ≡ true → (e.unit ≡ u) × (e.origin ≡ w.units.origin u) × (e.call ≡ w.units.call u) × (answered_by w (w.units.kids u) e.answers ≡ true)
 parts-of w u e h =
     let p = and_parts (same_unit e.unit u) _ h in
     let q = and_parts (same_origin e.origin (w.units.origin u)) _ p.1 in
     let r = and_parts (same_call e.call (w.units.call u)) _ q.1 in
     (same_unit-true _ _ p.0, same_origin-true _ _ q.0, same_call-true _ _ r.0, r.1)
 
-valid-change : (opening : GrainId → List Value) (plays : Effect → Bool) (w : World) (e : CoreEvent) (w' : World) → Change w e w' → Plays plays e → Kept opening w → Valid plays w → Valid plays w'
+valid-change : (opening : GrainId → List Value) (plays : Effect → Bool) (w : CoreState) (e : CoreEvent) (w' : CoreState) → Change w e w' → Plays plays e → Kept opening w → Valid plays w → Valid plays w'
 valid-change opening plays w e w' (bad line why q) p k v = v
 valid-change opening plays w e w' (begin origin call plain c) p k v = λ x. put-from w.units.phase (new_unit w) Running (λ z. z ≡ Finished) (plays (effect_of (begun w origin call plain) x) ≡ true) x
     (λ q f. cc)
@@ -54,7 +54,7 @@ valid-change opening plays w e w' (finish u effect running plain of_call reads a
     (λ q f. ap plays (other-effect w (finished w u effect) x refl refl (put-other w.manager.answers u effect.answers x q) refl (put-other w.manager.writes u effect.writes x q) (put-other w.manager.result u effect.result x q)) ∙ v x f)
 valid-change opening plays w e w' (end_plain u effect running plain of_call bare) p k v = valid-ended opening plays w u effect.answers effect.result None running v
   where
-    valid-ended : (opening : GrainId → List Value) (plays : Effect → Bool) (w : World) (u : UnitNo) (answers : List Outcome) (result : Outcome) (at : Option ℕ) → w.units.phase u ≡ Running → Valid plays w → Valid plays (ended w u answers result at)
+    valid-ended : (opening : GrainId → List Value) (plays : Effect → Bool) (w : CoreState) (u : UnitNo) (answers : List Outcome) (result : Outcome) (at : Option ℕ) → w.units.phase u ≡ Running → Valid plays w → Valid plays (ended w u answers result at)
     valid-ended opening plays w u answers result at running v = λ x. put-from w.units.phase u Ended (λ z. z ≡ Finished) (plays (effect_of (ended w u answers result at) x) ≡ true) x
         (λ q f. cc)
         (λ q f. ap plays (other-effect w (ended w u answers result at) x refl refl (put-other w.manager.answers u answers x q) refl refl (put-other w.manager.result u result x q)) ∙ v x f)
@@ -75,18 +75,18 @@ valid-change opening plays w e w' (halt_run q) p k v = v
 valid-change opening plays w e w' (want u g running free fresh) p k v = v
 valid-change opening plays w e w' (load g u state gone wanted) p k v = v
 
-swept-valid : (plays : Effect → Bool) (w : World) → Valid plays w → Valid plays (swept w)
+swept-valid : (plays : Effect → Bool) (w : CoreState) → Valid plays w → Valid plays (swept w)
 swept-valid plays w v = go w.cells.capacity
   where
     go : (c : Option ℕ) → Valid plays (swept_by w c)
     go None = v
     go (Some m) = v
 
-pub valid-step : (opening : GrainId → List Value) (plays : Effect → Bool) (w : World) (e : CoreEvent) → Plays plays e → Kept opening w → Valid plays w → Valid plays (step w e)
+pub valid-step : (opening : GrainId → List Value) (plays : Effect → Bool) (w : CoreState) (e : CoreEvent) → Plays plays e → Kept opening w → Valid plays w → Valid plays (step w e)
 valid-step opening plays w e p k v = cond_both (applies w e) (swept (does w e)) w (Valid plays)
     (λ a. swept-valid plays (does w e) (valid-change opening plays w e (does w e) (decode w e (and_parts (is_allowed w e) (can w e) a).1) p k v))
     (λ a. v)
 
-pub valid-run : (opening : GrainId → List Value) (plays : Effect → Bool) (es : List CoreEvent) (w : World) → AllPlay plays es → AllLoadsTrue opening w es → Kept opening w → Valid plays w → Valid plays (run w es)
+pub valid-run : (opening : GrainId → List Value) (plays : Effect → Bool) (es : List CoreEvent) (w : CoreState) → AllPlay plays es → AllLoadsTrue opening w es → Kept opening w → Valid plays w → Valid plays (run w es)
 valid-run opening plays [] w p l k v = v
 valid-run opening plays (e ∷ es) w p l k v = valid-run opening plays es (step w e) p.1 l.1 (kept-step opening w e l.0 k) (valid-step opening plays w e p.0 k v)

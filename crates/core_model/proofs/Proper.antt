@@ -4,7 +4,7 @@ use Rattle.std.proofs.lemmas.Bool.{and_parts, cases_lt, not-true}
 use Rattle.base_types.specs.declared.calls.Origin.TheVariants.{Line}
 use Rattle.base_types.specs.declared.calls.Outcome.TheVariants as outcome
 use Rattle.base_types.specs.declared.entries.Settled.TheVariants as settled
-use Rattle.core_model.specs.World.{UnitNo, GrainId, Member, Value, Unborn, Finished, Outcome, Read, Effect, Entry, Settled, Batch, Write, World}
+use Rattle.core_model.specs.CoreState.{UnitNo, GrainId, Member, Value, Unborn, Finished, Outcome, Read, Effect, Entry, Settled, Batch, Write, CoreState}
 use Rattle.core_model.specs.Tests.{is_empty, is_running, written}
 use Rattle.core_model.specs.Equality.{same_outcome}
 use Rattle.core_model.specs.Causes.{EndsWith, HasCause, HasLine, IsCaused, decided_state}
@@ -38,10 +38,10 @@ pub grown-ends : (r : Run) (before later : List CoreEvent) → r.events ≡ befo
 grown-ends r before later q =
     let t = grown-run (run (begins r) before) later in
     let is : run (begins r) r.events ≡ run (run (begins r) before) later = ap (run (begins r)) q ∙ run-append (begins r) before later in
-    (subst (λ (v : World). (run (begins r) before).units.next ≤ v.units.next) (sym is) t.0, ap (λ (v : World). v.units.kinds) is ∙ t.1)
+    (subst (λ (v : CoreState). (run (begins r) before).units.next ≤ v.units.next) (sym is) t.0, ap (λ (v : CoreState). v.units.kinds) is ∙ t.1)
 
 -- where a batch is decided, units' writes and dependencies are those of before
-decided-parts : (w : World) (e : CoreEvent) (b : Batch) → ((decided_state w e b).manager.writes ≡ w.manager.writes) × ((decided_state w e b).units.deps ≡ w.units.deps)
+decided-parts : (w : CoreState) (e : CoreEvent) (b : Batch) → ((decided_state w e b).manager.writes ≡ w.manager.writes) × ((decided_state w e b).units.deps ≡ w.units.deps)
 decided-parts w (Bad line why) b = (refl, refl)
 decided-parts w (Begin origin call plain) b = (refl, refl)
 decided-parts w (Grant u g mode) b = (refl, refl)
@@ -63,14 +63,14 @@ decided-parts w (Want u g) b = (refl, refl)
 decided-parts w (Load g u state) b = (refl, refl)
 
 -- who has finished has a number below the next
-finished-below : (opening : GrainId → List Value) (n : ℕ) (w : World) → Inv opening n w → (u : UnitNo) → w.units.phase u ≡ Finished → u.0 < w.units.next
+finished-below : (opening : GrainId → List Value) (n : ℕ) (w : CoreState) → Inv opening n w → (u : UnitNo) → w.units.phase u ≡ Finished → u.0 < w.units.next
 finished-below opening n w i u f = elim (cases_lt u.0 w.units.next) [
   | inl lt ↦ lt
   | inr ge ↦ (let z : Unborn ≡ Finished = sym (i.unborn u ge) ∙ f in cc)
 ]
 
 -- so has the source of a read
-source-below : (opening : GrainId → List Value) (n : ℕ) (w : World) → Inv opening n w → (u : UnitNo) (r : Read) → Member r (w.units.reads u) → r.source.0 < w.units.next
+source-below : (opening : GrainId → List Value) (n : ℕ) (w : CoreState) → Inv opening n w → (u : UnitNo) (r : Read) → Member r (w.units.reads u) → r.source.0 < w.units.next
 source-below opening n w i u r m = elim (i.source u r m) [
   | inl o ↦ subst (λ (z : UnitNo). z.0 < w.units.next) (sym o.0) i.fresh
   | inr o ↦ finished-below opening n w i r.source o.0
@@ -121,7 +121,7 @@ module _ (plays : Effect → Bool) (r : Run) (l : IsLegal plays r) (never : Neve
 
   snapshot-result : (u : UnitNo) (at : ℕ) (result : Outcome) → applies (ends (front r c.before)) (EndSnapshot u at result) ≡ true → result ≡ outcome.Aborted → ⊥
   snapshot-result u at result a q =
-      let w : World = ends (front r c.before) in
+      let w : CoreState = ends (front r c.before) in
       let d = and_parts (is_running (w.units.phase u) && w.units.plain u) (is_empty (w.units.kids u) && not (same_outcome result outcome.Aborted)) (and_parts (is_allowed w (EndSnapshot u at result)) (can w (EndSnapshot u at result)) a).1 in
       let s = and_parts (is_empty (w.units.kids u)) (not (same_outcome result outcome.Aborted)) d.1 in
       let z : true ≡ false = sym (ap (λ o. same_outcome o outcome.Aborted) q) ∙ not-true (same_outcome result outcome.Aborted) s.1 in

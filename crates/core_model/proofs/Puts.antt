@@ -2,7 +2,7 @@
 use Rattle.std.proofs.Common.{◌≡◌, refl}
 use Rattle.std.proofs.lemmas.Bool.{cond_both}
 use Rattle.cell_model.proofs.Units.{same_unit-true, same_unit-false, same_grain-true, same_grain-false}
-use Rattle.core_model.specs.World.{UnitNo, GrainId, same_unit, same_grain, put, put_grain}
+use Rattle.core_model.specs.CoreState.{UnitNo, GrainId, same_unit, same_grain, put, put_grain}
 
 -- a fact at the new entry, and at each other
 pub put-at : {A : Type 0} (f : UnitNo → A) (k : UnitNo) (v : A) (P : A → Type 0) (j : UnitNo) → (j ≡ k → P v) → ((j ≡ k → ⊥) → P (f j)) → P (put f k v j)

@@ -3,7 +3,7 @@ use Rattle.std.proofs.Common.{◌≡◌, List, [], ◌∷◌, ◌++◌, true, fa
 use Rattle.std.proofs.lemmas.Bool.{cond_both, not-true, not_from_false, and_parts, and_from}
 use Rattle.cell_model.specs.Cells.{is_reading_of, with_reading, without_reading, reads_top}
 use Rattle.cell_model.proofs.Units.{same_unit-true, same_unit-false, same_unit-is, same_unit-not, any-true, any-false, any-member, Member-append, Member-left, Member-last, filter-member, filter-stays}
-use Rattle.core_model.specs.World.{UnitNo, Member, Version, top, Reading, same_unit}
+use Rattle.core_model.specs.CoreState.{UnitNo, Member, Version, top, Reading, same_unit}
 use Rattle.core_model.specs.Tests.{any}
 
 pub with_reading-member : (rs : List Reading) (u source : UnitNo) (s : Reading) → Member s (with_reading rs u source) → Member s rs ⊎ (s ≡ record { unit = u; source = source })

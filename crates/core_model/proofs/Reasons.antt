@@ -2,7 +2,7 @@
 use Rattle.std.proofs.Common.{◌≡◌, ℕ, zero, suc, ◌+◌, ◌<◌, ◌≤◌, List, [], ◌∷◌, ◌++◌, length, get_or, Bool, true, false, inl, inr, refl, sym, ap, ◌∙◌, subst, arith, Option, Some, None}
 use Rattle.std.proofs.lemmas.Bool.{and_parts, cond_both}
 use Rattle.cell_model.proofs.Units.{filter-stays}
-use Rattle.core_model.specs.World.{UnitNo, GrainId, nobody, put, Member, Value, Running, Finished, Verdict, Open, Aborted, Write, Batch, Decision, World}
+use Rattle.core_model.specs.CoreState.{UnitNo, GrainId, nobody, put, Member, Value, Running, Finished, Verdict, Open, Aborted, Write, Batch, Decision, CoreState}
 use Rattle.core_model.specs.Tests.{is_bad}
 use Rattle.core_model.proofs.Puts.{put-same, put-other}
 use Rattle.core_model.proofs.Invariant.{Inv}
@@ -13,7 +13,7 @@ use Rattle.cell_model.specs.Units.{oldest}
 use Rattle.cell_model.specs.Decisions.{by_cause, decision, decided, and_itself}
 use Rattle.cell_model.proofs.Decisions.{none-dead, some-dead}
 use Rattle.cell_model.proofs.Units.{oldest-some}
-use Rattle.core_model.specs.World.{Prepared}
+use Rattle.core_model.specs.CoreState.{Prepared}
 use Rattle.core_model.specs.Tests.{members, waiting, failed_in}
 use Rattle.core_model.specs.Changes.{finished, voted, verdict_of, judged, decisions_of, swept, swept_by}
 use Rattle.core_model.specs.Events.{CoreEvent, applies, can, does, step, is_allowed}
@@ -88,7 +88,7 @@ reasons-decide votes writes deps (u ∷ us) dead v agree opens ordered =
     )
 
 -- the units of an open batch are ordered so
-ordered-from : (opening : GrainId → List Value) (n : ℕ) (w : World) → Inv opening n w → Depends w → (us : List UnitNo) (k : ℕ) →
+ordered-from : (opening : GrainId → List Value) (n : ℕ) (w : CoreState) → Inv opening n w → Depends w → (us : List UnitNo) (k : ℕ) →
     ((j : ℕ) → j < length us → (k + j < length w.manager.order) × (get_or us j nobody ≡ get_or w.manager.order (k + j) nobody)) → Ordered w.units.deps us
 ordered-from opening n w i s [] k at = tt
 ordered-from opening n w i s (u ∷ us) k at = (
@@ -119,13 +119,13 @@ ordered-from opening n w i s (u ∷ us) k at = (
         subst (λ z. k + 1 < w.manager.place z) (sym r.1 ∙ t.2) (omega (arith, l.1))
 
 -- a decided open batch has its reasons
-abbrev pub Argued : World → Type 0
+abbrev pub Argued : CoreState → Type 0
 Argued w = (b : Batch) (ds : List Decision) → w.manager.batch ≡ Some b → b.decisions ≡ Some ds → Reasons b.votes w.manager.writes w.units.deps w.manager.verdict (members w b) ds
 
 none-some : {A : Type 0} (o : Option A) (x : A) → o ≡ None → o ≡ Some x → ⊥
 none-some o x n s = (let t : None ≡ Some x = sym n ∙ s in cc)
 
-pub argued-decided : (opening : GrainId → List Value) (w : World) (b : Batch) → Kept opening w → Depends w → w.manager.batch ≡ Some b → b.decisions ≡ None →
+pub argued-decided : (opening : GrainId → List Value) (w : CoreState) (b : Batch) → Kept opening w → Depends w → w.manager.batch ≡ Some b → b.decisions ≡ None →
     Reasons b.votes w.manager.writes w.units.deps (judged (members w b) (decisions_of w b) w.manager.verdict) (members w b) (decisions_of w b)
 argued-decided opening w b k s q d =
     let i = inv-open opening w b k q d in
@@ -136,7 +136,7 @@ argued-decided opening w b k s q d =
     (ordered-from opening w.manager.closed w i s (members w b) w.manager.closed (λ j h. (omega (arith, l, h, le), at_part b.size w.manager.closed w.manager.order j (omega (arith, l, h)))))
 
 -- a member of the open batch has finished
-pub member-finished : (opening : GrainId → List Value) (w : World) (b : Batch) → Kept opening w → (u : UnitNo) → Member u (members w b) → w.units.phase u ≡ Finished
+pub member-finished : (opening : GrainId → List Value) (w : CoreState) (b : Batch) → Kept opening w → (u : UnitNo) → Member u (members w b) → w.units.phase u ≡ Finished
 member-finished opening w b k u m = (in_part opening _ w k.0 w.manager.closed b.size u m).0
 
 -- one more at the end of the finish order leaves the batch
@@ -150,10 +150,10 @@ take-drop-push (suc m) zero (y ∷ xs) x h = ap (λ t. y ∷ t) (take-drop-push 
 some-is : {A : Type 0} (x y : A) → Some x ≡ Some y → x ≡ y
 some-is x y e = cc
 
-decisions-of-new : (w : World) (b c : Batch) → Some b ≡ Some c → b.decisions ≡ None → c.decisions ≡ None
+decisions-of-new : (w : CoreState) (b c : Batch) → Some b ≡ Some c → b.decisions ≡ None → c.decisions ≡ None
 decisions-of-new w b c e n = ap (λ (t : Batch). t.decisions) (sym (some-is b c e)) ∙ n
 
-pub argued-change : (opening : GrainId → List Value) (w : World) (e : CoreEvent) (w' : World) → Change w e w' → applies w e ≡ true → Kept opening w → Depends w → Argued w → Argued w'
+pub argued-change : (opening : GrainId → List Value) (w : CoreState) (e : CoreEvent) (w' : CoreState) → Change w e w' → applies w e ≡ true → Kept opening w → Depends w → Argued w → Argued w'
 argued-change opening w e w' (bad line why q) a k dep s = s
 argued-change opening w e w' (begin origin call plain c) a k dep s = s
 argued-change opening w e w' (lock u g mode running free first here) a k dep s =
@@ -198,12 +198,12 @@ argued-change opening w e w' (halt_run q) a k dep s = s
 argued-change opening w e w' (want u g running free fresh) a k dep s = s
 argued-change opening w e w' (load g u state gone wanted) a k dep s = s
 
-pub argued-step : (opening : GrainId → List Value) (w : World) (e : CoreEvent) → Kept opening w → Depends w → Argued w → Argued (step w e)
+pub argued-step : (opening : GrainId → List Value) (w : CoreState) (e : CoreEvent) → Kept opening w → Depends w → Argued w → Argued (step w e)
 argued-step opening w e k dep s = cond_both (applies w e) (swept (does w e)) w Argued
     (λ a. swept-argued (does w e) (argued-change opening w e (does w e) (decode w e (and_parts (is_allowed w e) (can w e) a).1) a k dep s))
     (λ a. s)
   where
-    swept-argued : (w : World) → Argued w → Argued (swept w)
+    swept-argued : (w : CoreState) → Argued w → Argued (swept w)
     swept-argued w s = go w.cells.capacity
       where
         go : (c : Option ℕ) → Argued (swept_by w c)

@@ -2,7 +2,7 @@
 use Rattle.std.proofs.Common.{◌≡◌, ℕ, List, [], ◌∷◌, Bool, true, false, ◌⊎◌, inl, inr, sym, ap, ◌∙◌, subst, Option, Some, None}
 use Rattle.std.proofs.lemmas.Bool.{and_parts, cond_both}
 use Rattle.cell_model.specs.Locks.{dropped}
-use Rattle.core_model.specs.World.{UnitNo, GrainId, put_grain, Member, Value, Unborn, Running, Finished, Version, cut, Hold, Mode, World}
+use Rattle.core_model.specs.CoreState.{UnitNo, GrainId, put_grain, Member, Value, Unborn, Running, Finished, Version, cut, Hold, Mode, CoreState}
 use Rattle.core_model.specs.Tests.{any, is_aborted, is_committed, written}
 use Rattle.core_model.specs.Chains.{Chain, IsBottom, IsLink}
 use Rattle.core_model.proofs.Puts.{grain-from, grain-is, grain-other}
@@ -18,7 +18,7 @@ use Rattle.core_model.proofs.Decoded.{Change, bad, begin, lock, raise, refuse, f
 use Rattle.core_model.proofs.KeptStack.{kept-cleaned}
 use Rattle.core_model.proofs.Kept.{Kept, kept-step}
 
-abbrev pub Gone : World → Type 0
+abbrev pub Gone : CoreState → Type 0
 Gone w = (g : GrainId) (x : Version) (h : Hold) → Member x (w.cells.stack g) → Member h (w.cells.holds g) → h.unit ≡ x.unit → ⊥
 
 pub cut-member : (p : Version → Bool) (xs : List Version) (x : Version) → Member x (cut p xs) → Member x xs
@@ -45,7 +45,7 @@ Chain-member B L (y ∷ z ∷ zs) x c (inl q) = inr (z, subst (λ t. L t z) (sym
 Chain-member B L (y ∷ z ∷ zs) x c (inr m) = Chain-member B L (z ∷ zs) x c.1 m
 
 -- the writer of a version isn't running
-pub version-over : (opening : GrainId → List Value) (n : ℕ) (w : World) → Inv opening n w → (g : GrainId) (x : Version) → Member x (w.cells.stack g) → w.units.phase x.unit ≡ Running → ⊥
+pub version-over : (opening : GrainId → List Value) (n : ℕ) (w : CoreState) → Inv opening n w → (g : GrainId) (x : Version) → Member x (w.cells.stack g) → w.units.phase x.unit ≡ Running → ⊥
 version-over opening n w i g x m running = elim (Chain-member (IsBottom opening w.units.phase w.manager.writes w.manager.verdict g) (IsLink w.units.phase w.manager.writes w.units.reads g) (w.cells.stack g) x (i.chain g) m) [
   | inl b ↦ elim b [
     | inl o ↦ (let t : Unborn ≡ Running = sym i.outside ∙ ap w.units.phase (sym o.0) ∙ running in cc)
@@ -54,12 +54,12 @@ version-over opening n w i g x m running = elim (Chain-member (IsBottom opening 
   | inr l ↦ (let t : Finished ≡ Running = sym l.1.0.0 ∙ running in cc)
 ]
 
-gone-cut : (w : World) (g : GrainId) (xs : List Version) → Gone w → ((x : Version) → Member x xs → Member x (w.cells.stack g)) → Gone (restacked w g xs)
+gone-cut : (w : CoreState) (g : GrainId) (xs : List Version) → Gone w → ((x : Version) → Member x xs → Member x (w.cells.stack g)) → Gone (restacked w g xs)
 gone-cut w g xs s sub k x h m = grain-from w.cells.stack g xs (Member x) (Member h (w.cells.holds k) → h.unit ≡ x.unit → ⊥) k
     (λ e m'. s k x h (subst (λ j. Member x (w.cells.stack j)) (sym e) (sub x m')))
     (λ e m'. s k x h m') m
 
-gone-held : (opening : GrainId → List Value) (w : World) (u : UnitNo) (g : GrainId) (mode : Mode) {n : ℕ} → Inv opening n w → w.units.phase u ≡ Running → Gone w →
+gone-held : (opening : GrainId → List Value) (w : CoreState) (u : UnitNo) (g : GrainId) (mode : Mode) {n : ℕ} → Inv opening n w → w.units.phase u ≡ Running → Gone w →
     (k : GrainId) (x : Version) (h : Hold) → Member x (w.cells.stack k) → Member h (put_grain w.cells.holds g (granted (w.cells.holds g) u mode) k) → h.unit ≡ x.unit → ⊥
 gone-held opening w u g mode i running s k x h mx m = grain-from w.cells.holds g (granted (w.cells.holds g) u mode) (Member h) (h.unit ≡ x.unit → ⊥) k
     (λ e m' q. elim (granted-member (w.cells.holds g) u mode h m') [
@@ -68,7 +68,7 @@ gone-held opening w u g mode i running s k x h mx m = grain-from w.cells.holds g
     ])
     (λ e m'. s k x h mx m') m
 
-gone-released : (w : World) (u : UnitNo) (g : GrainId) → Gone w → Gone (released w u g)
+gone-released : (w : CoreState) (u : UnitNo) (g : GrainId) → Gone w → Gone (released w u g)
 gone-released w u g s k x h mx m = grain-from w.cells.holds g (dropped (w.cells.holds g) u) (Member h) (h.unit ≡ x.unit → ⊥) k
     (λ e m'. (let t = dropped-member u (w.cells.holds g) h m' in
     elim (old x (subst (Member x) (grain-is w.cells.stack g stack_g k e) mx)) [
@@ -88,15 +88,15 @@ gone-released w u g s k x h mx m = grain-from w.cells.holds g (dropped (w.cells.
         go (Some v) m = cond_both (reads_top (w.cells.readings g) (w.cells.stack g) u) (pushed (w.cells.stack g) u v) (w.cells.stack g) (λ t. Member x t → Member x (w.cells.stack g) ⊎ (x.unit ≡ u))
             (λ e m'. elim m' [ inl q ↦ inr (ap (λ (z : Version). z.unit) q) | inr q ↦ inl q ]) (λ e m'. inl m') m
 
-gone-learnt : (w : World) (u : UnitNo) (g : GrainId) → Gone w → Gone (learned w u g)
+gone-learnt : (w : CoreState) (u : UnitNo) (g : GrainId) → Gone w → Gone (learned w u g)
 gone-learnt w u g s = gone-cut w g (learnt (is_committed (w.manager.verdict u)) u (w.cells.stack g)) s (λ x m. learnt-member (is_committed (w.manager.verdict u)) u (w.cells.stack g) x m)
 
-gone-loaded : (opening : GrainId → List Value) (w : World) (g : GrainId) (u : UnitNo) (state : List Value) → Kept opening w → w.cells.here g ≡ false → Gone w → Gone (loaded w g u state)
+gone-loaded : (opening : GrainId → List Value) (w : CoreState) (g : GrainId) (u : UnitNo) (state : List Value) → Kept opening w → w.cells.here g ≡ false → Gone w → Gone (loaded w g u state)
 gone-loaded opening w g u state k away s j x h m = grain-from w.cells.stack g (record { unit = u; state = state } ∷ []) (Member x) (Member h (w.cells.holds j) → h.unit ≡ x.unit → ⊥) j
     (λ e m' mh. absurd (subst (Member h) (ap w.cells.holds e ∙ (k.0.away g away).0) mh))
     (λ e m'. s j x h m') m
 
-pub gone-change : (opening : GrainId → List Value) (w : World) (e : CoreEvent) (w' : World) → Change w e w' → applies w e ≡ true → Kept opening w → Gone w → Gone w'
+pub gone-change : (opening : GrainId → List Value) (w : CoreState) (e : CoreEvent) (w' : CoreState) → Change w e w' → applies w e ≡ true → Kept opening w → Gone w → Gone w'
 gone-change opening w e w' (bad line why q) a k s = s
 gone-change opening w e w' (begin origin call plain c) a k s = s
 gone-change opening w e w' (lock u g mode running free first here) a k s =
@@ -121,19 +121,19 @@ gone-change opening w e w' (halt_run q) a k s = s
 gone-change opening w e w' (want u g running free fresh) a k s = s
 gone-change opening w e w' (load g u state gone wanted) a k s = gone-loaded opening w g u state k gone s
 
-swept-gone : (w : World) → Gone w → Gone (swept w)
+swept-gone : (w : CoreState) → Gone w → Gone (swept w)
 swept-gone w s = go w.cells.capacity
   where
     go : (c : Option ℕ) → Gone (swept_by w c)
     go None = s
     go (Some m) = s
 
-pub gone-step : (opening : GrainId → List Value) (w : World) (e : CoreEvent) → IsTrueLoad opening w e → Kept opening w → Gone w → Gone (step w e)
+pub gone-step : (opening : GrainId → List Value) (w : CoreState) (e : CoreEvent) → IsTrueLoad opening w e → Kept opening w → Gone w → Gone (step w e)
 gone-step opening w e t k s = cond_both (applies w e) (swept (does w e)) w Gone
     (λ a. (let c = decode w e (and_parts (is_allowed w e) (can w e) a).1 in
     swept-gone (does w e) (gone-change opening w e (does w e) c a k s)))
     (λ a. s)
 
-pub gone-run : (opening : GrainId → List Value) (es : List CoreEvent) (w : World) → AllLoadsTrue opening w es → Kept opening w → Gone w → Gone (run w es)
+pub gone-run : (opening : GrainId → List Value) (es : List CoreEvent) (w : CoreState) → AllLoadsTrue opening w es → Kept opening w → Gone w → Gone (run w es)
 gone-run opening [] w l k s = s
 gone-run opening (e ∷ es) w l k s = gone-run opening es (step w e) l.1 (kept-step opening w e l.0 k) (gone-step opening w e l.0 k s)

@@ -1,6 +1,6 @@
 -- What code may rely on, after every list of events.
 use Rattle.std.proofs.Common.{◌≡◌, ◌+◌, ◌<◌, ◌≤◌, length, refl, ap, arith, Option, Some, None}
-use Rattle.core_model.specs.World.{Batch, World}
+use Rattle.core_model.specs.CoreState.{Batch, CoreState}
 use Rattle.core_model.specs.Consistent.{size_of}
 use Rattle.core_model.specs.Loadless.{HoldsWithoutLoads}
 use Rattle.core_model.specs.Legal.{Run, ends}
@@ -30,6 +30,6 @@ holds-ends r above =
       fresh = i.unborn;
     }
   where
-    within : (w : World) → LoadlessKept w → (o : Option Batch) → w.manager.batch ≡ o → w.manager.closed + size_of w.manager.batch ≤ length w.manager.order
+    within : (w : CoreState) → LoadlessKept w → (o : Option Batch) → w.manager.batch ≡ o → w.manager.closed + size_of w.manager.batch ≤ length w.manager.order
     within w k None q = omega (arith, k.1, ap open_size q, ap size_of q)
     within w k (Some b) q = omega (arith, k.1, ap open_size q, ap size_of q)

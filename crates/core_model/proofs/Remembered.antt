@@ -3,7 +3,7 @@ use Rattle.std.proofs.Common.{◌≡◌, ℕ, zero, suc, ◌≤◌, List, [], �
 use Rattle.std.proofs.lemmas.Bool.{and_parts, and_from, not-true, cond_both}
 use Rattle.cell_model.specs.Locks.{is_hold_of, dropped}
 use Rattle.cell_model.proofs.Units.{same_unit-true, same_unit-false, same_unit-is, any-true, any-false, any-member, Member-append, filter-member}
-use Rattle.core_model.specs.World.{UnitNo, GrainId, same_unit, same_grain, put, Member, Value, Phase, Running, Finished, Refused, Ended, Hold, Effect, World}
+use Rattle.core_model.specs.CoreState.{UnitNo, GrainId, same_unit, same_grain, put, Member, Value, Phase, Running, Finished, Refused, Ended, Hold, Effect, CoreState}
 use Rattle.core_model.specs.Tests.{any}
 use Rattle.core_model.proofs.Puts.{put-at, put-other, grain-at, grain-from, grain-is}
 use Rattle.std.proofs.Common.{take, filter, is_none}
@@ -22,19 +22,19 @@ use Rattle.core_model.proofs.Decoded.{Change, bad, begin, lock, raise, refuse, f
 use Rattle.core_model.proofs.Ends.{kept-begins}
 use Rattle.core_model.proofs.Kept.{Kept, kept-step}
 
-abbrev pub Limited : World → Type 0
+abbrev pub Limited : CoreState → Type 0
 Limited w = (n : ℕ) → w.cells.capacity ≡ Some n → length w.cells.recent ≤ n
 
-abbrev pub Present : World → Type 0
+abbrev pub Present : CoreState → Type 0
 Present w = (g : GrainId) → is_recent w g ≡ true → w.cells.here g ≡ true
 
-abbrev pub Whole : World → Type 0
+abbrev pub Whole : CoreState → Type 0
 Whole w = (g : GrainId) → w.cells.capacity ≡ None → w.cells.here g ≡ true
 
-abbrev pub Wants : World → Type 0
+abbrev pub Wants : CoreState → Type 0
 Wants w = (u : UnitNo) (g : GrainId) → Member (u, g) w.units.wants → (w.units.phase u ≡ Running) × ((h : Hold) → Member h (w.cells.holds g) → h.unit ≡ u → ⊥)
 
-abbrev pub Remembers : World → Type 0
+abbrev pub Remembers : CoreState → Type 0
 Remembers w = Limited w × Present w × Whole w × Wants w
 
 take-short : {A : Type 0} (n : ℕ) (xs : List A) → length (take n xs) ≤ n
@@ -65,20 +65,20 @@ touched-recent (Some n) g recent k e = elim (or_cases (same_grain k g) _ (take-a
   | inr h ↦ inr (filter-any (same_grain k) (λ j. not (same_grain j g)) recent h)
 ]
 
-wants-phase : (w : World) (u : UnitNo) (end : Phase) → Wants w → (x : UnitNo) (g : GrainId) → Member (x, g) (without_wants u w.units.wants) → (put w.units.phase u end x ≡ Running) × ((h : Hold) → Member h (w.cells.holds g) → h.unit ≡ x → ⊥)
+wants-phase : (w : CoreState) (u : UnitNo) (end : Phase) → Wants w → (x : UnitNo) (g : GrainId) → Member (x, g) (without_wants u w.units.wants) → (put w.units.phase u end x ≡ Running) × ((h : Hold) → Member h (w.cells.holds g) → h.unit ≡ x → ⊥)
 wants-phase w u end s x g m =
     let t = filter-member (λ (t : UnitNo × GrainId). not (same_unit t.0 u)) w.units.wants (x, g) m in
     let o = s x g t.0 in
     (put-other w.units.phase u end x (same_unit-false x u (not-true _ t.1)) ∙ o.0, o.1)
 
-remembers-phase : (w : World) (u : UnitNo) (end : Phase) → Remembers w → Remembers (record w { units = record w.units { phase = put w.units.phase u end; wants = without_wants u w.units.wants } })
+remembers-phase : (w : CoreState) (u : UnitNo) (end : Phase) → Remembers w → Remembers (record w { units = record w.units { phase = put w.units.phase u end; wants = without_wants u w.units.wants } })
 remembers-phase w u end s = (s.0, s.1, s.2, λ x g m. wants-phase w u end s.3 x g m)
 
 -- the wait that a first lock ends
 not_wanted : {u : UnitNo} {g : GrainId} (x : UnitNo) (j : GrainId) → x ≡ u → j ≡ g → (same_unit x u && same_grain j g) ≡ false → ⊥
 not_wanted {u} {g} x j p q e = (let t : true ≡ false = sym (and_from _ _ (same_unit-is x u p) (same_grain-is j g q)) ∙ e in cc)
 
-pub remembers-change : (opening : GrainId → List Value) (w : World) (e : CoreEvent) (w' : World) → Change w e w' → applies w e ≡ true → Kept opening w → Remembers w → Remembers w'
+pub remembers-change : (opening : GrainId → List Value) (w : CoreState) (e : CoreEvent) (w' : CoreState) → Change w e w' → applies w e ≡ true → Kept opening w → Remembers w → Remembers w'
 remembers-change opening w e w' (bad line why q) a k s = s
 remembers-change opening w e w' (begin origin call plain c) a k s = (s.0, s.1, s.2, λ x g m. (let t = s.3 x g m in (put-at w.units.phase (new_unit w) Running (λ p. p ≡ Running) x (λ z. refl) (λ z. t.0), t.1)))
 remembers-change opening w e w' (lock u g mode running free first here) a k s = (
@@ -161,7 +161,7 @@ remembers-change opening w e w' (load g u state gone wanted) a k s = (
 )
 
 -- what leaves wasn't used lately
-swept-remembers : (w : World) → Remembers w → Remembers (swept w)
+swept-remembers : (w : CoreState) → Remembers w → Remembers (swept w)
 swept-remembers w s = go w.cells.capacity refl
   where
     go : (c : Option ℕ) → w.cells.capacity ≡ c → Remembers (swept_by w c)
@@ -173,16 +173,16 @@ swept-remembers w s = go w.cells.capacity refl
       s.3,
     )
 
-pub remembers-step : (opening : GrainId → List Value) (w : World) (e : CoreEvent) → Kept opening w → Remembers w → Remembers (step w e)
+pub remembers-step : (opening : GrainId → List Value) (w : CoreState) (e : CoreEvent) → Kept opening w → Remembers w → Remembers (step w e)
 remembers-step opening w e k s = cond_both (applies w e) (swept (does w e)) w Remembers
     (λ a. swept-remembers (does w e) (remembers-change opening w e (does w e) (decode w e (and_parts (is_allowed w e) (can w e) a).1) a k s))
     (λ a. s)
 
 -- a grain in memory was used lately, or isn't idle
-abbrev pub Used : World → Type 0
+abbrev pub Used : CoreState → Type 0
 Used w = (n : ℕ) (g : GrainId) → w.cells.capacity ≡ Some n → w.cells.here g ≡ true → (is_recent w g ≡ true) ⊎ (is_idle w g ≡ false)
 
-swept-used : (w : World) → Used (swept w)
+swept-used : (w : CoreState) → Used (swept w)
 swept-used w = go w.cells.capacity refl
   where
     go : (c : Option ℕ) → w.cells.capacity ≡ c → Used (swept_by w c)
@@ -192,10 +192,10 @@ swept-used w = go w.cells.capacity refl
       | inr r ↦ inr (not-true _ r)
     ]
 
-used-step : (w : World) (e : CoreEvent) → Used w → Used (step w e)
+used-step : (w : CoreState) (e : CoreEvent) → Used w → Used (step w e)
 used-step w e s = cond_both (applies w e) (swept (does w e)) w Used (λ a. swept-used (does w e)) (λ a. s)
 
-remembers-run : (opening : GrainId → List Value) (es : List CoreEvent) (w : World) → AllLoadsTrue opening w es → Kept opening w → Remembers w → Used w → Remembers (run w es) × Used (run w es)
+remembers-run : (opening : GrainId → List Value) (es : List CoreEvent) (w : CoreState) → AllLoadsTrue opening w es → Kept opening w → Remembers w → Used w → Remembers (run w es) × Used (run w es)
 remembers-run opening [] w l k s u = (s, u)
 remembers-run opening (e ∷ es) w l k s u = remembers-run opening es (step w e) l.1 (kept-step opening w e l.0 k) (remembers-step opening w e k s) (used-step w e u)
 

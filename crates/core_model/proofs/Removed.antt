@@ -3,7 +3,7 @@ use Rattle.std.proofs.Common.{◌≡◌, ℕ, ◌<◌, List, [], ◌∷◌, ◌+
 use Rattle.std.proofs.lemmas.Bool.{and_parts, not-true, cond_both}
 use Rattle.cell_model.specs.Locks.{is_hold_of, holds_lock}
 use Rattle.cell_model.proofs.Units.{same_unit-true, same_unit-false, any-true, Member-append}
-use Rattle.core_model.specs.World.{UnitNo, GrainId, put, Member, Value, Phase, Running, Finished, Refused, Ended, Read, Version, top, cut, Mode, World}
+use Rattle.core_model.specs.CoreState.{UnitNo, GrainId, put, Member, Value, Phase, Running, Finished, Refused, Ended, Read, Version, top, cut, Mode, CoreState}
 use Rattle.core_model.specs.Tests.{any, is_aborted, is_committed, written}
 use Rattle.core_model.specs.Chains.{Chain, IsBottom, IsLink}
 use Rattle.core_model.proofs.Puts.{put-from, grain-at}
@@ -27,11 +27,11 @@ use Rattle.core_model.proofs.Kept.{Kept, kept-step}
 abbrev pub Absent : UnitNo → List Version → Type 0
 Absent u xs = (x : Version) → Member x xs → x.unit ≡ u → ⊥
 
-abbrev pub Removed : World → Type 0
+abbrev pub Removed : CoreState → Type 0
 Removed w = (u : UnitNo) (r : Read) → w.units.phase u ≡ Running → Member r (w.units.reads u) → (r.source ≡ (top (w.cells.stack r.grain)).unit) ⊎ Absent r.source (w.cells.stack r.grain)
 
 -- places fall down a stack
-below-top : (opening : GrainId → List Value) (n : ℕ) (w : World) → Inv opening n w → (g : GrainId) (y : Version) (ys : List Version) →
+below-top : (opening : GrainId → List Value) (n : ℕ) (w : CoreState) → Inv opening n w → (g : GrainId) (y : Version) (ys : List Version) →
     Chain (IsBottom opening w.units.phase w.manager.writes w.manager.verdict g) (IsLink w.units.phase w.manager.writes w.units.reads g) (y ∷ ys) → (x : Version) → Member x ys → w.manager.place x.unit < w.manager.place y.unit
 below-top opening n w i g y [] c x m = absurd m
 below-top opening n w i g y (z ∷ zs) c x m =
@@ -45,7 +45,7 @@ below-top opening n w i g y (z ∷ zs) c x m =
     ]
 
 -- what a cut takes off is gone
-cut-absent : (opening : GrainId → List Value) (n : ℕ) (w : World) → Inv opening n w → (g : GrainId) (p : Version → Bool) (xs : List Version) →
+cut-absent : (opening : GrainId → List Value) (n : ℕ) (w : CoreState) → Inv opening n w → (g : GrainId) (p : Version → Bool) (xs : List Version) →
     Chain (IsBottom opening w.units.phase w.manager.writes w.manager.verdict g) (IsLink w.units.phase w.manager.writes w.units.reads g) xs →
     (cut p xs ≡ xs) ⊎ Absent (top xs).unit (cut p xs)
 cut-absent opening n w i g p [] c = absurd c
@@ -54,7 +54,7 @@ cut-absent opening n w i g p (y ∷ ys) c =
     (λ e. inr (λ x m q. (let t = below-top opening n w i g y ys c x (cut-member p ys x m) in omega (arith, t, ap w.manager.place q))))
     (λ e. inl refl)
 
-removed-restacked : (w : World) (g : GrainId) (xs : List Version) → ((x : Version) → Member x xs → Member x (w.cells.stack g)) → (((top xs).unit ≡ (top (w.cells.stack g)).unit) ⊎ Absent (top (w.cells.stack g)).unit xs) →
+removed-restacked : (w : CoreState) (g : GrainId) (xs : List Version) → ((x : Version) → Member x xs → Member x (w.cells.stack g)) → (((top xs).unit ≡ (top (w.cells.stack g)).unit) ⊎ Absent (top (w.cells.stack g)).unit xs) →
     Removed w → Removed (restacked w g xs)
 removed-restacked w g xs sub tops s u r p m = grain-at w.cells.stack g xs (λ t. (r.source ≡ (top t).unit) ⊎ Absent r.source t) r.grain
     (λ e. elim (s u r p m) [
@@ -67,16 +67,16 @@ removed-restacked w g xs sub tops s u r p m = grain-at w.cells.stack g xs (λ t.
     ])
     (λ e. s u r p m)
 
-removed-cut : (opening : GrainId → List Value) (n : ℕ) (w : World) → Inv opening n w → (g : GrainId) (p : Version → Bool) → Removed w → Removed (restacked w g (cut p (w.cells.stack g)))
+removed-cut : (opening : GrainId → List Value) (n : ℕ) (w : CoreState) → Inv opening n w → (g : GrainId) (p : Version → Bool) → Removed w → Removed (restacked w g (cut p (w.cells.stack g)))
 removed-cut opening n w i g p s =
     removed-restacked w g (cut p (w.cells.stack g)) (λ x m. cut-member p (w.cells.stack g) x m)
     (elim (cut-absent opening n w i g p (w.cells.stack g) (i.chain g)) [ inl e ↦ inl (ap (λ t. (top t).unit) e) | inr a ↦ inr a ]) s
 
-removed-learnt : (opening : GrainId → List Value) (n : ℕ) (w : World) → Inv opening n w → (u : UnitNo) (g : GrainId) → Removed w → (b : Bool) → Removed (restacked w g (learnt b u (w.cells.stack g)))
+removed-learnt : (opening : GrainId → List Value) (n : ℕ) (w : CoreState) → Inv opening n w → (u : UnitNo) (g : GrainId) → Removed w → (b : Bool) → Removed (restacked w g (learnt b u (w.cells.stack g)))
 removed-learnt opening n w i u g s true = removed-restacked w g (committed u (w.cells.stack g)) (λ x m. committed-member u (w.cells.stack g) x m) (inl (ap (λ (t : Version). t.unit) (committed-top u (w.cells.stack g)))) s
 removed-learnt opening n w i u g s false = removed-cut opening n w i g (is_of u) s
 
-removed-locked : (w : World) (u : UnitNo) (g : GrainId) (mode : Mode) → Removed w → Removed (locked w u g mode)
+removed-locked : (w : CoreState) (u : UnitNo) (g : GrainId) (mode : Mode) → Removed w → Removed (locked w u g mode)
 removed-locked w u g mode s x r p = put-from w.units.reads u (w.units.reads u ++ read_of g (top (w.cells.stack g)) ∷ []) (Member r) ((r.source ≡ (top (w.cells.stack r.grain)).unit) ⊎ Absent r.source (w.cells.stack r.grain)) x
     (λ e m. elim (Member-append r (w.units.reads u) (read_of g (top (w.cells.stack g)) ∷ []) m) [
       | inl o ↦ s x r p (subst (λ z. Member r (w.units.reads z)) (sym e) o)
@@ -85,7 +85,7 @@ removed-locked w u g mode s x r p = put-from w.units.reads u (w.units.reads u ++
     (λ e m. s x r p m)
 
 -- while another unit holds the grain, a release pushes nothing
-removed-released : (opening : GrainId → List Value) (n : ℕ) (w : World) → Inv opening n w → (u : UnitNo) (g : GrainId) → (w.units.phase u ≡ Running → ⊥) → holds_lock u (w.cells.holds g) ≡ true → Removed w → Removed (released w u g)
+removed-released : (opening : GrainId → List Value) (n : ℕ) (w : CoreState) → Inv opening n w → (u : UnitNo) (g : GrainId) → (w.units.phase u ≡ Running → ⊥) → holds_lock u (w.cells.holds g) ≡ true → Removed w → Removed (released w u g)
 removed-released opening n w i u g over held s x r p m = grain-at w.cells.stack g stack_g (λ t. (r.source ≡ (top t).unit) ⊎ Absent r.source t) r.grain
     (λ e. subst (λ t. (r.source ≡ (top t).unit) ⊎ Absent r.source t) (ap w.cells.stack e ∙ sym (same e)) (s x r p m))
     (λ e. s x r p m)
@@ -106,18 +106,18 @@ removed-released opening n w i u g over held s x r p m = grain-at w.cells.stack 
             let z : h.0.unit ≡ alone.0.unit = i.alone g alone.0 h.0 alone.1 (subst (λ j. Member h.0 (w.cells.holds j)) e h.1) alone.3 in
             let t : Finished ≡ Running = sym done ∙ ap w.units.phase (sym alone.2 ∙ sym z ∙ h.2) ∙ p in cc
 
-removed-loaded : (opening : GrainId → List Value) (n : ℕ) (w : World) → Inv opening n w → (g : GrainId) (u : UnitNo) (state : List Value) → w.cells.here g ≡ false → Removed w → Removed (loaded w g u state)
+removed-loaded : (opening : GrainId → List Value) (n : ℕ) (w : CoreState) → Inv opening n w → (g : GrainId) (u : UnitNo) (state : List Value) → w.cells.here g ≡ false → Removed w → Removed (loaded w g u state)
 removed-loaded opening n w i g u state away s x r p m = grain-at w.cells.stack g (record { unit = u; state = state } ∷ []) (λ t. (r.source ≡ (top t).unit) ⊎ Absent r.source t) r.grain
     (λ e. (let h = i.keeps x r p m in absurd (subst (Member h.0) (ap w.cells.holds e ∙ (i.away g away).0) h.1)))
     (λ e. s x r p m)
 
 -- a unit that begins has no reads, and one that ends doesn't run
-removed-phase : (w : World) (u : UnitNo) (end : Phase) → ((r : Read) → end ≡ Running → Member r (w.units.reads u) → ⊥) → Removed w → Removed (record w { units = record w.units { phase = put w.units.phase u end } })
+removed-phase : (w : CoreState) (u : UnitNo) (end : Phase) → ((r : Read) → end ≡ Running → Member r (w.units.reads u) → ⊥) → Removed w → Removed (record w { units = record w.units { phase = put w.units.phase u end } })
 removed-phase w u end none s x r = put-from w.units.phase u end (λ z. z ≡ Running) (Member r (w.units.reads x) → (r.source ≡ (top (w.cells.stack r.grain)).unit) ⊎ Absent r.source (w.cells.stack r.grain)) x
     (λ q h m. absurd (none r h (subst (λ z. Member r (w.units.reads z)) q m)))
     (λ q h m. s x r h m)
 
-pub removed-change : (opening : GrainId → List Value) (w : World) (e : CoreEvent) (w' : World) → Change w e w' → applies w e ≡ true → Kept opening w → Removed w → Removed w'
+pub removed-change : (opening : GrainId → List Value) (w : CoreState) (e : CoreEvent) (w' : CoreState) → Change w e w' → applies w e ≡ true → Kept opening w → Removed w → Removed w'
 removed-change opening w e w' (bad line why q) a k s = s
 removed-change opening w e w' (begin origin call plain c) a k s = removed-phase w (new_unit w) Running (λ r z m. subst (Member r) (k.0.blank (new_unit w) (k.0.unborn (new_unit w) (le_refl w.units.next))) m) s
 removed-change opening w e w' (lock u g mode running free first here) a k s = removed-locked (restacked w g (cleaned w g)) u g mode (removed-cut opening _ w k.0 g (λ x. is_aborted (w.manager.verdict x.unit)) s)
@@ -140,20 +140,20 @@ removed-change opening w e w' (halt_run q) a k s = s
 removed-change opening w e w' (want u g running free fresh) a k s = s
 removed-change opening w e w' (load g u state gone wanted) a k s = removed-loaded opening _ w k.0 g u state gone s
 
-swept-removed : (w : World) → Removed w → Removed (swept w)
+swept-removed : (w : CoreState) → Removed w → Removed (swept w)
 swept-removed w s = go w.cells.capacity
   where
     go : (c : Option ℕ) → Removed (swept_by w c)
     go None = s
     go (Some m) = s
 
-pub removed-step : (opening : GrainId → List Value) (w : World) (e : CoreEvent) → IsTrueLoad opening w e → Kept opening w → Removed w → Removed (step w e)
+pub removed-step : (opening : GrainId → List Value) (w : CoreState) (e : CoreEvent) → IsTrueLoad opening w e → Kept opening w → Removed w → Removed (step w e)
 removed-step opening w e t k s = cond_both (applies w e) (swept (does w e)) w Removed
     (λ a. (let c = decode w e (and_parts (is_allowed w e) (can w e) a).1 in
     swept-removed (does w e) (removed-change opening w e (does w e) c a k s)))
     (λ a. s)
 
-pub removed-run : (opening : GrainId → List Value) (es : List CoreEvent) (w : World) → AllLoadsTrue opening w es → Kept opening w → Removed w → Removed (run w es)
+pub removed-run : (opening : GrainId → List Value) (es : List CoreEvent) (w : CoreState) → AllLoadsTrue opening w es → Kept opening w → Removed w → Removed (run w es)
 removed-run opening [] w l k s = s
 removed-run opening (e ∷ es) w l k s = removed-run opening es (step w e) l.1 (kept-step opening w e l.0 k) (removed-step opening w e l.0 k s)
 
@@ -163,7 +163,7 @@ top-member B L [] c = absurd c
 top-member B L (x ∷ xs) c = inl refl
 
 -- what a running unit read is no longer on top exactly where it is gone
-pub gone-absent : (opening : GrainId → List Value) (n : ℕ) (w : World) → Inv opening n w → Removed w → (u : UnitNo) (r : Read) → w.units.phase u ≡ Running → Member r (w.units.reads u) →
+pub gone-absent : (opening : GrainId → List Value) (n : ℕ) (w : CoreState) → Inv opening n w → Removed w → (u : UnitNo) (r : Read) → w.units.phase u ≡ Running → Member r (w.units.reads u) →
     (is_gone w r ≡ true → Absent r.source (w.cells.stack r.grain)) × (Absent r.source (w.cells.stack r.grain) → is_gone w r ≡ true)
 gone-absent opening n w i s u r p m = (
   (λ e. elim (s u r p m) [ inl a ↦ absurd (same_unit-false _ _ (not-true _ e) (sym a)) | inr a ↦ a ]),

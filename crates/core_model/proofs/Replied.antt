@@ -1,7 +1,7 @@
 -- Replies tell whether an event applied, and some lists only grow.
 use Rattle.std.proofs.Common.{◌≡◌, ℕ, List, [], ◌∷◌, ◌++◌, Bool, true, false, not, refl, sym, ap, ◌∙◌, subst, Option, Some, None}
 use Rattle.std.proofs.lemmas.Bool.{and_parts, cond-true, cond-false, cond_both}
-use Rattle.core_model.specs.World.{nobody, Batch, World}
+use Rattle.core_model.specs.CoreState.{nobody, Batch, CoreState}
 use Rattle.std.proofs.Common.{append-nil, append_assoc}
 use Rattle.base_types.specs.declared.entries.Settled.TheVariants as settled
 use Rattle.core_model.specs.declared.questions.AskAnswer.{AskAnswer}
@@ -17,7 +17,7 @@ use Rattle.core_model.specs.Events.{CoreEvent, Bad, Begin, Grant, Refuse, Finish
 use Rattle.core_model.proofs.Decoded.{Change, bad, begin, lock, raise, refuse, finish, end_plain, end_snapshot, release, take_batch, vote, decide_some, decide_none, seal_batch, spoil_batch, doubt_batch, learn, emit, halt_run, want, load, decode}
 use Rattle.core_model.proofs.Further.{run-append}
 
-without-no : (w : World) (e : CoreEvent) → says_no (reply_without w e) ≡ true
+without-no : (w : CoreState) (e : CoreEvent) → says_no (reply_without w e) ≡ true
 without-no w (Grant u g mode) = cond_both (is_allowed w (Grant u g mode)) (not_granted (ask w u g mode)) reply.Unapplied (λ r. says_no r ≡ true) (λ e. by_ask (ask w u g mode)) (λ e. refl)
   where
     by_ask : (a : AskAnswer) → says_no (not_granted a) ≡ true
@@ -47,7 +47,7 @@ without-no w Take = refl
 without-no w Emitted = refl
 without-no w Halt = refl
 
-with-yes : (w : World) (e : CoreEvent) → can w e ≡ true → says_no (reply_with w e) ≡ false
+with-yes : (w : CoreState) (e : CoreEvent) → can w e ≡ true → says_no (reply_with w e) ≡ false
 with-yes w (Bad line why) c = refl
 with-yes w (Begin origin call plain) c = refl
 with-yes w (Grant u g mode) c = refl
@@ -73,14 +73,14 @@ with-yes w (Decide n) c = go w.manager.batch c
     go (Some b) e = refl
 
 -- a reply says no exactly where the event doesn't apply
-pub reply-tells : (w : World) (e : CoreEvent) → says_no (reply_to w e) ≡ not (applies w e)
+pub reply-tells : (w : CoreState) (e : CoreEvent) → says_no (reply_to w e) ≡ not (applies w e)
 reply-tells w e = by_test (applies w e) refl
   where
     by_test : (t : Bool) → applies w e ≡ t → says_no (reply_to w e) ≡ not (applies w e)
     by_test true a = ap says_no (cond-true (applies w e) (reply_with w e) (reply_without w e) a) ∙ with-yes w e (and_parts (is_allowed w e) (can w e) a).1 ∙ sym (ap not a)
     by_test false a = ap says_no (cond-false (applies w e) (reply_with w e) (reply_without w e) a) ∙ without-no w e ∙ sym (ap not a)
 
-pub no-change : (w : World) (e : CoreEvent) → applies w e ≡ false → step w e ≡ w
+pub no-change : (w : CoreState) (e : CoreEvent) → applies w e ≡ false → step w e ≡ w
 no-change w e a = cond-false (applies w e) (swept (does w e)) w a
 
 same-list : {A : Type 0} (xs : List A) → BeginsWith xs xs
@@ -89,17 +89,17 @@ same-list xs = ([], sym (append-nil xs))
 more-list : {A : Type 0} (xs ys zs : List A) → BeginsWith xs ys → BeginsWith ys zs → BeginsWith xs zs
 more-list xs ys zs a b = (a.0 ++ b.0, b.1 ∙ ap (λ t. t ++ b.0) a.1 ∙ append_assoc xs a.0 b.0)
 
-extends-same : (w : World) → OnlyExtends w w
+extends-same : (w : CoreState) → OnlyExtends w w
 extends-same w = record { order = same-list w.manager.order; past = same-list w.manager.past; settled = same-list w.manager.settled }
 
-extends-more : (a b c : World) → OnlyExtends a b → OnlyExtends b c → OnlyExtends a c
+extends-more : (a b c : CoreState) → OnlyExtends a b → OnlyExtends b c → OnlyExtends a c
 extends-more a b c x y = record {
   order = more-list a.manager.order b.manager.order c.manager.order x.order y.order;
   past = more-list a.manager.past b.manager.past c.manager.past x.past y.past;
   settled = more-list a.manager.settled b.manager.settled c.manager.settled x.settled y.settled;
 }
 
-extends-change : (w : World) (e : CoreEvent) (w' : World) → Change w e w' → OnlyExtends w w'
+extends-change : (w : CoreState) (e : CoreEvent) (w' : CoreState) → Change w e w' → OnlyExtends w w'
 extends-change w e w' (bad line why q) = record { order = same-list w.manager.order; past = same-list w.manager.past; settled = (record { line = line; unit = nobody; what = settled.Bad why } ∷ [], refl) }
 extends-change w e w' (begin origin call plain c) = record { order = same-list w.manager.order; past = same-list w.manager.past; settled = same-list w.manager.settled }
 extends-change w e w' (lock u g mode running free first here) = record { order = same-list w.manager.order; past = same-list w.manager.past; settled = same-list w.manager.settled }
@@ -113,7 +113,7 @@ extends-change w e w' (take_batch none some) = record { order = same-list w.mana
 extends-change w e w' (vote n g kept b q number d planned fresh) = record { order = same-list w.manager.order; past = same-list w.manager.past; settled = same-list w.manager.settled }
 extends-change w e w' (decide_some n b q number d voted some) = record { order = same-list w.manager.order; past = same-list w.manager.past; settled = same-list w.manager.settled }
 extends-change w e w' (decide_none n b q number d voted none) =
-    (let v : World = with_decisions w b (decisions_of w b) in
+    (let v : CoreState = with_decisions w b (decisions_of w b) in
     record { order = same-list w.manager.order; past = (record b { decisions = Some (decisions_of w b) } ∷ [], refl); settled = (entries_in v (result_told v) (members v b) (decisions_of w b), refl) })
 extends-change w e w' (seal_batch n b ds q number d) = record { order = same-list w.manager.order; past = (record b { decisions = Some ds } ∷ [], refl); settled = (entries_in w (result_told w) (members w b) ds, refl) }
 extends-change w e w' (spoil_batch n b ds q number d) = record { order = same-list w.manager.order; past = (record b { decisions = Some ds } ∷ [], refl); settled = (entries_in w (λ u. settled.Disk) (members w b) ds, refl) }
@@ -124,14 +124,14 @@ extends-change w e w' (halt_run q) = record { order = same-list w.manager.order;
 extends-change w e w' (want u g running free fresh) = record { order = same-list w.manager.order; past = same-list w.manager.past; settled = same-list w.manager.settled }
 extends-change w e w' (load g u state gone wanted) = record { order = same-list w.manager.order; past = same-list w.manager.past; settled = same-list w.manager.settled }
 
-extends-swept : (w w' : World) → OnlyExtends w w' → OnlyExtends w (swept w')
+extends-swept : (w w' : CoreState) → OnlyExtends w w' → OnlyExtends w (swept w')
 extends-swept w w' x = go w'.cells.capacity
   where
     go : (c : Option ℕ) → OnlyExtends w (swept_by w' c)
     go None = x
     go (Some m) = record { order = x.order; past = x.past; settled = x.settled }
 
-extends-run : (es : List CoreEvent) (w : World) → OnlyExtends w (run w es)
+extends-run : (es : List CoreEvent) (w : CoreState) → OnlyExtends w (run w es)
 extends-run [] w = extends-same w
 extends-run (e ∷ es) w = extends-more w (step w e) (run (step w e) es)
     (cond_both (applies w e) (swept (does w e)) w (OnlyExtends w)

@@ -1,7 +1,7 @@
 -- The committed units are serial.
 use Rattle.std.proofs.Common.{◌≡◌, ℕ, suc, ◌+◌, ◌<◌, ◌≤◌, List, [], ◌∷◌, length, get_or, Bool, true, false, ◌⊎◌, inl, inr, refl, sym, ap, ◌∙◌, subst, arith, Option, Some, None}
 use Rattle.std.proofs.lemmas.Bool.{cases_lt, cond_both}
-use Rattle.core_model.specs.World.{UnitNo, GrainId, nobody, Member, Value, Unborn, Finished, Verdict, Read, Effect, World}
+use Rattle.core_model.specs.CoreState.{UnitNo, GrainId, nobody, Member, Value, Unborn, Finished, Verdict, Read, Effect, CoreState}
 use Rattle.core_model.specs.Tests.{is_good, is_committed, written}
 use Rattle.core_model.specs.Chains.{Wrote}
 use Rattle.core_model.proofs.Basics.{is_committed-true}
@@ -14,24 +14,24 @@ use Rattle.core_model.proofs.Kept.{Kept}
 use Rattle.core_model.proofs.Played.{Valid}
 
 -- A test of verdicts that holds of a unit's sources where it holds of the unit, and of no unit that is bad.
-pub record Closed (w : World) (t : Verdict → Bool) : Type 0 where
+pub record Closed (w : CoreState) (t : Verdict → Bool) : Type 0 where
   pub sources : (u : UnitNo) (r : Read) → t (w.manager.verdict u) ≡ true → Member r (w.units.reads u) → (r.source ≡ nobody) ⊎ (t (w.manager.verdict r.source) ≡ true)
   pub good : (v : Verdict) → t v ≡ true → is_good v ≡ true
 
 -- a unit that meets the test, among the first k, that wrote the grain
-pub record Writer (w : World) (t : Verdict → Bool) (g : GrainId) (k : ℕ) (c : UnitNo) : Type 0 where
+pub record Writer (w : CoreState) (t : Verdict → Bool) (g : GrainId) (k : ℕ) (c : UnitNo) : Type 0 where
   pub sure : t (w.manager.verdict c) ≡ true
   pub done : w.units.phase c ≡ Finished
   pub wrote : Wrote w.manager.writes c g
   pub among : w.manager.place c ≤ k
 
 -- the store after the committed units among the first k
-abbrev pub Stands : (GrainId → List Value) → World → (Verdict → Bool) → ℕ → (GrainId → List Value) → Type 0
+abbrev pub Stands : (GrainId → List Value) → CoreState → (Verdict → Bool) → ℕ → (GrainId → List Value) → Type 0
 Stands opening w t k store = (g : GrainId) →
     ((store g ≡ opening g) × ((c : UnitNo) → Writer w t g k c → ⊥))
     ⊎ ((c : UnitNo) × Writer w t g k c × (written g (w.manager.writes c) ≡ Some (store g)) × ((d : UnitNo) → Writer w t g k d → w.manager.place d ≤ w.manager.place c))
 
-pub serial-from : (plays : Effect → Bool) (opening : GrainId → List Value) (n : ℕ) (w : World) → Inv opening n w → Valid plays w → (t : Verdict → Bool) → Closed w t → (us : List UnitNo) (k : ℕ) (store : GrainId → List Value) →
+pub serial-from : (plays : Effect → Bool) (opening : GrainId → List Value) (n : ℕ) (w : CoreState) → Inv opening n w → Valid plays w → (t : Verdict → Bool) → Closed w t → (us : List UnitNo) (k : ℕ) (store : GrainId → List Value) →
     ((j : ℕ) → j < length us → (k + j < length w.manager.order) × (get_or us j nobody ≡ get_or w.manager.order (k + j) nobody)) → Stands opening w t k store →
     IsSerial plays store (map (effect_of w) (filter (λ u. t (w.manager.verdict u)) us))
 serial-from plays opening n w i valid t closed [] k store at s = tt
@@ -113,27 +113,27 @@ serial-from plays opening n w i valid t closed (u ∷ us) k store at s =
               let z : Some r.state ≡ Some (store r.grain) = sym a.1 ∙ ap (λ z. written r.grain (w.manager.writes z)) e ∙ b.2 in cc)
         ]
 
-closed_committed : (opening : GrainId → List Value) (n : ℕ) (w : World) → Inv opening n w → Closed w is_committed
+closed_committed : (opening : GrainId → List Value) (n : ℕ) (w : CoreState) → Inv opening n w → Closed w is_committed
 closed_committed opening n w i = record {
   sources = λ u r c m. elim (i.sure u r (is_committed-true _ c) m) [ inl a ↦ inl a | inr a ↦ inr (ap is_committed a) ];
   good = λ v c. ap is_good (is_committed-true v c);
 }
 
-closed_good : (opening : GrainId → List Value) (n : ℕ) (w : World) → Inv opening n w → Closed w is_good
+closed_good : (opening : GrainId → List Value) (n : ℕ) (w : CoreState) → Inv opening n w → Closed w is_good
 closed_good opening n w i = record { sources = i.good; good = λ v c. c }
 
 -- the units that meet the test, in the finish order
-serial_all : (plays : Effect → Bool) (opening : GrainId → List Value) (w : World) → Kept opening w → Valid plays w → (t : Verdict → Bool) → Closed w t →
+serial_all : (plays : Effect → Bool) (opening : GrainId → List Value) (w : CoreState) → Kept opening w → Valid plays w → (t : Verdict → Bool) → Closed w t →
     IsSerial plays opening (map (effect_of w) (filter (λ u. t (w.manager.verdict u)) w.manager.order))
 serial_all plays opening w k v t closed =
     serial-from plays opening _ w k.0 v t closed w.manager.order 0 opening
     (λ j h. (omega arith, ap (λ x. get_or w.manager.order x nobody) (omega arith)))
     (λ g. inl (refl, λ c h. (let y = k.0.placed c h.done in omega (arith, y.2, h.among))))
 
-pub serial-committed : (plays : Effect → Bool) (opening : GrainId → List Value) (w : World) → Kept opening w → Valid plays w → IsSerial plays opening (committed w)
+pub serial-committed : (plays : Effect → Bool) (opening : GrainId → List Value) (w : CoreState) → Kept opening w → Valid plays w → IsSerial plays opening (committed w)
 serial-committed plays opening w k v = serial_all plays opening w k v is_committed (closed_committed opening _ w k.0)
 
 -- with the units to commit too
-pub serial-good : (plays : Effect → Bool) (opening : GrainId → List Value) (w : World) → Kept opening w → Valid plays w →
+pub serial-good : (plays : Effect → Bool) (opening : GrainId → List Value) (w : CoreState) → Kept opening w → Valid plays w →
     IsSerial plays opening (map (effect_of w) (filter (λ u. is_good (w.manager.verdict u)) w.manager.order))
 serial-good plays opening w k v = serial_all plays opening w k v is_good (closed_good opening _ w k.0)

@@ -8,7 +8,7 @@ use Rattle.cell_model.specs.Cells.{learnt, stacked, reads_top}
 use Rattle.cell_model.specs.Locks.{is_hold_of}
 use Rattle.cell_model.proofs.Units.{same_unit-true, same_unit-false, any-true, any-false, filter-stays, cases_unit}
 use Rattle.cell_model.proofs.Stacks.{cut-none}
-use Rattle.core_model.specs.World.{UnitNo, GrainId, put, put_grain, Member, Value, Finished, Committed, Write, Version, Reading, top, cut, Effect, World}
+use Rattle.core_model.specs.CoreState.{UnitNo, GrainId, put, put_grain, Member, Value, Finished, Committed, Write, Version, Reading, top, cut, Effect, CoreState}
 use Rattle.core_model.specs.Tests.{any, is_final, is_good, is_aborted, is_committed, written}
 use Rattle.core_model.specs.Chains.{Chain, Wrote, IsBottom, IsLink}
 use Rattle.core_model.specs.Learning.{to_learn, next_learn}
@@ -85,15 +85,15 @@ stacked-only u v readings xs None n o = o
 stacked-only u v readings xs (Some s) n o = cond_both (reads_top readings xs v) (pushed xs v s) xs (OnlyBottom u) (λ e. only-pushed u (record { unit = v; state = s }) xs n o) (λ e. o)
 
 -- what has learnt of a unit has that unit's version at the bottom, if at all
-abbrev pub Below : World → Type 0
+abbrev pub Below : CoreState → Type 0
 Below w = (u : UnitNo) (g : GrainId) → w.cells.learnt u g ≡ true → OnlyBottom u (w.cells.stack g)
 
-below-cut : (w : World) (g : GrainId) → Below w → (u : UnitNo) (k : GrainId) → w.cells.learnt u k ≡ true → OnlyBottom u (put_grain w.cells.stack g (cleaned w g) k)
+below-cut : (w : CoreState) (g : GrainId) → Below w → (u : UnitNo) (k : GrainId) → w.cells.learnt u k ≡ true → OnlyBottom u (put_grain w.cells.stack g (cleaned w g) k)
 below-cut w g s u k e = grain-at w.cells.stack g (cleaned w g) (OnlyBottom u) k
     (λ q. only-cut u (λ x. is_aborted (w.manager.verdict x.unit)) (w.cells.stack g) (subst (λ j. OnlyBottom u (w.cells.stack j)) q (s u k e)))
     (λ q. s u k e)
 
-pub below-change : (opening : GrainId → List Value) (w : World) (e : CoreEvent) (w' : World) → Change w e w' → Kept opening w → Batched w → Unheld w → Knows w → Below w → Below w'
+pub below-change : (opening : GrainId → List Value) (w : CoreState) (e : CoreEvent) (w' : CoreState) → Change w e w' → Kept opening w → Batched w → Unheld w → Knows w → Below w → Below w'
 below-change opening w e w' (bad line why q) k bat un kn s = s
 below-change opening w e w' (begin origin call plain c) k bat un kn s = s
 below-change opening w e w' (lock u g mode running free first here) k bat un kn s = below-cut w g s
@@ -144,27 +144,27 @@ below-change opening w e w' (want u g running free fresh) k bat un kn s = s
 below-change opening w e w' (load g u state gone wanted) k bat un kn s =
     λ x j e. grain-at w.cells.stack g (record { unit = u; state = state } ∷ []) (OnlyBottom x) j (λ q. tt) (λ q. s x j e)
 
-swept-below : (w : World) → Below w → Below (swept w)
+swept-below : (w : CoreState) → Below w → Below (swept w)
 swept-below w s = go w.cells.capacity
   where
     go : (c : Option ℕ) → Below (swept_by w c)
     go None = s
     go (Some m) = s
 
-pub below-step : (opening : GrainId → List Value) (w : World) (e : CoreEvent) → Kept opening w → Batched w → Unheld w → Knows w → Below w → Below (step w e)
+pub below-step : (opening : GrainId → List Value) (w : CoreState) (e : CoreEvent) → Kept opening w → Batched w → Unheld w → Knows w → Below w → Below (step w e)
 below-step opening w e k bat un kn s = cond_both (applies w e) (swept (does w e)) w Below
     (λ a. swept-below (does w e) (below-change opening w e (does w e) (decode w e (and_parts (is_allowed w e) (can w e) a).1) k bat un kn s))
     (λ a. s)
 
 -- all that is needed along a run
-record Going (opening : GrainId → List Value) (w : World) : Type 0 where
+record Going (opening : GrainId → List Value) (w : CoreState) : Type 0 where
   kept : Kept opening w
   batched : Batched w
   unheld : Unheld w
   knows : Knows w
   below : Below w
 
-going-run : (opening : GrainId → List Value) (es : List CoreEvent) (w : World) → AllLoadsTrue opening w es → Going opening w → Going opening (run w es)
+going-run : (opening : GrainId → List Value) (es : List CoreEvent) (w : CoreState) → AllLoadsTrue opening w es → Going opening w → Going opening (run w es)
 going-run opening [] w l s = s
 going-run opening (e ∷ es) w l s = going-run opening es (step w e) l.1 (record {
   kept = kept-step opening w e l.0 s.kept;
@@ -186,14 +186,14 @@ going-ends plays r l = going-run r.opening r.events (begins r) l.loads (record {
 -- ---- one version
 
 -- a decided finished unit stands in a closed batch
-decided-closed : (w : World) → Batched w → (u : UnitNo) → w.units.phase u ≡ Finished → is_final (w.manager.verdict u) ≡ true → w.manager.place u ≤ w.manager.closed
+decided-closed : (w : CoreState) → Batched w → (u : UnitNo) → w.units.phase u ≡ Finished → is_final (w.manager.verdict u) ≡ true → w.manager.place u ≤ w.manager.closed
 decided-closed w bat u f d = elim (cases_lt w.manager.closed (w.manager.place u)) [
   | inl lt ↦ (let z : true ≡ false = sym d ∙ bat.1 u f lt in cc)
   | inr le ↦ le
 ]
 
 -- it is among those that the grains have to learn of
-among-closed : (opening : GrainId → List Value) (w : World) → Kept opening w → (u : UnitNo) → w.units.phase u ≡ Finished → w.manager.place u ≤ w.manager.closed → Member u (take w.manager.closed w.manager.order)
+among-closed : (opening : GrainId → List Value) (w : CoreState) → Kept opening w → (u : UnitNo) → w.units.phase u ≡ Finished → w.manager.place u ≤ w.manager.closed → Member u (take w.manager.closed w.manager.order)
 among-closed opening w k u f le =
     let t = k.0.placed u f in
     let lt : t.0 < w.manager.closed = omega (arith, t.2, le) in
@@ -209,7 +209,7 @@ pair-in u g (x ∷ ws) (inl q) = inl (ap (λ k. (u, k)) q)
 pair-in u g (x ∷ ws) (inr m) = inr (pair-in u g ws m)
 
 -- where all is learnt, a grain has learnt of each decided unit that wrote it
-all-learnt : (opening : GrainId → List Value) (w : World) → Going opening w → next_learn w ≡ None → (u : UnitNo) (g : GrainId) → w.units.phase u ≡ Finished → Wrote w.manager.writes u g → is_final (w.manager.verdict u) ≡ true → w.cells.learnt u g ≡ true
+all-learnt : (opening : GrainId → List Value) (w : CoreState) → Going opening w → next_learn w ≡ None → (u : UnitNo) (g : GrainId) → w.units.phase u ≡ Finished → Wrote w.manager.writes u g → is_final (w.manager.verdict u) ≡ true → w.cells.learnt u g ≡ true
 all-learnt opening w s none u g f wrote final =
     let m = filter-stays (λ u. is_final (w.manager.verdict u)) (take w.manager.closed w.manager.order) u (among-closed opening w s.kept u f (decided-closed w s.batched u f final)) final in
     let pair = pair-in u g (w.manager.writes u) (written-named g wrote.0 (w.manager.writes u) wrote.1) in
@@ -221,7 +221,7 @@ all-learnt opening w s none u g f wrote final =
     not-false' false e = cc
 
 -- the last version of a stack of one
-last-one : (opening : GrainId → List Value) (w : World) → Going opening w → (g : GrainId) → IsSettledGrain w g → (x : Version) → w.cells.stack g ≡ x ∷ [] → IsLastVersion opening w g x.unit x.state
+last-one : (opening : GrainId → List Value) (w : CoreState) → Going opening w → (g : GrainId) → IsSettledGrain w g → (x : Version) → w.cells.stack g ≡ x ∷ [] → IsLastVersion opening w g x.unit x.state
 last-one opening w s g done x is = go (subst (Chain (IsBottom opening w.units.phase w.manager.writes w.manager.verdict g) (IsLink w.units.phase w.manager.writes w.units.reads g)) is (s.kept.0.chain g))
   where
     below : (c : UnitNo) (v : List Value) → w.manager.verdict c ≡ Committed → written g (w.manager.writes c) ≡ Some v → (w.units.phase c ≡ Finished) × (w.manager.place c ≤ w.manager.place x.unit)
@@ -239,7 +239,7 @@ last-one opening w s g done x is = go (subst (Chain (IsBottom opening w.units.ph
     go (inr a) = inr (record { commits = a.0; wrote = a.1.1; last = λ c v q wr. (below c v q wr).1 })
 
 -- above the bottom nobody is left
-one-left : (opening : GrainId → List Value) (w : World) → Going opening w → next_learn w ≡ None → (g : GrainId) → IsSettledGrain w g → (xs : List Version) → w.cells.stack g ≡ xs →
+one-left : (opening : GrainId → List Value) (w : CoreState) → Going opening w → next_learn w ≡ None → (g : GrainId) → IsSettledGrain w g → (xs : List Version) → w.cells.stack g ≡ xs →
     Chain (IsBottom opening w.units.phase w.manager.writes w.manager.verdict g) (IsLink w.units.phase w.manager.writes w.units.reads g) xs → (x : Version) × (xs ≡ x ∷ [])
 one-left opening w s none g done [] is c = absurd c
 one-left opening w s none g done (x ∷ []) is c = (x, refl)

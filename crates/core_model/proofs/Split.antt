@@ -2,7 +2,7 @@
 use Rattle.std.proofs.Common.{◌≡◌, ℕ, ◌+◌, ◌<◌, ◌≤◌, List, [], ◌∷◌, ◌++◌, length, Bool, true, false, ◌||◌, inl, inr, refl, sym, ap, ◌∙◌, subst, arith, Option, Some, None}
 use Rattle.std.specs.Prelude.{if◌then◌else◌}
 use Rattle.std.proofs.lemmas.Bool.{and_parts, cond_both}
-use Rattle.core_model.specs.World.{UnitNo, GrainId, put, Member, Value, Running, Finished, Refused, Ended, Verdict, Open, Chosen, Condemned, Committed, Aborted, Settled, Batch, Decision, World}
+use Rattle.core_model.specs.CoreState.{UnitNo, GrainId, put, Member, Value, Running, Finished, Refused, Ended, Verdict, Open, Chosen, Condemned, Committed, Aborted, Settled, Batch, Decision, CoreState}
 use Rattle.core_model.specs.Tests.{is_good, is_committed, is_final}
 use Rattle.core_model.proofs.Puts.{put-at, put-from, put-is, put-other}
 use Rattle.core_model.proofs.Invariant.{Inv}
@@ -20,18 +20,18 @@ use Rattle.base_types.specs.declared.entries.Settled.TheVariants as settled
 use Rattle.cell_model.specs.declared.outcomes.Decision.TheVariants as decision
 
 -- where the batch that is open or in doubt begins
-abbrev pub begin_of : World → ℕ
+abbrev pub begin_of : CoreState → ℕ
 begin_of w = batch_begin w.manager.doubt w.manager.closed
 
 -- what stands before is decided for good, and nothing after it is committed
-abbrev pub Split : World → Type 0
+abbrev pub Split : CoreState → Type 0
 Split w =
     ((u : UnitNo) → w.units.phase u ≡ Finished → w.manager.place u ≤ begin_of w → is_final (w.manager.verdict u) ≡ true)
     × ((u : UnitNo) → w.units.phase u ≡ Finished → begin_of w < w.manager.place u → w.manager.verdict u ≡ Committed → ⊥)
     × (begin_of w ≤ w.manager.closed)
 
 -- no batch is in doubt where an event applies that isn't one of those after a doubt
-pub no_doubt : (w : World) (e : CoreEvent) → applies w e ≡ true → is_after_doubt e ≡ false → w.manager.doubt ≡ None
+pub no_doubt : (w : CoreState) (e : CoreEvent) → applies w e ≡ true → is_after_doubt e ≡ false → w.manager.doubt ≡ None
 no_doubt w e a n = go w.manager.doubt refl
   where
     go : (o : Option ℕ) → w.manager.doubt ≡ o → w.manager.doubt ≡ None
@@ -82,10 +82,10 @@ leave-committed Committed e = refl
 leave-committed Aborted e = cc
 
 -- where no batch is in doubt, it begins after the closed ones
-at_closed : (w : World) → w.manager.doubt ≡ None → begin_of w ≡ w.manager.closed
+at_closed : (w : CoreState) → w.manager.doubt ≡ None → begin_of w ≡ w.manager.closed
 at_closed w q = ap (λ o. batch_begin o w.manager.closed) q
 
-split-closed : (opening : GrainId → List Value) (w : World) (f : Verdict → Verdict) (answer : UnitNo → Settled) (b : Batch) (ds : List Decision) →
+split-closed : (opening : GrainId → List Value) (w : CoreState) (f : Verdict → Verdict) (answer : UnitNo → Settled) (b : Batch) (ds : List Decision) →
     ((v : Verdict) → (v ≡ Open → ⊥) → is_final (f v) ≡ true) → f Open ≡ Open → Inv opening (w.manager.closed + b.size) w → w.manager.doubt ≡ None → Split (closed w f answer b ds)
 split-closed opening w f answer b ds final still i none =
     let e : batch_begin w.manager.doubt (w.manager.closed + b.size) ≡ w.manager.closed + b.size = ap (λ o. batch_begin o (w.manager.closed + b.size)) none in (
@@ -94,7 +94,7 @@ split-closed opening w f answer b ds final still i none =
       omega (arith, e),
     )
 
-split-decided : (opening : GrainId → List Value) (w : World) (b : Batch) (ds : List Decision) → Kept opening w → w.manager.batch ≡ Some b → b.decisions ≡ None → w.manager.doubt ≡ None → Split w → Split (with_decisions w b ds)
+split-decided : (opening : GrainId → List Value) (w : CoreState) (b : Batch) (ds : List Decision) → Kept opening w → w.manager.batch ≡ Some b → b.decisions ≡ None → w.manager.doubt ≡ None → Split w → Split (with_decisions w b ds)
 split-decided opening w b ds k q d none s = (
   (λ u f le. ap is_final (judged-other (members w b) ds w.manager.verdict u (λ m.
       (let t = in_part opening w.manager.closed w (inv-open opening w b k q d) w.manager.closed b.size u m in
@@ -103,7 +103,7 @@ split-decided opening w b ds k q d none s = (
   s.2,
 )
 
-pub split-change : (opening : GrainId → List Value) (w : World) (e : CoreEvent) (w' : World) → Change w e w' → applies w e ≡ true → Kept opening w → Kept opening w' → Split w → Split w'
+pub split-change : (opening : GrainId → List Value) (w : CoreState) (e : CoreEvent) (w' : CoreState) → Change w e w' → applies w e ≡ true → Kept opening w → Kept opening w' → Split w → Split w'
 split-change opening w e w' (bad line why q) a k k' s = s
 split-change opening w e w' (begin origin call plain c) a k k' s = (
   (λ u. put-at w.units.phase (new_unit w) Running (λ p. p ≡ Finished → w.manager.place u ≤ begin_of w → is_final (w.manager.verdict u) ≡ true) u (λ e f. cc) (λ e. s.0 u)),
@@ -129,7 +129,7 @@ split-change opening w e w' (finish u effect running plain of_call reads alone) 
     )
 split-change opening w e w' (end_plain u effect running plain of_call bare) a k k' s = split-ended w u s
   where
-    split-ended : (w : World) (u : UnitNo) → Split w → Split (record w { units = record w.units { phase = put w.units.phase u Ended } })
+    split-ended : (w : CoreState) (u : UnitNo) → Split w → Split (record w { units = record w.units { phase = put w.units.phase u Ended } })
     split-ended w u s = (
       (λ x. put-from w.units.phase u Ended (λ p. p ≡ Finished) (w.manager.place x ≤ begin_of w → is_final (w.manager.verdict x) ≡ true) x (λ q f. cc) (λ q f. s.0 x f)),
       (λ x. put-from w.units.phase u Ended (λ p. p ≡ Finished) (begin_of w < w.manager.place x → w.manager.verdict x ≡ Committed → ⊥) x (λ q f. cc) (λ q f. s.1 x f)),
@@ -163,20 +163,20 @@ split-change opening w e w' (halt_run q) a k k' s = s
 split-change opening w e w' (want u g running free fresh) a k k' s = s
 split-change opening w e w' (load g u state gone wanted) a k k' s = s
 
-swept-split : (w : World) → Split w → Split (swept w)
+swept-split : (w : CoreState) → Split w → Split (swept w)
 swept-split w s = go w.cells.capacity
   where
     go : (c : Option ℕ) → Split (swept_by w c)
     go None = s
     go (Some m) = s
 
-pub split-step : (opening : GrainId → List Value) (w : World) (e : CoreEvent) → IsTrueLoad opening w e → Kept opening w → Split w → Split (step w e)
+pub split-step : (opening : GrainId → List Value) (w : CoreState) (e : CoreEvent) → IsTrueLoad opening w e → Kept opening w → Split w → Split (step w e)
 split-step opening w e t k s = cond_both (applies w e) (swept (does w e)) w Split
     (λ a. (let c = decode w e (and_parts (is_allowed w e) (can w e) a).1 in
     swept-split (does w e) (split-change opening w e (does w e) c a k (kept-change opening w e (does w e) c a t k) s)))
     (λ a. s)
 
-pub split-run : (opening : GrainId → List Value) (es : List CoreEvent) (w : World) → AllLoadsTrue opening w es → Kept opening w → Split w → Split (run w es)
+pub split-run : (opening : GrainId → List Value) (es : List CoreEvent) (w : CoreState) → AllLoadsTrue opening w es → Kept opening w → Split w → Split (run w es)
 split-run opening [] w l k s = s
 split-run opening (e ∷ es) w l k s = split-run opening es (step w e) l.1 (kept-step opening w e l.0 k) (split-step opening w e l.0 k s)
 
@@ -203,12 +203,12 @@ not_committed Condemned n = refl
 not_committed Committed n = absurd (n refl)
 not_committed Aborted n = refl
 
-map-append : (w : World) (xs ys : List UnitNo) → map (effect_of w) (xs ++ ys) ≡ map (effect_of w) xs ++ map (effect_of w) ys
+map-append : (w : CoreState) (xs ys : List UnitNo) → map (effect_of w) (xs ++ ys) ≡ map (effect_of w) xs ++ map (effect_of w) ys
 map-append w [] ys = refl
 map-append w (x ∷ xs) ys = ap (λ t. effect_of w x ∷ t) (map-append w xs ys)
 
 -- the committed units, and after them those to commit
-pub split-order : (opening : GrainId → List Value) (w : World) → Kept opening w → Split w →
+pub split-order : (opening : GrainId → List Value) (w : CoreState) → Kept opening w → Split w →
     map (effect_of w) (filter (λ u. is_good (w.manager.verdict u)) w.manager.order) ≡ committed w ++ chosen w
 split-order opening w k s =
     ap (map (effect_of w)) order ∙ map-append w _ _

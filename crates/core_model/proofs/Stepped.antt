@@ -4,7 +4,7 @@ use Rattle.std.specs.Prelude.{◌==◌, if◌then◌else◌, flat_map}
 use Rattle.std.proofs.lemmas.Option.{slice_get_cases}
 use Rattle.std.proofs.lemmas.Bool.{ltb-true, and_parts, and_from, cases_Bool, cond_both, cond-true, cond-false, eq-eqb}
 use Rattle.cell_model.proofs.Units.{any-member, same_grain-is, filter-member}
-use Rattle.core_model.specs.World.{UnitNo, GrainId, same_grain, Member, Value, Version, Outcome, Write, Effect, Batch, Decision, World}
+use Rattle.core_model.specs.CoreState.{UnitNo, GrainId, same_grain, Member, Value, Version, Outcome, Write, Effect, Batch, Decision, CoreState}
 use Rattle.core_model.specs.Tests.{any, all, is_final, is_good, outcome_of, waiting, is_planned, is_voted, is_vote_on, members, has_bad_source, written}
 use Rattle.core_model.specs.Chains.{Wrote}
 use Rattle.core_model.specs.Changes.{swept, swept_by}
@@ -28,13 +28,13 @@ use Rattle.core_model.proofs.Split.{no_doubt}
 use Rattle.std.proofs.lemmas.List.Elements.{filter-append}
 
 -- after a doubt no batch is open
-abbrev pub Ended : World → Type 0
+abbrev pub Ended : CoreState → Type 0
 Ended w = (d : ℕ) → w.manager.doubt ≡ Some d → w.manager.batch ≡ None
 
 none-some : {A : Type 0} (o : Option A) (x : A) → o ≡ None → o ≡ Some x → ⊥
 none-some o x n s = (let t : None ≡ Some x = sym n ∙ s in cc)
 
-pub ended-change : (w : World) (e : CoreEvent) (w' : World) → Change w e w' → applies w e ≡ true → Ended w → Ended w'
+pub ended-change : (w : CoreState) (e : CoreEvent) (w' : CoreState) → Change w e w' → applies w e ≡ true → Ended w → Ended w'
 ended-change w e w' (bad line why q) a s = s
 ended-change w e w' (begin origin call plain c) a s = s
 ended-change w e w' (lock u g mode running free first here) a s = s
@@ -57,19 +57,19 @@ ended-change w e w' (halt_run q) a s = s
 ended-change w e w' (want u g running free fresh) a s = s
 ended-change w e w' (load g u state gone wanted) a s = s
 
-swept-ended : (w : World) → Ended w → Ended (swept w)
+swept-ended : (w : CoreState) → Ended w → Ended (swept w)
 swept-ended w s = go w.cells.capacity
   where
     go : (c : Option ℕ) → Ended (swept_by w c)
     go None = s
     go (Some m) = s
 
-ended-step : (w : World) (e : CoreEvent) → Ended w → Ended (step w e)
+ended-step : (w : CoreState) (e : CoreEvent) → Ended w → Ended (step w e)
 ended-step w e s = cond_both (applies w e) (swept (does w e)) w Ended
     (λ a. swept-ended (does w e) (ended-change w e (does w e) (decode w e (and_parts (is_allowed w e) (can w e) a).1) a s))
     (λ a. s)
 
-ended-run : (es : List CoreEvent) (w : World) → Ended w → Ended (run w es)
+ended-run : (es : List CoreEvent) (w : CoreState) → Ended w → Ended (run w es)
 ended-run [] w s = s
 ended-run (e ∷ es) w s = ended-run es (step w e) (ended-step w e s)
 
@@ -105,7 +105,7 @@ and-true : (a : Bool) → (a && true) ≡ a
 and-true true = refl
 and-true false = refl
 
-allowed-is : (w : World) (e : CoreEvent) → (is_none w.manager.doubt || is_after_doubt e) ≡ true → can w e ≡ true → applies w e ≡ (not w.units.halt || is_after_halt e)
+allowed-is : (w : CoreState) (e : CoreEvent) → (is_none w.manager.doubt || is_after_doubt e) ≡ true → can w e ≡ true → applies w e ≡ (not w.units.halt || is_after_halt e)
 allowed-is w e d c =
     let h : Bool = not w.units.halt || is_after_halt e in
     (λ i. (d i && h) && c i) ∙ and-true h
@@ -113,7 +113,7 @@ allowed-is w e d c =
 doubt-none : (o : Option ℕ) (b : Bool) → o ≡ None → (is_none o || b) ≡ true
 doubt-none o b e = ap (λ t. is_none t || b) e
 
-in-writes : (w : World) (us : List UnitNo) (x : UnitNo × GrainId) → Member x (flat_map (λ u. map (λ (t : Write). (u, t.0)) (w.manager.writes u)) us) → Member x.0 us × Wrote w.manager.writes x.0 x.1
+in-writes : (w : CoreState) (us : List UnitNo) (x : UnitNo × GrainId) → Member x (flat_map (λ u. map (λ (t : Write). (u, t.0)) (w.manager.writes u)) us) → Member x.0 us × Wrote w.manager.writes x.0 x.1
 in-writes w us x m =
     let t = flat-member (λ u. map (λ (y : Write). (u, y.0)) (w.manager.writes u)) us x m in
     let s = pair t.0 (w.manager.writes t.0) t.2 in
@@ -125,7 +125,7 @@ in-writes w us x m =
     pair u (y ∷ ws) (inr n) = (let t = pair u ws n in (t.0, inr t.1))
 
 -- what is to learn can be learnt
-learn-can : (w : World) (x : UnitNo × GrainId) → next_learn w ≡ Some x → can w (Learn x.0 x.1) ≡ true
+learn-can : (w : CoreState) (x : UnitNo × GrainId) → next_learn w ≡ Some x → can w (Learn x.0 x.1) ≡ true
 learn-can w x q =
     let t = find-some (λ (y : UnitNo × GrainId). not (w.cells.learnt y.0 y.1)) (to_learn w) x q in
     let s = in-writes w (filter (λ u. is_final (w.manager.verdict u)) (take w.manager.closed w.manager.order)) x t.0 in
@@ -133,7 +133,7 @@ learn-can w x q =
     and_from (is_some (written x.1 (w.manager.writes x.0))) (is_final (w.manager.verdict x.0) && not (w.cells.learnt x.0 x.1)) (ap is_some s.1.1)
     (and_from (is_final (w.manager.verdict x.0)) (not (w.cells.learnt x.0 x.1)) f.1 t.1)
 
-module _ (w : World) (ended : Ended w) (e : CoreEvent) where
+module _ (w : CoreState) (ended : Ended w) (e : CoreEvent) where
   abbrev Applies : Type 0
   Applies = applies w e ≡ (not w.units.halt || is_after_halt e)
 
@@ -219,7 +219,7 @@ writes-left r q =
 
 -- ---- what is shown
 
-shows-step : (w : World) (s : Step) → (s ≡ Writes → w.manager.emitted < length w.manager.settled) → step_of (work_in w s) ≡ s
+shows-step : (w : CoreState) (s : Step) → (s ≡ Writes → w.manager.emitted < length w.manager.settled) → step_of (work_in w s) ≡ s
 shows-step w (Votes n g) left = refl
 shows-step w (Decides n) left = refl
 shows-step w (Seals n) left = refl
@@ -240,7 +240,7 @@ version-only u None x m = absurd m
 version-only u (Some v) x (inl q) = (ap (λ (y : Version). y.unit) q, ap (λ (y : Version). Some y.state) (sym q))
 version-only u (Some v) x (inr m) = absurd m
 
-pub shows-versions : (w : World) (b : Batch) (g : GrainId) → ShowsVersions w b g
+pub shows-versions : (w : CoreState) (b : Batch) (g : GrainId) → ShowsVersions w b g
 shows-versions w b g = record {
   only = λ x m.
       (let t = flat-member (version_to_write w g) (members w b) x m in
@@ -260,7 +260,7 @@ shows-versions w b g = record {
         (λ h m. (let t = version-only u (written g (w.manager.writes u)) x m in (h, t.0, t.1)))
 
 -- the answer on whether a unit is decided is yes exactly where its outcome is shown
-pub tells-decided : (w : World) (u : UnitNo) → TellsDecided w u
+pub tells-decided : (w : CoreState) (u : UnitNo) → TellsDecided w u
 tells-decided w u = go (outcome_of w u)
   where
     go : (o : Option Outcome) → (answer.IsDecided (is_some o) ≡ answer.IsDecided true) ↔ ((r : Outcome) × (answer.Outcome (known o) ≡ answer.Outcome (Decided r)))

@@ -5,7 +5,7 @@ use Rattle.std.specs.List.{list_any as any}
 use Rattle.std.proofs.lemmas.Bool.{cases_lt, cond-true}
 use Rattle.base_types.specs.declared.entries.Settled.TheVariants as settled
 use Rattle.cell_model.proofs.Units.{any-true, any-member, same_unit-true, same_unit-is}
-use Rattle.core_model.specs.World.{UnitNo, nobody, same_unit, put, Phase, Unborn, Running, Finished, Refused, Ended, Verdict, Open, Chosen, Condemned, Committed, Aborted, Outcome, Effect, Entry, Settled, World}
+use Rattle.core_model.specs.CoreState.{UnitNo, nobody, same_unit, put, Phase, Unborn, Running, Finished, Refused, Ended, Verdict, Open, Chosen, Condemned, Committed, Aborted, Outcome, Effect, Entry, Settled, CoreState}
 use Rattle.core_model.specs.Tests.{is_final, is_over, is_decided, outcome_in, outcome_of}
 use Rattle.core_model.specs.Causes.{EndsWith, HasCause, IsCaused}
 use Rattle.core_model.specs.Laws.{extended, AnswersAreOutcomes, ChildrenAreKnown}
@@ -26,7 +26,7 @@ use Rattle.core_model.proofs.Lined.{once-ends}
 use Rattle.core_model.proofs.Proper.{front, front-legal}
 
 -- a list of known outcomes
-known-at : (w : World) (us : List UnitNo) (os : List Outcome) → map (outcome_of w) us ≡ map Some os → (i : ℕ) → i < length us → (o : Outcome) × (outcome_of w (get_or us i nobody) ≡ Some o)
+known-at : (w : CoreState) (us : List UnitNo) (os : List Outcome) → map (outcome_of w) us ≡ map Some os → (i : ℕ) → i < length us → (o : Outcome) × (outcome_of w (get_or us i nobody) ≡ Some o)
 known-at w [] os e i lt = absurd (omega (arith, lt))
 known-at w (u ∷ us) [] e i lt = cc
 known-at w (u ∷ us) (o ∷ os) e zero lt = (o, head e)
@@ -39,7 +39,7 @@ known-at w (u ∷ us) (o ∷ os) e (suc i) lt = known-at w us os (rest e) i (ome
     rest q = cc
 
 -- the children of a unit that came to its end are decided
-children-decided : (w : World) → ChildrenAreKnown w → AnswersAreOutcomes w → (p : UnitNo) → (w.units.phase p ≡ Finished) ⊎ (w.units.phase p ≡ Ended) → ChildrenAreDecided w p
+children-decided : (w : CoreState) → ChildrenAreKnown w → AnswersAreOutcomes w → (p : UnitNo) → (w.units.phase p ≡ Finished) ⊎ (w.units.phase p ≡ Ended) → ChildrenAreDecided w p
 children-decided w known answers p o c i d born origin =
     let t = known.listed c p i d born origin in
     let k = known-at w (w.units.kids p) (w.manager.answers p) (answers p o) i t.0 in
@@ -65,14 +65,14 @@ module _ (plays : Effect → Bool) (r : Run) (l : IsLegal plays r) (x : Entry) (
   -- what was told stays
   known-end : outcome_of (ends r) x.unit ≡ Some result
   known-end =
-      ap (λ (v : World). outcome_of v x.unit) (sym same-end)
-      ∙ outcome-ends plays (front r (c.before ++ c.event ∷ [])) c.later legal x.unit result (ap (λ (v : World). outcome_of v x.unit) last ∙ cause.0)
+      ap (λ (v : CoreState). outcome_of v x.unit) (sym same-end)
+      ∙ outcome-ends plays (front r (c.before ++ c.event ∷ [])) c.later legal x.unit result (ap (λ (v : CoreState). outcome_of v x.unit) last ∙ cause.0)
 
   -- a unit that is over at the event's end is so at the end
   over-end : (p : Phase) → is_over p ≡ true → (step (ends (front r c.before)) c.event).units.phase x.unit ≡ p → (ends r).units.phase x.unit ≡ p
   over-end p o q =
-      let at : (ends (front r (c.before ++ c.event ∷ []))).units.phase x.unit ≡ p = ap (λ (v : World). v.units.phase x.unit) last ∙ q in
-      ap (λ (v : World). v.units.phase x.unit) (sym same-end)
+      let at : (ends (front r (c.before ++ c.event ∷ []))).units.phase x.unit ≡ p = ap (λ (v : CoreState). v.units.phase x.unit) last ∙ q in
+      ap (λ (v : CoreState). v.units.phase x.unit) (sym same-end)
       ∙ ((grows-ends plays (front r (c.before ++ c.event ∷ [])) c.later legal).3 x.unit (ap is_over at ∙ o)).0 ∙ at
 
   -- it is the event's end of a plain run
@@ -80,11 +80,11 @@ module _ (plays : Effect → Bool) (r : Run) (l : IsLegal plays r) (x : Entry) (
   ended-end e q v is change =
       over-end Ended refl
       (ap (λ (y : CoreEvent). (step (ends (front r c.before)) y).units.phase x.unit) q
-      ∙ ap (λ (z : World). z.units.phase x.unit) (cond-true (applies (ends (front r c.before)) e) (swept (does (ends (front r c.before)) e)) (ends (front r c.before)) (subst (λ (y : CoreEvent). applies (ends (front r c.before)) y ≡ true) q c.applied))
+      ∙ ap (λ (z : CoreState). z.units.phase x.unit) (cond-true (applies (ends (front r c.before)) e) (swept (does (ends (front r c.before)) e)) (ends (front r c.before)) (subst (λ (y : CoreEvent). applies (ends (front r c.before)) y ≡ true) q c.applied))
       ∙ swept-phase (does (ends (front r c.before)) e)
       ∙ (λ i. change i x.unit) ∙ put-is (ends (front r c.before)).units.phase v Ended x.unit (sym is))
     where
-      swept-phase : (w : World) → (swept w).units.phase x.unit ≡ w.units.phase x.unit
+      swept-phase : (w : CoreState) → (swept w).units.phase x.unit ≡ w.units.phase x.unit
       swept-phase w = go w.cells.capacity
         where
           go : (o : Option ℕ) → (swept_by w o).units.phase x.unit ≡ w.units.phase x.unit
@@ -133,7 +133,7 @@ told-ends plays r l = record {
 -- ---- lines
 
 -- an outcome is known of who is settled, unless its batch is in doubt
-settled-known : (w : World) (u : UnitNo) → IsSettled w u → (w.units.phase u ≡ Finished → w.manager.place u ≤ w.manager.closed → is_final (w.manager.verdict u) ≡ true) → is_decided w u ≡ true
+settled-known : (w : CoreState) (u : UnitNo) → IsSettled w u → (w.units.phase u ≡ Finished → w.manager.place u ≤ w.manager.closed → is_final (w.manager.verdict u) ≡ true) → is_decided w u ≡ true
 settled-known w u (inl p) f = ap (λ (z : Phase). is_some (outcome_in z (w.manager.verdict u) (w.manager.result u))) p
 settled-known w u (inr (inl p)) f = ap (λ (z : Phase). is_some (outcome_in z (w.manager.verdict u) (w.manager.result u))) p
 settled-known w u (inr (inr p)) f = elim (is_final-cases (w.manager.verdict u) (f p.0 p.1)) [
@@ -142,7 +142,7 @@ settled-known w u (inr (inr p)) f = elim (is_final-cases (w.manager.verdict u) (
 ]
 
 -- of whom an outcome is known, is settled
-known-settled : (w : World) (u : UnitNo) → (w.units.phase u ≡ Finished → is_final (w.manager.verdict u) ≡ true → w.manager.place u ≤ w.manager.closed) → is_decided w u ≡ true → IsSettled w u
+known-settled : (w : CoreState) (u : UnitNo) → (w.units.phase u ≡ Finished → is_final (w.manager.verdict u) ≡ true → w.manager.place u ≤ w.manager.closed) → is_decided w u ≡ true → IsSettled w u
 known-settled w u late e = go (w.units.phase u) refl (w.manager.verdict u) refl e
   where
     go : (p : Phase) → w.units.phase u ≡ p → (v : Verdict) → w.manager.verdict u ≡ v → is_some (outcome_in p v (w.manager.result u)) ≡ true → IsSettled w u

@@ -2,11 +2,11 @@
 use Rattle.std.proofs.Common.{◌≡◌, ℕ, ◌+◌, ◌<◌, List, [], ◌∷◌, length, Bool, true, ◌⊎◌, inl, inr, refl, sym, ap, ◌∙◌, subst, arith, Option, Some, None}
 use Rattle.std.proofs.lemmas.Bool.{and_parts, cond_both}
 use Rattle.cell_model.proofs.Units.{cases_unit}
-use Rattle.core_model.specs.World.{UnitNo, GrainId, put, Member, Value, Origin, Phase, Running, Finished, Refused, Ended, Verdict, Open, Aborted, Settled, Batch, Decision, World}
+use Rattle.core_model.specs.CoreState.{UnitNo, GrainId, put, Member, Value, Origin, Phase, Running, Finished, Refused, Ended, Verdict, Open, Aborted, Settled, Batch, Decision, CoreState}
 use Rattle.core_model.proofs.Puts.{put-at, put-from, put-is, put-other}
 use Rattle.base_types.specs.declared.entries.Settled.TheVariants as settled
 use Rattle.base_types.specs.declared.calls.Origin.TheVariants.{Line, Child}
-use Rattle.core_model.specs.World.{Outcome, Call}
+use Rattle.core_model.specs.CoreState.{Outcome, Call}
 use Rattle.std.proofs.Common.{le_refl, map}
 use Rattle.core_model.specs.Tests.{members, outcome_of, outcome_in, is_running}
 use Rattle.core_model.specs.Laws.{AnswersAreOutcomes}
@@ -20,12 +20,12 @@ use Rattle.core_model.proofs.Orders.{judged-other}
 use Rattle.core_model.proofs.Children.{Kin, kin-step, answered-step}
 use Rattle.core_model.proofs.Kept.{Kept, kept-step, inv-open, members-open}
 
-abbrev pub Turned : World → Type 0
+abbrev pub Turned : CoreState → Type 0
 Turned w =
     ((u : UnitNo) → (w.manager.verdict u ≡ Open → ⊥) → (w.units.phase u ≡ Finished) ⊎ (w.units.phase u ≡ Refused))
     × ((u : UnitNo) → w.units.phase u ≡ Refused → w.manager.verdict u ≡ Aborted)
 
-pub turned-phase : (w : World) (u : UnitNo) (end : Phase) → w.manager.verdict u ≡ Open → (end ≡ Refused → ⊥) → Turned w → Turned (record w { units = record w.units { phase = put w.units.phase u end } })
+pub turned-phase : (w : CoreState) (u : UnitNo) (end : Phase) → w.manager.verdict u ≡ Open → (end ≡ Refused → ⊥) → Turned w → Turned (record w { units = record w.units { phase = put w.units.phase u end } })
 turned-phase w u end open_u n s = (
   (λ x d. put-at w.units.phase u end (λ p. (p ≡ Finished) ⊎ (p ≡ Refused)) x (λ q. absurd (d (ap w.manager.verdict q ∙ open_u))) (λ q. s.0 x d)),
   (λ x. put-from w.units.phase u end (λ p. p ≡ Refused) (w.manager.verdict x ≡ Aborted) x (λ q h. absurd (n h)) (λ q h. s.1 x h)),
@@ -38,7 +38,7 @@ member-or-not u (x ∷ xs) = elim (cases_unit u x) [
   | inr n ↦ elim (member-or-not u xs) [ inl m ↦ inl (inr m) | inr k ↦ inr (λ o. elim o [ inl e ↦ n e | inr m ↦ k m ]) ]
 ]
 
-turned-decided : (opening : GrainId → List Value) (w : World) (b : Batch) (ds : List Decision) → Kept opening w → w.manager.batch ≡ Some b → b.decisions ≡ None → Turned w → Turned (with_decisions w b ds)
+turned-decided : (opening : GrainId → List Value) (w : CoreState) (b : Batch) (ds : List Decision) → Kept opening w → w.manager.batch ≡ Some b → b.decisions ≡ None → Turned w → Turned (with_decisions w b ds)
 turned-decided opening w b ds k q d s = (
   (λ x n. elim (member-or-not x (members w b)) [
     | inl m ↦ inl (members-open opening w b (inv-open opening w b k q d) x m).0
@@ -47,13 +47,13 @@ turned-decided opening w b ds k q d s = (
   (λ x f. judged-other (members w b) ds w.manager.verdict x (λ m. (let t : Finished ≡ Refused = sym (members-open opening w b (inv-open opening w b k q d) x m).0 ∙ f in cc)) ∙ s.1 x f),
 )
 
-pub turned-mapped : (w : World) (f : Verdict → Verdict) (answer : UnitNo → Settled) (b : Batch) (ds : List Decision) → f Open ≡ Open → f Aborted ≡ Aborted → Turned w → Turned (closed w f answer b ds)
+pub turned-mapped : (w : CoreState) (f : Verdict → Verdict) (answer : UnitNo → Settled) (b : Batch) (ds : List Decision) → f Open ≡ Open → f Aborted ≡ Aborted → Turned w → Turned (closed w f answer b ds)
 turned-mapped w f answer b ds still aborted s = (
   (λ x n. s.0 x (λ z. n (ap f z ∙ still))),
   (λ x q. ap f (s.1 x q) ∙ aborted),
 )
 
-pub turned-refused : (w : World) (u : UnitNo) (why : Settled) → Turned w → Turned (refused w u why)
+pub turned-refused : (w : CoreState) (u : UnitNo) (why : Settled) → Turned w → Turned (refused w u why)
 turned-refused w u why s = (
   (λ x d. elim (cases_unit x u) [
     | inl z ↦ inr (put-is w.units.phase u Refused x z)
@@ -65,7 +65,7 @@ turned-refused w u why s = (
   ]),
 )
 
-pub turned-change : (opening : GrainId → List Value) (w : World) (e : CoreEvent) (w' : World) → Change w e w' → applies w e ≡ true → Kept opening w → Turned w → Turned w'
+pub turned-change : (opening : GrainId → List Value) (w : CoreState) (e : CoreEvent) (w' : CoreState) → Change w e w' → applies w e ≡ true → Kept opening w → Turned w → Turned w'
 turned-change opening w e w' (bad line why q) a k s = s
 turned-change opening w e w' (begin origin call plain c) a k s = turned-phase w (new_unit w) Running (k.0.undecided (new_unit w) (inl (k.0.unborn (new_unit w) (le_refl w.units.next)))) (λ z. cc) s
 turned-change opening w e w' (lock u g mode running free first here) a k s = s
@@ -88,25 +88,25 @@ turned-change opening w e w' (halt_run q) a k s = s
 turned-change opening w e w' (want u g running free fresh) a k s = s
 turned-change opening w e w' (load g u state gone wanted) a k s = s
 
-swept-turned : (w : World) → Turned w → Turned (swept w)
+swept-turned : (w : CoreState) → Turned w → Turned (swept w)
 swept-turned w s = go w.cells.capacity
   where
     go : (c : Option ℕ) → Turned (swept_by w c)
     go None = s
     go (Some m) = s
 
-pub turned-step : (opening : GrainId → List Value) (w : World) (e : CoreEvent) → IsTrueLoad opening w e → Kept opening w → Turned w → Turned (step w e)
+pub turned-step : (opening : GrainId → List Value) (w : CoreState) (e : CoreEvent) → IsTrueLoad opening w e → Kept opening w → Turned w → Turned (step w e)
 turned-step opening w e t k s = cond_both (applies w e) (swept (does w e)) w Turned
     (λ a. (let c = decode w e (and_parts (is_allowed w e) (can w e) a).1 in
     swept-turned (does w e) (turned-change opening w e (does w e) c a k s)))
     (λ a. s)
 
-pub turned-run : (opening : GrainId → List Value) (es : List CoreEvent) (w : World) → AllLoadsTrue opening w es → Kept opening w → Turned w → Turned (run w es)
+pub turned-run : (opening : GrainId → List Value) (es : List CoreEvent) (w : CoreState) → AllLoadsTrue opening w es → Kept opening w → Turned w → Turned (run w es)
 turned-run opening [] w l k s = s
 turned-run opening (e ∷ es) w l k s = turned-run opening es (step w e) l.1 (kept-step opening w e l.0 k) (turned-step opening w e l.0 k s)
 
 -- the children of a finished unit are decided
-kid-decided : (w : World) → AnswersAreOutcomes w → (p c : UnitNo) → Member c (w.units.kids p) → w.units.phase p ≡ Finished → w.units.phase c ≡ Running → ⊥
+kid-decided : (w : CoreState) → AnswersAreOutcomes w → (p c : UnitNo) → Member c (w.units.kids p) → w.units.phase p ≡ Finished → w.units.phase c ≡ Running → ⊥
 kid-decided w s p c m f running = go (w.units.kids p) (w.manager.answers p) m (s p (inl f))
   where
     go : (ks : List UnitNo) (os : List Outcome) → Member c ks → map (outcome_of w) ks ≡ map Some os → ⊥
@@ -118,15 +118,15 @@ kid-decided w s p c m f running = go (w.units.kids p) (w.manager.answers p) m (s
         let z : None ≡ Some o = sym none ∙ head in cc
     go (k ∷ ks) (o ∷ os) (inr q) e = (let rest : map (outcome_of w) ks ≡ map Some os = cc in go ks os q rest)
 
-abbrev pub First : World → Type 0
+abbrev pub First : CoreState → Type 0
 First w = (p c : UnitNo) → Member c (w.units.kids p) → w.units.phase p ≡ Finished → w.units.phase c ≡ Finished → w.manager.place c < w.manager.place p
 
-first-phase : (w : World) (u : UnitNo) (end : Phase) → (end ≡ Finished → ⊥) → First w → First (record w { units = record w.units { phase = put w.units.phase u end } })
+first-phase : (w : CoreState) (u : UnitNo) (end : Phase) → (end ≡ Finished → ⊥) → First w → First (record w { units = record w.units { phase = put w.units.phase u end } })
 first-phase w u end n s p c m = put-from w.units.phase u end (λ z. z ≡ Finished) (put w.units.phase u end c ≡ Finished → w.manager.place c < w.manager.place p) p
     (λ q f. absurd (n f))
     (λ q f. put-from w.units.phase u end (λ z. z ≡ Finished) (w.manager.place c < w.manager.place p) c (λ y g. absurd (n g)) (λ y g. s p c m f g))
 
-first-begun : (w : World) (origin : Origin) (call : Call) (plain : Bool) → can_begin w origin ≡ true → First w → First (begun w origin call plain)
+first-begun : (w : CoreState) (origin : Origin) (call : Call) (plain : Bool) → can_begin w origin ≡ true → First w → First (begun w origin call plain)
 first-begun w origin call plain can_it s p c m = put-from w.units.phase (new_unit w) Running (λ z. z ≡ Finished) (put w.units.phase (new_unit w) Running c ≡ Finished → w.manager.place c < w.manager.place p) p
     (λ q f. cc)
     (λ q f. put-from w.units.phase (new_unit w) Running (λ z. z ≡ Finished) (w.manager.place c < w.manager.place p) c (λ y g. cc) (λ y g. s p c (subst (Member c) (same origin can_it f) m) f g))
@@ -135,7 +135,7 @@ first-begun w origin call plain can_it s p c m = put-from w.units.phase (new_uni
     same (Line n) e f = refl
     same (Child q i d) e f = put-other w.units.kids q _ p (λ z. (let t : Finished ≡ Running = sym f ∙ ap w.units.phase z ∙ is_running-true _ (and_parts (is_running (w.units.phase q)) _ e).0 in cc))
 
-pub first-change : (opening : GrainId → List Value) (w : World) (e : CoreEvent) (w' : World) → Change w e w' → applies w e ≡ true → Kept opening w → Kin w → AnswersAreOutcomes w → First w → First w'
+pub first-change : (opening : GrainId → List Value) (w : CoreState) (e : CoreEvent) (w' : CoreState) → Change w e w' → applies w e ≡ true → Kept opening w → Kin w → AnswersAreOutcomes w → First w → First w'
 first-change opening w e w' (bad line why q) a k kin ans s = s
 first-change opening w e w' (begin origin call plain c) a k kin ans s = first-begun w origin call plain c s
 first-change opening w e w' (lock u g mode running free first here) a k kin ans s = s
@@ -165,19 +165,19 @@ first-change opening w e w' (halt_run q) a k kin ans s = s
 first-change opening w e w' (want u g running free fresh) a k kin ans s = s
 first-change opening w e w' (load g u state gone wanted) a k kin ans s = s
 
-pub first-step : (opening : GrainId → List Value) (w : World) (e : CoreEvent) → Kept opening w → Kin w → AnswersAreOutcomes w → First w → First (step w e)
+pub first-step : (opening : GrainId → List Value) (w : CoreState) (e : CoreEvent) → Kept opening w → Kin w → AnswersAreOutcomes w → First w → First (step w e)
 first-step opening w e k kin ans s = cond_both (applies w e) (swept (does w e)) w First
     (λ a. swept-first (does w e) (first-change opening w e (does w e) (decode w e (and_parts (is_allowed w e) (can w e) a).1) a k kin ans s))
     (λ a. s)
   where
-    swept-first : (w : World) → First w → First (swept w)
+    swept-first : (w : CoreState) → First w → First (swept w)
     swept-first w s = go w.cells.capacity
       where
         go : (c : Option ℕ) → First (swept_by w c)
         go None = s
         go (Some m) = s
 
-pub first-run : (opening : GrainId → List Value) (es : List CoreEvent) (w : World) → AllLoadsTrue opening w es → Kept opening w → Kin w → AnswersAreOutcomes w → First w → First (run w es)
+pub first-run : (opening : GrainId → List Value) (es : List CoreEvent) (w : CoreState) → AllLoadsTrue opening w es → Kept opening w → Kin w → AnswersAreOutcomes w → First w → First (run w es)
 first-run opening [] w l k kin ans s = s
 first-run opening (e ∷ es) w l k kin ans s =
     first-run opening es (step w e) l.1 (kept-step opening w e l.0 k) (kin-step opening w e l.0 k kin) (answered-step opening w e k ans) (first-step opening w e k kin ans s)

@@ -2,7 +2,7 @@
 use Rattle.std.proofs.Common.{◌≡◌, ℕ, zero, suc, ◌+◌, ◌<◌, ◌≤◌, List, [], ◌∷◌, ◌++◌, length, Bool, true, false, ◌&&◌, not, inl, inr, refl, sym, ap, ◌∙◌, subst, arith, Option, Some, None}
 use Rattle.std.proofs.lemmas.Bool.{and_parts, and_from, cases_Bool, cond_both}
 use Rattle.cell_model.proofs.Units.{any-true, any-false, all-true}
-use Rattle.core_model.specs.World.{UnitNo, GrainId, put, Member, Value, Running, Finished, Verdict, Write, Effect, Settled, Batch, Decision, World}
+use Rattle.core_model.specs.CoreState.{UnitNo, GrainId, put, Member, Value, Running, Finished, Verdict, Write, Effect, Settled, Batch, Decision, CoreState}
 use Rattle.core_model.specs.Tests.{any, is_bad, written}
 use Rattle.core_model.specs.Chains.{Wrote}
 use Rattle.core_model.proofs.Puts.{put-other}
@@ -36,7 +36,7 @@ abbrev pub open_count : Option Batch → ℕ
 open_count None = 0
 open_count (Some b) = 1
 
-abbrev pub Follows : World → Type 0
+abbrev pub Follows : CoreState → Type 0
 Follows w =
     FollowOneAnother w.manager.writes 0 w.manager.order w.manager.past
     × (sizes w.manager.past ≡ w.manager.closed)
@@ -58,7 +58,7 @@ yes-vote votes g a f =
       ],
     )
 
-are-decided : (opening : GrainId → List Value) (w : World) (b : Batch) → Kept opening w → Depends w → Planned w → w.manager.batch ≡ Some b → b.decisions ≡ None → is_voted b ≡ true → (us : List UnitNo) (ds : List Decision) →
+are-decided : (opening : GrainId → List Value) (w : CoreState) (b : Batch) → Kept opening w → Depends w → Planned w → w.manager.batch ≡ Some b → b.decisions ≡ None → is_voted b ≡ true → (us : List UnitNo) (ds : List Decision) →
     ((u : UnitNo) → Member u us → Member u (members w b)) → Reasons b.votes w.manager.writes w.units.deps (judged (members w b) (decisions_of w b) w.manager.verdict) us ds → AreDecided w.manager.writes b.votes us ds
 are-decided opening w b k dep plan q d voted [] [] sub r = tt
 are-decided opening w b k dep plan q d voted [] (c ∷ cs) sub r = r
@@ -138,7 +138,7 @@ length-more : (bs : List Batch) (b : Batch) → length (bs ++ b ∷ []) ≡ leng
 length-more [] b = refl
 length-more (y ∷ ys) b = (let t = length-more ys b in omega (arith, t))
 
-follows-closed : (opening : GrainId → List Value) (w : World) (f : Verdict → Verdict) (answer : UnitNo → Settled) (b c : Batch) (ds : List Decision) → w.manager.batch ≡ Some c → c.number ≡ b.number → c.size ≡ b.size → c.votes ≡ b.votes →
+follows-closed : (opening : GrainId → List Value) (w : CoreState) (f : Verdict → Verdict) (answer : UnitNo → Settled) (b c : Batch) (ds : List Decision) → w.manager.batch ≡ Some c → c.number ≡ b.number → c.size ≡ b.size → c.votes ≡ b.votes →
     (0 < b.size) × (b.size ≤ 64) → w.manager.closed + b.size ≤ length w.manager.order → AreDecided w.manager.writes b.votes (members w b) ds → Follows w → Follows (closed w f answer b ds)
 follows-closed opening w f answer b c ds q n z v size le decided s =
     let e : drop (sizes w.manager.past) w.manager.order ≡ drop w.manager.closed w.manager.order = ap (λ k. drop k w.manager.order) s.1 in (
@@ -157,7 +157,7 @@ follows-closed opening w f answer b c ds q n z v size le decided s =
 some-is : {A : Type 0} (x y : A) → Some x ≡ Some y → x ≡ y
 some-is x y e = cc
 
-follows-decided : (opening : GrainId → List Value) (w : World) (b : Batch) → Kept opening w → Depends w → Planned w → w.manager.batch ≡ Some b → b.decisions ≡ None → is_voted b ≡ true → Follows w → Follows (with_decisions w b (decisions_of w b))
+follows-decided : (opening : GrainId → List Value) (w : CoreState) (b : Batch) → Kept opening w → Depends w → Planned w → w.manager.batch ≡ Some b → b.decisions ≡ None → is_voted b ≡ true → Follows w → Follows (with_decisions w b (decisions_of w b))
 follows-decided opening w b k dep plan q d voted s = (
   s.0,
   s.1,
@@ -170,10 +170,10 @@ follows-decided opening w b k dep plan q d voted s = (
       (subst (λ cs. AreDecided w.manager.writes b.votes (members w b) cs) all' (are-decided opening w b k dep plan q d voted (members w b) (decisions_of w b) (λ x m. m) (argued-decided opening w b k dep q d)))),
 )
 
-order-finished : (opening : GrainId → List Value) (w : World) → Kept opening w → (x : UnitNo) → Member x w.manager.order → w.units.phase x ≡ Finished
+order-finished : (opening : GrainId → List Value) (w : CoreState) → Kept opening w → (x : UnitNo) → Member x w.manager.order → w.units.phase x ≡ Finished
 order-finished opening w k x m = (in_drop opening _ w k.0 0 x m).0
 
-pub follows-change : (opening : GrainId → List Value) (w : World) (e : CoreEvent) (w' : World) → Change w e w' → applies w e ≡ true → Kept opening w → Depends w → Planned w → Batched w → Follows w → Follows w'
+pub follows-change : (opening : GrainId → List Value) (w : CoreState) (e : CoreEvent) (w' : CoreState) → Change w e w' → applies w e ≡ true → Kept opening w → Depends w → Planned w → Batched w → Follows w → Follows w'
 follows-change opening w e w' (bad line why q) a k dep plan bat s = s
 follows-change opening w e w' (begin origin call plain c) a k dep plan bat s = s
 follows-change opening w e w' (lock u g mode running free first here) a k dep plan bat s = s
@@ -220,19 +220,19 @@ follows-change opening w e w' (halt_run q) a k dep plan bat s = s
 follows-change opening w e w' (want u g running free fresh) a k dep plan bat s = s
 follows-change opening w e w' (load g u state gone wanted) a k dep plan bat s = s
 
-pub follows-step : (opening : GrainId → List Value) (w : World) (e : CoreEvent) → Kept opening w → Depends w → Planned w → Batched w → Follows w → Follows (step w e)
+pub follows-step : (opening : GrainId → List Value) (w : CoreState) (e : CoreEvent) → Kept opening w → Depends w → Planned w → Batched w → Follows w → Follows (step w e)
 follows-step opening w e k dep plan bat s = cond_both (applies w e) (swept (does w e)) w Follows
     (λ a. swept-follows (does w e) (follows-change opening w e (does w e) (decode w e (and_parts (is_allowed w e) (can w e) a).1) a k dep plan bat s))
     (λ a. s)
   where
-    swept-follows : (w : World) → Follows w → Follows (swept w)
+    swept-follows : (w : CoreState) → Follows w → Follows (swept w)
     swept-follows w s = go w.cells.capacity
       where
         go : (c : Option ℕ) → Follows (swept_by w c)
         go None = s
         go (Some m) = s
 
-follows-run : (opening : GrainId → List Value) (es : List CoreEvent) (w : World) → AllLoadsTrue opening w es → Kept opening w → Depends w → Planned w → Batched w → Follows w → Follows (run w es)
+follows-run : (opening : GrainId → List Value) (es : List CoreEvent) (w : CoreState) → AllLoadsTrue opening w es → Kept opening w → Depends w → Planned w → Batched w → Follows w → Follows (run w es)
 follows-run opening [] w l k dep plan bat s = s
 follows-run opening (e ∷ es) w l k dep plan bat s =
     follows-run opening es (step w e) l.1 (kept-step opening w e l.0 k) (depends-step opening w e l.0 k dep) (planned-step opening w e k dep plan) (batched-step opening w e l.0 k bat) (follows-step opening w e k dep plan bat s)

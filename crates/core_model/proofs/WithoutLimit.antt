@@ -1,7 +1,7 @@
 -- Where memory has no limit no load applies.
 use Rattle.std.proofs.Common.{◌≡◌, List, [], ◌∷◌, true, false, not, sym, ap, ◌∙◌, subst, None, is_none}
 use Rattle.std.proofs.lemmas.Bool.{and_parts, cond_both}
-use Rattle.core_model.specs.World.{GrainId, Value, World}
+use Rattle.core_model.specs.CoreState.{GrainId, Value, CoreState}
 use Rattle.core_model.specs.Tests.{is_wanted}
 use Rattle.core_model.specs.Changes.{swept, swept_by}
 use Rattle.core_model.specs.Events.{CoreEvent, Bad, Begin, Grant, Refuse, Finish, EndPlain, EndSnapshot, Release, Take, Vote, Decide, Sealed, NotSealed, Doubt, Learn, Emitted, Halt, Want, Load, applies, can, does, step, is_allowed}
@@ -10,10 +10,10 @@ use Rattle.core_model.specs.Serial.{IsTrueLoad, AllLoadsTrue}
 use Rattle.core_model.proofs.Decoded.{Change, bad, begin, lock, raise, refuse, finish, end_plain, end_snapshot, release, take_batch, vote, decide_some, decide_none, seal_batch, spoil_batch, doubt_batch, learn, emit, halt_run, want, load, decode}
 
 -- memory has no limit, and each grain is in it
-abbrev pub AllHere : World → Type 0
+abbrev pub AllHere : CoreState → Type 0
 AllHere w = (w.cells.capacity ≡ None) × ((g : GrainId) → w.cells.here g ≡ true)
 
-here-change : (w : World) (e : CoreEvent) (w' : World) → Change w e w' → AllHere w → AllHere w'
+here-change : (w : CoreState) (e : CoreEvent) (w' : CoreState) → Change w e w' → AllHere w → AllHere w'
 here-change w e w' (bad line why q) m = m
 here-change w e w' (begin origin call plain c) m = m
 here-change w e w' (lock u g mode running free first here) m = m
@@ -36,7 +36,7 @@ here-change w e w' (halt_run q) m = m
 here-change w e w' (want u g running free fresh) m = m
 here-change w e w' (load g u state gone wanted) m = absurd (let t : true ≡ false = sym (m.1 g) ∙ gone in cc)
 
-here-step : (w : World) (e : CoreEvent) → AllHere w → AllHere (step w e)
+here-step : (w : CoreState) (e : CoreEvent) → AllHere w → AllHere (step w e)
 here-step w e m = cond_both (applies w e) (swept (does w e)) w AllHere
     (λ a. (let c = decode w e (and_parts (is_allowed w e) (can w e) a).1 in
     let v = here-change w e (does w e) c m in
@@ -44,7 +44,7 @@ here-step w e m = cond_both (applies w e) (swept (does w e)) w AllHere
     subst AllHere (sym same) v))
     (λ a. m)
 
-no-load : (opening : GrainId → List Value) (w : World) (e : CoreEvent) → AllHere w → IsTrueLoad opening w e
+no-load : (opening : GrainId → List Value) (w : CoreState) (e : CoreEvent) → AllHere w → IsTrueLoad opening w e
 no-load opening w (Load g u state) m = λ a.
     (let c = (and_parts (is_allowed w (Load g u state)) (can w (Load g u state)) a).1 in
     let n = (and_parts (not (w.cells.here g)) (is_wanted w.units.wants g) c).0 in
@@ -68,7 +68,7 @@ no-load opening w Emitted m = tt
 no-load opening w Halt m = tt
 no-load opening w (Want u g) m = tt
 
-no-loads : (opening : GrainId → List Value) (es : List CoreEvent) (w : World) → AllHere w → AllLoadsTrue opening w es
+no-loads : (opening : GrainId → List Value) (es : List CoreEvent) (w : CoreState) → AllHere w → AllLoadsTrue opening w es
 no-loads opening [] w m = tt
 no-loads opening (e ∷ es) w m = (no-load opening w e m, no-loads opening es (step w e) (here-step w e m))
 

@@ -8,7 +8,7 @@ use Rattle.core_model.specs.declared.questions.KnownOutcome.{KnownOutcome}
 use Rattle.core_model.specs.declared.questions.KnownOutcome.TheVariants.{Undecided, Decided}
 use Rattle.core_model.specs.declared.questions.BatchView.{BatchView}
 use Rattle.cell_model.specs.Sources.{with_source}
-use Rattle.core_model.specs.World.{UnitNo, GrainId, Outcome, Batch, World}
+use Rattle.core_model.specs.CoreState.{UnitNo, GrainId, Outcome, Batch, CoreState}
 use Rattle.core_model.specs.Tests.{is_aborted, is_decided, outcome_of, ask, members, first_grain}
 pub use Rattle.core_model.specs.Effects.{effect_of}
 pub use Rattle.core_model.specs.Learning.{next_learn}
@@ -26,11 +26,11 @@ as_set [] = []
 as_set (u ∷ us) = with_source (as_set us) u
 
 -- the aborted sources of these units
-abbrev pub aborted_sources : World → List UnitNo → List UnitNo
+abbrev pub aborted_sources : CoreState → List UnitNo → List UnitNo
 aborted_sources w us = as_set (filter (λ d. is_aborted (w.manager.verdict d)) (flat_map (λ u. w.units.deps u) us))
 
 -- what is shown of the open batch
-abbrev pub view : World → Batch → BatchView
+abbrev pub view : CoreState → Batch → BatchView
 view w b = record {
   batch = b.number;
   effects = map (effect_of w) (members w b);
@@ -40,11 +40,11 @@ view w b = record {
 }
 
 -- the first wanted grain that isn't in memory
-abbrev pub next_wanted : World → Option GrainId
+abbrev pub next_wanted : CoreState → Option GrainId
 next_wanted w = first_grain (filter (λ g. not (w.cells.here g)) (map (λ (t : UnitNo × GrainId). t.1) w.units.wants))
 
 -- the answer to a question
-abbrev pub answer_to : World → CoreQuestion → CoreAnswer
+abbrev pub answer_to : CoreState → CoreQuestion → CoreAnswer
 answer_to w (question.Ask u g mode) = answer.Ask (ask w u g mode)
 answer_to w (question.Outcome u) = answer.Outcome (known (outcome_of w u))
 answer_to w question.Batch = answer.Batch (option_map (view w) w.manager.batch)

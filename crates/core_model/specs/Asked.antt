@@ -5,7 +5,7 @@ use Rattle.cell_model.specs.declared.locks.Ask.{Ask}
 use Rattle.cell_model.specs.declared.locks.Ask.TheVariants as locks
 use Rattle.core_model.specs.declared.questions.AskAnswer.{AskAnswer}
 use Rattle.core_model.specs.declared.questions.AskAnswer.TheVariants as answer
-use Rattle.core_model.specs.World.{UnitNo, GrainId, Member, Value, Version, Mode, Read, Running, Finished, Batch, World}
+use Rattle.core_model.specs.CoreState.{UnitNo, GrainId, Member, Value, Version, Mode, Read, Running, Finished, Batch, CoreState}
 use Rattle.core_model.specs.Tests.{ask, is_final, members, waiting}
 use Rattle.core_model.specs.Chains.{Wrote}
 use Rattle.core_model.specs.Causes.{IsRemoved}
@@ -14,22 +14,22 @@ use Rattle.core_model.specs.Serial.{IsLastVersion}
 use Rattle.core_model.specs.Events.{Grant, Take, applies, batch_size}
 
 -- the unit runs, and the program has the grain's type
-abbrev pub IsActive : World → UnitNo → GrainId → Type 0
+abbrev pub IsActive : CoreState → UnitNo → GrainId → Type 0
 IsActive w u g = (w.units.phase u ≡ Running) × (g.kind < w.units.kinds)
 
 -- What the unit read from the other is gone from its grain's stack, and the other is the oldest such source.
-pub record IsOldestRemoved (w : World) (u source : UnitNo) : Type 0 where
+pub record IsOldestRemoved (w : CoreState) (u source : UnitNo) : Type 0 where
   pub removed : (r : Read) × Member r (w.units.reads u) × (r.source ≡ source) × IsRemoved w r
   pub oldest : (r : Read) → Member r (w.units.reads u) → IsRemoved w r → source.0 ≤ r.source.0
 
 -- The unit may ask, nothing that it read is gone, and the grain's locks say that.
-pub record IsAnswered (w : World) (u : UnitNo) (g : GrainId) (mode : Mode) (said : Ask) : Type 0 where
+pub record IsAnswered (w : CoreState) (u : UnitNo) (g : GrainId) (mode : Mode) (said : Ask) : Type 0 where
   pub active : IsActive w u g
   pub unharmed : (r : Read) → Member r (w.units.reads u) → IsRemoved w r → ⊥
   pub lock : AnswersExactly (w.cells.holds g) u mode said
 
 -- when each answer comes
-abbrev pub AskExactly : World → UnitNo → GrainId → Mode → AskAnswer → Type 0
+abbrev pub AskExactly : CoreState → UnitNo → GrainId → Mode → AskAnswer → Type 0
 AskExactly w u g mode answer.NotActive = IsActive w u g → ⊥
 AskExactly w u g mode (answer.Doomed source) = IsActive w u g × IsOldestRemoved w u source
 AskExactly w u g mode answer.Held = IsAnswered w u g mode locks.Held
@@ -39,19 +39,19 @@ AskExactly w u g mode answer.Absent = IsAnswered w u g mode locks.Free × (w.cel
 AskExactly w u g mode answer.Free = IsAnswered w u g mode locks.Free × (w.cells.here g ≡ true)
 
 -- no batch is in doubt, and the run isn't to stop
-abbrev pub IsGoing : World → Type 0
+abbrev pub IsGoing : CoreState → Type 0
 IsGoing w = (w.manager.doubt ≡ None) × (w.units.halt ≡ false)
 
 -- a grant applies exactly where the answer is that the lock can be had
-abbrev pub GrantApplies : World → UnitNo → GrainId → Mode → Type 0
+abbrev pub GrantApplies : CoreState → UnitNo → GrainId → Mode → Type 0
 GrantApplies w u g mode = (applies w (Grant u g mode) ≡ true) ↔ (IsGoing w × (ask w u g mode ≡ answer.Free))
 
 -- a take applies exactly where no batch is open and a finished undecided unit stands in front that holds no lock
-abbrev pub TakeApplies : World → Type 0
+abbrev pub TakeApplies : CoreState → Type 0
 TakeApplies w = (applies w Take ≡ true) ↔ (IsGoing w × (w.manager.batch ≡ None) × (0 < batch_size w))
 
 -- The open batch is the next one, of so many of the finished undecided units; it has no votes and isn't decided.
-pub record TakesBatch (w next : World) (b : Batch) : Type 0 where
+pub record TakesBatch (w next : CoreState) (b : Batch) : Type 0 where
   pub batch : next.manager.batch ≡ Some b
   pub number : b.number ≡ w.manager.batches + 1
   pub units : members next b ≡ take (batch_size w) (waiting w)
@@ -59,11 +59,11 @@ pub record TakesBatch (w next : World) (b : Batch) : Type 0 where
   pub undecided : b.decisions ≡ None
 
 -- each finished unit that wrote the grain is decided for good
-abbrev pub IsSettledGrain : World → GrainId → Type 0
+abbrev pub IsSettledGrain : CoreState → GrainId → Type 0
 IsSettledGrain w g = (u : UnitNo) → w.units.phase u ≡ Finished → Wrote w.manager.writes u g → is_final (w.manager.verdict u) ≡ true
 
 -- Where every grain has learnt what there is to learn, the stack of a grain whose writers are all decided is one version:
 -- the last committed one.
-abbrev pub SettledStacksAreSingle : (GrainId → List Value) → World → Type 0
+abbrev pub SettledStacksAreSingle : (GrainId → List Value) → CoreState → Type 0
 SettledStacksAreSingle opening w = next_learn w ≡ None → (g : GrainId) → IsSettledGrain w g →
     (x : Version) × (w.cells.stack g ≡ x ∷ []) × IsLastVersion opening w g x.unit x.state

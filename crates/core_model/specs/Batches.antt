@@ -1,7 +1,7 @@
 -- The batches that were taken.
 use Rattle.std.specs.Prelude.{◌≡◌, ◌≤◌, ◌<◌, ◌+◌, ℕ, List, [], ◌∷◌, Bool, true, Some, length, take, drop, ⊤}
 use Rattle.cell_model.specs.Decisions.{is_commit}
-use Rattle.core_model.specs.World.{UnitNo, GrainId, Member, Write, Batch, Decision, World}
+use Rattle.core_model.specs.CoreState.{UnitNo, GrainId, Member, Write, Batch, Decision, CoreState}
 use Rattle.core_model.specs.Chains.{Wrote}
 
 -- the grain's file was written
@@ -32,7 +32,7 @@ sizes (b ∷ bs) = b.size + sizes bs
 
 -- The closed batches follow one another from the front of the finish order to where the open one begins, whose number is
 -- the next, and whose decisions, once it has them, are such too.
-pub record BatchesFollow (w : World) : Type 0 where
+pub record BatchesFollow (w : CoreState) : Type 0 where
   pub closed : FollowOneAnother w.manager.writes 0 w.manager.order w.manager.past
   pub count : sizes w.manager.past ≡ w.manager.closed
   pub number : (b : Batch) → w.manager.batch ≡ Some b → b.number ≡ length w.manager.past + 1

@@ -3,7 +3,7 @@ use Rattle.std.specs.Prelude.{◌≡◌, ◌↔◌, ◌⊎◌, ◌≤◌, ◌<�
 use Rattle.base_types.specs.declared.calls.Origin.TheVariants.{Line}
 use Rattle.base_types.specs.declared.entries.Settled.TheVariants as settled
 use Rattle.cell_model.specs.Laws.{IsOldestRival}
-use Rattle.core_model.specs.World.{UnitNo, GrainId, nobody, Member, Mode, Outcome, Read, Version, Running, Entry, Settled, Batch, World}
+use Rattle.core_model.specs.CoreState.{UnitNo, GrainId, nobody, Member, Mode, Outcome, Read, Version, Running, Entry, Settled, Batch, CoreState}
 use Rattle.core_model.specs.Tests.{is_gone, is_before, has_failed, members, outcome_of}
 use Rattle.core_model.specs.Dead.{IsDead}
 use Rattle.core_model.specs.Chains.{Wrote}
@@ -12,43 +12,43 @@ use Rattle.core_model.specs.Events.{CoreEvent, Bad, Refuse, EndPlain, EndSnapsho
 use Rattle.core_model.specs.Legal.{Run, begins}
 
 -- The unit wrote the grain, whose file failed, and it is the first such grain.
-pub record IsVotedDown (w : World) (b : Batch) (u : UnitNo) (g : GrainId) : Type 0 where
+pub record IsVotedDown (w : CoreState) (b : Batch) (u : UnitNo) (g : GrainId) : Type 0 where
   pub wrote : Wrote w.manager.writes u g
   pub failed : has_failed b.votes g ≡ true
   pub first : (k : GrainId) → Wrote w.manager.writes u k → has_failed b.votes k ≡ true → is_before k g ≡ false
 
 -- no file that the unit wrote failed
-abbrev pub IsWritten : World → Batch → UnitNo → Type 0
+abbrev pub IsWritten : CoreState → Batch → UnitNo → Type 0
 IsWritten w b u = (g : GrainId) → Wrote w.manager.writes u g → has_failed b.votes g ≡ false
 
 -- No file that the unit wrote failed; the other unit is the oldest of its dependencies that are dead.
-pub record DependsOnDead (w : World) (b : Batch) (u on : UnitNo) : Type 0 where
+pub record DependsOnDead (w : CoreState) (b : Batch) (u on : UnitNo) : Type 0 where
   pub written : IsWritten w b u
   pub source : Member on (w.units.deps u)
   pub dead : IsDead w on
   pub oldest : (d : UnitNo) → Member d (w.units.deps u) → IsDead w d → on.0 ≤ d.0
 
 -- No file that the unit wrote failed, and none of its dependencies is dead.
-pub record CanCommit (w : World) (b : Batch) (u : UnitNo) : Type 0 where
+pub record CanCommit (w : CoreState) (b : Batch) (u : UnitNo) : Type 0 where
   pub written : IsWritten w b u
   pub alive : (d : UnitNo) → Member d (w.units.deps u) → IsDead w d → ⊥
 
 -- The unit is refused, and the other is the oldest source whose version, read by the unit, is gone; it is dead.
-pub record IsRefusedFor (w : World) (e : CoreEvent) (u on : UnitNo) : Type 0 where
+pub record IsRefusedFor (w : CoreState) (e : CoreEvent) (u on : UnitNo) : Type 0 where
   pub refused : (g : GrainId) × ((mode : Mode) × (e ≡ Refuse u g mode))
   pub gone : (r : Read) × Member r (w.units.reads u) × (r.source ≡ on) × (is_gone w r ≡ true)
   pub dead : IsDead w on
   pub oldest : (r : Read) → Member r (w.units.reads u) → is_gone w r ≡ true → on.0 ≤ r.source.0
 
 -- The unit is refused that grain, and the other is the oldest who holds it in a conflicting mode, and older than the unit.
-pub record IsRefusedBy (w : World) (e : CoreEvent) (u by : UnitNo) (g : GrainId) : Type 0 where
+pub record IsRefusedBy (w : CoreState) (e : CoreEvent) (u by : UnitNo) (g : GrainId) : Type 0 where
   pub mode : Mode
   pub refused : e ≡ Refuse u g mode
   pub rival : IsOldestRival (w.cells.holds g) u mode by
   pub older : by.0 < u.0
 
 -- the state in which the open batch is decided, where the event decides or closes it
-abbrev pub decided_state : World → CoreEvent → Batch → World
+abbrev pub decided_state : CoreState → CoreEvent → Batch → CoreState
 decided_state w (Decide n) b = with_decisions w b (decisions_of w b)
 decided_state w _ b = w
 
@@ -61,20 +61,20 @@ Settles (Doubt m) n = m ≡ n
 Settles _ n = ⊥
 
 -- The unit is one of the open batch, which the event decides or ends, and this holds of it where the batch is decided.
-abbrev pub AtDecision : World → CoreEvent → UnitNo → (World → Batch → Type 0) → Type 0
+abbrev pub AtDecision : CoreState → CoreEvent → UnitNo → (CoreState → Batch → Type 0) → Type 0
 AtDecision w e u Holds =
     (b : Batch) × (w.manager.batch ≡ Some b) × Settles e b.number × Member u (members w b) × Holds (decided_state w e b) b
 
 -- the unit comes to its end as a plain run with that result, or its batch is on disk, it can commit, and it finished with
 -- that result
-abbrev pub EndsWith : World → CoreEvent → UnitNo → Outcome → Type 0
+abbrev pub EndsWith : CoreState → CoreEvent → UnitNo → Outcome → Type 0
 EndsWith w (EndPlain v effect) u result = (v ≡ u) × (effect.result ≡ result)
 EndsWith w (EndSnapshot v at outcome) u result = (v ≡ u) × (outcome ≡ result)
 EndsWith w (Sealed n) u result = (w.manager.result u ≡ result) × AtDecision w (Sealed n) u (λ v b. CanCommit v b u)
 EndsWith w _ u result = ⊥
 
 -- why an event that leads from a state to the next settles a unit so
-abbrev pub HasCause : World → CoreEvent → World → UnitNo → Settled → Type 0
+abbrev pub HasCause : CoreState → CoreEvent → CoreState → UnitNo → Settled → Type 0
 HasCause w e next u (settled.Done result) = (outcome_of next u ≡ Some result) × EndsWith w e u result
 HasCause w e next u (settled.Lock by g) = IsRefusedBy w e u by g
 HasCause w e next u (settled.Vote g) = AtDecision w e u (λ v b. IsVotedDown v b u g)
@@ -94,7 +94,7 @@ IsAbort settled.InDoubt = ⊥
 IsAbort (settled.Bad why) = ⊥
 
 -- a bad line has nobody's unit and the next number; every other entry has its unit's line
-abbrev pub HasLine : World → Entry → Settled → Type 0
+abbrev pub HasLine : CoreState → Entry → Settled → Type 0
 HasLine w x (settled.Bad why) = (x.unit ≡ nobody) × (x.line ≡ w.units.lines + 1)
 HasLine w x _ = w.units.origin x.unit ≡ Line x.line
 
@@ -109,9 +109,9 @@ pub record IsCaused (r : Run) (x : Entry) : Type 0 where
   pub line : HasLine (run (begins r) before) x x.what
 
 -- the version that was read is nowhere in the grain's stack
-abbrev pub IsRemoved : World → Read → Type 0
+abbrev pub IsRemoved : CoreState → Read → Type 0
 IsRemoved w r = (x : Version) → Member x (w.cells.stack r.grain) → x.unit ≡ r.source → ⊥
 
 -- what a running unit read is no longer on top exactly where it was removed
-abbrev pub GoneIsRemoved : World → Type 0
+abbrev pub GoneIsRemoved : CoreState → Type 0
 GoneIsRemoved w = (u : UnitNo) (r : Read) → w.units.phase u ≡ Running → Member r (w.units.reads u) → (is_gone w r ≡ true) ↔ IsRemoved w r

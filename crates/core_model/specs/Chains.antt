@@ -1,6 +1,6 @@
 -- Stacks as chains: each version was made from the one below it.
 use Rattle.std.specs.Prelude.{◌≡◌, ◌⊎◌, List, [], ◌∷◌, Some}
-use Rattle.core_model.specs.World.{UnitNo, GrainId, nobody, Member, Version, Value, Read, Write, Phase, Finished, Verdict, Committed}
+use Rattle.core_model.specs.CoreState.{UnitNo, GrainId, nobody, Member, Version, Value, Read, Write, Phase, Finished, Verdict, Committed}
 use Rattle.core_model.specs.Tests.{written}
 
 -- the bottom version meets B, and each other one has a link to the version below it

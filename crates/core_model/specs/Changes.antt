@@ -12,7 +12,7 @@ use Rattle.cell_model.specs.Decisions.{is_commit}
 use Rattle.cell_model.specs.Cells.{with_reading, without_reading, stacked, learnt}
 use Rattle.core_model.specs.declared.questions.AskAnswer.{AskAnswer}
 use Rattle.core_model.specs.declared.questions.AskAnswer.TheVariants as answer
-use Rattle.core_model.specs.World.{UnitNo, GrainId, nobody, same_unit, same_grain, Version, top, cut, Mode, Value, Call, Outcome, Origin, Entry, Settled, Read, Effect, Decision, put, put_grain, Running, Finished, Refused, Ended, Verdict, Chosen, Condemned, Committed, Aborted, Batch, World}
+use Rattle.core_model.specs.CoreState.{UnitNo, GrainId, nobody, same_unit, same_grain, Version, top, cut, Mode, Value, Call, Outcome, Origin, Entry, Settled, Read, Effect, Decision, put, put_grain, Running, Finished, Refused, Ended, Verdict, Chosen, Condemned, Committed, Aborted, Batch, CoreState}
 use Rattle.core_model.specs.Tests.{any, is_committed, is_aborted, is_bad, written, waiting, members, planned, prepared, is_idle, is_recent}
 
 -- a line's unit has an entry for it, a child has none
@@ -29,14 +29,14 @@ abbrev pub without_want : UnitNo → GrainId → List (UnitNo × GrainId) → Li
 without_want u g wants = filter (λ t. not (same_unit t.0 u && same_grain t.1 g)) wants
 
 -- the next line is bad
-abbrev pub spoiled_line : World → ℕ → BadRequest → World
+abbrev pub spoiled_line : CoreState → ℕ → BadRequest → CoreState
 spoiled_line w line why = record w {
   units = record w.units { lines = w.units.lines + 1 };
   manager = record w.manager { settled = w.manager.settled ++ record { line = line; unit = nobody; what = settled.Bad why } ∷ [] };
 }
 
 -- the unit that begins next
-abbrev pub new_unit : World → UnitNo
+abbrev pub new_unit : CoreState → UnitNo
 new_unit w = record { 0 = w.units.next }
 
 -- one more line has begun, where the unit is a line's
@@ -50,7 +50,7 @@ kids_with kids (Line n) u = kids
 kids_with kids (Child p i d) u = put kids p (kids p ++ u ∷ [])
 
 -- a unit runs
-abbrev pub begun : World → Origin → Call → Bool → World
+abbrev pub begun : CoreState → Origin → Call → Bool → CoreState
 begun w origin call plain = record w {
   units = record w.units {
     next = w.units.next + 1;
@@ -64,11 +64,11 @@ begun w origin call plain = record w {
 }
 
 -- the grain has that stack
-abbrev pub restacked : World → GrainId → List Version → World
+abbrev pub restacked : CoreState → GrainId → List Version → CoreState
 restacked w g xs = record w { cells = record w.cells { stack = put_grain w.cells.stack g xs } }
 
 -- the stack without the versions of aborted units and what stands above them
-abbrev pub cleaned : World → GrainId → List Version
+abbrev pub cleaned : CoreState → GrainId → List Version
 cleaned w g = cut (λ x. is_aborted (w.manager.verdict x.unit)) (w.cells.stack g)
 
 -- the grain is the one used last; the oldest goes where there are too many
@@ -81,15 +81,15 @@ abbrev pub read_of : GrainId → Version → Read
 read_of g x = record { grain = g; state = x.state; source = x.unit }
 
 -- the opening state, or known committed
-abbrev pub is_sure : World → UnitNo → Bool
+abbrev pub is_sure : CoreState → UnitNo → Bool
 is_sure w u = same_unit u nobody || is_committed (w.manager.verdict u)
 
 -- the source is a dependency where it isn't sure
-abbrev pub deps_with : World → List UnitNo → UnitNo → List UnitNo
+abbrev pub deps_with : CoreState → List UnitNo → UnitNo → List UnitNo
 deps_with w deps source = if is_sure w source then deps else with_source deps source
 
 -- the unit locks the grain and reads the version on top
-abbrev pub locked : World → UnitNo → GrainId → Mode → World
+abbrev pub locked : CoreState → UnitNo → GrainId → Mode → CoreState
 locked w u g mode = record w {
   units = record w.units {
     reads = put w.units.reads u (w.units.reads u ++ read_of g (top (w.cells.stack g)) ∷ []);
@@ -104,7 +104,7 @@ locked w u g mode = record w {
 }
 
 -- the unit's lock gets that mode
-abbrev pub raised : World → UnitNo → GrainId → Mode → World
+abbrev pub raised : CoreState → UnitNo → GrainId → Mode → CoreState
 raised w u g mode = record w {
   cells = record w.cells {
     holds = put_grain w.cells.holds g (locks.granted (w.cells.holds g) u mode);
@@ -113,7 +113,7 @@ raised w u g mode = record w {
 }
 
 -- the grain's stack is cleaned, then the unit gets the lock
-abbrev pub granted : World → UnitNo → GrainId → Mode → World
+abbrev pub granted : CoreState → UnitNo → GrainId → Mode → CoreState
 granted w u g mode =
     if holds_lock u (w.cells.holds g)
     then raised (restacked w g (cleaned w g)) u g mode
@@ -126,7 +126,7 @@ refusal g (answer.Doomed source) = Some (settled.Dependency source)
 refusal g _ = None
 
 -- the unit is aborted, and its line is settled
-abbrev pub refused : World → UnitNo → Settled → World
+abbrev pub refused : CoreState → UnitNo → Settled → CoreState
 refused w u why = record w {
   units = record w.units { phase = put w.units.phase u Refused; wants = without_wants u w.units.wants };
   manager = record w.manager {
@@ -136,12 +136,12 @@ refused w u why = record w {
 }
 
 -- the unit is aborted for the cause, where there is one
-abbrev pub refused_by : World → UnitNo → Option Settled → World
+abbrev pub refused_by : CoreState → UnitNo → Option Settled → CoreState
 refused_by w u None = w
 refused_by w u (Some why) = refused w u why
 
 -- a transaction takes the last place in the finish order
-abbrev pub finished : World → UnitNo → Effect → World
+abbrev pub finished : CoreState → UnitNo → Effect → CoreState
 finished w u effect = record w {
   units = record w.units { phase = put w.units.phase u Finished; wants = without_wants u w.units.wants };
   manager = record w.manager {
@@ -154,7 +154,7 @@ finished w u effect = record w {
 }
 
 -- a plain run has ended, and its line is settled
-abbrev pub ended : World → UnitNo → List Outcome → Outcome → Option ℕ → World
+abbrev pub ended : CoreState → UnitNo → List Outcome → Outcome → Option ℕ → CoreState
 ended w u answers result at = record w {
   units = record w.units {
     phase = put w.units.phase u Ended;
@@ -169,7 +169,7 @@ ended w u answers result at = record w {
 }
 
 -- the unit's new version goes on the grain's stack, and its lock goes
-abbrev pub released : World → UnitNo → GrainId → World
+abbrev pub released : CoreState → UnitNo → GrainId → CoreState
 released w u g = record w {
   cells = record w.cells {
     stack = put_grain w.cells.stack g (stacked (w.cells.readings g) (w.cells.stack g) u (written g (w.manager.writes u)));
@@ -179,11 +179,11 @@ released w u g = record w {
 }
 
 -- that batch is open, or none
-abbrev pub with_batch : World → Option Batch → World
+abbrev pub with_batch : CoreState → Option Batch → CoreState
 with_batch w b = record w { manager = record w.manager { batch = b } }
 
 -- the next batch, of that many units, with its plan
-abbrev pub new_batch : World → ℕ → Batch
+abbrev pub new_batch : CoreState → ℕ → Batch
 new_batch w size = record {
   number = w.manager.batches + 1;
   size = size;
@@ -193,17 +193,17 @@ new_batch w size = record {
 }
 
 -- a batch of that many units is open
-abbrev pub taken : World → ℕ → World
+abbrev pub taken : CoreState → ℕ → CoreState
 taken w size = record w {
   manager = record w.manager { batches = w.manager.batches + 1; batch = Some (new_batch w size) };
 }
 
 -- one more vote
-abbrev pub voted : World → Batch → GrainId → Bool → World
+abbrev pub voted : CoreState → Batch → GrainId → Bool → CoreState
 voted w b g kept = with_batch w (Some (record b { votes = b.votes ++ (g, kept) ∷ [] }))
 
 -- the decisions of a batch
-abbrev pub decisions_of : World → Batch → List Decision
+abbrev pub decisions_of : CoreState → Batch → List Decision
 decisions_of w b = decisions.decided (λ u. is_bad (w.manager.verdict u)) (map (prepared w b) (members w b))
 
 -- the verdict that a decision makes
@@ -217,7 +217,7 @@ judged [] ds verdict = verdict
 judged (u ∷ us) [] verdict = verdict
 
 -- the open batch is decided
-abbrev pub with_decisions : World → Batch → List Decision → World
+abbrev pub with_decisions : CoreState → Batch → List Decision → CoreState
 with_decisions w b ds = record w {
   manager = record w.manager {
     verdict = judged (members w b) ds w.manager.verdict;
@@ -249,17 +249,17 @@ told answer (decision.Vote g) = settled.Vote g
 told answer (decision.Dependency on) = settled.Dependency on
 
 -- the entries of a batch, in its order
-abbrev pub entries_in : World → (UnitNo → Settled) → List UnitNo → List Decision → List Entry
+abbrev pub entries_in : CoreState → (UnitNo → Settled) → List UnitNo → List Decision → List Entry
 entries_in w answer (u ∷ us) (d ∷ ds) = entry_for (w.units.origin u) u (told (answer u) d) ++ entries_in w answer us ds
 entries_in w answer [] ds = []
 entries_in w answer (u ∷ us) [] = []
 
 -- a unit's result, for its line
-abbrev pub result_told : World → UnitNo → Settled
+abbrev pub result_told : CoreState → UnitNo → Settled
 result_told w u = settled.Done (w.manager.result u)
 
 -- the batch is settled and closed
-abbrev pub closed : World → (Verdict → Verdict) → (UnitNo → Settled) → Batch → List Decision → World
+abbrev pub closed : CoreState → (Verdict → Verdict) → (UnitNo → Settled) → Batch → List Decision → CoreState
 closed w f answer b ds = record w {
   manager = record w.manager {
     verdict = λ u. f (w.manager.verdict u);
@@ -271,45 +271,45 @@ closed w f answer b ds = record w {
 }
 
 -- the batch is on disk
-abbrev pub sealed : World → Batch → List Decision → World
+abbrev pub sealed : CoreState → Batch → List Decision → CoreState
 sealed w b ds = closed w seal (result_told w) b ds
 
 -- the batch isn't on disk and never will be
-abbrev pub spoiled : World → Batch → List Decision → World
+abbrev pub spoiled : CoreState → Batch → List Decision → CoreState
 spoiled w b ds = closed w spoil (λ u. settled.Disk) b ds
 
 -- nobody knows whether the batch is on disk
-abbrev pub in_doubt : World → Batch → List Decision → World
+abbrev pub in_doubt : CoreState → Batch → List Decision → CoreState
 in_doubt w b ds = record w {
   manager = record (closed w leave (λ u. settled.InDoubt) b ds).manager { doubt = Some w.manager.closed };
 }
 
 -- a batch in which nothing can commit is settled and closed at once
-abbrev pub decided_by : World → Batch → List Decision → World
+abbrev pub decided_by : CoreState → Batch → List Decision → CoreState
 decided_by w b ds =
     if any is_commit ds then with_decisions w b ds else sealed (with_decisions w b ds) b ds
 
 -- the open batch is decided, by its votes and the verdicts so far
-abbrev pub decided : World → Batch → World
+abbrev pub decided : CoreState → Batch → CoreState
 decided w b = decided_by w b (decisions_of w b)
 
 -- a change to the open batch
-abbrev pub on_batch : World → (Batch → World) → Option Batch → World
+abbrev pub on_batch : CoreState → (Batch → CoreState) → Option Batch → CoreState
 on_batch w f None = w
 on_batch w f (Some b) = f b
 
 -- a change by the decisions, where there are any
-abbrev pub on_decisions : World → (List Decision → World) → Option (List Decision) → World
+abbrev pub on_decisions : CoreState → (List Decision → CoreState) → Option (List Decision) → CoreState
 on_decisions w f None = w
 on_decisions w f (Some ds) = f ds
 
 -- a change to the open batch, with its decisions
-abbrev pub on_decided : World → (Batch → List Decision → World) → Option Batch → World
+abbrev pub on_decided : CoreState → (Batch → List Decision → CoreState) → Option Batch → CoreState
 on_decided w f None = w
 on_decided w f (Some b) = on_decisions w (f b) b.decisions
 
 -- the grain learns the unit's decision
-abbrev pub learned : World → UnitNo → GrainId → World
+abbrev pub learned : CoreState → UnitNo → GrainId → CoreState
 learned w u g = record w {
   cells = record w.cells {
     stack = put_grain w.cells.stack g (learnt (is_committed (w.manager.verdict u)) u (w.cells.stack g));
@@ -318,7 +318,7 @@ learned w u g = record w {
 }
 
 -- the grain is in memory, with that version
-abbrev pub loaded : World → GrainId → UnitNo → List Value → World
+abbrev pub loaded : CoreState → GrainId → UnitNo → List Value → CoreState
 loaded w g u state = record w {
   cells = record w.cells {
     stack = put_grain w.cells.stack g (record { unit = u; state = state } ∷ []);
@@ -328,14 +328,14 @@ loaded w g u state = record w {
 }
 
 -- the grain stays in memory: it was used lately, or isn't idle
-abbrev pub stays : World → GrainId → Bool
+abbrev pub stays : CoreState → GrainId → Bool
 stays w g = w.cells.here g && (is_recent w g || not (is_idle w g))
 
 -- idle grains that weren't used lately leave memory, where it has a limit
-abbrev pub swept_by : World → Option ℕ → World
+abbrev pub swept_by : CoreState → Option ℕ → CoreState
 swept_by w None = w
 swept_by w (Some n) = record w { cells = record w.cells { here = λ g. stays w g } }
 
 -- idle grains have left memory
-abbrev pub swept : World → World
+abbrev pub swept : CoreState → CoreState
 swept w = swept_by w w.cells.capacity

@@ -11,7 +11,7 @@ use Rattle.core_model.specs.declared.events.CoreReply.{CoreReply}
 use Rattle.core_model.specs.declared.events.CoreReply.TheVariants as reply
 use Rattle.core_model.specs.declared.questions.SettlerWork.{SettlerWork}
 use Rattle.core_model.specs.declared.questions.SettlerWork.TheVariants as work
-use Rattle.core_model.specs.World.{UnitNo, GrainId, Value, Version, Call, Entry, Settled, Read, Effect, World, nobody}
+use Rattle.core_model.specs.CoreState.{UnitNo, GrainId, Value, Version, Call, Entry, Settled, Read, Effect, CoreState, nobody}
 use Rattle.core_model.specs.Settler.{settler_step, work_in}
 use Rattle.core_model.specs.Events.{CoreEvent, Bad, Begin, Grant, Refuse, Finish, EndPlain, EndSnapshot, Release, Take, Vote, Decide, Sealed, NotSealed, Doubt, Learn, Emitted, Halt, Want, Load, step, run, start, reply_to}
 
@@ -80,7 +80,7 @@ abbrev pub entry : ℕ → Settled → Entry
 entry n what = record { line = n; unit = unit n; what = what }
 
 -- a bank whose accounts are empty
-abbrev pub bank : World
+abbrev pub bank : CoreState
 bank = start 1 1 None (λ g. state 0)
 
 -- what a bank settles
@@ -88,7 +88,7 @@ abbrev pub settled_in : List CoreEvent → List Entry
 settled_in es = (run bank es).manager.settled
 
 -- the replies to a list of events
-abbrev pub replies : World → List CoreEvent → List CoreReply
+abbrev pub replies : CoreState → List CoreEvent → List CoreReply
 replies w [] = []
 replies w (e ∷ es) = reply_to w e ∷ replies (step w e) es
 
@@ -113,7 +113,7 @@ abbrev pub both_seal : List CoreEvent
 both_seal = dirty_read ++ Vote 1 (account 1) true ∷ Decide 1 ∷ Sealed 1 ∷ []
 
 -- what the settler is shown before each event, and at the end
-abbrev pub shown_steps : World → List CoreEvent → List SettlerWork
+abbrev pub shown_steps : CoreState → List CoreEvent → List SettlerWork
 shown_steps w [] = work_in w (settler_step w) ∷ []
 shown_steps w (e ∷ es) = work_in w (settler_step w) ∷ shown_steps (step w e) es
 

@@ -1,6 +1,6 @@
 -- Dead units.
 use Rattle.std.specs.Prelude.{List, true, ◌≡◌, ◌↔◌}
-use Rattle.core_model.specs.World.{UnitNo, Member, Read, Verdict, World}
+use Rattle.core_model.specs.CoreState.{UnitNo, Member, Read, Verdict, CoreState}
 use Rattle.core_model.specs.Tests.{is_bad}
 
 -- A unit is dead where it is aborted, or to abort, or read from a dead unit.
@@ -9,7 +9,7 @@ pub data Dead (verdict : UnitNo → Verdict) (reads : UnitNo → List Read) : Un
   by_source : {u : UnitNo} (r : Read) → Member r (reads u) → Dead verdict reads r.source → Dead verdict reads u
 
 -- that of a state
-abbrev pub IsDead : World → UnitNo → Type 0
+abbrev pub IsDead : CoreState → UnitNo → Type 0
 IsDead w u = Dead w.manager.verdict w.units.reads u
 
 -- A unit is dead by its dependencies where it is aborted, or to abort, or one of them is dead so.
@@ -18,5 +18,5 @@ pub data DeadByDeps (verdict : UnitNo → Verdict) (deps : UnitNo → List UnitN
   by_dependency : {u : UnitNo} (d : UnitNo) → Member d (deps u) → DeadByDeps verdict deps d → DeadByDeps verdict deps u
 
 -- the two say the same
-abbrev pub DeadEitherWay : World → Type 0
+abbrev pub DeadEitherWay : CoreState → Type 0
 DeadEitherWay w = (u : UnitNo) → IsDead w u ↔ DeadByDeps w.manager.verdict w.units.deps u

@@ -12,7 +12,7 @@ use Rattle.core_model.specs.declared.events.CoreReply.TheVariants as reply
 use Rattle.core_model.specs.declared.questions.AskAnswer.{AskAnswer}
 use Rattle.core_model.specs.declared.questions.AskAnswer.TheVariants as answer
 use Rattle.core_model.specs.Equality.{same_origin, same_call, same_reads, same_outcome}
-use Rattle.core_model.specs.World.{UnitNo, GrainId, nobody, same_unit, same_grain, Version, top, Value, Origin, Outcome, Effect, Unborn, Open, Batch, Units, Cells, Manager, World}
+use Rattle.core_model.specs.CoreState.{UnitNo, GrainId, nobody, same_unit, same_grain, Version, top, Value, Origin, Outcome, Effect, Unborn, Open, Batch, Units, Cells, Manager, CoreState}
 use Rattle.core_model.specs.Tests.{any, all, is_running, is_over, is_final, written, is_decided, answered_by, ask, is_active, free_prefix, waiting, is_planned, is_vote_on, is_voted, is_wanted, is_empty}
 use Rattle.core_model.specs.Changes.{spoiled_line, new_unit, begun, cleaned, granted, refusal, refused_by, finished, ended, released, taken, voted, decisions_of, decided, on_batch, on_decided, sealed, spoiled, in_doubt, learned, loaded, swept}
 
@@ -22,43 +22,43 @@ is_free_answer answer.Free = true
 is_free_answer _ = false
 
 -- the next line, or the next child of a running unit whose children are decided
-abbrev pub can_begin : World → Origin → Bool
+abbrev pub can_begin : CoreState → Origin → Bool
 can_begin w (Line n) = n == w.units.lines + 1
 can_begin w (Child p i d) =
     is_running (w.units.phase p) && ((i == length (w.units.kids p)) && all (is_decided w) (w.units.kids p))
 
 -- the effect is of the unit's call, with its children's outcomes
-abbrev pub is_of_call : World → UnitNo → Effect → Bool
+abbrev pub is_of_call : CoreState → UnitNo → Effect → Bool
 is_of_call w u effect =
     same_unit effect.unit u
     && (same_origin effect.origin (w.units.origin u)
     && (same_call effect.call (w.units.call u) && answered_by w (w.units.kids u) effect.answers))
 
 -- the unit holds the grain alone
-abbrev pub holds_alone : World → UnitNo → GrainId → Bool
+abbrev pub holds_alone : CoreState → UnitNo → GrainId → Bool
 holds_alone w u g = any (λ h. is_hold_of u h && is_update h.mode) (w.cells.holds g)
 
 -- a running transaction has that effect
-abbrev pub can_finish : World → UnitNo → Effect → Bool
+abbrev pub can_finish : CoreState → UnitNo → Effect → Bool
 can_finish w u effect =
     (is_running (w.units.phase u) && not (w.units.plain u))
     && (is_of_call w u effect
     && (same_reads effect.reads (w.units.reads u) && all (λ x. holds_alone w u x.0) effect.writes))
 
 -- a running plain run has that effect, without reads and writes
-abbrev pub can_end_plain : World → UnitNo → Effect → Bool
+abbrev pub can_end_plain : CoreState → UnitNo → Effect → Bool
 can_end_plain w u effect =
     (is_running (w.units.phase u) && w.units.plain u)
     && (is_of_call w u effect && (is_empty effect.reads && is_empty effect.writes))
 
 -- a running plain run without children has that outcome, which is no abort
-abbrev pub can_end_snapshot : World → UnitNo → Outcome → Bool
+abbrev pub can_end_snapshot : CoreState → UnitNo → Outcome → Bool
 can_end_snapshot w u outcome =
     (is_running (w.units.phase u) && w.units.plain u)
     && (is_empty (w.units.kids u) && not (same_outcome outcome aborted))
 
 -- how many units a batch would have
-abbrev pub batch_size : World → ℕ
+abbrev pub batch_size : CoreState → ℕ
 batch_size w = free_prefix w (take 64 (waiting w))
 
 -- that batch is open, isn't decided, and passes the test
@@ -72,18 +72,18 @@ is_judged number None = false
 is_judged number (Some b) = (b.number == number) && is_some b.decisions
 
 -- the unit wrote the grain, is decided, and the grain hasn't learnt it
-abbrev pub can_learn : World → UnitNo → GrainId → Bool
+abbrev pub can_learn : CoreState → UnitNo → GrainId → Bool
 can_learn w u g =
     is_some (written g (w.manager.writes u)) && (is_final (w.manager.verdict u) && not (w.cells.learnt u g))
 
 -- the unit runs, has no lock of the grain and doesn't wait for it yet
-abbrev pub can_want : World → UnitNo → GrainId → Bool
+abbrev pub can_want : CoreState → UnitNo → GrainId → Bool
 can_want w u g =
     is_active w u g
     && (not (holds_lock u (w.cells.holds g)) && not (any (λ t. same_unit t.0 u && same_grain t.1 g) w.units.wants))
 
 -- where an event applies, but for a stop
-abbrev pub can : World → CoreEvent → Bool
+abbrev pub can : CoreState → CoreEvent → Bool
 can w (Bad line why) = line == w.units.lines + 1
 can w (Begin origin call plain) = can_begin w origin
 can w (Grant u g mode) = is_free_answer (ask w u g mode)
@@ -118,16 +118,16 @@ is_after_halt (Doubt n) = true
 is_after_halt e = is_after_doubt e
 
 -- no stop is against it
-abbrev pub is_allowed : World → CoreEvent → Bool
+abbrev pub is_allowed : CoreState → CoreEvent → Bool
 is_allowed w e =
     (is_none w.manager.doubt || is_after_doubt e) && (not w.units.halt || is_after_halt e)
 
 -- the event applies
-abbrev pub applies : World → CoreEvent → Bool
+abbrev pub applies : CoreState → CoreEvent → Bool
 applies w e = is_allowed w e && can w e
 
 -- what the event does where it applies
-abbrev pub does : World → CoreEvent → World
+abbrev pub does : CoreState → CoreEvent → CoreState
 does w (Bad line why) = spoiled_line w line why
 does w (Begin origin call plain) = begun w origin call plain
 does w (Grant u g mode) = granted w u g mode
@@ -149,11 +149,11 @@ does w (Want u g) = record w { units = record w.units { wants = w.units.wants ++
 does w (Load g u state) = loaded w g u state
 
 -- the state after an event
-abbrev pub step : World → CoreEvent → World
+abbrev pub step : CoreState → CoreEvent → CoreState
 step w e = if applies w e then swept (does w e) else w
 
 -- the state after a list of events
-abbrev pub run : World → List CoreEvent → World
+abbrev pub run : CoreState → List CoreEvent → CoreState
 run w [] = w
 run w (e ∷ es) = run (step w e) es
 
@@ -206,7 +206,7 @@ first_manager = record {
 }
 
 -- the first state: the number of the first unit, the program's types, how many grains stay in memory, and their states
-abbrev pub start : ℕ → ℕ → Option ℕ → (GrainId → List Value) → World
+abbrev pub start : ℕ → ℕ → Option ℕ → (GrainId → List Value) → CoreState
 start base kinds capacity opening = record {
   units = first_units base kinds;
   cells = first_cells capacity opening;
@@ -224,7 +224,7 @@ not_granted answer.Absent = reply.NotLoaded
 not_granted answer.Free = reply.Unapplied
 
 -- the reply to an event that doesn't apply
-abbrev pub reply_without : World → CoreEvent → CoreReply
+abbrev pub reply_without : CoreState → CoreEvent → CoreReply
 reply_without w (Grant u g mode) = if is_allowed w (Grant u g mode) then not_granted (ask w u g mode) else reply.Unapplied
 reply_without w _ = reply.Unapplied
 
@@ -233,12 +233,12 @@ abbrev pub read_reply : Version → CoreReply
 read_reply x = reply.Granted x.state x.unit
 
 -- how many units of the batch can commit
-abbrev pub decided_reply : World → Option Batch → CoreReply
+abbrev pub decided_reply : CoreState → Option Batch → CoreReply
 decided_reply w None = reply.Unapplied
 decided_reply w (Some b) = reply.Decided (length (filter is_commit (decisions_of w b)))
 
 -- the reply to an event that applies
-abbrev pub reply_with : World → CoreEvent → CoreReply
+abbrev pub reply_with : CoreState → CoreEvent → CoreReply
 reply_with w (Begin origin call plain) = reply.Began (new_unit w)
 reply_with w (Grant u g mode) = read_reply (top (cleaned w g))
 reply_with w Take = reply.Taken (w.manager.batches + 1)
@@ -246,5 +246,5 @@ reply_with w (Decide n) = decided_reply w w.manager.batch
 reply_with w _ = reply.Done
 
 -- the reply to an event
-abbrev pub reply_to : World → CoreEvent → CoreReply
+abbrev pub reply_to : CoreState → CoreEvent → CoreReply
 reply_to w e = if applies w e then reply_with w e else reply_without w e

@@ -1,6 +1,6 @@
 -- The runs that the laws speak of.
 use Rattle.std.specs.Prelude.{ℕ, ◌<◌, List, Bool, Option}
-use Rattle.core_model.specs.World.{GrainId, Value, Effect, World}
+use Rattle.core_model.specs.CoreState.{GrainId, Value, Effect, CoreState}
 use Rattle.core_model.specs.Events.{CoreEvent, run, start}
 use Rattle.core_model.specs.Serial.{AllPlay, AllLoadsTrue}
 
@@ -14,11 +14,11 @@ pub record Run : Type 0 where
   pub events : List CoreEvent
 
 -- its first state
-abbrev pub begins : Run → World
+abbrev pub begins : Run → CoreState
 begins r = start r.base r.kinds r.capacity r.opening
 
 -- its last state
-abbrev pub ends : Run → World
+abbrev pub ends : Run → CoreState
 ends r = run (begins r) r.events
 
 -- units are numbered from 1 or later, each effect is a play, and each grain that is loaded has its last committed version

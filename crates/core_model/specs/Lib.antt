@@ -1,5 +1,5 @@
 pub mod Equality
-pub mod World
+pub mod CoreState
 pub mod Tests
 pub mod Changes
 pub mod Events

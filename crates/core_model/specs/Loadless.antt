@@ -1,7 +1,7 @@
 -- What holds after every list of events, whatever was loaded: what code may rely on.
 use Rattle.std.specs.Prelude.{◌≡◌, ◌≤◌, ◌<◌, ◌+◌, length, true, None, Some}
 use Rattle.cell_model.specs.Locks.{is_update}
-use Rattle.core_model.specs.World.{UnitNo, GrainId, Member, Unborn, Finished, Hold, Reading, Read, Batch, World}
+use Rattle.core_model.specs.CoreState.{UnitNo, GrainId, Member, Unborn, Finished, Hold, Reading, Read, Batch, CoreState}
 use Rattle.core_model.specs.Chains.{Wrote}
 use Rattle.core_model.specs.Consistent.{IsOrdered, ExclusiveHolderIsAlone, size_of}
 use Rattle.core_model.specs.Holders.{DifferInUnit}
@@ -12,7 +12,7 @@ use Rattle.core_model.specs.Told.{OnlyTheBatchIsJudged}
 -- finished unit that still holds what it wrote holds it alone. A holder has a reading, and a reading a holder and a read. A
 -- unit has at most one lock and one reading of a grain, has read it at most once, and has read what it wrote. Units from the
 -- next number on haven't begun.
-pub record HoldsWithoutLoads (w : World) : Type 0 where
+pub record HoldsWithoutLoads (w : CoreState) : Type 0 where
   pub ordered : IsOrdered w
   pub within : w.manager.closed + size_of w.manager.batch ≤ length w.manager.order
   pub size : (b : Batch) → w.manager.batch ≡ Some b → (0 < b.size) × (b.size ≤ 64)

@@ -2,7 +2,7 @@
 use Rattle.std.specs.Prelude.{◌≡◌, List, ◌++◌, Bool, true, false}
 use Rattle.core_model.specs.declared.events.CoreReply.{CoreReply}
 use Rattle.core_model.specs.declared.events.CoreReply.TheVariants as reply
-use Rattle.core_model.specs.World.{World}
+use Rattle.core_model.specs.CoreState.{CoreState}
 
 -- the event didn't apply
 abbrev pub says_no : CoreReply → Bool
@@ -18,7 +18,7 @@ abbrev pub BeginsWith : {A : Type 0} → List A → List A → Type 0
 BeginsWith {A} xs ys = (more : List A) × (ys ≡ xs ++ more)
 
 -- The finish order, the closed batches and the settled list only grow at their end.
-pub record OnlyExtends (w later : World) : Type 0 where
+pub record OnlyExtends (w later : CoreState) : Type 0 where
   pub order : BeginsWith w.manager.order later.manager.order
   pub past : BeginsWith w.manager.past later.manager.past
   pub settled : BeginsWith w.manager.settled later.manager.settled

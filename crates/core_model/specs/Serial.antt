@@ -1,6 +1,6 @@
 -- Serial execution.
 use Rattle.std.specs.Prelude.{ℕ, List, [], ◌∷◌, Bool, true, Option, Some, None, ◌≡◌, filter, map, drop, unwrap_or, ⊤, ◌⊎◌, ◌≤◌}
-use Rattle.core_model.specs.World.{UnitNo, GrainId, nobody, Member, Value, Read, Write, Effect, Committed, World}
+use Rattle.core_model.specs.CoreState.{UnitNo, GrainId, nobody, Member, Value, Read, Write, Effect, Committed, CoreState}
 use Rattle.core_model.specs.Tests.{is_good, is_committed, written}
 use Rattle.core_model.specs.Events.{CoreEvent, Finish, EndPlain, Load, applies, step}
 use Rattle.core_model.specs.Answers.{effect_of}
@@ -16,7 +16,7 @@ IsSerial plays store (e ∷ es) =
     ((r : Read) → Member r e.reads → r.state ≡ store r.grain) × (plays e ≡ true) × IsSerial plays (after store e.writes) es
 
 -- the committed units, in the order in which they finished
-abbrev pub committed : World → List Effect
+abbrev pub committed : CoreState → List Effect
 committed w = map (effect_of w) (filter (λ u. is_committed (w.manager.verdict u)) w.manager.order)
 
 -- where the batch that is open or in doubt begins in the finish order
@@ -25,7 +25,7 @@ batch_begin None closed = closed
 batch_begin (Some begin) closed = begin
 
 -- those to commit in the batch that is open or in doubt
-abbrev pub chosen : World → List Effect
+abbrev pub chosen : CoreState → List Effect
 chosen w = map (effect_of w) (filter (λ u. is_good (w.manager.verdict u)) (drop (batch_begin w.manager.doubt w.manager.closed) w.manager.order))
 
 -- an effect that an event brings is one that its call makes of its reads and answers
@@ -40,25 +40,25 @@ AllPlay plays [] = ⊤
 AllPlay plays (e ∷ es) = Plays plays e × AllPlay plays es
 
 -- no committed unit wrote the grain
-abbrev pub IsUnwritten : World → GrainId → Type 0
+abbrev pub IsUnwritten : CoreState → GrainId → Type 0
 IsUnwritten w g = (c : UnitNo) (v : List Value) → w.manager.verdict c ≡ Committed → written g (w.manager.writes c) ≡ Some v → ⊥
 
 -- the unit is the last committed writer of the grain, and wrote that state
-pub record IsLastWriter (w : World) (g : GrainId) (u : UnitNo) (state : List Value) : Type 0 where
+pub record IsLastWriter (w : CoreState) (g : GrainId) (u : UnitNo) (state : List Value) : Type 0 where
   pub commits : w.manager.verdict u ≡ Committed
   pub wrote : written g (w.manager.writes u) ≡ Some state
   pub last : (c : UnitNo) (v : List Value) → w.manager.verdict c ≡ Committed → written g (w.manager.writes c) ≡ Some v → w.manager.place c ≤ w.manager.place u
 
 -- the version is the grain's last committed one, or nobody's with the opening state
-abbrev pub IsLastVersion : (GrainId → List Value) → World → GrainId → UnitNo → List Value → Type 0
+abbrev pub IsLastVersion : (GrainId → List Value) → CoreState → GrainId → UnitNo → List Value → Type 0
 IsLastVersion opening w g u state = ((u ≡ nobody) × (state ≡ opening g) × IsUnwritten w g) ⊎ IsLastWriter w g u state
 
 -- what is loaded is the last committed version
-abbrev pub IsTrueLoad : (GrainId → List Value) → World → CoreEvent → Type 0
+abbrev pub IsTrueLoad : (GrainId → List Value) → CoreState → CoreEvent → Type 0
 IsTrueLoad opening w (Load g u state) = applies w (Load g u state) ≡ true → IsLastVersion opening w g u state
 IsTrueLoad opening w _ = ⊤
 
 -- each load of the list that applies is true
-abbrev pub AllLoadsTrue : (GrainId → List Value) → World → List CoreEvent → Type 0
+abbrev pub AllLoadsTrue : (GrainId → List Value) → CoreState → List CoreEvent → Type 0
 AllLoadsTrue opening w [] = ⊤
 AllLoadsTrue opening w (e ∷ es) = IsTrueLoad opening w e × AllLoadsTrue opening (step w e) es

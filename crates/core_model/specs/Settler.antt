@@ -1,7 +1,7 @@
 -- What the settler does next, by the state of the core, the event that it makes, and what is shown to it.
 use Rattle.std.specs.Prelude.{◌≡◌, ◌⊎◌, ℕ, nat_lt, Bool, true, false, ◌&&◌, not, if◌then◌else◌, List, [], ◌∷◌, map, filter, find, length, flat_map, Option, Some, None, is_some, slice_get}
 use Rattle.std.specs.List.{list_any as any}
-use Rattle.core_model.specs.World.{UnitNo, GrainId, Value, Version, Effect, Entry, Batch, World}
+use Rattle.core_model.specs.CoreState.{UnitNo, GrainId, Value, Version, Effect, Entry, Batch, CoreState}
 use Rattle.core_model.specs.Tests.{is_good, written, members, has_bad_source, is_vote_on}
 use Rattle.core_model.specs.Effects.{effect_of}
 use Rattle.core_model.specs.Learning.{next_learn}
@@ -25,17 +25,17 @@ abbrev pub first_unvoted : Batch → Option GrainId
 first_unvoted b = find (λ g. not (any (is_vote_on g) b.votes)) b.plan
 
 -- what is to write comes before a batch that can be taken, where one may be
-abbrev pub last_step : World → Bool → Step
+abbrev pub last_step : CoreState → Bool → Step
 last_step w may_take = if nat_lt w.manager.emitted (length w.manager.settled) then Writes else (if may_take && applies w Take then Takes else Rests)
 
 -- what is to learn comes before
-abbrev pub learn_step : World → Option (UnitNo × GrainId) → Step
+abbrev pub learn_step : CoreState → Option (UnitNo × GrainId) → Step
 learn_step w None = last_step w true
 learn_step w (Some x) = Learns x.0 x.1
 
 -- behind the open batch come what is to learn, what is to write, and what is to take; after a doubt entries alone are
 -- written
-abbrev pub later_step : World → Step
+abbrev pub later_step : CoreState → Step
 later_step w = if is_some w.manager.doubt then last_step w false else learn_step w (next_learn w)
 
 -- an open batch: its votes, then its decision
@@ -44,12 +44,12 @@ undecided_step number None = Decides number
 undecided_step number (Some g) = Votes number g
 
 -- an open batch comes first: its work, then its seal
-abbrev pub batch_step : World → Option Batch → Step
+abbrev pub batch_step : CoreState → Option Batch → Step
 batch_step w None = later_step w
 batch_step w (Some b) = if is_some b.decisions then Seals b.number else undecided_step b.number (first_unvoted b)
 
 -- the first of the settler's cases that applies
-abbrev pub settler_step : World → Step
+abbrev pub settler_step : CoreState → Step
 settler_step w = batch_step w w.manager.batch
 
 -- the step makes this event; the vote and the answer of the seal are the host's
@@ -73,16 +73,16 @@ version_of u None = []
 version_of u (Some state) = record { unit = u; state = state } ∷ []
 
 -- the grain's version that goes to its file, none where the unit read from one that is aborted, or to abort
-abbrev pub version_to_write : World → GrainId → UnitNo → List Version
+abbrev pub version_to_write : CoreState → GrainId → UnitNo → List Version
 version_to_write w g u = if has_bad_source w u then [] else version_of u (written g (w.manager.writes u))
 
 -- the grain's versions of the open batch, in batch order
-abbrev pub versions_to_write : World → Option Batch → GrainId → List Version
+abbrev pub versions_to_write : CoreState → Option Batch → GrainId → List Version
 versions_to_write w None g = []
 versions_to_write w (Some b) g = flat_map (version_to_write w g) (members w b)
 
 -- what the units of the open batch that are to commit did, in batch order
-abbrev pub to_commit : World → Option Batch → List Effect
+abbrev pub to_commit : CoreState → Option Batch → List Effect
 to_commit w None = []
 to_commit w (Some b) = map (effect_of w) (filter (λ u. is_good (w.manager.verdict u)) (members w b))
 
@@ -92,7 +92,7 @@ write_work None = work.Nothing
 write_work (Some entry) = work.Write entry
 
 -- what is shown to the settler for its step
-abbrev pub work_in : World → Step → SettlerWork
+abbrev pub work_in : CoreState → Step → SettlerWork
 work_in w (Votes number g) = work.Vote number g (versions_to_write w w.manager.batch g)
 work_in w (Decides number) = work.Decide number
 work_in w (Seals number) = work.Seal number (to_commit w w.manager.batch)

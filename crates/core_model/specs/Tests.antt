@@ -10,7 +10,7 @@ use Rattle.cell_model.specs.Locks as locks
 use Rattle.core_model.specs.declared.questions.AskAnswer.{AskAnswer}
 use Rattle.core_model.specs.declared.questions.AskAnswer.TheVariants as answer
 use Rattle.core_model.specs.Equality.{same_outcome}
-use Rattle.core_model.specs.World.{UnitNo, GrainId, same_unit, same_grain, top, Mode, Value, Outcome, Read, Write, Prepared, Phase, Unborn, Running, Finished, Refused, Ended, Verdict, Chosen, Condemned, Committed, Aborted, Batch, World}
+use Rattle.core_model.specs.CoreState.{UnitNo, GrainId, same_unit, same_grain, top, Mode, Value, Outcome, Read, Write, Prepared, Phase, Unborn, Running, Finished, Refused, Ended, Verdict, Chosen, Condemned, Committed, Aborted, Batch, CoreState}
 
 -- between its begin and its end
 abbrev pub is_running : Phase → Bool
@@ -79,11 +79,11 @@ outcome_in Finished Aborted result = Some outcome.Aborted
 outcome_in _ _ _ = None
 
 -- the outcome of a unit in a state
-abbrev pub outcome_of : World → UnitNo → Option Outcome
+abbrev pub outcome_of : CoreState → UnitNo → Option Outcome
 outcome_of w u = outcome_in (w.units.phase u) (w.manager.verdict u) (w.manager.result u)
 
 -- the unit is decided
-abbrev pub is_decided : World → UnitNo → Bool
+abbrev pub is_decided : CoreState → UnitNo → Bool
 is_decided w u = is_some (outcome_of w u)
 
 -- the outcome is known, and is that one
@@ -92,22 +92,22 @@ is_answer None a = false
 is_answer (Some o) a = same_outcome o a
 
 -- these units are decided, with these outcomes
-abbrev pub answered_by : World → List UnitNo → List Outcome → Bool
+abbrev pub answered_by : CoreState → List UnitNo → List Outcome → Bool
 answered_by w [] [] = true
 answered_by w (k ∷ ks) (a ∷ rest) = is_answer (outcome_of w k) a && answered_by w ks rest
 answered_by w [] (a ∷ rest) = false
 answered_by w (k ∷ ks) [] = false
 
 -- the version that was read is no longer on top of its grain
-abbrev pub is_gone : World → Read → Bool
+abbrev pub is_gone : CoreState → Read → Bool
 is_gone w r = not (same_unit (top (w.cells.stack r.grain)).unit r.source)
 
 -- the oldest source whose version, read by the unit, was taken off
-abbrev pub doomed_by : World → UnitNo → Option UnitNo
+abbrev pub doomed_by : CoreState → UnitNo → Option UnitNo
 doomed_by w u = oldest (map (λ r. r.source) (filter (is_gone w) (w.units.reads u)))
 
 -- the unit runs, and the grain's type is known
-abbrev pub is_active : World → UnitNo → GrainId → Bool
+abbrev pub is_active : CoreState → UnitNo → GrainId → Bool
 is_active w u g = is_running (w.units.phase u) && nat_lt g.kind w.units.kinds
 
 -- what the lock table says, where the grain is in memory
@@ -123,31 +123,31 @@ ask_doom None next = next
 ask_doom (Some source) next = answer.Doomed source
 
 -- what the core answers to a unit that asks for a lock
-abbrev pub ask : World → UnitNo → GrainId → Mode → AskAnswer
+abbrev pub ask : CoreState → UnitNo → GrainId → Mode → AskAnswer
 ask w u g mode =
     if is_active w u g
     then ask_doom (doomed_by w u) (ask_lock (w.cells.here g) (locks.ask (w.cells.holds g) u mode))
     else answer.NotActive
 
 -- the unit holds none of the grains that it read
-abbrev pub is_free : World → UnitNo → Bool
+abbrev pub is_free : CoreState → UnitNo → Bool
 is_free w u = all (λ r. not (holds_lock u (w.cells.holds r.grain))) (w.units.reads u)
 
 -- how many units from the first on hold no lock
-abbrev pub free_prefix : World → List UnitNo → ℕ
+abbrev pub free_prefix : CoreState → List UnitNo → ℕ
 free_prefix w [] = 0
 free_prefix w (u ∷ us) = if is_free w u then free_prefix w us + 1 else 0
 
 -- the finished units that no batch was taken of
-abbrev pub waiting : World → List UnitNo
+abbrev pub waiting : CoreState → List UnitNo
 waiting w = drop w.manager.closed w.manager.order
 
 -- the units of a batch
-abbrev pub members : World → Batch → List UnitNo
+abbrev pub members : CoreState → Batch → List UnitNo
 members w b = take b.size (waiting w)
 
 -- one of the unit's sources is aborted, or to abort
-abbrev pub has_bad_source : World → UnitNo → Bool
+abbrev pub has_bad_source : CoreState → UnitNo → Bool
 has_bad_source w u = any (λ d. is_bad (w.manager.verdict d)) (w.units.deps u)
 
 -- the grains with one more, in its place
@@ -162,11 +162,11 @@ grains_of [] = []
 grains_of (g ∷ gs) = with_grain (grains_of gs) g
 
 -- the grains that the unit wrote, none where it read from a unit that is aborted, or to abort
-abbrev pub grains_to_write : World → UnitNo → List GrainId
+abbrev pub grains_to_write : CoreState → UnitNo → List GrainId
 grains_to_write w u = if has_bad_source w u then [] else map (λ (x : Write). x.0) (w.manager.writes u)
 
 -- the grains whose files are the work of a batch of these units
-abbrev pub planned : World → List UnitNo → List GrainId
+abbrev pub planned : CoreState → List UnitNo → List GrainId
 planned w us = grains_of (flat_map (grains_to_write w) us)
 
 -- the grain's file is part of the batch's work
@@ -190,7 +190,7 @@ abbrev pub failed_in : List (GrainId × Bool) → List Write → Option GrainId
 failed_in votes writes = first_grain (filter (has_failed votes) (map (λ x. x.0) writes))
 
 -- a unit, as it is decided
-abbrev pub prepared : World → Batch → UnitNo → Prepared
+abbrev pub prepared : CoreState → Batch → UnitNo → Prepared
 prepared w b u = record { unit = u; failed = failed_in b.votes (w.manager.writes u); deps = w.units.deps u }
 
 -- somebody waits for the grain to be loaded
@@ -209,9 +209,9 @@ is_single (x ∷ []) = true
 is_single (x ∷ y ∷ ys) = false
 
 -- nobody holds or wants the grain, and its stack has one version
-abbrev pub is_idle : World → GrainId → Bool
+abbrev pub is_idle : CoreState → GrainId → Bool
 is_idle w g = is_empty (w.cells.holds g) && (is_single (w.cells.stack g) && not (is_wanted w.units.wants g))
 
 -- the grain is among those used last
-abbrev pub is_recent : World → GrainId → Bool
+abbrev pub is_recent : CoreState → GrainId → Bool
 is_recent w g = any (same_grain g) w.cells.recent

@@ -7,12 +7,12 @@ ghost use Rattle.core_model.specs.declared.effects.Effect.{Effect};
 ghost use Rattle.core_model.specs.Legal.{Run, IsLegal, begins, ends};
 ghost use Rattle.core_model.specs.Serial.{AllLoadsTrue, AllPlay, IsSerial, committed, chosen};
 ghost use Rattle.core_model.specs.Consistent.{IsConsistent, PlainRunsArePlays};
-ghost use Rattle.core_model.specs.World.{Member};
+ghost use Rattle.core_model.specs.CoreState.{Member};
 ghost use Rattle.core_model.specs.Causes.{IsCaused, GoneIsRemoved};
 ghost use Rattle.core_model.specs.Dead.{IsDead, DeadEitherWay};
 ghost use Rattle.core_model.specs.Replies.{says_no, OnlyExtends};
 ghost use Rattle.core_model.specs.Tests.{ask, outcome_of};
-ghost use Rattle.core_model.specs.World.{GrainId, Mode, Batch, Decision, World};
+ghost use Rattle.core_model.specs.CoreState.{GrainId, Mode, Batch, Decision, CoreState};
 ghost use Rattle.core_model.specs.Asked.{AskExactly, GrantApplies, SettledStacksAreSingle, TakeApplies, TakesBatch};
 ghost use Rattle.core_model.specs.ComputedRuns.{RunsAreComputed};
 ghost use Rattle.core_model.specs.Settler.{settler_step, step_of, to_commit, work_in};
@@ -97,8 +97,8 @@ pub fn holders_have_read()
 
 /// A reply says no exactly where the event doesn't apply, and then nothing changes.
 pub fn replies_tell()
-    ensures told { (w : World) (e : CoreEvent) → says_no (reply_to w e) ≡ not (applies w e) }
-    ensures unchanged { (w : World) (e : CoreEvent) → applies w e ≡ false → step w e ≡ w }
+    ensures told { (w : CoreState) (e : CoreEvent) → says_no (reply_to w e) ≡ not (applies w e) }
+    ensures unchanged { (w : CoreState) (e : CoreEvent) → applies w e ≡ false → step w e ≡ w }
 {}
 
 /// The finish order, the closed batches and the settled list only grow at their end.
@@ -112,15 +112,15 @@ pub fn lists_only_grow()
 pub fn settler_steps_apply()
     ensures applies { (r : Run) (e : CoreEvent) → StepApplies (ends r) e }
     ensures shown { (r : Run) → step_of (work_in (ends r) (settler_step (ends r))) ≡ settler_step (ends r) }
-    ensures versions { (w : World) (b : Batch) (g : GrainId) → ShowsVersions w b g }
+    ensures versions { (w : CoreState) (b : Batch) (g : GrainId) → ShowsVersions w b g }
     ensures effects { (plays : Effect → Bool) (r : Run) → IsLegal plays r → (b : Batch) (ds : List Decision) → (ends r).manager.batch ≡ Some b → b.decisions ≡ Some ds → to_commit (ends r) (Some b) ≡ chosen (ends r) }
-    ensures is_decided { (w : World) (u : UnitNo) → TellsDecided w u }
+    ensures is_decided { (w : CoreState) (u : UnitNo) → TellsDecided w u }
 {}
 
 /// The plan of a batch has the grains that its units wrote, but for units that read from one that is aborted, or to abort;
 /// it is made where the batch is taken, and is still that until the batch is decided.
 pub fn plans_are_kept()
-    ensures taken { (w : World) → applies w Take ≡ true → (b : Batch) → (step w Take).manager.batch ≡ Some b → IsPlan (step w Take) b }
+    ensures taken { (w : CoreState) → applies w Take ≡ true → (b : Batch) → (step w Take).manager.batch ≡ Some b → IsPlan (step w Take) b }
     ensures stays { (plays : Effect → Bool) (r : Run) → IsLegal plays r → (b : Batch) → (ends r).manager.batch ≡ Some b → b.decisions ≡ None → IsPlan (ends r) b }
 {}
 
@@ -129,14 +129,14 @@ pub fn plans_are_kept()
 /// answer is that the lock can be had, and no stop stands.
 pub fn asking_is_told()
     ensures asked { (plays : Effect → Bool) (r : Run) → IsLegal plays r → (u : UnitNo) (g : GrainId) (mode : Mode) → AskExactly (ends r) u g mode (ask (ends r) u g mode) }
-    ensures granted { (w : World) (u : UnitNo) (g : GrainId) (mode : Mode) → GrantApplies w u g mode }
+    ensures granted { (w : CoreState) (u : UnitNo) (g : GrainId) (mode : Mode) → GrantApplies w u g mode }
 {}
 
 /// A take applies exactly where no batch is open, no stop stands, and the first of the finished undecided units holds no
 /// lock. The batch that it opens is the longest prefix of them that `batches_are_longest` tells.
 pub fn takes_apply()
-    ensures applies { (w : World) → TakeApplies w }
-    ensures opens { (w : World) → applies w Take ≡ true → (b : Batch) × TakesBatch w (step w Take) b }
+    ensures applies { (w : CoreState) → TakeApplies w }
+    ensures opens { (w : CoreState) → applies w Take ≡ true → (b : Batch) × TakesBatch w (step w Take) b }
 {}
 
 /// Where every grain has learnt what there is to learn, the stack of a grain whose writers are all decided is its last

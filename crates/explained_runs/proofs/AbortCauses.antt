@@ -1,7 +1,7 @@
 -- Each unit that ended aborted was aborted by an event, with its cause.
 use Rattle.std.proofs.Common.{◌≡◌, ◌<◌, true, sym, ap, ◌∙◌, subst}
 use Rattle.base_types.specs.declared.entries.Settled.{Settled}
-use Rattle.core_model.specs.World.{UnitNo, World}
+use Rattle.core_model.specs.CoreState.{UnitNo, CoreState}
 use Rattle.core_model.specs.declared.phases.Verdict.TheVariants.{Aborted}
 use Rattle.core_model.specs.Events.{applies, step}
 use Rattle.core_model.specs.Legal.{Run, begins, ends}
@@ -18,7 +18,7 @@ aborts_have_causes : (s : Basis) (r : Run) → 0 < r.base → KeepsUnitRule s r
     → (u : UnitNo) → (ends r).manager.verdict u ≡ Aborted → (why : Settled) × IsAbortedFor r u why
 aborts_have_causes s r above keeps u h =
     let c : StoppedFrom (begins r) (applied_run r).events u =
-    stops-ends (is_play s.types) (applied_run r) (legal s r above keeps) u (ap (λ (w : World). w.manager.verdict u) (ends_alike r) ∙ h) in
+    stops-ends (is_play s.types) (applied_run r) (legal s r above keeps) u (ap (λ (w : CoreState). w.manager.verdict u) (ends_alike r) ∙ h) in
     let back : PutBack (begins r) r.events c.0 c.1.0 = put_back (begins r) r.events c.0 c.1.1.0 c.1.0 c.1.1.1 in (
       c.1.1.3.0,
       record {

@@ -7,7 +7,7 @@ use Rattle.core_model.specs.declared.effects.Effect.{Effect}
 use Rattle.core_model.specs.declared.phases.Phase.TheVariants.{Finished}
 use Rattle.core_model.specs.declared.phases.Verdict.{Verdict}
 use Rattle.core_model.specs.declared.phases.Verdict.TheVariants.{Committed}
-use Rattle.core_model.specs.World.{UnitNo, GrainId, nobody, Member, Value, World}
+use Rattle.core_model.specs.CoreState.{UnitNo, GrainId, nobody, Member, Value, CoreState}
 use Rattle.core_model.specs.Tests.{is_good, is_committed}
 use Rattle.core_model.specs.Answers.{effect_of}
 use Rattle.core_model.specs.Serial as model
@@ -35,7 +35,7 @@ AreAscending place (u ∷ us) = ((v : UnitNo) → Member v us → place u < plac
 
 -- The records are those of these units, which finished in this order, all of them to commit; each committed unit is
 -- among them.
-pub record AreOf (w : World) (us : List UnitNo) (log : List Commit) : Type 0 where
+pub record AreOf (w : CoreState) (us : List UnitNo) (log : List Commit) : Type 0 where
   pub records : AreRecordsOf (map (effect_of w) us) log
   pub ascending : AreAscending w.manager.place us
   pub done : (u : UnitNo) → Member u us → (w.units.phase u ≡ Finished) × (is_good (w.manager.verdict u) ≡ true)
@@ -60,7 +60,7 @@ ascending-filter place p (u ∷ us) s = cond_both (p u) (u ∷ filter p us) (fil
     (λ e. ascending-filter place p us s.1)
 
 -- those of the finish order whose verdict meets a test
-of-verdicts : (opening : GrainId → List Value) (w : World) (t : Verdict → Bool) (log : List Commit) → Kept opening w → ((v : Verdict) → t v ≡ true → is_good v ≡ true) → t Committed ≡ true →
+of-verdicts : (opening : GrainId → List Value) (w : CoreState) (t : Verdict → Bool) (log : List Commit) → Kept opening w → ((v : Verdict) → t v ≡ true → is_good v ≡ true) → t Committed ≡ true →
     ((u : UnitNo) → w.manager.verdict u ≡ Committed → w.units.phase u ≡ Finished) →
     AreRecordsOf (map (effect_of w) (filter (λ u. t (w.manager.verdict u)) w.manager.order)) log → AreOf w (filter (λ u. t (w.manager.verdict u)) w.manager.order) log
 of-verdicts opening w t log k good sure finished are = record {
@@ -78,7 +78,7 @@ of-verdicts opening w t log k good sure finished are = record {
 }
 
 -- units whose records a log has, and whose effects are serial from these states
-pub record AreSerialOf (types : ProgramTree) (states : States) (w : World) (log : List Commit) : Type 0 where
+pub record AreSerialOf (types : ProgramTree) (states : States) (w : CoreState) (log : List Commit) : Type 0 where
   pub us : List UnitNo
   pub are : AreOf w us log
   pub serial : model.IsSerial (is_play types) states (map (effect_of w) us)
@@ -102,7 +102,7 @@ added-of types r log lawful (inr more) = record {
 -- ---- a record and its unit
 
 -- each record is that of one of the units
-record_of_one : (w : World) (us : List UnitNo) (log : List Commit) → AreRecordsOf (map (effect_of w) us) log → (c : Commit) → Member c log → (u : UnitNo) × Member u us × IsRecordOf (effect_of w u) c
+record_of_one : (w : CoreState) (us : List UnitNo) (log : List Commit) → AreRecordsOf (map (effect_of w) us) log → (c : Commit) → Member c log → (u : UnitNo) × Member u us × IsRecordOf (effect_of w u) c
 record_of_one w [] [] are c m = absurd m
 record_of_one w [] (l ∷ log) are c m = absurd are
 record_of_one w (u ∷ us) [] are c m = absurd are
@@ -110,20 +110,20 @@ record_of_one w (u ∷ us) (l ∷ log) are c (inl e) = (u, inl refl, subst (IsRe
 record_of_one w (u ∷ us) (l ∷ log) are c (inr m) = (let t = record_of_one w us log are.1 c m in (t.0, inr t.1, t.2))
 
 -- and of its own
-pub record-unit : (w : World) (us : List UnitNo) (log : List Commit) → AreRecordsOf (map (effect_of w) us) log → (c : Commit) → Member c log → Member c.logged.unit us × IsRecordOf (effect_of w c.logged.unit) c
+pub record-unit : (w : CoreState) (us : List UnitNo) (log : List Commit) → AreRecordsOf (map (effect_of w) us) log → (c : Commit) → Member c log → Member c.logged.unit us × IsRecordOf (effect_of w c.logged.unit) c
 record-unit w us log are c m =
     let t = record_of_one w us log are c m in
     subst (λ (u : UnitNo). Member u us × IsRecordOf (effect_of w u) c) (sym t.2.unit) (t.1, t.2)
 
 -- each unit has one
-pub unit-record : (w : World) (us : List UnitNo) (log : List Commit) → AreRecordsOf (map (effect_of w) us) log → (u : UnitNo) → Member u us → (c : Commit) × Member c log × IsRecordOf (effect_of w u) c
+pub unit-record : (w : CoreState) (us : List UnitNo) (log : List Commit) → AreRecordsOf (map (effect_of w) us) log → (u : UnitNo) → Member u us → (c : Commit) × Member c log × IsRecordOf (effect_of w u) c
 unit-record w [] log are u m = absurd m
 unit-record w (v ∷ us) [] are u m = absurd are
 unit-record w (v ∷ us) (l ∷ log) are u (inl e) = (l, inl refl, subst (λ (x : UnitNo). IsRecordOf (effect_of w x) l) (sym e) are.0)
 unit-record w (v ∷ us) (l ∷ log) are u (inr m) = (let t = unit-record w us log are.1 u m in (t.0, inr t.1, t.2))
 
 -- a later record's unit has a later place
-later-place : (w : World) (u : UnitNo) (us : List UnitNo) (l : Commit) (log : List Commit) → AreRecordsOf (map (effect_of w) (u ∷ us)) (l ∷ log) → AreAscending w.manager.place (u ∷ us) →
+later-place : (w : CoreState) (u : UnitNo) (us : List UnitNo) (l : Commit) (log : List Commit) → AreRecordsOf (map (effect_of w) (u ∷ us)) (l ∷ log) → AreAscending w.manager.place (u ∷ us) →
     (c : Commit) → Member c log → w.manager.place l.logged.unit < w.manager.place c.logged.unit
 later-place w u us l log are s c m =
     let lt : w.manager.place u < w.manager.place c.logged.unit = s.0 c.logged.unit (record-unit w us log are.1 c m).0 in
@@ -131,7 +131,7 @@ later-place w u us l log are s c m =
     omega (arith, lt, e)
 
 -- no two records are of one unit
-pub one-record : (w : World) (us : List UnitNo) (log : List Commit) → AreRecordsOf (map (effect_of w) us) log → AreAscending w.manager.place us →
+pub one-record : (w : CoreState) (us : List UnitNo) (log : List Commit) → AreRecordsOf (map (effect_of w) us) log → AreAscending w.manager.place us →
     (c d : Commit) → Member c log → Member d log → c.logged.unit ≡ d.logged.unit → c ≡ d
 one-record w [] [] are s c d mc md e = absurd mc
 one-record w [] (l ∷ log) are s c d mc md e = absurd are
@@ -161,7 +161,7 @@ parted (l ∷ log) d (inl e) = ([], (log, ap (λ (x : Commit). x ∷ log) (sym e
 parted (l ∷ log) d (inr m) = (let t = parted log d m in (l ∷ t.0, (t.1.0, ap (λ (xs : List Commit). l ∷ xs) t.1.1)))
 
 -- the record of a unit that finished before stands before
-pub stands-after : (w : World) (us : List UnitNo) (log : List Commit) → AreRecordsOf (map (effect_of w) us) log → AreAscending w.manager.place us →
+pub stands-after : (w : CoreState) (us : List UnitNo) (log : List Commit) → AreRecordsOf (map (effect_of w) us) log → AreAscending w.manager.place us →
     (c d : Commit) → Member c log → Member d log → w.manager.place c.logged.unit < w.manager.place d.logged.unit → StandsAfter log c d
 stands-after w [] [] are s c d mc md lt = absurd mc
 stands-after w [] (l ∷ log) are s c d mc md lt = absurd are
@@ -183,7 +183,7 @@ stands-after w (u ∷ us) (l ∷ log) are s c d (inr a) (inr b) lt =
 -- ---- what a unit read
 
 -- the unit of a record read the states that the records before it left
-pub reads-stand : (types : ProgramTree) (w : World) (store states : States) (us : List UnitNo) (log front back : List Commit) (d : Commit) → ((g : GrainId) → store g ≡ states g) →
+pub reads-stand : (types : ProgramTree) (w : CoreState) (store states : States) (us : List UnitNo) (log front back : List Commit) (d : Commit) → ((g : GrainId) → store g ≡ states g) →
     model.IsSerial (is_play types) store (map (effect_of w) us) → AreRecordsOf (map (effect_of w) us) log → log ≡ front ++ (d ∷ back) →
     (r : Read) → Member r (w.units.reads d.logged.unit) → r.state ≡ states_after states front r.grain
 reads-stand types w store states [] [] front back d same serial are split r m = absurd (nothing front split)

@@ -2,7 +2,7 @@
 use Rattle.std.proofs.Common.{◌≡◌, ◌+◌, ◌<◌, ◌≤◌, ℕ, zero, suc, List, [], ◌∷◌, Bool, true, false, Some, inl, inr, refl, sym, ap, ◌∙◌, subst, arith}
 use Rattle.std.specs.Prelude.{take, slice_get, fold, count_by, if◌then◌else◌}
 use Rattle.std.proofs.lemmas.Bool.{cond_both, cases_Bool}
-use Rattle.core_model.specs.World.{Member, World}
+use Rattle.core_model.specs.CoreState.{Member, CoreState}
 use Rattle.core_model.specs.declared.events.CoreEvent.{CoreEvent}
 use Rattle.core_model.specs.Events.{applies, step, run}
 use Rattle.core_model.specs.Legal.{Run, begins}
@@ -11,12 +11,12 @@ use Rattle.promise_spec.specs.Cores.{AppliesAt, applied_from, how_many}
 use Rattle.promise_spec.proofs.Lists.{some_is, none_at}
 
 -- this fits each event of the list that applies, in the state before it
-abbrev pub AllFit : (World → CoreEvent → Type 0) → World → List CoreEvent → Type 0
+abbrev pub AllFit : (CoreState → CoreEvent → Type 0) → CoreState → List CoreEvent → Type 0
 AllFit Fits w events = (at : ℕ) (e : CoreEvent) → slice_get events at ≡ Some e → applies (run w (take at events)) e ≡ true → Fits (run w (take at events)) e
 
 -- what an event that applies and fits keeps, all of them keep
-pub keeps-run : (Fits : World → CoreEvent → Type 0) (Keeps : World → Type 0) → ((w : World) (e : CoreEvent) → applies w e ≡ true → Fits w e → Keeps w → Keeps (step w e))
-    → (events : List CoreEvent) (w : World) → AllFit Fits w events → Keeps w → Keeps (run w events)
+pub keeps-run : (Fits : CoreState → CoreEvent → Type 0) (Keeps : CoreState → Type 0) → ((w : CoreState) (e : CoreEvent) → applies w e ≡ true → Fits w e → Keeps w → Keeps (step w e))
+    → (events : List CoreEvent) (w : CoreState) → AllFit Fits w events → Keeps w → Keeps (run w events)
 keeps-run Fits Keeps one [] w fit k = k
 keeps-run Fits Keeps one (e ∷ events) w fit k =
     keeps-run Fits Keeps one events (step w e) (λ at f there a. fit (suc at) f there a)
@@ -26,7 +26,7 @@ keeps-run Fits Keeps one (e ∷ events) w fit k =
     ])
 
 -- an event that applies is among those that applied
-among : (events : List CoreEvent) (w : World) (at : ℕ) (e : CoreEvent) → slice_get events at ≡ Some e → applies (run w (take at events)) e ≡ true → Member e (applied_from w events)
+among : (events : List CoreEvent) (w : CoreState) (at : ℕ) (e : CoreEvent) → slice_get events at ≡ Some e → applies (run w (take at events)) e ≡ true → Member e (applied_from w events)
 among [] w at e there a = absurd (none_at at e there)
 among (x ∷ events) w zero e there a =
     let same : x ≡ e = some_is x e there in

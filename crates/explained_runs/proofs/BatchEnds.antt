@@ -12,7 +12,7 @@ use Rattle.core_model.specs.declared.effects.Read.{Read}
 use Rattle.core_model.specs.declared.phases.Phase.TheVariants.{Unborn, Running, Finished}
 use Rattle.core_model.specs.declared.phases.Verdict.{Verdict}
 use Rattle.core_model.specs.declared.phases.Verdict.TheVariants.{Open, Chosen, Condemned, Committed, Aborted}
-use Rattle.core_model.specs.World.{UnitNo, GrainId, Member, Value, put, Batch, World}
+use Rattle.core_model.specs.CoreState.{UnitNo, GrainId, Member, Value, put, Batch, CoreState}
 use Rattle.core_model.specs.Tests.{is_good, is_committed, is_final}
 use Rattle.core_model.specs.Answers.{effect_of}
 use Rattle.core_model.specs.Batches.{sizes}
@@ -50,11 +50,11 @@ use Rattle.promise_spec.specs.Batches.{units_in, kept_by, EndsABatch}
 -- ---- what an event leaves of a finished unit
 
 -- a running unit is another than a finished one
-apart-running : (w : World) (x u : UnitNo) → w.units.phase x ≡ Finished → w.units.phase u ≡ Running → x ≡ u → ⊥
+apart-running : (w : CoreState) (x u : UnitNo) → w.units.phase x ≡ Finished → w.units.phase u ≡ Running → x ≡ u → ⊥
 apart-running w x u done running e = (let z : Finished ≡ Running = sym done ∙ ap w.units.phase e ∙ running in cc)
 
 -- its effect
-effect-change : (opening : GrainId → List Value) (w : World) (e : CoreEvent) (w' : World) → Change w e w' → Kept opening w → (x : UnitNo) → w.units.phase x ≡ Finished → effect_of w' x ≡ effect_of w x
+effect-change : (opening : GrainId → List Value) (w : CoreState) (e : CoreEvent) (w' : CoreState) → Change w e w' → Kept opening w → (x : UnitNo) → w.units.phase x ≡ Finished → effect_of w' x ≡ effect_of w x
 effect-change opening w e w' (bad line why q) k x done = refl
 effect-change opening w e w' (begin origin call plain c) k x done =
     let apart : x ≡ new_unit w → ⊥ = λ q. (let z : Finished ≡ Unborn = sym done ∙ ap w.units.phase q ∙ k.0.unborn (new_unit w) (omega arith) in cc) in
@@ -128,7 +128,7 @@ effect-change opening w e w' (want u g running free fresh) k x done = refl
 effect-change opening w e w' (load g u state gone wanted) k x done = refl
 
 -- after a doubt no verdict changes
-verdict-after : (w : World) (e : CoreEvent) (w' : World) → Change w e w' → is_after_doubt e ≡ true → w'.manager.verdict ≡ w.manager.verdict
+verdict-after : (w : CoreState) (e : CoreEvent) (w' : CoreState) → Change w e w' → is_after_doubt e ≡ true → w'.manager.verdict ≡ w.manager.verdict
 verdict-after w e w' (bad line why q) after = refl
 verdict-after w e w' (begin origin call plain c) after = refl
 verdict-after w e w' (lock u g mode running free first here) after = refl
@@ -152,7 +152,7 @@ verdict-after w e w' (want u g running free fresh) after = refl
 verdict-after w e w' (load g u state gone wanted) after = refl
 
 -- grains that leave memory change no effect
-swept-effect : (w : World) (x : UnitNo) → effect_of (swept w) x ≡ effect_of w x
+swept-effect : (w : CoreState) (x : UnitNo) → effect_of (swept w) x ≡ effect_of w x
 swept-effect w x = go w.cells.capacity
   where
     go : (c : Option ℕ) → effect_of (swept_by w c) x ≡ effect_of w x
@@ -160,7 +160,7 @@ swept-effect w x = go w.cells.capacity
     go (Some m) = refl
 
 -- nor a verdict
-swept-verdict : (w : World) → (swept w).manager.verdict ≡ w.manager.verdict
+swept-verdict : (w : CoreState) → (swept w).manager.verdict ≡ w.manager.verdict
 swept-verdict w = go w.cells.capacity
   where
     go : (c : Option ℕ) → (swept_by w c).manager.verdict ≡ w.manager.verdict
@@ -196,7 +196,7 @@ sizes-sum (b ∷ bs) = sum_by-cons (λ (b : Batch). b.size) b bs ∙ ap (λ n. b
 -- ---- closed batches
 
 -- what is needed of a state: closed batches are a first part of the finish order, and are decided but for one in doubt
-pub record AreClosed (opening : GrainId → List Value) (w : World) : Type 0 where
+pub record AreClosed (opening : GrainId → List Value) (w : CoreState) : Type 0 where
   pub kept : Kept opening w
   pub count : sizes w.manager.past ≡ w.manager.closed
   pub decided : (u : UnitNo) → w.units.phase u ≡ Finished → w.manager.place u ≤ batch_begin w.manager.doubt w.manager.closed → is_final (w.manager.verdict u) ≡ true
@@ -211,7 +211,7 @@ closed-ends plays r l = record {
   split = split-ends plays r l;
 }
 
-module _ (opening : GrainId → List Value) (w : World) (e : CoreEvent) (c : AreClosed opening w) (x : OnlyExtends w (step w e)) where
+module _ (opening : GrainId → List Value) (w : CoreState) (e : CoreEvent) (c : AreClosed opening w) (x : OnlyExtends w (step w e)) where
   -- closed units are among those that finished
   within : w.manager.closed ≤ length w.manager.order
   within = (let k = c.kept.1 in omega (arith, k))
@@ -223,7 +223,7 @@ module _ (opening : GrainId → List Value) (w : World) (e : CoreEvent) (c : Are
       go : (o : Option ℕ) → w.manager.doubt ≡ o → is_good ((step w e).manager.verdict u) ≡ is_good (w.manager.verdict u)
       go None none =
           ap is_good ((grows-step opening w e c.kept).1 u (c.decided u done (subst (λ (o : Option ℕ). w.manager.place u ≤ batch_begin o w.manager.closed) (sym none) low)))
-      go (Some b) some = cond_both (applies w e) (swept (does w e)) w (λ (v : World). is_good (v.manager.verdict u) ≡ is_good (w.manager.verdict u))
+      go (Some b) some = cond_both (applies w e) (swept (does w e)) w (λ (v : CoreState). is_good (v.manager.verdict u) ≡ is_good (w.manager.verdict u))
           (λ a. after a (is_after_doubt e) refl)
           (λ a. refl)
         where
@@ -235,7 +235,7 @@ module _ (opening : GrainId → List Value) (w : World) (e : CoreEvent) (c : Are
 
   -- the effect of a finished unit stays
   effect-stays : (u : UnitNo) → w.units.phase u ≡ Finished → effect_of (step w e) u ≡ effect_of w u
-  effect-stays u done = cond_both (applies w e) (swept (does w e)) w (λ (v : World). effect_of v u ≡ effect_of w u)
+  effect-stays u done = cond_both (applies w e) (swept (does w e)) w (λ (v : CoreState). effect_of v u ≡ effect_of w u)
       (λ a. swept-effect (does w e) u ∙ effect-change opening w e (does w e) (decode w e (and_parts (is_allowed w e) (can w e) a).1) c.kept u done)
       (λ a. refl)
 
@@ -316,7 +316,7 @@ pub batch-stays-run : (s : Basis) (r : Run) (more : List CoreEvent) (first log :
 batch-stays-run s r [] first log above keeps b = subst (λ (es : List CoreEvent). EndsABatch (run (begins r) es) first log) (sym (append-nil r.events)) b
 batch-stays-run s r (e ∷ es) first log above keeps b =
     let one : EndsABatch (ends (extended r (e ∷ []))) first log =
-    subst (λ (w : World). EndsABatch w first log) (sym (run-append (begins r) r.events (e ∷ []))) (batch-stays s r e first log above (keeps-front s r (e ∷ es) keeps) b) in
+    subst (λ (w : CoreState). EndsABatch w first log) (sym (run-append (begins r) r.events (e ∷ []))) (batch-stays s r e first log above (keeps-front s r (e ∷ es) keeps) b) in
     let whole : (r.events ++ e ∷ []) ++ es ≡ r.events ++ (e ∷ es) = append_assoc r.events (e ∷ []) es in
     subst (λ (fs : List CoreEvent). EndsABatch (run (begins r) fs) first log) whole
     (batch-stays-run s (extended r (e ∷ [])) es first log above (subst (λ (fs : List CoreEvent). KeepsUnitRule s (record r { events = fs })) (sym whole) keeps) one)
@@ -336,7 +336,7 @@ good-final Condemned e = refl
 good-final Committed e = refl
 good-final Aborted e = refl
 
-module _ (opening : GrainId → List Value) (w : World) (c : AreClosed opening w) where
+module _ (opening : GrainId → List Value) (w : CoreState) (c : AreClosed opening w) where
   -- all closed batches have the closed units
   all-units : units_in w (length w.manager.past) ≡ w.manager.closed
   all-units = ap (sum_by (λ (b : Batch). b.size)) (take_all (length w.manager.past) w.manager.past (omega arith)) ∙ sizes-sum w.manager.past ∙ c.count
@@ -376,7 +376,7 @@ moments-stay s p r more first old new above keeps passes =
 -- ---- a batch in doubt is the last one
 
 -- the closed batches have so many units; where one is in doubt none is open, and it begins where the first so many end
-abbrev Tally : World → Type 0
+abbrev Tally : CoreState → Type 0
 Tally w = (sizes w.manager.past ≡ w.manager.closed) × ((from : ℕ) → w.manager.doubt ≡ Some from → (w.manager.batch ≡ None) × ((n : ℕ) × (units_in w n ≡ from)))
 
 -- the sizes with one batch more
@@ -389,7 +389,7 @@ no-begin : (o : Option ℕ) (from : ℕ) {P : Type 0} → o ≡ None → o ≡ S
 no-begin o from none some = (let z : None ≡ Some from = sym none ∙ some in absurd (cc z))
 
 -- an event keeps the tally
-tally-change : (w : World) (e : CoreEvent) (w' : World) → Change w e w' → applies w e ≡ true → Tally w → Tally w'
+tally-change : (w : CoreState) (e : CoreEvent) (w' : CoreState) → Change w e w' → applies w e ≡ true → Tally w → Tally w'
 tally-change w e w' (bad line why q) a t = t
 tally-change w e w' (begin origin call plain c) a t = t
 tally-change w e w' (lock u g mode running free first here) a t = t
@@ -420,7 +420,7 @@ tally-change w e w' (want u g running free fresh) a t = t
 tally-change w e w' (load g u state gone wanted) a t = t
 
 -- and so do grains that leave memory
-tally-swept : (w : World) → Tally w → Tally (swept w)
+tally-swept : (w : CoreState) → Tally w → Tally (swept w)
 tally-swept w t = go w.cells.capacity
   where
     go : (c : Option ℕ) → Tally (swept_by w c)
@@ -428,7 +428,7 @@ tally-swept w t = go w.cells.capacity
     go (Some m) = t
 
 -- and a list of events
-tally-run : (es : List CoreEvent) (w : World) → Tally w → Tally (run w es)
+tally-run : (es : List CoreEvent) (w : CoreState) → Tally w → Tally (run w es)
 tally-run [] w t = t
 tally-run (e ∷ es) w t = tally-run es (step w e)
     (cond_both (applies w e) (swept (does w e)) w Tally
@@ -439,7 +439,7 @@ tally-run (e ∷ es) w t = tally-run es (step w e)
 tally-ends : (r : Run) → Tally (ends r)
 tally-ends r = tally-run r.events (begins r) (refl, λ from q. no-begin None from refl q)
 
-module _ (opening : GrainId → List Value) (w : World) (c : AreClosed opening w) where
+module _ (opening : GrainId → List Value) (w : CoreState) (c : AreClosed opening w) where
   -- the unit is committed
   sure-one : UnitNo → Bool
   sure-one u = is_committed (w.manager.verdict u)

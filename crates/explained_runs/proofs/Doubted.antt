@@ -10,7 +10,7 @@ use Rattle.host_trait.specs.Faults.{Rose}
 use Rattle.core_model.specs.declared.events.CoreEvent.TheVariants.{Doubt}
 use Rattle.core_model.specs.declared.phases.Phase.TheVariants.{Unborn, Finished, Ended}
 use Rattle.core_model.specs.declared.phases.Verdict.TheVariants.{Aborted}
-use Rattle.core_model.specs.World.{UnitNo, GrainId, Call, Member, Value, World}
+use Rattle.core_model.specs.CoreState.{UnitNo, GrainId, Call, Member, Value, CoreState}
 use Rattle.core_model.specs.Tests.{is_good}
 use Rattle.core_model.specs.Answers.{effect_of}
 use Rattle.core_model.specs.Legal.{Run}
@@ -47,13 +47,13 @@ not-both types lines n call why a b =
     absurd cc
 
 -- a unit among the effects is one of the units
-unit-in : (w : World) (us : List UnitNo) (u : UnitNo) → Member u (map (λ e. e.unit) (map (effect_of w) us)) → Member u us
+unit-in : (w : CoreState) (us : List UnitNo) (u : UnitNo) → Member u (map (λ e. e.unit) (map (effect_of w) us)) → Member u us
 unit-in w [] u m = absurd m
 unit-in w (x ∷ us) u (inl same) = inl same
 unit-in w (x ∷ us) u (inr m) = inr (unit-in w us u m)
 
 -- it has finished, behind where the batch begins, and is to commit
-doubtful-is : (opening : GrainId → List Value) (w : World) → Kept opening w → (u : UnitNo) → Member u (doubtful w)
+doubtful-is : (opening : GrainId → List Value) (w : CoreState) → Kept opening w → (u : UnitNo) → Member u (doubtful w)
     → (w.units.phase u ≡ Finished) × (begin_of w < w.manager.place u) × (is_good (w.manager.verdict u) ≡ true)
 doubtful-is opening w k u m =
     let good = filter-member (λ x. is_good (w.manager.verdict x)) (drop (begin_of w) w.manager.order) u (unit-in w (filter (λ x. is_good (w.manager.verdict x)) (drop (begin_of w) w.manager.order)) u m) in
@@ -61,7 +61,7 @@ doubtful-is opening w k u m =
     (finished.0, finished.1, good.1)
 
 -- so it was told no more than the doubt
-pub doubt-told : (types : ProgramTree) (lines : List (List ℕ)) (opening : GrainId → List Value) (base : ℕ) (w : World) → Known types lines opening base w
+pub doubt-told : (types : ProgramTree) (lines : List (List ℕ)) (opening : GrainId → List Value) (base : ℕ) (w : CoreState) → Known types lines opening base w
     → (e : Entry) → Member e w.manager.settled → Member e.unit (doubtful w) → e.what ≡ settled.InDoubt
 doubt-told types lines opening base w known e m in_doubt = go e.what refl (known.tells e m)
   where

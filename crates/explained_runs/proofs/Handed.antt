@@ -3,7 +3,7 @@ use Rattle.std.proofs.Common.{◌≡◌, ℕ, ◌<◌, zero, suc, List, [], ◌�
 use Rattle.std.specs.Prelude.{slice_get, option_map, option_and_then}
 use Rattle.base_types.specs.declared.calls.Call.{Call}
 use Rattle.base_types.specs.declared.calls.Outcome.{Outcome}
-use Rattle.core_model.specs.World.{UnitNo, nobody, World}
+use Rattle.core_model.specs.CoreState.{UnitNo, nobody, CoreState}
 use Rattle.core_model.specs.Tests.{outcome_of}
 use Rattle.script_tree.specs.Programs.{ProgramTree}
 use Rattle.script_meaning.specs.Play.{Found, Want, WantLock, WantRaise, WantUnit, next}
@@ -33,7 +33,7 @@ and_given-some one None trail e = absurd (cc)
 and_given-some one (Some more) trail e = (more, refl, some_is (one ∷ more) trail e)
 
 -- a child is given where its outcome is known
-given-child : (w : World) (call : Call) (depth : ℕ) (child : UnitNo) (got : List Got) (trail : List Given) → ((more : List Given) → given_by w got ≡ Some more → AreGiven (outcome_of w) got more) →
+given-child : (w : CoreState) (call : Call) (depth : ℕ) (child : UnitNo) (got : List Got) (trail : List Given) → ((more : List Given) → given_by w got ≡ Some more → AreGiven (outcome_of w) got more) →
     (o : Option Outcome) → outcome_of w child ≡ o → option_and_then (λ outcome. and_given (GivenOutcome call depth outcome) (given_by w got)) o ≡ Some trail →
     AreGiven (outcome_of w) (GotChild call depth child ∷ got) trail
 given-child w call depth child got trail rest None q h = absurd (cc)
@@ -42,7 +42,7 @@ given-child w call depth child got trail rest (Some o) q h =
     subst (AreGiven (outcome_of w) (GotChild call depth child ∷ got)) t.2 ((o, q, refl), rest t.0 t.1)
 
 -- what is given by now is such a list
-pub are_given : (w : World) (got : List Got) (trail : List Given) → given_by w got ≡ Some trail → AreGiven (outcome_of w) got trail
+pub are_given : (w : CoreState) (got : List Got) (trail : List Given) → given_by w got ≡ Some trail → AreGiven (outcome_of w) got trail
 are_given w [] trail e = subst (AreGiven (outcome_of w) []) (some_is [] trail e) tt
 are_given w (GotLock g mode state ∷ got) trail e =
     let t = and_given-some (GivenLock g mode state) (given_by w got) trail e in
@@ -53,7 +53,7 @@ are_given w (GotRaise g ∷ got) trail e =
 are_given w (GotChild call depth child ∷ got) trail e = given-child w call depth child got trail (are_given w got) (outcome_of w child) refl e
 
 -- what a unit wants next it wants after what it was given
-pub wants : (types : ProgramTree) (w : World) (u : UnitNo) (got : List Got) (want : Want) → wanted_by types w u got ≡ Some want →
+pub wants : (types : ProgramTree) (w : CoreState) (u : UnitNo) (got : List Got) (want : Want) → wanted_by types w u got ≡ Some want →
     (trail : List Given) × AreGiven (outcome_of w) got trail × (next types (w.units.call u) (depth_of (w.units.origin u)) (locks_of trail) (answers_of trail) ≡ want)
 wants types w u got want e = by_given (given_by w got) refl e
   where

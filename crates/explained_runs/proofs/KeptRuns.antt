@@ -8,8 +8,8 @@ use Rattle.host_trait.specs.declared.channels.FileId.{FileId}
 use Rattle.host_trait.specs.declared.channels.FileId.TheVariants.{Program as ProgramFile, Manager, Grain}
 use Rattle.host_trait.specs.World.{World, Moment, Image, IsImage, Passes, moment_of}
 use Rattle.host_trait.proofs.Crashes.{settled_only}
-use Rattle.core_model.specs.World as core
-use Rattle.core_model.specs.World.{Member}
+use Rattle.core_model.specs.CoreState as core
+use Rattle.core_model.specs.CoreState.{Member}
 use Rattle.silo_spec.specs.Silos.{manager}
 use Rattle.silo_spec.specs.Moments.{IsAsAtEntry}
 use Rattle.promise_spec.specs.Programs.{Program, IsChecked, shape_in}
@@ -237,15 +237,15 @@ carried_promised m p r c mid answers is checked behind stay stay_mid lasts =
 -- ---- batches at the moments of a step
 
 -- another log of the image is the same, and ends so too
-same_ends : (p : Program) (w : core.World) (opening log other : List Commit) (image : Image) → EndsABatch w opening log → IsLog (shape_in p) image log → IsLog (shape_in p) image other → EndsABatch w opening other
+same_ends : (p : Program) (w : core.CoreState) (opening log other : List Commit) (image : Image) → EndsABatch w opening log → IsLog (shape_in p) image log → IsLog (shape_in p) image other → EndsABatch w opening other
 same_ends p w opening log other image ends is is_too = subst (EndsABatch w opening) (one_log (shape_in p) image log other is is_too) ends
 
 -- where each image has one log
-pub logged_ends : (p : Program) (w : core.World) (opening log : List Commit) (m : Moment) → AllLog p log m.disk → EndsABatch w opening log → AllEnd p w opening m
+pub logged_ends : (p : Program) (w : core.CoreState) (opening log : List Commit) (m : Moment) → AllLog p log m.disk → EndsABatch w opening log → AllEnd p w opening m
 logged_ends p w opening log m all ends image other left is = same_ends p w opening log other image ends (all image left) is
 
 -- while a batch is sealed, by whichever state both logs end so
-pub sealing_ends : (p : Program) (w : core.World) (opening before : List Commit) (batch : List Settlement) (mid : World) (m : Moment) → IsSealing p before batch mid m
+pub sealing_ends : (p : Program) (w : core.CoreState) (opening before : List Commit) (batch : List Settlement) (mid : World) (m : Moment) → IsSealing p before batch mid m
     → EndsABatch w opening before → EndsABatch w opening (before ++ commits_of batch) → AllEnd p w opening m
 sealing_ends p w opening before batch mid m s first second image log left is = elim (s.log image left) [
   | inl was ↦ same_ends p w opening before log image first was is

@@ -9,7 +9,7 @@ use Rattle.cell_model.proofs.Units.{same_grain-true, same_grain-is}
 use Rattle.core_model.specs.declared.effects.Effect.{Effect}
 use Rattle.core_model.specs.declared.events.CoreEvent.{CoreEvent}
 use Rattle.core_model.specs.declared.events.CoreEvent.TheVariants.{Finish, EndPlain, Load}
-use Rattle.core_model.specs.World.{UnitNo, GrainId, Value, Outcome, World, same_grain}
+use Rattle.core_model.specs.CoreState.{UnitNo, GrainId, Value, Outcome, CoreState, same_grain}
 use Rattle.core_model.specs.Equality.{same_list, same_text, same_value, same_state, same_outcome}
 use Rattle.core_model.specs.Events.{applies, step, run}
 use Rattle.core_model.specs.Serial.{Plays, AllPlay, IsTrueLoad, AllLoadsTrue}
@@ -76,7 +76,7 @@ is_play-is types e p =
     (ap (same_list same_found (played_by types e).writes) (sym p.writes) ∙ same_list-itself same_found same_found-itself (played_by types e).writes)))
 
 -- events that don't apply change nothing
-pub run-applied : (w : World) (events : List CoreEvent) → run w (applied_from w events) ≡ run w events
+pub run-applied : (w : CoreState) (events : List CoreEvent) → run w (applied_from w events) ≡ run w events
 run-applied w [] = refl
 run-applied w (e ∷ events) =
     let more : run (step w e) (applied_from (step w e) events) ≡ run (step w e) events = run-applied (step w e) events in
@@ -95,17 +95,17 @@ Needs types (Load g u state) = ⊥
 Needs types _ = Unit {0}
 
 -- what is due has it
-due-needs : (s : Basis) (w : World) (got : UnitNo → List Got) (e : CoreEvent) → IsDue s w got e → Needs s.types e
+due-needs : (s : Basis) (w : CoreState) (got : UnitNo → List Got) (e : CoreEvent) → IsDue s w got e → Needs s.types e
 due-needs s w got (Finish u e) d = d.1
 due-needs s w got (EndPlain u e) d = d.1
 due-needs s w got (Load g u state) d = d
 due-needs s w got _ d = tt
 
 -- each event of the list that applies has it
-abbrev AllNeeded : ProgramTree → World → List CoreEvent → Type 0
+abbrev AllNeeded : ProgramTree → CoreState → List CoreEvent → Type 0
 AllNeeded types w events = (at : ℕ) (e : CoreEvent) → slice_get events at ≡ Some e → applies (run w (take at events)) e ≡ true → Needs types e
 
-later-needed : (types : ProgramTree) (w : World) (e : CoreEvent) (events : List CoreEvent) → AllNeeded types w (e ∷ events) → AllNeeded types (step w e) events
+later-needed : (types : ProgramTree) (w : CoreState) (e : CoreEvent) (events : List CoreEvent) → AllNeeded types w (e ∷ events) → AllNeeded types (step w e) events
 later-needed types w e events all = λ at f there a. all (suc at) f there a
 
 one-plays : (types : ProgramTree) (e : CoreEvent) → Needs types e → Plays (is_play types) e
@@ -113,12 +113,12 @@ one-plays types (Finish u e) n = is_play-is types e n
 one-plays types (EndPlain u e) n = is_play-is types e n
 one-plays types _ n = tt
 
-one-true : (types : ProgramTree) (opening : GrainId → List Value) (w : World) (e : CoreEvent) → (applies w e ≡ true → Needs types e) → IsTrueLoad opening w e
+one-true : (types : ProgramTree) (opening : GrainId → List Value) (w : CoreState) (e : CoreEvent) → (applies w e ≡ true → Needs types e) → IsTrueLoad opening w e
 one-true types opening w (Load g u state) n = λ a. absurd (n a)
 one-true types opening w _ n = tt
 
 -- the effects are plays
-plays-in : (types : ProgramTree) (w : World) (events : List CoreEvent) → AllNeeded types w events → AllPlay (is_play types) (applied_from w events)
+plays-in : (types : ProgramTree) (w : CoreState) (events : List CoreEvent) → AllNeeded types w events → AllPlay (is_play types) (applied_from w events)
 plays-in types w [] all = tt
 plays-in types w (e ∷ events) all =
     let rest : AllPlay (is_play types) (applied_from (step w e) events) = plays-in types (step w e) events (later-needed types w e events all) in
@@ -127,7 +127,7 @@ plays-in types w (e ∷ events) all =
     (λ a. rest)
 
 -- and nothing is loaded
-loads-in : (types : ProgramTree) (opening : GrainId → List Value) (w : World) (events : List CoreEvent) → AllNeeded types w events → AllLoadsTrue opening w (applied_from w events)
+loads-in : (types : ProgramTree) (opening : GrainId → List Value) (w : CoreState) (events : List CoreEvent) → AllNeeded types w events → AllLoadsTrue opening w (applied_from w events)
 loads-in types opening w [] all = tt
 loads-in types opening w (e ∷ events) all =
     let rest : AllLoadsTrue opening (step w e) (applied_from (step w e) events) = loads-in types opening (step w e) events (later-needed types w e events all) in

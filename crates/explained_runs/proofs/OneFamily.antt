@@ -11,7 +11,7 @@ use Rattle.core_model.specs.declared.phases.Phase.{Phase}
 use Rattle.core_model.specs.declared.phases.Phase.TheVariants.{Unborn, Running, Finished, Refused, Ended}
 use Rattle.core_model.specs.declared.phases.Verdict.{Verdict}
 use Rattle.core_model.specs.declared.phases.Verdict.TheVariants.{Open, Chosen, Condemned, Committed, Aborted}
-use Rattle.core_model.specs.World.{UnitNo, nobody, Member, Call, Origin, Outcome, World}
+use Rattle.core_model.specs.CoreState.{UnitNo, nobody, Member, Call, Origin, Outcome, CoreState}
 use Rattle.core_model.specs.Tests.{is_good, outcome_in, outcome_of}
 use Rattle.core_model.specs.Answers.{effect_of}
 use Rattle.core_model.specs.Laws.{ChildrenAreKnown, AnswersAreOutcomes}
@@ -50,7 +50,7 @@ use Rattle.explained_runs.proofs.TrueReplies.{below-next}
 
 -- What is known at the end of a run: why its units began, the core's laws of children, lines and reads, the units whose
 -- records it added, and that no record of before is of a child of one of these units.
-pub record Ground (types : ProgramTree) (asked : List (List ℕ)) (w : World) (states : States) (early added : List Commit) : Type 0 where
+pub record Ground (types : ProgramTree) (asked : List (List ℕ)) (w : CoreState) (states : States) (early added : List Commit) : Type 0 where
   pub base : ℕ
   pub known : Known types asked base w
   pub children : ChildrenAreKnown w
@@ -63,28 +63,28 @@ pub record Ground (types : ProgramTree) (asked : List (List ℕ)) (w : World) (s
 -- ---- a record and its unit
 
 -- the record is that of its unit, which finished and is to commit
-record IsAdded (w : World) (c : Commit) : Type 0 where
+record IsAdded (w : CoreState) (c : Commit) : Type 0 where
   of : IsRecordOf (effect_of w c.logged.unit) c
   finished : w.units.phase c.logged.unit ≡ Finished
   good : is_good (w.manager.verdict c.logged.unit) ≡ true
 
 -- each added record is such
-is-added : (types : ProgramTree) (asked : List (List ℕ)) (w : World) (states : States) (early added : List Commit) → Ground types asked w states early added → (c : Commit) → Member c added → IsAdded w c
+is-added : (types : ProgramTree) (asked : List (List ℕ)) (w : CoreState) (states : States) (early added : List Commit) → Ground types asked w states early added → (c : Commit) → Member c added → IsAdded w c
 is-added types asked w states early added g c m =
     let t = record-unit w g.units.us added g.units.are.records c m in
     let d = g.units.are.done c.logged.unit t.0 in
     record { of = t.1; finished = d.0; good = d.1 }
 
 -- who finished has begun
-finished-begun : (w : World) (u : UnitNo) → w.units.phase u ≡ Finished → HasBegun w u
+finished-begun : (w : CoreState) (u : UnitNo) → w.units.phase u ≡ Finished → HasBegun w u
 finished-begun w u f z = (let q : Finished ≡ Unborn = sym f ∙ z in cc)
 
 -- the unit is one of the core's
-unit-of : (w : World) (c : Commit) → IsAdded w c → IsUnitOf w c
+unit-of : (w : CoreState) (c : Commit) → IsAdded w c → IsUnitOf w c
 unit-of w c a = record { origin = sym a.of.origin; call = sym a.of.call }
 
 -- a line's record has the line's call
-of-line : (types : ProgramTree) (asked : List (List ℕ)) (w : World) (states : States) (early added : List Commit) → Ground types asked w states early added →
+of-line : (types : ProgramTree) (asked : List (List ℕ)) (w : CoreState) (states : States) (early added : List Commit) → Ground types asked w states early added →
     (c : Commit) (n : ℕ) → Member c added → c.logged.origin ≡ Line n → IsLineCall types asked n c.logged.call
 of-line types asked w states early added g c n m e =
     let a = is-added types asked w states early added g c m in
@@ -92,7 +92,7 @@ of-line types asked w states early added g c n m e =
     (g.known.line c.logged.unit n (finished-begun w c.logged.unit a.finished) (sym a.of.origin ∙ e))
 
 -- no two records are of one line
-one-of-line : (types : ProgramTree) (asked : List (List ℕ)) (w : World) (states : States) (early added : List Commit) → Ground types asked w states early added →
+one-of-line : (types : ProgramTree) (asked : List (List ℕ)) (w : CoreState) (states : States) (early added : List Commit) → Ground types asked w states early added →
     (c d : Commit) (n : ℕ) → Member c added → Member d added → c.logged.origin ≡ Line n → d.logged.origin ≡ Line n → c ≡ d
 one-of-line types asked w states early added g c d n mc md ec ed =
     let a = is-added types asked w states early added g c mc in
@@ -103,13 +103,13 @@ one-of-line types asked w states early added g c d n mc md ec ed =
     (finished-begun w d.logged.unit b.finished, sym b.of.origin ∙ ed))
 
 -- a child is its parent's kid of that index
-kid-is : (w : World) → ChildrenAreKnown w → (u p : UnitNo) (i d : ℕ) → HasBegun w u → w.units.origin u ≡ Child p i d → Member u (w.units.kids p)
+kid-is : (w : CoreState) → ChildrenAreKnown w → (u p : UnitNo) (i d : ℕ) → HasBegun w u → w.units.origin u ≡ Child p i d → Member u (w.units.kids p)
 kid-is w c u p i d b e =
     let t = c.listed u p i d b e in
     subst (λ x. Member x (w.units.kids p)) t.1 (Member-get (w.units.kids p) i t.0)
 
 -- a child is younger
-child-younger : (types : ProgramTree) (asked : List (List ℕ)) (w : World) (states : States) (early added : List Commit) → Ground types asked w states early added →
+child-younger : (types : ProgramTree) (asked : List (List ℕ)) (w : CoreState) (states : States) (early added : List Commit) → Ground types asked w states early added →
     (c : Commit) (parent : UnitNo) (index depth : ℕ) → Member c added → c.logged.origin ≡ Child parent index depth → parent.0 < c.logged.unit.0
 child-younger types asked w states early added g c parent index depth m e =
     let a = is-added types asked w states early added g c m in
@@ -180,7 +180,7 @@ other-outcome Finished Committed result o whole undone e = absurd (undone refl)
 other-outcome Finished Aborted result o whole undone e = some_is o outcome.Aborted (sym e)
 
 -- a child's outcome is its answer by the order
-answer-is : (types : ProgramTree) (asked : List (List ℕ)) (w : World) (states : States) (early added : List Commit) → Ground types asked w states early added →
+answer-is : (types : ProgramTree) (asked : List (List ℕ)) (w : CoreState) (states : States) (early added : List Commit) → Ground types asked w states early added →
     (u : UnitNo) (i : ℕ) (o : Outcome) → HasOutcome w u i o → o ≡ answer_of (early ++ added) u i
 answer-is types asked w states early added g u i o h = by_record (answer-cases added u i) ∙ sym late
   where
@@ -211,7 +211,7 @@ answer-is types asked w states early added g u i o h = by_record (answer-cases a
         ∙ sym t.1
 
 -- a record's answers are its children's outcomes
-answers-are : (types : ProgramTree) (asked : List (List ℕ)) (w : World) (states : States) (early added : List Commit) → Ground types asked w states early added →
+answers-are : (types : ProgramTree) (asked : List (List ℕ)) (w : CoreState) (states : States) (early added : List Commit) → Ground types asked w states early added →
     (c : Commit) → Member c added → AreAnswers (early ++ added) c.logged.unit c.logged.answers
 answers-are types asked w states early added g c m i answer there =
     let u : UnitNo = c.logged.unit in
@@ -246,14 +246,14 @@ all-have states [] h = All-nil (λ (one : Found). states one.0 ≡ one.1)
 all-have states (x ∷ fs) h = All-cons (λ (one : Found). states one.0 ≡ one.1) x fs (h x (inl refl)) (all-have states fs (λ one m. h one (inr m)))
 
 -- states that a unit's reads have, a trail of it has
-led-has : (types : ProgramTree) (w : World) (child : Call) (p : UnitNo) (i d : ℕ) (states : States) → (led : Led types w child p i d) →
+led-has : (types : ProgramTree) (w : CoreState) (child : Call) (p : UnitNo) (i d : ℕ) (states : States) → (led : Led types w child p i d) →
     ((r : Read) → Member r (w.units.reads p) → states r.grain ≡ r.state) → Has states (reads_of led.trail)
 led-has types w child p i d states led reads = all-have states (reads_of led.trail) (λ one m.
     (let t = led.reads one m in
     subst (λ (f : Found). states f.0 ≡ f.1) t.2 (reads t.0 t.1)))
 
 -- a child's record stands before its parent's, whose play asks for the child
-asked-before : (types : ProgramTree) (asked : List (List ℕ)) (w : World) (states : States) (early added : List Commit) → Ground types asked w states early added →
+asked-before : (types : ProgramTree) (asked : List (List ℕ)) (w : CoreState) (states : States) (early added : List Commit) → Ground types asked w states early added →
     (c d : Commit) (index depth : ℕ) → Member c added → Member d added → c.logged.origin ≡ Child d.logged.unit index depth → IsAskedBefore types states added c d index depth
 asked-before types asked w states early added g c d index depth mc md e =
     let p : UnitNo = d.logged.unit in
@@ -300,7 +300,7 @@ states-of-reads : (rs : List Read) → ((r s : Read) → Member r rs → Member 
 states-of-reads rs once r m = state-among r rs m (λ s n e. once s r n m e)
 
 -- what led to a child leads to it over the reads that its parent has at the end
-leads-to : (types : ProgramTree) (asked : List (List ℕ)) (w : World) (states : States) (early added : List Commit) → Ground types asked w states early added →
+leads-to : (types : ProgramTree) (asked : List (List ℕ)) (w : CoreState) (states : States) (early added : List Commit) → Ground types asked w states early added →
     (u p : UnitNo) (i d : ℕ) → Led types w (w.units.call u) p i d → LeadsTo types w (early ++ added) p u i d
 leads-to types asked w states early added g u p i d led =
     let now : States = states_of (map found (w.units.reads p)) in
@@ -316,7 +316,7 @@ leads-to types asked w states early added g u p i d led =
     }
 
 -- by its number, a unit that has begun is reached
-reached : (types : ProgramTree) (asked : List (List ℕ)) (w : World) (states : States) (early added : List Commit) → Ground types asked w states early added →
+reached : (types : ProgramTree) (asked : List (List ℕ)) (w : CoreState) (states : States) (early added : List Commit) → Ground types asked w states early added →
     (n : ℕ) (u : UnitNo) → u.0 < n → HasBegun w u → IsReached types asked w (early ++ added) u
 reached types asked w states early added g zero u lt begun = absurd (omega (arith, lt))
 reached types asked w states early added g (suc n) u lt begun =
@@ -332,7 +332,7 @@ reached types asked w states early added g (suc n) u lt begun =
 -- ---- the whole
 
 -- the clauses one by one
-pub family : (types : ProgramTree) (asked : List (List ℕ)) (w : World) (states : States) (early added : List Commit) → Ground types asked w states early added → IsFamily types asked w states (early ++ added) added
+pub family : (types : ProgramTree) (asked : List (List ℕ)) (w : CoreState) (states : States) (early added : List Commit) → Ground types asked w states early added → IsFamily types asked w states (early ++ added) added
 family types asked w states early added g = record {
   line = of-line types asked w states early added g;
   one_each = one-of-line types asked w states early added g;
@@ -366,11 +366,11 @@ explained_family p r c is numbered =
       base = (core_run p c).base;
       known = known-ends (basis p r c) (core_run p c) above is.units;
       children = subst ChildrenAreKnown same (children-ends (is_play p.types) run lawful);
-      answers = subst (λ (w : World). AnswersAreOutcomes w) same (answers-ends (is_play p.types) run lawful);
+      answers = subst (λ (w : CoreState). AnswersAreOutcomes w) same (answers-ends (is_play p.types) run lawful);
       lines = subst EntriesAreOnce same (once-ends (is_play p.types) run lawful);
       holders = subst HoldersHaveRead same (holders-ends (is_play p.types) run lawful);
-      units = subst (λ (w : World). AreSerialOf p.types (opening_standing p c).states w c.added) same
-          (added-of p.types run c.added lawful (subst (λ (w : World). AreAdded w c.added) (sym same) is.records));
+      units = subst (λ (w : CoreState). AreSerialOf p.types (opening_standing p c).states w c.added) same
+          (added-of p.types run c.added lawful (subst (λ (w : CoreState). AreAdded w c.added) (sym same) is.records));
       below = λ d parent index depth m e.
           (let one : parent.0 < d.logged.unit.0 = above-parent (new_silo p.types).next c.opening d parent index depth numbered m e in
           let two : d.logged.unit.0 < (opening_standing p c).next = below-next (new_silo p.types) c.opening d m in

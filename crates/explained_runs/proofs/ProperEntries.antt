@@ -24,7 +24,7 @@ use Rattle.core_model.specs.Events.{applies, can, does, step, run, is_allowed}
 use Rattle.core_model.specs.Legal.{Run, IsLegal, begins, ends}
 use Rattle.core_model.specs.Laws.{extended}
 use Rattle.core_model.specs.Tests.{is_over, written}
-use Rattle.core_model.specs.World.{UnitNo, GrainId, Value, Write, Member, same_grain, put, Units, Batch, World}
+use Rattle.core_model.specs.CoreState.{UnitNo, GrainId, Value, Write, Member, same_grain, put, Units, Batch, CoreState}
 use Rattle.core_model.proofs.Caused.{caused-ends}
 use Rattle.core_model.proofs.Consistency.{depends-ends}
 use Rattle.core_model.proofs.Decoded.{Change, bad, begin, lock, raise, refuse, finish, end_plain, end_snapshot, release, take_batch, vote, decide_some, decide_none, seal_batch, spoil_batch, doubt_batch, learn, emit, halt_run, want, load, decode}
@@ -68,7 +68,7 @@ module _ (shape : Shape) where
   ResultsFit phase result = (u : UnitNo) → IsEnded (phase u) → ResultFits (result u)
 
   -- and the written grains are the program's
-  abbrev Fits : World → Type 0
+  abbrev Fits : CoreState → Type 0
   Fits w = ResultsFit w.units.phase w.manager.result × ((u : UnitNo) (g : GrainId) → Wrote w.manager.writes u g → IsGrainIn shape g)
 
   -- a unit in another phase than an end
@@ -91,7 +91,7 @@ module _ (shape : Shape) where
       is
 
   -- an event keeps both
-  fits-change : (w : World) (e : CoreEvent) (w' : World) → Change w e w' → IsEventIn shape e → Fits w → Fits w'
+  fits-change : (w : CoreState) (e : CoreEvent) (w' : CoreState) → Change w e w' → IsEventIn shape e → Fits w → Fits w'
   fits-change w e w' (bad line why q) d s = s
   fits-change w e w' (begin origin call plain c) d s = (other-phase w.units.phase w.manager.result (new_unit w) Running never-running s.0, s.1)
   fits-change w e w' (lock u g mode running free first here) d s = s
@@ -118,7 +118,7 @@ module _ (shape : Shape) where
   fits-change w e w' (load g u state gone wanted) d s = s
 
   -- and so do grains that leave memory
-  fits-swept : (w : World) → Fits w → Fits (swept w)
+  fits-swept : (w : CoreState) → Fits w → Fits (swept w)
   fits-swept w s = go w.cells.capacity
     where
       go : (c : Option ℕ) → Fits (swept_by w c)
@@ -126,7 +126,7 @@ module _ (shape : Shape) where
       go (Some m) = s
 
   -- and a list of events
-  fits-run : (events : List CoreEvent) (w : World) → AllByRecursion (IsEventIn shape) events → Fits w → Fits (run w events)
+  fits-run : (events : List CoreEvent) (w : CoreState) → AllByRecursion (IsEventIn shape) events → Fits w → Fits (run w events)
   fits-run [] w all s = s
   fits-run (e ∷ events) w all s =
       fits-run events (step w e) all.1
@@ -139,7 +139,7 @@ module _ (shape : Shape) where
   fits-begins r = ((λ u e. absurd (never-unborn e)), (λ u g m. (let z : None ≡ Some m.0 = m.1 in absurd (cc z))))
 
 -- a batch that is decided changes no unit and no write
-same-decided : (w : World) (e : CoreEvent) (b : Batch) → ((decided_state w e b).manager.writes ≡ w.manager.writes) × ((decided_state w e b).units ≡ w.units)
+same-decided : (w : CoreState) (e : CoreEvent) (b : Batch) → ((decided_state w e b).manager.writes ≡ w.manager.writes) × ((decided_state w e b).units ≡ w.units)
 same-decided w (Decide n) b = (refl, refl)
 same-decided w _ b = (refl, refl)
 
@@ -250,6 +250,6 @@ pub settled-proper : (s : Basis) (shape : Shape) (r : Run) → 0 < r.base → Ke
     → AllByRecursion (IsEventIn shape) (applied_in r) → AllByRecursion (IsProper shape) (ends r).manager.settled
 settled-proper s shape r above keeps short few fit =
     let same : ends (applied_run r) ≡ ends r = ends_alike r in
-    subst (λ (w : World). AllByRecursion (IsProper shape) w.manager.settled) same
+    subst (λ (w : CoreState). AllByRecursion (IsProper shape) w.manager.settled) same
     (proper-all s.types s.lines shape (is_play s.types) (applied_run r) (legal s r above keeps) (all_said s r keeps) short
-    (subst (λ (w : World). w.units.next ≤ 2 ^ 64) (sym same) few) fit)
+    (subst (λ (w : CoreState). w.units.next ≤ 2 ^ 64) (sym same) few) fit)

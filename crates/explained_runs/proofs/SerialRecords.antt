@@ -9,7 +9,7 @@ use Rattle.base_types.specs.declared.calls.Outcome.{Outcome}
 use Rattle.cell_model.proofs.Units.{same_grain-true}
 use Rattle.core_model.specs.declared.effects.Effect.{Effect}
 use Rattle.core_model.specs.declared.effects.Read.{Read}
-use Rattle.core_model.specs.World.{Member, same_grain}
+use Rattle.core_model.specs.CoreState.{Member, same_grain}
 use Rattle.core_model.specs.Tests as core
 use Rattle.core_model.specs.Serial as model
 use Rattle.core_model.specs.Legal.{Run, IsLegal, ends}

@@ -3,7 +3,7 @@ use Rattle.std.proofs.Common.{◌≡◌, ℕ, ◌<◌, ◌≤◌, List, [], ◌�
 use Rattle.base_types.specs.declared.calls.Origin.{Origin}
 use Rattle.base_types.specs.declared.calls.Origin.TheVariants.{Line, Child}
 use Rattle.core_model.specs.declared.phases.Phase.TheVariants.{Unborn, Finished}
-use Rattle.core_model.specs.World.{UnitNo, GrainId, Member, Value, World}
+use Rattle.core_model.specs.CoreState.{UnitNo, GrainId, Member, Value, CoreState}
 use Rattle.core_model.specs.Answers.{effect_of}
 use Rattle.core_model.proofs.Orders.{Member-get}
 use Rattle.core_model.proofs.Lined.{Rises}
@@ -53,7 +53,7 @@ above_in (Line k) n above = tt
 above_in (Child p i d) n above = above p i d refl
 
 -- the records of different units from a number on, each above its parent
-numbered_units : (base : ℕ) (w : World) (us : List UnitNo) (log : List Commit) → Rises w.manager.place us → ((u : UnitNo) → Member u us → (base ≤ u.0) × IsAboveParent (w.units.origin u) u.0)
+numbered_units : (base : ℕ) (w : CoreState) (us : List UnitNo) (log : List Commit) → Rises w.manager.place us → ((u : UnitNo) → Member u us → (base ≤ u.0) × IsAboveParent (w.units.origin u) u.0)
     → AreRecordsOf (map (effect_of w) us) log → AreNumbered base log
 numbered_units base w [] [] rises each are = tt
 numbered_units base w [] (l ∷ log) rises each are = absurd are
@@ -71,7 +71,7 @@ numbered_units base w (u ∷ us) (l ∷ log) rises each are =
     )
 
 -- a unit of the run is above its parent
-unit_above : (types : ProgramTree) (ls : List (List ℕ)) (opening : GrainId → List Value) (base : ℕ) (w : World) → Known types ls opening base w → (u : UnitNo) → (w.units.phase u ≡ Unborn → ⊥)
+unit_above : (types : ProgramTree) (ls : List (List ℕ)) (opening : GrainId → List Value) (base : ℕ) (w : CoreState) → Known types ls opening base w → (u : UnitNo) → (w.units.phase u ≡ Unborn → ⊥)
     → IsAboveParent (w.units.origin u) u.0
 unit_above types ls opening base w known u born =
     above_in (w.units.origin u) u.0 (λ p i d q.
@@ -81,7 +81,7 @@ unit_above types ls opening base w known u born =
 -- the added records are numbered from where the opening log ends
 added_numbered : (p : Program) (r : Observed) (c : Course) → IsExplained p r c → AreNumbered (opening_standing p c).next c.added
 added_numbered p r c is =
-    let w : World = core_end p c in
+    let w : CoreState = core_end p c in
     let opening : GrainId → List Value = (opening_standing p c).states in
     let base : ℕ = (opening_standing p c).next in
     let k : Known p.types (lines r) opening base w = known_of p r c is in

@@ -12,7 +12,7 @@ use Rattle.core_model.specs.declared.events.CoreEvent.{CoreEvent}
 use Rattle.core_model.specs.declared.phases.Phase.TheVariants.{Finished, Ended}
 use Rattle.core_model.specs.declared.phases.Verdict.{Verdict}
 use Rattle.core_model.specs.declared.phases.Verdict.TheVariants.{Chosen, Condemned, Committed, Aborted}
-use Rattle.core_model.specs.World.{UnitNo, GrainId, nobody, Member, Mode, Value, Outcome, Batch, Decision, World}
+use Rattle.core_model.specs.CoreState.{UnitNo, GrainId, nobody, Member, Mode, Value, Outcome, Batch, Decision, CoreState}
 use Rattle.core_model.specs.Tests.{is_over, is_final, ask, members}
 use Rattle.core_model.specs.Changes.{entry_for, told, entries_in, result_told, refusal, refused, ended, verdict_of, decisions_of, with_decisions, closed, seal, spoil, leave, swept, swept_by}
 use Rattle.core_model.specs.Events.{applies, can, does, step, run, is_allowed}
@@ -33,7 +33,7 @@ use Rattle.explained_runs.proofs.UnitsByRule.{Says, AllSaid}
 
 -- Who is told an outcome ended as a plain run, or is committed, with that result; who is told an abort is aborted; who is in
 -- doubt has finished; and a bad line reads so.
-abbrev pub Tells : ProgramTree → List (List ℕ) → World → Entry → Settled → Type 0
+abbrev pub Tells : ProgramTree → List (List ℕ) → CoreState → Entry → Settled → Type 0
 Tells types lines w x (settled.Done outcome) =
     ((w.units.phase x.unit ≡ Ended) ⊎ ((w.units.phase x.unit ≡ Finished) × (w.manager.verdict x.unit ≡ Committed))) × (w.manager.result x.unit ≡ outcome)
 Tells types lines w x (settled.Lock by grain) = w.manager.verdict x.unit ≡ Aborted
@@ -44,11 +44,11 @@ Tells types lines w x settled.InDoubt = w.units.phase x.unit ≡ Finished
 Tells types lines w x (settled.Bad why) = IsBadLine types lines x.line why
 
 -- each settled entry does
-abbrev pub Telling : ProgramTree → List (List ℕ) → World → Type 0
+abbrev pub Telling : ProgramTree → List (List ℕ) → CoreState → Type 0
 Telling types lines w = (x : Entry) → Member x w.manager.settled → Tells types lines w x x.what
 
 -- what is told stays true
-grows-tells : (types : ProgramTree) (lines : List (List ℕ)) (w w' : World) → Grows w w' → (x : Entry) (what : Settled) → Tells types lines w x what → Tells types lines w' x what
+grows-tells : (types : ProgramTree) (lines : List (List ℕ)) (w w' : CoreState) → Grows w w' → (x : Entry) (what : Settled) → Tells types lines w x what → Tells types lines w' x what
 grows-tells types lines w w' g x (settled.Done outcome) t = elim t.0 [
   | inl f ↦ (let o = g.3 x.unit (ap is_over f) in (inl (o.0 ∙ f), o.1 ∙ t.1))
   | inr f ↦ (let o = g.3 x.unit (ap is_over f.0) in (inr (o.0 ∙ f.0, g.1 x.unit (ap is_final f.1) ∙ f.1), o.1 ∙ t.1))
@@ -60,21 +60,21 @@ grows-tells types lines w w' g x settled.Disk t = g.1 x.unit (ap is_final t) ∙
 grows-tells types lines w w' g x settled.InDoubt t = (g.3 x.unit (ap is_over t)).0 ∙ t
 grows-tells types lines w w' g x (settled.Bad why) t = t
 
-telling-same : (types : ProgramTree) (lines : List (List ℕ)) (w w' : World) → Grows w w' → w'.manager.settled ≡ w.manager.settled → Telling types lines w → Telling types lines w'
+telling-same : (types : ProgramTree) (lines : List (List ℕ)) (w w' : CoreState) → Grows w w' → w'.manager.settled ≡ w.manager.settled → Telling types lines w → Telling types lines w'
 telling-same types lines w w' g same s x m = grows-tells types lines w w' g x x.what (s x (subst (Member x) same m))
 
-telling-more : (types : ProgramTree) (lines : List (List ℕ)) (w w' : World) (new : List Entry) → Grows w w' → w'.manager.settled ≡ w.manager.settled ++ new → ((x : Entry) → Member x new → Tells types lines w' x x.what)
+telling-more : (types : ProgramTree) (lines : List (List ℕ)) (w w' : CoreState) (new : List Entry) → Grows w w' → w'.manager.settled ≡ w.manager.settled ++ new → ((x : Entry) → Member x new → Tells types lines w' x x.what)
     → Telling types lines w → Telling types lines w'
 telling-more types lines w w' new g same tells s x m = elim (Member-append x w.manager.settled new (subst (Member x) same m)) [
   | inl h ↦ grows-tells types lines w w' g x x.what (s x h)
   | inr h ↦ tells x h
 ]
 
-tells-from : (types : ProgramTree) (lines : List (List ℕ)) (w : World) (x : Entry) (what : Settled) → x.what ≡ what → Tells types lines w x what → Tells types lines w x x.what
+tells-from : (types : ProgramTree) (lines : List (List ℕ)) (w : CoreState) (x : Entry) (what : Settled) → x.what ≡ what → Tells types lines w x what → Tells types lines w x x.what
 tells-from types lines w x what q t = subst (Tells types lines w x) (sym q) t
 
 -- who is refused is told an abort
-refused-tells : (types : ProgramTree) (lines : List (List ℕ)) (w : World) (u : UnitNo) (g : GrainId) (mode : Mode) (why : Settled) → refusal g (ask w u g mode) ≡ Some why
+refused-tells : (types : ProgramTree) (lines : List (List ℕ)) (w : CoreState) (u : UnitNo) (g : GrainId) (mode : Mode) (why : Settled) → refusal g (ask w u g mode) ≡ Some why
     → (x : Entry) → Member x (entry_for (w.units.origin u) u why) → Tells types lines (refused w u why) x x.what
 refused-tells types lines w u g mode why q x m =
     let t = entry-parts w u why x m in
@@ -85,7 +85,7 @@ refused-tells types lines w u g mode why q x m =
     ])
 
 -- who ends as a plain run is told its result
-ended-tells : (types : ProgramTree) (lines : List (List ℕ)) (w : World) (u : UnitNo) (answers : List Outcome) (result : Outcome) (at : Option ℕ)
+ended-tells : (types : ProgramTree) (lines : List (List ℕ)) (w : CoreState) (u : UnitNo) (answers : List Outcome) (result : Outcome) (at : Option ℕ)
     → (x : Entry) → Member x (entry_for (w.units.origin u) u (settled.Done result)) → Tells types lines (ended w u answers result at) x x.what
 ended-tells types lines w u answers result at x m =
     let t = entry-parts w u (settled.Done result) x m in
@@ -93,7 +93,7 @@ ended-tells types lines w u answers result at x m =
     (inl (put-is w.units.phase u Ended x.unit t.0), put-is w.manager.result u result x.unit t.0)
 
 -- the entries of a batch that closes
-batch-tells : (types : ProgramTree) (lines : List (List ℕ)) (opening : GrainId → List Value) (n : ℕ) (v : World) (f : Verdict → Verdict) (answer : UnitNo → Settled) (b : Batch) (ds : List Decision)
+batch-tells : (types : ProgramTree) (lines : List (List ℕ)) (opening : GrainId → List Value) (n : ℕ) (v : CoreState) (f : Verdict → Verdict) (answer : UnitNo → Settled) (b : Batch) (ds : List Decision)
     → Inv opening n v → Reasons b.votes v.manager.writes v.units.deps v.manager.verdict (members v b) ds → f Condemned ≡ Aborted
     → ((x : Entry) (u : UnitNo) → x.unit ≡ u → v.units.phase u ≡ Finished → v.manager.verdict u ≡ Chosen → Tells types lines (closed v f answer b ds) x (answer u))
     → (x : Entry) → Member x (entries_in v answer (members v b) ds) → Tells types lines (closed v f answer b ds) x x.what
@@ -113,11 +113,11 @@ batch-tells types lines opening n v f answer b ds i reasons dooms commits x m = 
     go (decision.Dependency on) p = tells-from types lines (closed v f answer b ds) x (settled.Dependency on) (t.1.5 ∙ ap (told (answer t.0)) p) (doomed (decision.Dependency on) p refl)
 
 -- who is committed now is told its result
-sealed-tells : (types : ProgramTree) (lines : List (List ℕ)) (v : World) (b : Batch) (ds : List Decision) (x : Entry) (u : UnitNo) → x.unit ≡ u → v.units.phase u ≡ Finished → v.manager.verdict u ≡ Chosen
+sealed-tells : (types : ProgramTree) (lines : List (List ℕ)) (v : CoreState) (b : Batch) (ds : List Decision) (x : Entry) (u : UnitNo) → x.unit ≡ u → v.units.phase u ≡ Finished → v.manager.verdict u ≡ Chosen
     → Tells types lines (closed v seal (result_told v) b ds) x (result_told v u)
 sealed-tells types lines v b ds x u q f c = (inr (ap v.units.phase q ∙ f, ap seal (ap v.manager.verdict q ∙ c)), ap v.manager.result q)
 
-telling-change : (types : ProgramTree) (lines : List (List ℕ)) (opening : GrainId → List Value) (w : World) (e : CoreEvent) (w' : World) → Change w e w' → applies w e ≡ true → Says types lines e → Kept opening w → Depends w → Argued w → Grows w w'
+telling-change : (types : ProgramTree) (lines : List (List ℕ)) (opening : GrainId → List Value) (w : CoreState) (e : CoreEvent) (w' : CoreState) → Change w e w' → applies w e ≡ true → Says types lines e → Kept opening w → Depends w → Argued w → Grows w w'
     → Telling types lines w → Telling types lines w'
 telling-change types lines opening w e w' (bad line why q) a d k dep arg g s =
     telling-more types lines w w' (record { line = line; unit = nobody; what = settled.Bad why } ∷ []) g refl
@@ -142,7 +142,7 @@ telling-change types lines opening w e w' (take_batch none some) a d k dep arg g
 telling-change types lines opening w e w' (vote n grain kept b q number un planned fresh) a d k dep arg g s = telling-same types lines w w' g refl s
 telling-change types lines opening w e w' (decide_some n b q number un voted some) a d k dep arg g s = telling-same types lines w w' g refl s
 telling-change types lines opening w e w' (decide_none n b q number un voted none) a d k dep arg g s =
-    let v : World = with_decisions w b (decisions_of w b) in
+    let v : CoreState = with_decisions w b (decisions_of w b) in
     telling-more types lines w w' (entries_in v (result_told v) (members v b) (decisions_of w b)) g refl
     (batch-tells types lines opening _ v seal (result_told v) b (decisions_of w b) (inv-decided opening w b k q un) (argued-decided opening w b k dep q un) refl (sealed-tells types lines v b (decisions_of w b)))
     s
@@ -164,21 +164,21 @@ telling-change types lines opening w e w' (halt_run q) a d k dep arg g s = telli
 telling-change types lines opening w e w' (want u grain running free fresh) a d k dep arg g s = telling-same types lines w w' g refl s
 telling-change types lines opening w e w' (load grain u state gone wanted) a d k dep arg g s = telling-same types lines w w' g refl s
 
-telling-step : (types : ProgramTree) (lines : List (List ℕ)) (opening : GrainId → List Value) (w : World) (e : CoreEvent) → Says types lines e → Kept opening w → Depends w → Argued w
+telling-step : (types : ProgramTree) (lines : List (List ℕ)) (opening : GrainId → List Value) (w : CoreState) (e : CoreEvent) → Says types lines e → Kept opening w → Depends w → Argued w
     → Telling types lines w → Telling types lines (step w e)
 telling-step types lines opening w e d k dep arg s = cond_both (applies w e) (swept (does w e)) w (Telling types lines)
     (λ a. (let c : Change w e (does w e) = decode w e (and_parts (is_allowed w e) (can w e) a).1 in
     swept-telling (does w e) (telling-change types lines opening w e (does w e) c a d k dep arg (grows-change opening w e (does w e) c a k) s)))
     (λ a. s)
   where
-    swept-telling : (w : World) → Telling types lines w → Telling types lines (swept w)
+    swept-telling : (w : CoreState) → Telling types lines w → Telling types lines (swept w)
     swept-telling w s = go w.cells.capacity
       where
         go : (c : Option ℕ) → Telling types lines (swept_by w c)
         go None = s
         go (Some m) = s
 
-telling-run : (types : ProgramTree) (lines : List (List ℕ)) (opening : GrainId → List Value) (es : List CoreEvent) (w : World) → AllLoadsTrue opening w es → AllSaid types lines es → Kept opening w → Depends w → Argued w
+telling-run : (types : ProgramTree) (lines : List (List ℕ)) (opening : GrainId → List Value) (es : List CoreEvent) (w : CoreState) → AllLoadsTrue opening w es → AllSaid types lines es → Kept opening w → Depends w → Argued w
     → Telling types lines w → Telling types lines (run w es)
 telling-run types lines opening [] w l said k dep arg s = s
 telling-run types lines opening (e ∷ es) w l said k dep arg s =

@@ -7,7 +7,7 @@ use Rattle.base_types.specs.declared.calls.Mode.TheVariants.{Update}
 use Rattle.base_types.specs.declared.calls.Origin.TheVariants.{Line, Child}
 use Rattle.cell_model.specs.Locks.{is_hold_of, holds_lock}
 use Rattle.cell_model.proofs.Units.{same_unit-true, same_unit-false, same_unit-is, any-true, any-member, cases_unit}
-use Rattle.core_model.specs.World.{UnitNo, GrainId, nobody, same_unit, put, Member, Mode, Value, Call, Origin, Outcome, World}
+use Rattle.core_model.specs.CoreState.{UnitNo, GrainId, nobody, same_unit, put, Member, Mode, Value, Call, Origin, Outcome, CoreState}
 use Rattle.core_model.specs.declared.effects.Read.{Read}
 use Rattle.core_model.specs.declared.phases.Phase.{Phase}
 use Rattle.core_model.specs.declared.phases.Phase.TheVariants.{Unborn, Running, Ended}
@@ -37,7 +37,7 @@ use Rattle.explained_runs.proofs.Handed.{Extends, reads_got-append, kids_got-app
 -- ---- what is kept
 
 -- a child of this index has begun, and has this outcome
-pub record HasOutcome (w : World) (p : UnitNo) (j : ℕ) (o : Outcome) : Type 0 where
+pub record HasOutcome (w : CoreState) (p : UnitNo) (j : ℕ) (o : Outcome) : Type 0 where
   pub kid : UnitNo
   pub depth : ℕ
   pub begun : HasBegun w kid
@@ -45,7 +45,7 @@ pub record HasOutcome (w : World) (p : UnitNo) (j : ℕ) (o : Outcome) : Type 0 
   pub outcome : outcome_of w kid ≡ Some o
 
 -- what led from a unit to its child with this call: a trail of what the unit was given, after which it asked for the child
-pub record Led (types : ProgramTree) (w : World) (child : Call) (p : UnitNo) (i d : ℕ) : Type 0 where
+pub record Led (types : ProgramTree) (w : CoreState) (child : Call) (p : UnitNo) (i d : ℕ) : Type 0 where
   pub parent : HasBegun w p
   pub trail : List Given
   pub is : IsTrail types (w.units.call p) (depth_of (w.units.origin p)) trail
@@ -56,7 +56,7 @@ pub record Led (types : ProgramTree) (w : World) (child : Call) (p : UnitNo) (i 
 
 -- Units are numbered from the base on. A line's unit has the line's call; a child isn't plain, and was led to; who ended
 -- as a plain run is plain.
-pub record Known (types : ProgramTree) (lines : List (List ℕ)) (base : ℕ) (w : World) : Type 0 where
+pub record Known (types : ProgramTree) (lines : List (List ℕ)) (base : ℕ) (w : CoreState) : Type 0 where
   pub above : base ≤ w.units.next
   pub numbered : (u : UnitNo) → HasBegun w u → base ≤ u.0
   pub line : (u : UnitNo) (n : ℕ) → HasBegun w u → w.units.origin u ≡ Line n → IsLineCall types lines n (w.units.call u)
@@ -67,7 +67,7 @@ pub record Known (types : ProgramTree) (lines : List (List ℕ)) (base : ℕ) (w
 -- ---- what stays
 
 -- what is once set of a unit stays
-record Stays (w w' : World) : Type 0 where
+record Stays (w w' : CoreState) : Type 0 where
   begun : (u : UnitNo) → HasBegun w u → HasBegun w' u
   origin : (u : UnitNo) → HasBegun w u → w'.units.origin u ≡ w.units.origin u
   call : (u : UnitNo) → HasBegun w u → w'.units.call u ≡ w.units.call u
@@ -75,7 +75,7 @@ record Stays (w w' : World) : Type 0 where
   outcome : Extends (outcome_of w) (outcome_of w')
 
 -- a child's outcome stays
-outcome-stays : (w w' : World) (p : UnitNo) (j : ℕ) (o : Outcome) → Stays w w' → HasOutcome w p j o → HasOutcome w' p j o
+outcome-stays : (w w' : CoreState) (p : UnitNo) (j : ℕ) (o : Outcome) → Stays w w' → HasOutcome w p j o → HasOutcome w' p j o
 outcome-stays w w' p j o s h = record {
   kid = h.kid;
   depth = h.depth;
@@ -85,7 +85,7 @@ outcome-stays w w' p j o s h = record {
 }
 
 -- and what led to a child
-led-stays : (types : ProgramTree) (w w' : World) (child : Call) (p : UnitNo) (i d : ℕ) → Stays w w' → Led types w child p i d → Led types w' child p i d
+led-stays : (types : ProgramTree) (w w' : CoreState) (child : Call) (p : UnitNo) (i d : ℕ) → Stays w w' → Led types w child p i d → Led types w' child p i d
 led-stays types w w' child p i d s l =
     let call : w.units.call p ≡ w'.units.call p = sym (s.call p l.parent) in
     let origin : w.units.origin p ≡ w'.units.origin p = sym (s.origin p l.parent) in
@@ -101,7 +101,7 @@ led-stays types w w' child p i d s l =
     }
 
 -- no unit begins
-pub record IsSteady (w w' : World) : Type 0 where
+pub record IsSteady (w w' : CoreState) : Type 0 where
   number : w'.units.next ≡ w.units.next
   born : (u : UnitNo) → HasBegun w' u → HasBegun w u
   begun : (u : UnitNo) → HasBegun w u → HasBegun w' u
@@ -113,7 +113,7 @@ pub record IsSteady (w w' : World) : Type 0 where
   kids : w'.units.kids ≡ w.units.kids
 
 -- then all that is set stays
-steady-stays : (w w' : World) → IsSteady w w' → Grows w w' → Stays w w'
+steady-stays : (w w' : CoreState) → IsSteady w w' → Grows w w' → Stays w w'
 steady-stays w w' s g = record {
   begun = s.begun;
   origin = λ u b. ap (λ (f : UnitNo → Origin). f u) s.origin;
@@ -123,7 +123,7 @@ steady-stays w w' s g = record {
 }
 
 -- and what is known of the units stays
-pub known-steady : (types : ProgramTree) (lines : List (List ℕ)) (base : ℕ) (w w' : World) → IsSteady w w' → Grows w w' → Known types lines base w → Known types lines base w'
+pub known-steady : (types : ProgramTree) (lines : List (List ℕ)) (base : ℕ) (w w' : CoreState) → IsSteady w w' → Grows w w' → Known types lines base w → Known types lines base w'
 known-steady types lines base w w' s g k = record {
   above = subst (λ n. base ≤ n) (sym s.number) k.above;
   numbered = λ u b. k.numbered u (s.born u b);
@@ -137,7 +137,7 @@ known-steady types lines base w w' s g k = record {
     origin u = sym (ap (λ (f : UnitNo → Origin). f u) s.origin)
 
 -- the names stay where no unit begins
-named-steady : (types : ProgramTree) (w w' : World) (got : UnitNo → List Got) → IsSteady w w' → Grows w w' → Traced types w got → (u : UnitNo) →
+named-steady : (types : ProgramTree) (w w' : CoreState) (got : UnitNo → List Got) → IsSteady w w' → Grows w w' → Traced types w got → (u : UnitNo) →
     AreNamed (outcome_of w') types (w'.units.call u) (depth_of (w'.units.origin u)) [] (got u)
 named-steady types w w' got s g t u =
     subst (λ (f : UnitNo → Origin). AreNamed (outcome_of w') types (w'.units.call u) (depth_of (f u)) [] (got u)) (sym s.origin)
@@ -145,7 +145,7 @@ named-steady types w w' got s g t u =
     (named-later (outcome_of w) (outcome_of w') (grows-outcome w w' g) types (w.units.call u) (depth_of (w.units.origin u)) [] (got u) (t.named u)))
 
 -- and what each got, where nobody reads more
-pub traced-steady : (types : ProgramTree) (w w' : World) (got : UnitNo → List Got) → IsSteady w w' → Grows w w' → w'.units.reads ≡ w.units.reads → Traced types w got → Traced types w' got
+pub traced-steady : (types : ProgramTree) (w w' : CoreState) (got : UnitNo → List Got) → IsSteady w w' → Grows w w' → w'.units.reads ≡ w.units.reads → Traced types w got → Traced types w' got
 traced-steady types w w' got s g reads t = record {
   fresh = λ u e. t.fresh u (s.fresh u e);
   reads = λ u. t.reads u ∙ ap (λ (f : UnitNo → List Read). map found (f u)) (sym reads);
@@ -154,11 +154,11 @@ traced-steady types w w' got s g reads t = record {
 }
 
 -- both
-abbrev pub Told : ProgramTree → List (List ℕ) → ℕ → World → (UnitNo → List Got) → Type 0
+abbrev pub Told : ProgramTree → List (List ℕ) → ℕ → CoreState → (UnitNo → List Got) → Type 0
 Told types lines base w got = Known types lines base w × Traced types w got
 
 -- units that have all as before
-pub steady-same : (w w' : World) → w'.units.next ≡ w.units.next → w'.units.phase ≡ w.units.phase → w'.units.origin ≡ w.units.origin → w'.units.call ≡ w.units.call → w'.units.plain ≡ w.units.plain → w'.units.kids ≡ w.units.kids → IsSteady w w'
+pub steady-same : (w w' : CoreState) → w'.units.next ≡ w.units.next → w'.units.phase ≡ w.units.phase → w'.units.origin ≡ w.units.origin → w'.units.call ≡ w.units.call → w'.units.plain ≡ w.units.plain → w'.units.kids ≡ w.units.kids → IsSteady w w'
 steady-same w w' number phase origin call plain kids = record {
   number = number;
   born = λ u b q. b (at u ∙ q);
@@ -175,7 +175,7 @@ steady-same w w' number phase origin call plain kids = record {
     at u = ap (λ (f : UnitNo → Phase). f u) phase
 
 -- a unit that ran has another phase
-pub steady-phase : (w w' : World) (u : UnitNo) (end : Phase) → w.units.phase u ≡ Running → (end ≡ Unborn → ⊥) → (end ≡ Ended → w.units.plain u ≡ true) →
+pub steady-phase : (w w' : CoreState) (u : UnitNo) (end : Phase) → w.units.phase u ≡ Running → (end ≡ Unborn → ⊥) → (end ≡ Ended → w.units.plain u ≡ true) →
     w'.units.next ≡ w.units.next → w'.units.phase ≡ put w.units.phase u end → w'.units.origin ≡ w.units.origin → w'.units.call ≡ w.units.call → w'.units.plain ≡ w.units.plain → w'.units.kids ≡ w.units.kids → IsSteady w w'
 steady-phase w w' u end running over plainly number phase origin call plain kids = record {
   number = number;
@@ -196,11 +196,11 @@ steady-phase w w' u end running over plainly number phase origin call plain kids
     at x = ap (λ (f : UnitNo → Phase). f x) phase
 
 -- nobody got more
-pub nothing_more : (types : ProgramTree) (w : World) (got : UnitNo → List Got) → Traced types w got → Traced types w (λ u. got u ++ [])
+pub nothing_more : (types : ProgramTree) (w : CoreState) (got : UnitNo → List Got) → Traced types w got → Traced types w (λ u. got u ++ [])
 nothing_more types w got t = subst (Traced types w) (λ i u. sym (append-nil (got u)) i) t
 
 -- an event by which no unit begins or gets anything
-pub quiet : (types : ProgramTree) (lines : List (List ℕ)) (base : ℕ) (w w' : World) (got : UnitNo → List Got) → IsSteady w w' → w'.units.reads ≡ w.units.reads → Grows w w' → Told types lines base w got → Told types lines base w' (λ u. got u ++ [])
+pub quiet : (types : ProgramTree) (lines : List (List ℕ)) (base : ℕ) (w w' : CoreState) (got : UnitNo → List Got) → IsSteady w w' → w'.units.reads ≡ w.units.reads → Grows w w' → Told types lines base w got → Told types lines base w' (λ u. got u ++ [])
 quiet types lines base w w' got s reads g t =
     (known-steady types lines base w w' s g t.0, nothing_more types w' got (traced-steady types w w' got s g reads t.1))
 
@@ -237,7 +237,7 @@ member-map f (y ∷ xs) x (inl e) = inl (ap f e)
 member-map f (y ∷ xs) x (inr m) = inr (member-map f xs x m)
 
 -- the trail that a unit has, and that it reads what the trail reads
-record Trailed (types : ProgramTree) (w : World) (got : UnitNo → List Got) (u : UnitNo) (asked : Want) : Type 0 where
+record Trailed (types : ProgramTree) (w : CoreState) (got : UnitNo → List Got) (u : UnitNo) (asked : Want) : Type 0 where
   trail : List Given
   given : AreGiven (outcome_of w) (got u) trail
   named : next types (w.units.call u) (depth_of (w.units.origin u)) (locks_of trail) (answers_of trail) ≡ asked
@@ -245,7 +245,7 @@ record Trailed (types : ProgramTree) (w : World) (got : UnitNo → List Got) (u 
   reads : reads_of trail ≡ map found (w.units.reads u)
 
 -- where a unit wants something, it has a trail
-trailed : (types : ProgramTree) (w : World) (got : UnitNo → List Got) (u : UnitNo) (asked : Want) → Traced types w got → wanted_by types w u (got u) ≡ Some asked → Trailed types w got u asked
+trailed : (types : ProgramTree) (w : CoreState) (got : UnitNo → List Got) (u : UnitNo) (asked : Want) → Traced types w got → wanted_by types w u (got u) ≡ Some asked → Trailed types w got u asked
 trailed types w got u asked t e =
     let g = wants types w u (got u) asked e in
     record {
@@ -271,7 +271,7 @@ lock-cases (Some (WantUnit call depth)) g mode e = absurd (cc)
 lock-cases (Some (Over outcome)) g mode e = absurd (cc)
 
 -- who holds a grain has read it
-holder-read : (opening : GrainId → List Value) (w : World) (u : UnitNo) (g : GrainId) → Kept opening w → holds_lock u (w.cells.holds g) ≡ true → (r : Read) × Member r (w.units.reads u) × (r.grain ≡ g)
+holder-read : (opening : GrainId → List Value) (w : CoreState) (u : UnitNo) (g : GrainId) → Kept opening w → holds_lock u (w.cells.holds g) ≡ true → (r : Read) × Member r (w.units.reads u) × (r.grain ≡ g)
 holder-read opening w u g k e =
     let h = any-true (is_hold_of u) (w.cells.holds g) e in
     let of : h.0.unit ≡ u = same_unit-true h.0.unit u h.2 in
@@ -280,7 +280,7 @@ holder-read opening w u g k e =
     (r.0, subst (λ x. Member r.0 (w.units.reads x)) (s.2 ∙ of) r.1, r.2)
 
 -- and who has read it and runs holds it
-reader-holds : (opening : GrainId → List Value) (w : World) (u : UnitNo) (r : Read) → Kept opening w → w.units.phase u ≡ Running → Member r (w.units.reads u) → holds_lock u (w.cells.holds r.grain) ≡ true
+reader-holds : (opening : GrainId → List Value) (w : CoreState) (u : UnitNo) (r : Read) → Kept opening w → w.units.phase u ≡ Running → Member r (w.units.reads u) → holds_lock u (w.cells.holds r.grain) ≡ true
 reader-holds opening w u r k running m =
     let h = k.0.keeps u r running m in
     any-member (is_hold_of u) (w.cells.holds r.grain) h.0 h.1 (same_unit-is h.0.unit u h.2)
@@ -302,7 +302,7 @@ both-ways : (b : Bool) → b ≡ true → b ≡ false → ⊥
 both-ways b t f = (let z : true ≡ false = sym t ∙ f in cc)
 
 -- a grain that isn't held is locked for the first time
-pub first-lock : (types : ProgramTree) (opening : GrainId → List Value) (w : World) (got : UnitNo → List Got) (u : UnitNo) (g : GrainId) (mode : Mode) → Kept opening w → Traced types w got →
+pub first-lock : (types : ProgramTree) (opening : GrainId → List Value) (w : CoreState) (got : UnitNo → List Got) (u : UnitNo) (g : GrainId) (mode : Mode) → Kept opening w → Traced types w got →
     w.units.phase u ≡ Running → holds_lock u (w.cells.holds g) ≡ false → wanted_lock (wanted_by types w u (got u)) ≡ Some (g, mode) → wanted_by types w u (got u) ≡ Some (WantLock g mode)
 first-lock types opening w got u g mode k t running free due = elim (lock-cases (wanted_by types w u (got u)) g mode due) [
   | inl e ↦ e
@@ -316,7 +316,7 @@ first-lock types opening w got u g mode k t running free due = elim (lock-cases 
 ]
 
 -- a grain that is held is raised
-pub then-raise : (types : ProgramTree) (opening : GrainId → List Value) (w : World) (got : UnitNo → List Got) (u : UnitNo) (g : GrainId) (mode : Mode) → Kept opening w → Traced types w got →
+pub then-raise : (types : ProgramTree) (opening : GrainId → List Value) (w : CoreState) (got : UnitNo → List Got) (u : UnitNo) (g : GrainId) (mode : Mode) → Kept opening w → Traced types w got →
     holds_lock u (w.cells.holds g) ≡ true → wanted_lock (wanted_by types w u (got u)) ≡ Some (g, mode) → wanted_by types w u (got u) ≡ Some (WantRaise g)
 then-raise types opening w got u g mode k t held due = elim (lock-cases (wanted_by types w u (got u)) g mode due) [
   | inl e ↦
@@ -329,7 +329,7 @@ then-raise types opening w got u g mode k t held due = elim (lock-cases (wanted_
 ]
 
 -- where no unit begins, the names stay and grow by what was asked for
-named-more : (types : ProgramTree) (w w' : World) (got : UnitNo → List Got) (v : UnitNo) (x : Got) → IsSteady w w' → Grows w w' → Traced types w got → wanted_by types w v (got v) ≡ Some (want_of x) →
+named-more : (types : ProgramTree) (w w' : CoreState) (got : UnitNo → List Got) (v : UnitNo) (x : Got) → IsSteady w w' → Grows w w' → Traced types w got → wanted_by types w v (got v) ≡ Some (want_of x) →
     AreNamed (outcome_of w') types (w'.units.call v) (depth_of (w'.units.origin v)) [] (got v ++ (x ∷ []))
 named-more types w w' got v x s g t due =
     let a = trailed types w got v (want_of x) t due in
@@ -344,7 +344,7 @@ map-push [] r = refl
 map-push (x ∷ rs) r = ap (λ (l : List Found). found x ∷ l) (map-push rs r)
 
 -- one unit got a lock or a raise
-pub traced-got : (types : ProgramTree) (w w' : World) (got : UnitNo → List Got) (v : UnitNo) (f : UnitNo → Got) → IsSteady w w' → Grows w w' → Traced types w got → w.units.phase v ≡ Running →
+pub traced-got : (types : ProgramTree) (w w' : CoreState) (got : UnitNo → List Got) (v : UnitNo) (f : UnitNo → Got) → IsSteady w w' → Grows w w' → Traced types w got → w.units.phase v ≡ Running →
     wanted_by types w v (got v) ≡ Some (want_of (f v)) → kids_got (f v ∷ []) ≡ [] →
     ((u : UnitNo) → (u ≡ v → ⊥) → w'.units.reads u ≡ w.units.reads u) → reads_got (got v) ++ reads_got (f v ∷ []) ≡ map found (w'.units.reads v) →
     Traced types w' (λ u. got u ++ (if same_unit v u then f u ∷ [] else []))
@@ -365,7 +365,7 @@ traced-got types w w' got v f s g t running due no_kid others reads = record {
 
 -- ---- a unit begins
 
-stays-begun : (opening : GrainId → List Value) (w : World) (origin : Origin) (call : Call) (plain : Bool) → Kept opening w → Grows w (begun w origin call plain) → Stays w (begun w origin call plain)
+stays-begun : (opening : GrainId → List Value) (w : CoreState) (origin : Origin) (call : Call) (plain : Bool) → Kept opening w → Grows w (begun w origin call plain) → Stays w (begun w origin call plain)
 stays-begun opening w origin call plain k g = record {
   begun = λ u b z. b (sym (put-other w.units.phase (new_unit w) Running u (apart u b)) ∙ z);
   origin = λ u b. put-other w.units.origin (new_unit w) origin u (apart u b);
@@ -378,7 +378,7 @@ stays-begun opening w origin call plain k g = record {
     apart u b q = b (ap w.units.phase q ∙ k.0.unborn (new_unit w) (le_refl w.units.next))
 
 -- the new unit is a line's or a child's, as it must be
-known-begun : (types : ProgramTree) (lines : List (List ℕ)) (base : ℕ) (opening : GrainId → List Value) (w : World) (origin : Origin) (call : Call) (plain : Bool) → Kept opening w → Grows w (begun w origin call plain) →
+known-begun : (types : ProgramTree) (lines : List (List ℕ)) (base : ℕ) (opening : GrainId → List Value) (w : CoreState) (origin : Origin) (call : Call) (plain : Bool) → Kept opening w → Grows w (begun w origin call plain) →
     ((m : ℕ) → origin ≡ Line m → IsLineCall types lines m call) → ((p : UnitNo) (i d : ℕ) → origin ≡ Child p i d → (plain ≡ false) × Led types w call p i d) →
     Known types lines base w → Known types lines base (begun w origin call plain)
 known-begun types lines base opening w origin call plain k g of_line of_child s = record {
@@ -417,7 +417,7 @@ known-begun types lines base opening w origin call plain k g of_line of_child s 
     old u a b z = b (put-other w.units.phase (new_unit w) Running u a ∙ z)
 
 -- what the others got keeps its names, and the new unit got nothing
-named-begun : (types : ProgramTree) (opening : GrainId → List Value) (w : World) (got : UnitNo → List Got) (origin : Origin) (call : Call) (plain : Bool) → Kept opening w → Grows w (begun w origin call plain) →
+named-begun : (types : ProgramTree) (opening : GrainId → List Value) (w : CoreState) (got : UnitNo → List Got) (origin : Origin) (call : Call) (plain : Bool) → Kept opening w → Grows w (begun w origin call plain) →
     Traced types w got → (u : UnitNo) →
     AreNamed (outcome_of (begun w origin call plain)) types (put w.units.call (new_unit w) call u) (depth_of (put w.units.origin (new_unit w) origin u)) [] (got u)
 named-begun types opening w got origin call plain k g t u = elim (cases_unit u (new_unit w)) [
@@ -430,7 +430,7 @@ named-begun types opening w got origin call plain k g t u = elim (cases_unit u (
 ]
 
 -- a line's unit begins
-traced-line : (types : ProgramTree) (opening : GrainId → List Value) (w : World) (got : UnitNo → List Got) (m : ℕ) (call : Call) (plain : Bool) → Kept opening w → Grows w (begun w (Line m) call plain) →
+traced-line : (types : ProgramTree) (opening : GrainId → List Value) (w : CoreState) (got : UnitNo → List Got) (m : ℕ) (call : Call) (plain : Bool) → Kept opening w → Grows w (begun w (Line m) call plain) →
     Traced types w got → Traced types (begun w (Line m) call plain) got
 traced-line types opening w got m call plain k g t = record {
   fresh = λ u e. put-from w.units.phase (new_unit w) Running (λ p. p ≡ Unborn) (got u ≡ []) u (λ q z. absurd (cc)) (λ q z. t.fresh u z) e;
@@ -440,7 +440,7 @@ traced-line types opening w got m call plain k g t = record {
 }
 
 -- a child begins
-traced-child : (types : ProgramTree) (opening : GrainId → List Value) (w : World) (got : UnitNo → List Got) (p : UnitNo) (i d : ℕ) (call : Call) (plain : Bool) → Kept opening w → Grows w (begun w (Child p i d) call plain) →
+traced-child : (types : ProgramTree) (opening : GrainId → List Value) (w : CoreState) (got : UnitNo → List Got) (p : UnitNo) (i d : ℕ) (call : Call) (plain : Bool) → Kept opening w → Grows w (begun w (Child p i d) call plain) →
     w.units.phase p ≡ Running → wanted_by types w p (got p) ≡ Some (WantUnit call d) → Traced types w got →
     Traced types (begun w (Child p i d) call plain) (λ u. got u ++ (if same_unit p u then GotChild call d (new_unit w) ∷ [] else []))
 traced-child types opening w got p i d call plain k g running due t = record {
@@ -461,7 +461,7 @@ traced-child types opening w got p i d call plain k g running due t = record {
     n : UnitNo
     n = new_unit w
 
-    w' : World
+    w' : CoreState
     w' = begun w (Child p i d) call plain
 
     one : UnitNo → Got
@@ -481,7 +481,7 @@ traced-child types opening w got p i d call plain k g running due t = record {
         (named-push (outcome_of w) types (w.units.call p) (depth_of (w.units.origin p)) [] (got p) (GotChild call d (new_unit w)) (t.named p) a.trail a.given a.named)))
 
 -- what its parent was given led to it
-led-child : (types : ProgramTree) (w : World) (got : UnitNo → List Got) (p : UnitNo) (i d : ℕ) (call : Call) → Kin w → w.units.phase p ≡ Running → i ≡ length (w.units.kids p) →
+led-child : (types : ProgramTree) (w : CoreState) (got : UnitNo → List Got) (p : UnitNo) (i d : ℕ) (call : Call) → Kin w → w.units.phase p ≡ Running → i ≡ length (w.units.kids p) →
     wanted_by types w p (got p) ≡ Some (WantUnit call d) → Traced types w got → Led types w call p i d
 led-child types w got p i d call kin running at due t =
     let a : Trailed types w got p (WantUnit call d) = trailed types w got p (WantUnit call d) t due in
@@ -501,7 +501,7 @@ led-child types w got p i d call kin running at due t =
     }
 
 -- a unit that begins is due
-pub told-begun : (s : Basis) (base : ℕ) (opening : GrainId → List Value) (w : World) (got : UnitNo → List Got) (origin : Origin) (call : Call) (plain : Bool) → Kept opening w → Kin w →
+pub told-begun : (s : Basis) (base : ℕ) (opening : GrainId → List Value) (w : CoreState) (got : UnitNo → List Got) (origin : Origin) (call : Call) (plain : Bool) → Kept opening w → Kin w →
     Grows w (begun w origin call plain) → can_begin w origin ≡ true → IsDue s w got (Begin origin call plain) → Told s.types s.lines base w got →
     Told s.types s.lines base (begun w origin call plain) (λ u. got u ++ got_by w u (Begin origin call plain))
 told-begun s base opening w got (Line m) call plain k kin g c due t = (

@@ -3,7 +3,7 @@ use Rattle.std.proofs.Common.{◌≡◌, ℕ, ◌<◌, suc, List, [], ◌∷◌,
 use Rattle.std.specs.Prelude.{slice_get, take, if◌then◌else◌}
 use Rattle.std.proofs.lemmas.Bool.{and_parts}
 use Rattle.cell_model.specs.Locks.{holds_lock}
-use Rattle.core_model.specs.World.{UnitNo, GrainId, Value, Mode, top, World}
+use Rattle.core_model.specs.CoreState.{UnitNo, GrainId, Value, Mode, top, CoreState}
 use Rattle.core_model.specs.declared.effects.Read.{Read}
 use Rattle.core_model.specs.declared.phases.Phase.TheVariants.{Running, Finished, Refused, Ended}
 use Rattle.core_model.specs.declared.events.CoreEvent.{CoreEvent}
@@ -24,7 +24,7 @@ use Rattle.explained_runs.specs.Handed.{want_of, reads_got, kids_got, found, Tra
 use Rattle.explained_runs.proofs.Told.{Known, Told, IsSteady, steady-same, steady-phase, known-steady, traced-steady, quiet, first-lock, then-raise, map-push, traced-got, told-begun}
 
 -- a first lock
-told-locked : (types : ProgramTree) (lines : List (List ℕ)) (base : ℕ) (opening : GrainId → List Value) (w : World) (got : UnitNo → List Got) (u : UnitNo) (g : GrainId) (mode : Mode) → Kept opening w →
+told-locked : (types : ProgramTree) (lines : List (List ℕ)) (base : ℕ) (opening : GrainId → List Value) (w : CoreState) (got : UnitNo → List Got) (u : UnitNo) (g : GrainId) (mode : Mode) → Kept opening w →
     w.units.phase u ≡ Running → holds_lock u (w.cells.holds g) ≡ false → Grows w (locked (restacked w g (cleaned w g)) u g mode) → wanted_lock (wanted_by types w u (got u)) ≡ Some (g, mode) →
     Told types lines base w got → Told types lines base (locked (restacked w g (cleaned w g)) u g mode) (λ x. got x ++ got_by w x (Grant u g mode))
 told-locked types lines base opening w got u g mode k running free g' due t = (
@@ -39,7 +39,7 @@ told-locked types lines base opening w got u g mode k running free g' due t = (
       ∙ ap (map found) (sym (put-same w.units.reads u (w.units.reads u ++ read ∷ [])))),
 )
   where
-    w' : World
+    w' : CoreState
     w' = locked (restacked w g (cleaned w g)) u g mode
 
     steady : IsSteady w (locked (restacked w g (cleaned w g)) u g mode)
@@ -58,7 +58,7 @@ told-locked types lines base opening w got u g mode k running free g' due t = (
     state = ap (λ xs. (top xs).state) (sym (grain-same w.cells.stack g (cleaned w g)))
 
 -- an exclusive lock in place of a shared one
-told-raised : (types : ProgramTree) (lines : List (List ℕ)) (base : ℕ) (opening : GrainId → List Value) (w : World) (got : UnitNo → List Got) (u : UnitNo) (g : GrainId) (mode : Mode) → Kept opening w →
+told-raised : (types : ProgramTree) (lines : List (List ℕ)) (base : ℕ) (opening : GrainId → List Value) (w : CoreState) (got : UnitNo → List Got) (u : UnitNo) (g : GrainId) (mode : Mode) → Kept opening w →
     w.units.phase u ≡ Running → holds_lock u (w.cells.holds g) ≡ true → Grows w (raised (restacked w g (cleaned w g)) u g mode) → wanted_lock (wanted_by types w u (got u)) ≡ Some (g, mode) →
     Told types lines base w got → Told types lines base (raised (restacked w g (cleaned w g)) u g mode) (λ x. got x ++ got_by w x (Grant u g mode))
 told-raised types lines base opening w got u g mode k running held g' due t = (
@@ -70,7 +70,7 @@ told-raised types lines base opening w got u g mode k running held g' due t = (
       (ap (λ (x : Got). reads_got (got u) ++ reads_got (x ∷ [])) is ∙ append-nil (reads_got (got u)) ∙ t.1.reads u),
 )
   where
-    w' : World
+    w' : CoreState
     w' = raised (restacked w g (cleaned w g)) u g mode
 
     steady : IsSteady w (raised (restacked w g (cleaned w g)) u g mode)
@@ -83,7 +83,7 @@ told-raised types lines base opening w got u g mode k running held g' due t = (
     is = ap (λ (b : Bool). if b then GotRaise g else GotLock g mode (top (cleaned w g)).state) held
 
 -- an event that applies and is due
-told-change : (s : Basis) (base : ℕ) (opening : GrainId → List Value) (w : World) (got : UnitNo → List Got) (e : CoreEvent) (w' : World) → Change w e w' → applies w e ≡ true →
+told-change : (s : Basis) (base : ℕ) (opening : GrainId → List Value) (w : CoreState) (got : UnitNo → List Got) (e : CoreEvent) (w' : CoreState) → Change w e w' → applies w e ≡ true →
     Kept opening w → Kin w → Grows w w' → IsDue s w got e → Told s.types s.lines base w got → Told s.types s.lines base w' (λ u. got u ++ got_by w u e)
 told-change s base opening w got e w' (bad line why q) a k kin g d t = quiet s.types s.lines base w w' got (steady-same w w' refl refl refl refl refl refl) refl g t
 told-change s base opening w got e w' (begin origin call plain c) a k kin g d t = told-begun s base opening w got origin call plain k kin g c d t
@@ -108,18 +108,18 @@ told-change s base opening w got e w' (want u h running free fresh) a k kin g d 
 told-change s base opening w got e w' (load h u state gone wanted) a k kin g d t = absurd d
 
 -- grains that leave memory change nothing of it
-swept-told : (types : ProgramTree) (lines : List (List ℕ)) (base : ℕ) (w : World) (got : UnitNo → List Got) → Told types lines base w got → Told types lines base (swept w) got
+swept-told : (types : ProgramTree) (lines : List (List ℕ)) (base : ℕ) (w : CoreState) (got : UnitNo → List Got) → Told types lines base w got → Told types lines base (swept w) got
 swept-told types lines base w got t = go w.cells.capacity
   where
     go : (c : Option ℕ) → Told types lines base (swept_by w c) got
     go None = t
     go (Some m) =
-        let w' : World = swept_by w (Some m) in
+        let w' : CoreState = swept_by w (Some m) in
         let steady : IsSteady w w' = steady-same w w' refl refl refl refl refl refl in
         (known-steady types lines base w w' steady (grows-same w) t.0, traced-steady types w w' got steady (grows-same w) refl t.1)
 
 -- one event, whether it applies or not
-told-step : (s : Basis) (base : ℕ) (opening : GrainId → List Value) (w : World) (got : UnitNo → List Got) (e : CoreEvent) → Kept opening w → Kin w →
+told-step : (s : Basis) (base : ℕ) (opening : GrainId → List Value) (w : CoreState) (got : UnitNo → List Got) (e : CoreEvent) → Kept opening w → Kin w →
     (applies w e ≡ true → IsDue s w got e) → Told s.types s.lines base w got → Told s.types s.lines base (step w e) (λ u. got u ++ (if applies w e then got_by w u e else []))
 told-step s base opening w got e k kin due t = by (applies w e) refl
   where
@@ -131,17 +131,17 @@ told-step s base opening w got e k kin due t = by (applies w e) refl
     by false a = subst (λ (h : UnitNo → List Got). Told s.types s.lines base w h) (λ i u. sym (append-nil (got u)) i) t
 
 -- each event of the list that applies is due, by what each unit got before the list and in it
-abbrev AllDue : Basis → World → (UnitNo → List Got) → List CoreEvent → Type 0
+abbrev AllDue : Basis → CoreState → (UnitNo → List Got) → List CoreEvent → Type 0
 AllDue s w got events = (at : ℕ) (e : CoreEvent) → slice_get events at ≡ Some e → applies (run w (take at events)) e ≡ true →
     IsDue s (run w (take at events)) (λ u. got u ++ got_from w (take at events) u) e
 
 -- nothing due is a load
-no-load : (s : Basis) (opening : GrainId → List Value) (w : World) (got : UnitNo → List Got) (e : CoreEvent) → (applies w e ≡ true → IsDue s w got e) → IsTrueLoad opening w e
+no-load : (s : Basis) (opening : GrainId → List Value) (w : CoreState) (got : UnitNo → List Got) (e : CoreEvent) → (applies w e ≡ true → IsDue s w got e) → IsTrueLoad opening w e
 no-load s opening w got (Load g u state) due = λ a. absurd (due a)
 no-load s opening w got _ due = tt
 
 -- a list of events: each unit got what it gives besides
-told-run : (s : Basis) (base : ℕ) (opening : GrainId → List Value) (events : List CoreEvent) (w : World) (got : UnitNo → List Got) → Kept opening w → Kin w → AllDue s w got events →
+told-run : (s : Basis) (base : ℕ) (opening : GrainId → List Value) (events : List CoreEvent) (w : CoreState) (got : UnitNo → List Got) → Kept opening w → Kin w → AllDue s w got events →
     Told s.types s.lines base w got → Told s.types s.lines base (run w events) (λ u. got u ++ got_from w events u)
 told-run s base opening [] w got k kin all t = subst (λ (h : UnitNo → List Got). Told s.types s.lines base w h) (λ i u. sym (append-nil (got u)) i) t
 told-run s base opening (e ∷ events) w got k kin all t =

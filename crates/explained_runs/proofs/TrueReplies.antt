@@ -13,7 +13,7 @@ use Rattle.core_model.specs.declared.phases.Phase.{Phase}
 use Rattle.core_model.specs.declared.phases.Phase.TheVariants.{Unborn, Running, Finished, Refused, Ended}
 use Rattle.core_model.specs.declared.phases.Verdict.{Verdict}
 use Rattle.core_model.specs.declared.phases.Verdict.TheVariants.{Open, Chosen, Condemned, Committed, Aborted}
-use Rattle.core_model.specs.World.{UnitNo, GrainId, nobody, Member, Value, Outcome, World}
+use Rattle.core_model.specs.CoreState.{UnitNo, GrainId, nobody, Member, Value, Outcome, CoreState}
 use Rattle.core_model.specs.Tests.{is_good, is_committed, outcome_of, outcome_in}
 use Rattle.core_model.specs.Answers.{effect_of}
 use Rattle.core_model.specs.Consistent.{plain_effect, PlainRunsArePlays}
@@ -49,7 +49,7 @@ use Rattle.explained_runs.proofs.Tellings.{Tells, Telling, telling-ends}
 
 -- ---- what is known of the core's last state
 
-pub record Known (types : ProgramTree) (lines : List (List ℕ)) (opening : GrainId → List Value) (base : ℕ) (w : World) : Type 0 where
+pub record Known (types : ProgramTree) (lines : List (List ℕ)) (opening : GrainId → List Value) (base : ℕ) (w : CoreState) : Type 0 where
   pub kept : Kept opening w
   pub split : Split w
   pub once : core.EntriesAreOnce w
@@ -81,11 +81,11 @@ known_of p r c is =
 -- ---- the records are those of the units that meet a test
 
 -- the units in the finish order that meet the test
-abbrev pub chosen_by : (Verdict → Bool) → World → List UnitNo
+abbrev pub chosen_by : (Verdict → Bool) → CoreState → List UnitNo
 chosen_by test w = filter (λ u. test (w.manager.verdict u)) w.manager.order
 
 -- The test holds of the committed ones, and of nobody who is aborted, or to abort.
-pub record Recorded (w : World) (added : List Commit) : Type 0 where
+pub record Recorded (w : CoreState) (added : List Commit) : Type 0 where
   pub test : Verdict → Bool
   pub good : (v : Verdict) → test v ≡ true → is_good v ≡ true
   pub sure : test Committed ≡ true
@@ -98,7 +98,7 @@ committed-good Condemned e = absurd cc
 committed-good Committed e = refl
 committed-good Aborted e = absurd cc
 
-pub recorded : (opening : GrainId → List Value) (w : World) (added : List Commit) → Kept opening w → Split w → AreAdded w added → Recorded w added
+pub recorded : (opening : GrainId → List Value) (w : CoreState) (added : List Commit) → Kept opening w → Split w → AreAdded w added → Recorded w added
 recorded opening w added k s (inl all) = record { test = is_committed; good = committed-good; sure = refl; records = all }
 recorded opening w added k s (inr more) = record {
   test = is_good;
@@ -108,14 +108,14 @@ recorded opening w added k s (inr more) = record {
 }
 
 -- each record is that of a unit, at its place
-pub unit_of : (w : World) (us : List UnitNo) (log : List Commit) (l : Commit) → AreRecordsOf (map (effect_of w) us) log → Member l log → (u : UnitNo) × Member u us × IsRecordOf (effect_of w u) l
+pub unit_of : (w : CoreState) (us : List UnitNo) (log : List Commit) (l : Commit) → AreRecordsOf (map (effect_of w) us) log → Member l log → (u : UnitNo) × Member u us × IsRecordOf (effect_of w u) l
 unit_of w [] [] l are m = absurd m
 unit_of w [] (k ∷ log) l are m = absurd are
 unit_of w (u ∷ us) [] l are m = absurd m
 unit_of w (u ∷ us) (k ∷ log) l are (inl same) = (u, inl refl, subst (IsRecordOf (effect_of w u)) (sym same) are.0)
 unit_of w (u ∷ us) (k ∷ log) l are (inr m) = (let t = unit_of w us log l are.1 m in (t.0, inr t.1, t.2))
 
-unit_at : (w : World) (us : List UnitNo) (log : List Commit) (m : ℕ) (l : Commit) → AreRecordsOf (map (effect_of w) us) log → slice_get log m ≡ Some l → (u : UnitNo) × (slice_get us m ≡ Some u) × IsRecordOf (effect_of w u) l
+unit_at : (w : CoreState) (us : List UnitNo) (log : List Commit) (m : ℕ) (l : Commit) → AreRecordsOf (map (effect_of w) us) log → slice_get log m ≡ Some l → (u : UnitNo) × (slice_get us m ≡ Some u) × IsRecordOf (effect_of w u) l
 unit_at w [] [] m l are there = absurd (none_at m l there)
 unit_at w [] (k ∷ log) m l are there = absurd are
 unit_at w (u ∷ us) [] m l are there = absurd (none_at m l there)
@@ -123,29 +123,29 @@ unit_at w (u ∷ us) (k ∷ log) zero l are there = (u, refl, subst (IsRecordOf 
 unit_at w (u ∷ us) (k ∷ log) (suc m) l are there = unit_at w us log m l are.1 there
 
 -- and each unit has its record
-record_of : (w : World) (us : List UnitNo) (log : List Commit) (u : UnitNo) → AreRecordsOf (map (effect_of w) us) log → Member u us → (l : Commit) × Member l log × IsRecordOf (effect_of w u) l
+record_of : (w : CoreState) (us : List UnitNo) (log : List Commit) (u : UnitNo) → AreRecordsOf (map (effect_of w) us) log → Member u us → (l : Commit) × Member l log × IsRecordOf (effect_of w u) l
 record_of w [] log u are m = absurd m
 record_of w (x ∷ us) [] u are m = absurd are
 record_of w (x ∷ us) (k ∷ log) u are (inl same) = (k, inl refl, subst (λ z. IsRecordOf (effect_of w z) k) (sym same) are.0)
 record_of w (x ∷ us) (k ∷ log) u are (inr m) = (let t = record_of w us log u are.1 m in (t.0, inr t.1, t.2))
 
 -- a unit that has a record
-record HasUnit (w : World) (l : Commit) (u : UnitNo) : Type 0 where
+record HasUnit (w : CoreState) (l : Commit) (u : UnitNo) : Type 0 where
   good : is_good (w.manager.verdict u) ≡ true
   finished : w.units.phase u ≡ Finished
   of : IsRecordOf (effect_of w u) l
 
-pub order-finished : (opening : GrainId → List Value) (w : World) → Kept opening w → (u : UnitNo) → Member u w.manager.order → w.units.phase u ≡ Finished
+pub order-finished : (opening : GrainId → List Value) (w : CoreState) → Kept opening w → (u : UnitNo) → Member u w.manager.order → w.units.phase u ≡ Finished
 order-finished opening w k u m = (in_drop opening _ w k.0 0 u m).0
 
-has_unit : (opening : GrainId → List Value) (w : World) (added : List Commit) → Kept opening w → (a : Recorded w added) → (l : Commit) → Member l added → (u : UnitNo) × HasUnit w l u
+has_unit : (opening : GrainId → List Value) (w : CoreState) (added : List Commit) → Kept opening w → (a : Recorded w added) → (l : Commit) → Member l added → (u : UnitNo) × HasUnit w l u
 has_unit opening w added k a l m =
     let t = unit_of w (chosen_by a.test w) added l a.records m in
     let f = filter-member (λ u. a.test (w.manager.verdict u)) w.manager.order t.0 t.1 in
     (t.0, record { good = a.good (w.manager.verdict t.0) f.1; finished = order-finished opening w k t.0 f.0; of = t.2 })
 
 -- who is committed has a record
-has_record : (opening : GrainId → List Value) (w : World) (added : List Commit) → Kept opening w → Recorded w added → (u : UnitNo) → w.units.phase u ≡ Finished → w.manager.verdict u ≡ Committed
+has_record : (opening : GrainId → List Value) (w : CoreState) (added : List Commit) → Kept opening w → Recorded w added → (u : UnitNo) → w.units.phase u ≡ Finished → w.manager.verdict u ≡ Committed
     → (l : Commit) × Member l added × IsRecordOf (effect_of w u) l
 has_record opening w added k a u f c =
     let t = k.0.placed u f in
@@ -153,7 +153,7 @@ has_record opening w added k a u f c =
     record_of w (chosen_by a.test w) added u a.records (filter-stays (λ x. a.test (w.manager.verdict x)) w.manager.order u m (ap a.test c ∙ a.sure))
 
 -- who is aborted has none
-no_record : (opening : GrainId → List Value) (w : World) (added : List Commit) → Kept opening w → Recorded w added → (u : UnitNo) → w.manager.verdict u ≡ Aborted → (l : Commit) → Member l added → l.logged.unit ≡ u → ⊥
+no_record : (opening : GrainId → List Value) (w : CoreState) (added : List Commit) → Kept opening w → Recorded w added → (u : UnitNo) → w.manager.verdict u ≡ Aborted → (l : Commit) → Member l added → l.logged.unit ≡ u → ⊥
 no_record opening w added k a u dead l m same =
     let t = has_unit opening w added k a l m in
     let one : u ≡ t.0 = sym same ∙ t.1.of.unit in
@@ -163,7 +163,7 @@ no_record opening w added k a u dead l m same =
 -- ---- children and answers
 
 -- a known outcome stands at its index among the children's
-outcome_at : (w : World) (ks : List UnitNo) (os : List Outcome) (i : ℕ) (a : Outcome) → map (outcome_of w) ks ≡ map Some os → slice_get os i ≡ Some a → (i < length ks) × (outcome_of w (get_or ks i nobody) ≡ Some a)
+outcome_at : (w : CoreState) (ks : List UnitNo) (os : List Outcome) (i : ℕ) (a : Outcome) → map (outcome_of w) ks ≡ map Some os → slice_get os i ≡ Some a → (i < length ks) × (outcome_of w (get_or ks i nobody) ≡ Some a)
 outcome_at w [] [] i a e there = absurd (none_at i a there)
 outcome_at w [] (o ∷ os) i a e there = absurd cc
 outcome_at w (k ∷ ks) [] i a e there = absurd (none_at i a there)
@@ -225,7 +225,7 @@ no_child types opening u i numbered late l m e =
     omega (arith, above, below, late)
 
 -- what is known of a unit to commit is its result
-good-result : (w : World) (u : UnitNo) (a : Outcome) → w.units.phase u ≡ Finished → is_good (w.manager.verdict u) ≡ true → outcome_of w u ≡ Some a → w.manager.result u ≡ a
+good-result : (w : CoreState) (u : UnitNo) (a : Outcome) → w.units.phase u ≡ Finished → is_good (w.manager.verdict u) ≡ true → outcome_of w u ≡ Some a → w.manager.result u ≡ a
 good-result w u a f good e = go (w.manager.verdict u) refl
   where
     from : (v : Verdict) → w.manager.verdict u ≡ v → outcome_in Finished v (w.manager.result u) ≡ Some a
@@ -239,7 +239,7 @@ good-result w u a f good e = go (w.manager.verdict u) refl
     go Aborted q = (let z : false ≡ true = sym (ap is_good q) ∙ good in absurd cc)
 
 -- a child with a known outcome has a record, or was aborted
-child-ends : (types : ProgramTree) (lines : List (List ℕ)) (opening : GrainId → List Value) (base : ℕ) (w : World) (added : List Commit) → Known types lines opening base w → Recorded w added
+child-ends : (types : ProgramTree) (lines : List (List ℕ)) (opening : GrainId → List Value) (base : ℕ) (w : CoreState) (added : List Commit) → Known types lines opening base w → Recorded w added
     → (k u : UnitNo) (i d : ℕ) (a : Outcome) → w.units.origin k ≡ Child u i d → (w.units.phase k ≡ Unborn → ⊥) → outcome_of w k ≡ Some a
     → ((l : Commit) × Member l added × (is_child u i l.logged.origin ≡ true)) ⊎ (a ≡ outcome.Aborted)
 child-ends types lines opening base w added known are k u i d a origin born e = go (w.units.phase k) refl (w.manager.verdict k) refl
@@ -260,7 +260,7 @@ child-ends types lines opening base w added known are k u i d a origin born e = 
     go Finished q Condemned h = (let z : None ≡ Some a = from Finished Condemned q h in absurd cc)
 
 -- the answers of a unit at its end are those of the order
-answers_by_order : (types : ProgramTree) (lines : List (List ℕ)) (opening : GrainId → List Value) (log : List Commit) (w : World) (added : List Commit)
+answers_by_order : (types : ProgramTree) (lines : List (List ℕ)) (opening : GrainId → List Value) (log : List Commit) (w : CoreState) (added : List Commit)
     → Known types lines opening (after_records (new_silo types) log).next w → Recorded w added → AreNumbered (new_silo types).next log
     → (u : UnitNo) → (w.units.phase u ≡ Finished) ⊎ (w.units.phase u ≡ Ended) → (w.units.phase u ≡ Unborn → ⊥) → AreAnswers (log ++ added) u (w.manager.answers u)
 answers_by_order types lines opening log w added known are numbered u end born i a there =
@@ -287,7 +287,7 @@ answers_by_order types lines opening log w added known are numbered u end born i
 -- ---- each entry is true
 
 -- a unit that was told an outcome has begun for its entry's line
-begun-for : (types : ProgramTree) (lines : List (List ℕ)) (opening : GrainId → List Value) (base : ℕ) (w : World) → Known types lines opening base w → (e : Entry) → Member e w.manager.settled
+begun-for : (types : ProgramTree) (lines : List (List ℕ)) (opening : GrainId → List Value) (base : ℕ) (w : CoreState) → Known types lines opening base w → (e : Entry) → Member e w.manager.settled
     → (w.units.phase e.unit ≡ Unborn → ⊥) → core.HasBegun w e.unit e.line
 begun-for types lines opening base w known e m born = elim (known.once.entry e m).2 [
   | inl o ↦ absurd (born (ap w.units.phase o.0 ∙ known.kept.0.outside))
@@ -372,12 +372,12 @@ replies_true p r c is numbered front e m =
 
 -- ---- and their order
 
-stand-front : (w : World) (xs ys : List Entry) → core.StandInOrder w (xs ++ ys) → core.StandInOrder w xs
+stand-front : (w : CoreState) (xs ys : List Entry) → core.StandInOrder w (xs ++ ys) → core.StandInOrder w xs
 stand-front w [] ys s = tt
 stand-front w (x ∷ xs) ys s = ((λ y m. s.0 y (Member-left y xs ys m)), stand-front w xs ys s.1)
 
 -- the unit of an earlier entry has the earlier place
-places-of : (w : World) (xs : List Entry) (i j : ℕ) (d e : Entry) → core.StandInOrder w xs → slice_get xs i ≡ Some d → slice_get xs j ≡ Some e → i < j → w.units.phase d.unit ≡ Finished → w.units.phase e.unit ≡ Finished
+places-of : (w : CoreState) (xs : List Entry) (i j : ℕ) (d e : Entry) → core.StandInOrder w xs → slice_get xs i ≡ Some d → slice_get xs j ≡ Some e → i < j → w.units.phase d.unit ≡ Finished → w.units.phase e.unit ≡ Finished
     → w.manager.place d.unit < w.manager.place e.unit
 places-of w [] i j d e s there later lt f g = absurd (none_at i d there)
 places-of w (x ∷ xs) i zero d e s there later lt f g = absurd (omega (arith, lt))
@@ -403,13 +403,13 @@ index-of place (x ∷ us) (suc m) zero u v s there later lt =
     (let same = ap place (some_is x v later) in let less = s.0 u (member_at m u us there) in absurd (omega (arith, lt, same, less)))
 index-of place (x ∷ us) (suc m) (suc n) u v s there later lt = (let t = index-of place us m n u v s.1 there later lt in omega (arith, t))
 
-pub order-rises : (opening : GrainId → List Value) (w : World) → Kept opening w → Rises w.manager.place w.manager.order
+pub order-rises : (opening : GrainId → List Value) (w : CoreState) → Kept opening w → Rises w.manager.place w.manager.order
 order-rises opening w k =
     rises-part opening _ w k.0 w.manager.order 0 (λ j h. (let e : j ≡ 0 + j = omega arith in (omega (arith, h), ap (λ z. get_or w.manager.order z nobody) e)))
 
 pub replies_ordered : (p : Program) (r : Observed) (c : Course) → IsExplained p r c → IsPrefix c.entries (core_end p c).manager.settled → StandInOrder c.entries c.added
 replies_ordered p r c is front i j m n d e a b at_i at_j at_m at_n of_d of_e lt =
-    let w : World = core_end p c in
+    let w : CoreState = core_end p c in
     let k = known_of p r c is in
     let opening : GrainId → List Value = (opening_standing p c).states in
     let are : Recorded w c.added = recorded opening w c.added k.kept k.split is.records in

@@ -15,7 +15,7 @@ use Rattle.core_model.specs.declared.phases.Phase.TheVariants.{Unborn, Running, 
 use Rattle.core_model.specs.declared.phases.Verdict.{Verdict}
 use Rattle.core_model.specs.declared.phases.Verdict.TheVariants.{Open, Chosen, Condemned, Committed, Aborted}
 use Rattle.core_model.specs.declared.effects.Read.{Read}
-use Rattle.core_model.specs.World.{UnitNo, GrainId, nobody, put, Member, Value, Settled, Write, Mode, Prepared, Decision, Batch, World}
+use Rattle.core_model.specs.CoreState.{UnitNo, GrainId, nobody, put, Member, Value, Settled, Write, Mode, Prepared, Decision, Batch, CoreState}
 use Rattle.core_model.specs.Tests.{is_bad, is_gone, is_vote_on, has_failed, failed_in, first_grain, prepared, doomed_by, ask, members}
 use Rattle.core_model.specs.Dead.{Dead}
 use Rattle.core_model.specs.Changes.{entry_for, entries_in, told, result_told, decisions_of, with_decisions, judged, verdict_of, closed, seal, swept, swept_by, refusal, new_unit}
@@ -66,11 +66,11 @@ record Calm (phase : UnitNo → Phase) (verdict : UnitNo → Verdict) (batch : O
   undisturbed : (x : Entry) → Member x settled → IsUndisturbed x.what
 
 -- that of a state
-abbrev IsCalm : World → Type 0
+abbrev IsCalm : CoreState → Type 0
 IsCalm w = Calm w.units.phase w.manager.verdict w.manager.batch w.manager.settled
 
 -- who has finished, or is nobody, isn't dead
-source-alive : (opening : GrainId → List Value) (n : ℕ) (w : World) → Inv opening n w → IsCalm w → (u : UnitNo) → (w.units.phase u ≡ Finished) ⊎ (u ≡ nobody) → Dead w.manager.verdict w.units.reads u → ⊥
+source-alive : (opening : GrainId → List Value) (n : ℕ) (w : CoreState) → Inv opening n w → IsCalm w → (u : UnitNo) → (w.units.phase u ≡ Finished) ⊎ (u ≡ nobody) → Dead w.manager.verdict w.units.reads u → ⊥
 source-alive opening n w i s u o d =
     Dead-not w.manager.verdict w.units.reads (λ x. (w.units.phase x ≡ Finished) ⊎ (x ≡ nobody))
     (λ x o b. elim o [
@@ -81,7 +81,7 @@ source-alive opening n w i s u o d =
     u d o
 
 -- nor is any dependency bad
-dependency-fine : (opening : GrainId → List Value) (n : ℕ) (w : World) → Inv opening n w → Depends w → IsCalm w → (u d : UnitNo) → Member d (w.units.deps u) → is_bad (w.manager.verdict d) ≡ false
+dependency-fine : (opening : GrainId → List Value) (n : ℕ) (w : CoreState) → Inv opening n w → Depends w → IsCalm w → (u d : UnitNo) → Member d (w.units.deps u) → is_bad (w.manager.verdict d) ≡ false
 dependency-fine opening n w i dep s u d m = elim (cases_Bool (is_bad (w.manager.verdict d))) [
   | inl b ↦ (let t = dep.1 u d m in
       elim (i.source u t.0 t.1) [
@@ -113,12 +113,12 @@ all-commit dead (p ∷ ps) fine d (inr m) =
     (t.0, λ u k. ap (λ b. b || dead u) (and_right _ (not (is_commit (decision dead p))) (not_from_true _ first)) ∙ t.1 u k)))
     d m
 
-prepared-of : (w : World) (b : Batch) (us : List UnitNo) (p : Prepared) → Member p (map (prepared w b) us) → (u : UnitNo) × Member u us × (p ≡ prepared w b u)
+prepared-of : (w : CoreState) (b : Batch) (us : List UnitNo) (p : Prepared) → Member p (map (prepared w b) us) → (u : UnitNo) × Member u us × (p ≡ prepared w b u)
 prepared-of w b [] p m = absurd m
 prepared-of w b (u ∷ us) p (inl q) = (u, inl refl, q)
 prepared-of w b (u ∷ us) p (inr m) = (let t = prepared-of w b us p m in (t.0, inr t.1, t.2))
 
-decisions-commit : (opening : GrainId → List Value) (n : ℕ) (w : World) (b : Batch) → Inv opening n w → Depends w → IsCalm w → w.manager.batch ≡ Some b → AllCommit (decisions_of w b)
+decisions-commit : (opening : GrainId → List Value) (n : ℕ) (w : CoreState) (b : Batch) → Inv opening n w → Depends w → IsCalm w → w.manager.batch ≡ Some b → AllCommit (decisions_of w b)
 decisions-commit opening n w b i dep s q =
     all-commit (λ u. is_bad (w.manager.verdict u)) (map (prepared w b) (members w b))
     (λ p m. (let t = prepared-of w b (members w b) p m in (
@@ -144,10 +144,10 @@ seal-fine Committed e = e
 seal-fine Aborted e = e
 
 -- the entry of a unit, and those of a batch that commits
-entry-fine : (w : World) (u : UnitNo) (what : Settled) → IsUndisturbed what → (x : Entry) → Member x (entry_for (w.units.origin u) u what) → IsUndisturbed x.what
+entry-fine : (w : CoreState) (u : UnitNo) (what : Settled) → IsUndisturbed what → (x : Entry) → Member x (entry_for (w.units.origin u) u what) → IsUndisturbed x.what
 entry-fine w u what fine x m = subst IsUndisturbed (sym (entry-parts w u what x m).1) fine
 
-entries-fine : (w : World) (us : List UnitNo) (ds : List Decision) → AllCommit ds → (x : Entry) → Member x (entries_in w (result_told w) us ds) → IsUndisturbed x.what
+entries-fine : (w : CoreState) (us : List UnitNo) (ds : List Decision) → AllCommit ds → (x : Entry) → Member x (entries_in w (result_told w) us ds) → IsUndisturbed x.what
 entries-fine w [] ds all x m = absurd m
 entries-fine w (u ∷ us) [] all x m = absurd m
 entries-fine w (u ∷ us) (d ∷ ds) all x m =
@@ -161,13 +161,13 @@ more-fine : (old new : List Entry) → ((x : Entry) → Member x old → IsUndis
 more-fine old new a b x m = elim (Member-append x old new m) [ inl h ↦ a x h | inr h ↦ b x h ]
 
 -- a unit that wasn't bad is in another phase
-calm-phase : (w : World) (u : UnitNo) (end : Phase) → w.manager.verdict u ≡ Open → IsCalm w → (x : UnitNo) → is_bad (w.manager.verdict x) ≡ true → put w.units.phase u end x ≡ Refused
+calm-phase : (w : CoreState) (u : UnitNo) (end : Phase) → w.manager.verdict u ≡ Open → IsCalm w → (x : UnitNo) → is_bad (w.manager.verdict x) ≡ true → put w.units.phase u end x ≡ Refused
 calm-phase w u end open_u s x b = put-at w.units.phase u end (λ z. z ≡ Refused) x
     (λ q. (let t : false ≡ true = sym (ap is_bad (ap w.manager.verdict q ∙ open_u)) ∙ b in cc))
     (λ q. s.refused x b)
 
 -- the batch is closed, and commits
-calm-sealed : (w : World) (b : Batch) (ds : List Decision) → AllCommit ds → IsCalm w → IsCalm (closed w seal (result_told w) b ds)
+calm-sealed : (w : CoreState) (b : Batch) (ds : List Decision) → AllCommit ds → IsCalm w → IsCalm (closed w seal (result_told w) b ds)
 calm-sealed w b ds all s = record {
   refused = λ u e. s.refused u (seal-fine (w.manager.verdict u) e);
   votes = λ c v q m. cc;
@@ -176,7 +176,7 @@ calm-sealed w b ds all s = record {
 }
 
 -- the open batch is decided
-calm-decided : (w : World) (b : Batch) (ds : List Decision) → AllCommit ds → w.manager.batch ≡ Some b → IsCalm w → IsCalm (with_decisions w b ds)
+calm-decided : (w : CoreState) (b : Batch) (ds : List Decision) → AllCommit ds → w.manager.batch ≡ Some b → IsCalm w → IsCalm (with_decisions w b ds)
 calm-decided w b ds all q s = record {
   refused = λ u e. s.refused u (judged-fine (members w b) ds w.manager.verdict all u e);
   votes = λ c v e m. s.votes b v q (subst (λ (z : Batch). Member v z.votes) (sym (some_is _ c e)) m);
@@ -185,7 +185,7 @@ calm-decided w b ds all q s = record {
 }
 
 -- nobody is doomed, so a refusal is for a lock
-refusal-fine : (opening : GrainId → List Value) (n : ℕ) (w : World) (u : UnitNo) (g : GrainId) (mode : Mode) (why : Settled) → Inv opening n w → IsCalm w → w.units.phase u ≡ Running → refusal g (ask w u g mode) ≡ Some why → IsUndisturbed why
+refusal-fine : (opening : GrainId → List Value) (n : ℕ) (w : CoreState) (u : UnitNo) (g : GrainId) (mode : Mode) (why : Settled) → Inv opening n w → IsCalm w → w.units.phase u ≡ Running → refusal g (ask w u g mode) ≡ Some why → IsUndisturbed why
 refusal-fine opening n w u g mode why i s running q = elim (ask-refused w u g mode why q).1 [
   | inl d ↦ absurd (doomed d.0 d.1)
   | inr d ↦ subst IsUndisturbed (sym d.3) tt
@@ -206,7 +206,7 @@ refusal-fine opening n w u g mode why i s running q = elim (ask-refused w u g mo
           | inr d ↦ source-alive opening n w i s t.0.source (elim (i.source u t.0 f.0) [ inl a ↦ inr a.0 | inr a ↦ inl a.0 ]) d
         ]
 
-calm-change : (opening : GrainId → List Value) (w : World) (e : CoreEvent) (w' : World) → Change w e w' → IsQuiet e → Kept opening w → Depends w → IsCalm w → IsCalm w'
+calm-change : (opening : GrainId → List Value) (w : CoreState) (e : CoreEvent) (w' : CoreState) → Change w e w' → IsQuiet e → Kept opening w → Depends w → IsCalm w → IsCalm w'
 calm-change opening w e w' (bad line why q) quiet k dep s = record {
   refused = s.refused;
   votes = s.votes;
@@ -278,22 +278,22 @@ calm-change opening w e w' (halt_run q) quiet k dep s = s
 calm-change opening w e w' (want u g running free fresh) quiet k dep s = s
 calm-change opening w e w' (load g u state gone wanted) quiet k dep s = absurd quiet
 
-swept-calm : (w : World) → IsCalm w → IsCalm (swept w)
+swept-calm : (w : CoreState) → IsCalm w → IsCalm (swept w)
 swept-calm w s = go w.cells.capacity
   where
     go : (c : Option ℕ) → IsCalm (swept_by w c)
     go None = s
     go (Some m) = s
 
-quiet-load : (opening : GrainId → List Value) (w : World) (e : CoreEvent) → IsQuiet e → IsTrueLoad opening w e
+quiet-load : (opening : GrainId → List Value) (w : CoreState) (e : CoreEvent) → IsQuiet e → IsTrueLoad opening w e
 quiet-load opening w (Load g u state) quiet = absurd quiet
 quiet-load opening w _ quiet = tt
 
 -- a calm state, with the core's invariant
-abbrev KeepsCalm : (GrainId → List Value) → World → Type 0
+abbrev KeepsCalm : (GrainId → List Value) → CoreState → Type 0
 KeepsCalm opening w = Kept opening w × Depends w × IsCalm w
 
-calm-step : (opening : GrainId → List Value) (w : World) (e : CoreEvent) → applies w e ≡ true → IsQuiet e → KeepsCalm opening w → KeepsCalm opening (step w e)
+calm-step : (opening : GrainId → List Value) (w : CoreState) (e : CoreEvent) → applies w e ≡ true → IsQuiet e → KeepsCalm opening w → KeepsCalm opening (step w e)
 calm-step opening w e a quiet k = (
   kept-step opening w e (quiet-load opening w e quiet) k.0,
   depends-step opening w e (quiet-load opening w e quiet) k.0 k.1,

@@ -10,7 +10,7 @@ use Rattle.core_model.specs.declared.events.CoreEvent.{CoreEvent}
 use Rattle.core_model.specs.declared.events.CoreEvent.TheVariants.{Bad, Begin, EndSnapshot}
 use Rattle.core_model.specs.declared.phases.Phase.{Phase}
 use Rattle.core_model.specs.declared.phases.Phase.TheVariants.{Unborn, Running, Finished, Refused, Ended}
-use Rattle.core_model.specs.World.{UnitNo, Call, Origin, put, World}
+use Rattle.core_model.specs.CoreState.{UnitNo, Call, Origin, put, CoreState}
 use Rattle.core_model.specs.Changes.{begun, new_unit, lines_with, swept, swept_by}
 use Rattle.core_model.specs.Events.{applies, can, does, step, run, is_allowed}
 use Rattle.core_model.specs.Lines.{HasBegun}
@@ -37,7 +37,7 @@ Says types lines (Begin (Child parent index depth) call plain) = plain ≡ false
 Says types lines (EndSnapshot u at outcome) = ⊥
 Says types lines _ = Unit {0}
 
-due-says : (s : Basis) (w : World) (got : UnitNo → List Got) (e : CoreEvent) → IsDue s w got e → Says s.types s.lines e
+due-says : (s : Basis) (w : CoreState) (got : UnitNo → List Got) (e : CoreEvent) → IsDue s w got e → Says s.types s.lines e
 due-says s w got (Bad n why) d = d
 due-says s w got (Begin (Line n) call plain) d = d
 due-says s w got (Begin (Child parent index depth) call plain) d = d.1
@@ -49,7 +49,7 @@ abbrev pub AllSaid : ProgramTree → List (List ℕ) → List CoreEvent → Type
 AllSaid types lines [] = Unit {0}
 AllSaid types lines (e ∷ events) = Says types lines e × AllSaid types lines events
 
-said-in : (types : ProgramTree) (lines : List (List ℕ)) (w : World) (events : List CoreEvent)
+said-in : (types : ProgramTree) (lines : List (List ℕ)) (w : CoreState) (events : List CoreEvent)
     → ((at : ℕ) (e : CoreEvent) → slice_get events at ≡ Some e → applies (run w (take at events)) e ≡ true → Says types lines e) → AllSaid types lines (applied_from w events)
 said-in types lines w [] all = tt
 said-in types lines w (e ∷ events) all =
@@ -66,7 +66,7 @@ all_said s r keeps =
 
 -- Units are numbered from the base on. The lines that began are lines of the input. A line's unit has its call, and is
 -- plain where that is no transaction; a child is a transaction. Who ended as a plain run is plain, and saw no snapshot.
-abbrev pub ByRule : ProgramTree → List (List ℕ) → ℕ → World → Type 0
+abbrev pub ByRule : ProgramTree → List (List ℕ) → ℕ → CoreState → Type 0
 ByRule types lines base w =
     (base ≤ w.units.next)
     × (w.units.lines ≤ length lines)
@@ -84,7 +84,7 @@ begins-as types lines n m call other plain too p q r b =
     subst (λ z. BeginsLine types lines z other too) p (subst (λ z. BeginsLine types lines n z too) q (subst (λ z. BeginsLine types lines n call z) r b))
 
 -- one more unit runs
-rule-begun : (types : ProgramTree) (lines : List (List ℕ)) (base : ℕ) (w : World) (origin : Origin) (call : Call) (plain : Bool)
+rule-begun : (types : ProgramTree) (lines : List (List ℕ)) (base : ℕ) (w : CoreState) (origin : Origin) (call : Call) (plain : Bool)
     → lines_with w.units.lines origin ≤ length lines → ((n : ℕ) → origin ≡ Line n → BeginsLine types lines n call plain) → ((p : UnitNo) (i d : ℕ) → origin ≡ Child p i d → plain ≡ false)
     → ByRule types lines base w → ByRule types lines base (begun w origin call plain)
 rule-begun types lines base w origin call plain count line child s = (
@@ -115,13 +115,13 @@ rule-begun types lines base w origin call plain count line child s = (
     born u q b z = b (put-other w.units.phase (new_unit w) Running u q ∙ z)
 
 -- a running unit comes to an end
-born-before : (w : World) (u : UnitNo) (end : Phase) (x : UnitNo) → w.units.phase u ≡ Running → (put w.units.phase u end x ≡ Unborn → ⊥) → w.units.phase x ≡ Unborn → ⊥
+born-before : (w : CoreState) (u : UnitNo) (end : Phase) (x : UnitNo) → w.units.phase u ≡ Running → (put w.units.phase u end x ≡ Unborn → ⊥) → w.units.phase x ≡ Unborn → ⊥
 born-before w u end x running b z = elim (cases_unit x u) [
   | inl q ↦ (let y : Unborn ≡ Running = sym z ∙ ap w.units.phase q ∙ running in absurd cc)
   | inr q ↦ b (put-other w.units.phase u end x q ∙ z)
 ]
 
-rule-phase : (types : ProgramTree) (lines : List (List ℕ)) (base : ℕ) (w : World) (u : UnitNo) (end : Phase) → w.units.phase u ≡ Running → (end ≡ Ended → ⊥)
+rule-phase : (types : ProgramTree) (lines : List (List ℕ)) (base : ℕ) (w : CoreState) (u : UnitNo) (end : Phase) → w.units.phase u ≡ Running → (end ≡ Ended → ⊥)
     → ByRule types lines base w → ByRule types lines base (record w { units = record w.units { phase = put w.units.phase u end } })
 rule-phase types lines base w u end running not_end s = (
   s.0,
@@ -132,7 +132,7 @@ rule-phase types lines base w u end running not_end s = (
   (λ x. put-from w.units.phase u end (λ z. z ≡ Ended) ((w.units.plain x ≡ true) × (w.units.seen_at x ≡ None)) x (λ q f. absurd (not_end f)) (λ q f. s.5 x f)),
 )
 
-rule-ended : (types : ProgramTree) (lines : List (List ℕ)) (base : ℕ) (w : World) (u : UnitNo) → w.units.phase u ≡ Running → w.units.plain u ≡ true
+rule-ended : (types : ProgramTree) (lines : List (List ℕ)) (base : ℕ) (w : CoreState) (u : UnitNo) → w.units.phase u ≡ Running → w.units.plain u ≡ true
     → ByRule types lines base w → ByRule types lines base (record w { units = record w.units { phase = put w.units.phase u Ended; seen_at = put w.units.seen_at u None } })
 rule-ended types lines base w u running plain s = (
   s.0,
@@ -145,7 +145,7 @@ rule-ended types lines base w u running plain s = (
       (λ q f. (let t = s.5 x f in (t.0, put-other w.units.seen_at u None x q ∙ t.1)))),
 )
 
-rule-change : (types : ProgramTree) (lines : List (List ℕ)) (base : ℕ) (w : World) (e : CoreEvent) (w' : World) → Change w e w' → Says types lines e → ByRule types lines base w → ByRule types lines base w'
+rule-change : (types : ProgramTree) (lines : List (List ℕ)) (base : ℕ) (w : CoreState) (e : CoreEvent) (w' : CoreState) → Change w e w' → Says types lines e → ByRule types lines base w → ByRule types lines base w'
 rule-change types lines base w e w' (bad line why q) d s = (s.0, (let t = within-lines types lines line _ d in omega (arith, t, q)), s.2, s.3, s.4, s.5)
 rule-change types lines base w e w' (begin (Line n) call plain c) d s =
     rule-begun types lines base w (Line n) call plain
@@ -184,19 +184,19 @@ rule-change types lines base w e w' (halt_run q) d s = s
 rule-change types lines base w e w' (want u g running free fresh) d s = s
 rule-change types lines base w e w' (load g u state gone wanted) d s = s
 
-rule-step : (types : ProgramTree) (lines : List (List ℕ)) (base : ℕ) (w : World) (e : CoreEvent) → Says types lines e → ByRule types lines base w → ByRule types lines base (step w e)
+rule-step : (types : ProgramTree) (lines : List (List ℕ)) (base : ℕ) (w : CoreState) (e : CoreEvent) → Says types lines e → ByRule types lines base w → ByRule types lines base (step w e)
 rule-step types lines base w e d s = cond_both (applies w e) (swept (does w e)) w (ByRule types lines base)
     (λ a. swept-rule (does w e) (rule-change types lines base w e (does w e) (decode w e (and_parts (is_allowed w e) (can w e) a).1) d s))
     (λ a. s)
   where
-    swept-rule : (w : World) → ByRule types lines base w → ByRule types lines base (swept w)
+    swept-rule : (w : CoreState) → ByRule types lines base w → ByRule types lines base (swept w)
     swept-rule w s = go w.cells.capacity
       where
         go : (c : Option ℕ) → ByRule types lines base (swept_by w c)
         go None = s
         go (Some m) = s
 
-pub rule-run : (types : ProgramTree) (lines : List (List ℕ)) (base : ℕ) (es : List CoreEvent) (w : World) → AllSaid types lines es → ByRule types lines base w → ByRule types lines base (run w es)
+pub rule-run : (types : ProgramTree) (lines : List (List ℕ)) (base : ℕ) (es : List CoreEvent) (w : CoreState) → AllSaid types lines es → ByRule types lines base w → ByRule types lines base (run w es)
 rule-run types lines base [] w said s = s
 rule-run types lines base (e ∷ es) w said s = rule-run types lines base es (step w e) said.1 (rule-step types lines base w e said.0 s)
 

@@ -14,7 +14,7 @@ use Rattle.cell_model.proofs.Units.{same_unit-true, same_unit-false, same_unit-i
 use Rattle.core_model.specs.declared.phases.Phase.{Phase}
 use Rattle.core_model.specs.declared.phases.Phase.TheVariants.{Unborn, Running, Finished, Refused, Ended}
 use Rattle.core_model.specs.declared.effects.Read.{Read}
-use Rattle.core_model.specs.World.{UnitNo, GrainId, nobody, same_unit, put, put_grain, Member, Value, Settled, Hold, Mode, Decision, World}
+use Rattle.core_model.specs.CoreState.{UnitNo, GrainId, nobody, same_unit, put, put_grain, Member, Value, Settled, Hold, Mode, Decision, CoreState}
 use Rattle.core_model.specs.Tests.{ask, is_free, members}
 use Rattle.core_model.specs.Changes.{entry_for, entries_in, told, result_told, decisions_of, refusal, with_decisions, new_unit, swept, swept_by}
 use Rattle.core_model.specs.declared.events.CoreEvent.{CoreEvent}
@@ -43,7 +43,7 @@ use Rattle.explained_runs.proofs.SerialRecords.{above_records}
 use Rattle.explained_runs.proofs.Applied.{AllFit, keeps-run, counts}
 
 -- a line begins only where none is in flight, no child begins, and nothing is loaded
-abbrev IsSingle : Run → World → CoreEvent → Type 0
+abbrev IsSingle : Run → CoreState → CoreEvent → Type 0
 IsSingle r w (Begin (Line n) call plain) = in_flight r w ≡ 0
 IsSingle r w (Begin (Child parent index depth) call plain) = ⊥
 IsSingle r w (Load g u state) = ⊥
@@ -59,7 +59,7 @@ record Alone (base next : ℕ) (phase : UnitNo → Phase) (origin : UnitNo → O
   unlocked : (x : Entry) → Member x settled → IsNoLock x.what
 
 -- that of a state
-abbrev IsAlone : ℕ → World → Type 0
+abbrev IsAlone : ℕ → CoreState → Type 0
 IsAlone base w = Alone base w.units.next w.units.phase w.units.origin w.cells.holds w.manager.settled
 
 -- ---- what in-flight says
@@ -73,7 +73,7 @@ among_units (suc n) base u low high = elim (cases_Bool (same_unit u (record { 0 
 ]
 
 -- where no line is in flight, each unit that has begun is settled and free
-at_rest : (r : Run) (opening : GrainId → List Value) (n : ℕ) (w : World) → Inv opening n w → IsAlone r.base w → in_flight r w ≡ 0 → (u : UnitNo) → (w.units.phase u ≡ Unborn → ⊥) → (is_settled w u ≡ true) × (is_free w u ≡ true)
+at_rest : (r : Run) (opening : GrainId → List Value) (n : ℕ) (w : CoreState) → Inv opening n w → IsAlone r.base w → in_flight r w ≡ 0 → (u : UnitNo) → (w.units.phase u ≡ Unborn → ⊥) → (is_settled w u ≡ true) × (is_free w u ≡ true)
 at_rest r opening n w i s none u born = elim (cases_Bool (is_line (w.units.origin u) && (not (is_settled w u) || not (is_free w u)))) [
   | inl e ↦ absurd (counts (λ v. is_line (w.units.origin v) && (not (is_settled w v) || not (is_free w v))) (units_of r w) u there e none)
   | inr e ↦ (let t = or_parts (not (is_settled w u)) (not (is_free w u)) (sym (ap (λ b. b && (not (is_settled w u) || not (is_free w u))) known.1) ∙ e) in
@@ -90,7 +90,7 @@ at_rest r opening n w i s none u born = elim (cases_Bool (is_line (w.units.origi
     there = among_units (w.units.next - r.base) r.base u known.0 (omega (arith, below, s.above))
 
 -- an entry isn't of a unit that runs
-entry-over : (opening : GrainId → List Value) (n : ℕ) (w : World) → Inv opening n w → Once w → (x : Entry) → Member x w.manager.settled → w.units.phase x.unit ≡ Running → ⊥
+entry-over : (opening : GrainId → List Value) (n : ℕ) (w : CoreState) → Inv opening n w → Once w → (x : Entry) → Member x w.manager.settled → w.units.phase x.unit ≡ Running → ⊥
 entry-over opening n w i once x m p = elim (once.3 x m).2 [
   | inl o ↦ (let t : Unborn ≡ Running = sym i.outside ∙ ap w.units.phase (sym o.0) ∙ p in cc)
   | inr o ↦ elim o.1 [
@@ -103,14 +103,14 @@ entry-over opening n w i once x m p = elim (once.3 x m).2 [
 ]
 
 -- so nobody runs
-nobody_runs : (r : Run) (opening : GrainId → List Value) (n : ℕ) (w : World) → Inv opening n w → Once w → IsAlone r.base w → in_flight r w ≡ 0 → (u : UnitNo) → w.units.phase u ≡ Running → ⊥
+nobody_runs : (r : Run) (opening : GrainId → List Value) (n : ℕ) (w : CoreState) → Inv opening n w → Once w → IsAlone r.base w → in_flight r w ≡ 0 → (u : UnitNo) → w.units.phase u ≡ Running → ⊥
 nobody_runs r opening n w i once s none u p =
     let rest = at_rest r opening n w i s none u (λ q. (let t : Unborn ≡ Running = sym q ∙ p in cc)) in
     let t = any-true (λ (x : Entry). same_unit x.unit u) w.manager.settled rest.0 in
     entry-over opening n w i once t.0 t.1 (ap w.units.phase (same_unit-true t.0.unit u t.2) ∙ p)
 
 -- and nobody has a lock
-nobody_holds : (r : Run) (opening : GrainId → List Value) (n : ℕ) (w : World) → Inv opening n w → IsAlone r.base w → in_flight r w ≡ 0 → (g : GrainId) (h : Hold) → Member h (w.cells.holds g) → ⊥
+nobody_holds : (r : Run) (opening : GrainId → List Value) (n : ℕ) (w : CoreState) → Inv opening n w → IsAlone r.base w → in_flight r w ≡ 0 → (g : GrainId) (h : Hold) → Member h (w.cells.holds g) → ⊥
 nobody_holds r opening n w i s none g h m =
     let t = i.told g h m in
     let seen = i.seen g t.0 t.1 in
@@ -123,7 +123,7 @@ nobody_holds r opening n w i s none g h m =
 
 -- ---- entries
 
-entry-free : (w : World) (u : UnitNo) (what : Settled) → IsNoLock what → (x : Entry) → Member x (entry_for (w.units.origin u) u what) → IsNoLock x.what
+entry-free : (w : CoreState) (u : UnitNo) (what : Settled) → IsNoLock what → (x : Entry) → Member x (entry_for (w.units.origin u) u what) → IsNoLock x.what
 entry-free w u what free x m = subst IsNoLock (sym (entry-parts w u what x m).1) free
 
 told-free : (what : Settled) (d : Decision) → IsNoLock what → IsNoLock (told what d)
@@ -131,7 +131,7 @@ told-free what decision.Commit free = free
 told-free what (decision.Vote g) free = tt
 told-free what (decision.Dependency on) free = tt
 
-entries-free : (w : World) (answer : UnitNo → Settled) → ((u : UnitNo) → IsNoLock (answer u)) → (us : List UnitNo) (ds : List Decision) (x : Entry) → Member x (entries_in w answer us ds) → IsNoLock x.what
+entries-free : (w : CoreState) (answer : UnitNo → Settled) → ((u : UnitNo) → IsNoLock (answer u)) → (us : List UnitNo) (ds : List Decision) (x : Entry) → Member x (entries_in w answer us ds) → IsNoLock x.what
 entries-free w answer free [] ds x m = absurd m
 entries-free w answer free (u ∷ us) [] x m = absurd m
 entries-free w answer free (u ∷ us) (d ∷ ds) x m =
@@ -145,7 +145,7 @@ more-free : (old new : List Entry) → ((x : Entry) → Member x old → IsNoLoc
 more-free old new a b x m = elim (Member-append x old new m) [ inl h ↦ a x h | inr h ↦ b x h ]
 
 -- the unit that runs is the last, so whoever holds a lock is no older
-refusal-free : (base : ℕ) (w : World) (u : UnitNo) (g : GrainId) (mode : Mode) (why : Settled) → IsAlone base w → w.units.phase u ≡ Running → refusal g (ask w u g mode) ≡ Some why → IsNoLock why
+refusal-free : (base : ℕ) (w : CoreState) (u : UnitNo) (g : GrainId) (mode : Mode) (why : Settled) → IsAlone base w → w.units.phase u ≡ Running → refusal g (ask w u g mode) ≡ Some why → IsNoLock why
 refusal-free base w u g mode why s running q = elim (ask-refused w u g mode why q).1 [
   | inl d ↦ subst IsNoLock (sym d.2) tt
   | inr d ↦ (let t = ask-die (w.cells.holds g) u mode d.0 d.2 in
@@ -157,7 +157,7 @@ refusal-free base w u g mode why s running q = elim (ask-refused w u g mode why 
 -- ---- events
 
 -- a unit that has begun goes on to another phase, and its line is settled
-alone-over : (base : ℕ) (w : World) (u : UnitNo) (end : Phase) (new : List Entry) → w.units.phase u ≡ Running → (end ≡ Running → ⊥) → IsAlone base w → ((x : Entry) → Member x new → IsNoLock x.what)
+alone-over : (base : ℕ) (w : CoreState) (u : UnitNo) (end : Phase) (new : List Entry) → w.units.phase u ≡ Running → (end ≡ Running → ⊥) → IsAlone base w → ((x : Entry) → Member x new → IsNoLock x.what)
     → Alone base w.units.next (put w.units.phase u end) w.units.origin w.cells.holds (w.manager.settled ++ new)
 alone-over base w u end new running over s free = record {
   above = s.above;
@@ -170,7 +170,7 @@ alone-over base w u end new running over s free = record {
 }
 
 -- a line begins
-alone-begun : (r : Run) (opening : GrainId → List Value) (n : ℕ) (w : World) (line : ℕ) → Inv opening n w → Once w → in_flight r w ≡ 0 → IsAlone r.base w
+alone-begun : (r : Run) (opening : GrainId → List Value) (n : ℕ) (w : CoreState) (line : ℕ) → Inv opening n w → Once w → in_flight r w ≡ 0 → IsAlone r.base w
     → Alone r.base (w.units.next + 1) (put w.units.phase (new_unit w) Running) (put w.units.origin (new_unit w) (Line line)) w.cells.holds w.manager.settled
 alone-begun r opening n w line i once none s = record {
   above = omega (arith, s.above);
@@ -185,7 +185,7 @@ alone-begun r opening n w line i once none s = record {
 }
 
 -- a lock is granted
-holder-granted : (base : ℕ) (w : World) (u : UnitNo) (g : GrainId) (mode : Mode) → w.units.phase u ≡ Running → IsAlone base w → (k : GrainId) (h : Hold) → Member h (put_grain w.cells.holds g (locks.granted (w.cells.holds g) u mode) k) → h.unit.0 + 1 ≡ w.units.next
+holder-granted : (base : ℕ) (w : CoreState) (u : UnitNo) (g : GrainId) (mode : Mode) → w.units.phase u ≡ Running → IsAlone base w → (k : GrainId) (h : Hold) → Member h (put_grain w.cells.holds g (locks.granted (w.cells.holds g) u mode) k) → h.unit.0 + 1 ≡ w.units.next
 holder-granted base w u g mode running s k h = grain-from w.cells.holds g (locks.granted (w.cells.holds g) u mode) (Member h) (h.unit.0 + 1 ≡ w.units.next) k
     (λ q m. elim (granted-member (w.cells.holds g) u mode h m) [
       | inl o ↦ s.holder g h o.0
@@ -194,7 +194,7 @@ holder-granted base w u g mode running s k h = grain-from w.cells.holds g (locks
     (λ q m. s.holder k h m)
 
 -- more is settled
-alone-more : (base : ℕ) (w : World) (new : List Entry) → IsAlone base w → ((x : Entry) → Member x new → IsNoLock x.what) → Alone base w.units.next w.units.phase w.units.origin w.cells.holds (w.manager.settled ++ new)
+alone-more : (base : ℕ) (w : CoreState) (new : List Entry) → IsAlone base w → ((x : Entry) → Member x new → IsNoLock x.what) → Alone base w.units.next w.units.phase w.units.origin w.cells.holds (w.manager.settled ++ new)
 alone-more base w new s free = record {
   above = s.above;
   begun = s.begun;
@@ -203,10 +203,10 @@ alone-more base w new s free = record {
   unlocked = more-free w.manager.settled new s.unlocked free;
 }
 
-alone-held : (base : ℕ) (w : World) (holds : GrainId → List Hold) → IsAlone base w → ((g : GrainId) (h : Hold) → Member h (holds g) → h.unit.0 + 1 ≡ w.units.next) → Alone base w.units.next w.units.phase w.units.origin holds w.manager.settled
+alone-held : (base : ℕ) (w : CoreState) (holds : GrainId → List Hold) → IsAlone base w → ((g : GrainId) (h : Hold) → Member h (holds g) → h.unit.0 + 1 ≡ w.units.next) → Alone base w.units.next w.units.phase w.units.origin holds w.manager.settled
 alone-held base w holds s held = record { above = s.above; begun = s.begun; running = s.running; holder = held; unlocked = s.unlocked }
 
-alone-change : (r : Run) (opening : GrainId → List Value) (w : World) (e : CoreEvent) (w' : World) → Change w e w' → IsSingle r w e → Kept opening w → Once w → IsAlone r.base w → IsAlone r.base w'
+alone-change : (r : Run) (opening : GrainId → List Value) (w : CoreState) (e : CoreEvent) (w' : CoreState) → Change w e w' → IsSingle r w e → Kept opening w → Once w → IsAlone r.base w → IsAlone r.base w'
 alone-change r opening w e w' (bad line why q) single k once s =
     alone-more r.base w (record { line = line; unit = nobody; what = settled.Bad why } ∷ []) s (λ x m. elim m [ inl h ↦ subst IsNoLock (sym (ap (λ (z : Entry). z.what) h)) tt | inr h ↦ absurd h ])
 alone-change r opening w e w' (begin (Line n) call plain c) single k once s = alone-begun r opening _ w n k.0 once single s
@@ -227,7 +227,7 @@ alone-change r opening w e w' (take_batch none some) single k once s = s
 alone-change r opening w e w' (vote n g kept b q number d planned fresh) single k once s = s
 alone-change r opening w e w' (decide_some n b q number d voted some) single k once s = s
 alone-change r opening w e w' (decide_none n b q number d voted none) single k once s =
-    (let v : World = with_decisions w b (decisions_of w b) in
+    (let v : CoreState = with_decisions w b (decisions_of w b) in
     alone-more r.base w (entries_in v (result_told v) (members v b) (decisions_of w b)) s (entries-free v (result_told v) (λ u. tt) (members v b) (decisions_of w b)))
 alone-change r opening w e w' (seal_batch n b ds q number d) single k once s = alone-more r.base w (entries_in w (result_told w) (members w b) ds) s (entries-free w (result_told w) (λ u. tt) (members w b) ds)
 alone-change r opening w e w' (spoil_batch n b ds q number d) single k once s = alone-more r.base w (entries_in w (λ u. settled.Disk) (members w b) ds) s (entries-free w (λ u. settled.Disk) (λ u. tt) (members w b) ds)
@@ -238,29 +238,29 @@ alone-change r opening w e w' (halt_run q) single k once s = s
 alone-change r opening w e w' (want u g running free fresh) single k once s = s
 alone-change r opening w e w' (load g u state gone wanted) single k once s = absurd single
 
-swept-alone : (base : ℕ) (w : World) → IsAlone base w → IsAlone base (swept w)
+swept-alone : (base : ℕ) (w : CoreState) → IsAlone base w → IsAlone base (swept w)
 swept-alone base w s = go w.cells.capacity
   where
     go : (c : Option ℕ) → IsAlone base (swept_by w c)
     go None = s
     go (Some m) = s
 
-swept-once : (w : World) → Once w → Once (swept w)
+swept-once : (w : CoreState) → Once w → Once (swept w)
 swept-once w s = go w.cells.capacity
   where
     go : (c : Option ℕ) → Once (swept_by w c)
     go None = s
     go (Some m) = s
 
-single-load : (r : Run) (opening : GrainId → List Value) (w : World) (e : CoreEvent) → IsSingle r w e → IsTrueLoad opening w e
+single-load : (r : Run) (opening : GrainId → List Value) (w : CoreState) (e : CoreEvent) → IsSingle r w e → IsTrueLoad opening w e
 single-load r opening w (Load g u state) single = absurd single
 single-load r opening w _ single = tt
 
 -- one unit alone, with the core's invariants
-abbrev KeepsAlone : Run → World → Type 0
+abbrev KeepsAlone : Run → CoreState → Type 0
 KeepsAlone r w = Kept r.opening w × Depends w × Argued w × Once w × IsAlone r.base w
 
-alone-step : (r : Run) (w : World) (e : CoreEvent) → applies w e ≡ true → IsSingle r w e → KeepsAlone r w → KeepsAlone r (step w e)
+alone-step : (r : Run) (w : CoreState) (e : CoreEvent) → applies w e ≡ true → IsSingle r w e → KeepsAlone r w → KeepsAlone r (step w e)
 alone-step r w e a single k = (
   kept-step r.opening w e (single-load r r.opening w e single) k.0,
   depends-step r.opening w e (single-load r r.opening w e single) k.0 k.1,
@@ -276,7 +276,7 @@ alone-step r w e a single k = (
 single-events : (p : Program) (r : Observed) (c : Course) → IsExplained p r c → r.manner.threaded ≡ false → r.manner.width ≡ 1 → HasNoChild p c → AllFit (IsSingle (core_run p c)) (begins (core_run p c)) c.events
 single-events p r c is unthreaded one none at e there a = single e (record { there = there; applied = a }) (is.units at e (record { there = there; applied = a }))
   where
-    w : World
+    w : CoreState
     w = state_before (core_run p c) at
 
     single : (e : CoreEvent) → AppliesAt (core_run p c) at e → IsDue (basis p r c) w (got_from (begins (core_run p c)) (take at c.events)) e → IsSingle (core_run p c) w e

@@ -4,7 +4,7 @@ use Rattle.host_trait.specs.Disk.{MayLeave, settled}
 use Rattle.host_trait.specs.declared.channels.FileId.{FileId}
 use Rattle.host_trait.specs.World as host
 use Rattle.host_trait.specs.World.{Moment, Image, IsImage, Passes, moment_of, last_of}
-use Rattle.core_model.specs.World.{World}
+use Rattle.core_model.specs.CoreState.{CoreState}
 use Rattle.silo_spec.specs.Silos.{manager}
 use Rattle.silo_spec.specs.Moments.{IsUntouched}
 use Rattle.promise_spec.specs.Programs.{Program, shape_in}
@@ -34,7 +34,7 @@ pub record IsBehind (p : Program) (r : Observed) (c : Course) (mid : host.World)
   pub late : r.new.past ≡ mid.past ++ c.late
 
 -- the log of each image of the moment ends where a batch does, as the core has closed them
-abbrev pub AllEnd : Program → World → List Commit → Moment → Type 0
+abbrev pub AllEnd : Program → CoreState → List Commit → Moment → Type 0
 AllEnd p w opening m = (image : Image) (log : List Commit) → IsImage m.disk image → IsLog (shape_in p) image log → EndsABatch w opening log
 
 -- what is carried beside the journal itself: at each moment since, and now, whole batches, and other files and the header as

@@ -2,7 +2,7 @@
 use Rattle.std.specs.Prelude.{◌≡◌, ℕ, List, [], ◌∷◌, ◌++◌, map, Option, Some}
 use Rattle.base_types.specs.declared.calls.Call.{Call}
 use Rattle.base_types.specs.declared.calls.Outcome.{Outcome}
-use Rattle.core_model.specs.World.{UnitNo, World}
+use Rattle.core_model.specs.CoreState.{UnitNo, CoreState}
 use Rattle.core_model.specs.declared.phases.Phase.TheVariants.{Unborn}
 use Rattle.core_model.specs.declared.effects.Read.{Read}
 use Rattle.core_model.specs.Tests.{outcome_of}
@@ -61,7 +61,7 @@ AreNamed outcome types call depth before [] = Unit {0}
 AreNamed outcome types call depth before (x ∷ got) = IsNamed outcome types call depth before x × AreNamed outcome types call depth (before ++ (x ∷ [])) got
 
 -- What each unit got: its reads, its children, and each thing asked for before.
-pub record Traced (types : ProgramTree) (w : World) (got : UnitNo → List Got) : Type 0 where
+pub record Traced (types : ProgramTree) (w : CoreState) (got : UnitNo → List Got) : Type 0 where
   pub fresh : (u : UnitNo) → w.units.phase u ≡ Unborn → got u ≡ []
   pub reads : (u : UnitNo) → reads_got (got u) ≡ map found (w.units.reads u)
   pub kids : (u : UnitNo) → kids_got (got u) ≡ w.units.kids u

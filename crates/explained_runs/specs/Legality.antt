@@ -1,7 +1,7 @@
 -- What the core's laws speak of: the test that an effect is a play, and the run of the events that applied.
 use Rattle.std.specs.Prelude.{Bool, ◌&&◌, ◌==◌, length, map}
 use Rattle.core_model.specs.declared.effects.Effect.{Effect}
-use Rattle.core_model.specs.World.{same_grain}
+use Rattle.core_model.specs.CoreState.{same_grain}
 use Rattle.core_model.specs.Equality.{same_list, same_state, same_outcome}
 use Rattle.core_model.specs.Legal.{Run}
 use Rattle.script_tree.specs.Programs.{ProgramTree}

@@ -4,7 +4,7 @@ use Rattle.base_types.specs.declared.entries.Entry.{Entry}
 use Rattle.base_types.specs.declared.entries.Settled.TheVariants.{InDoubt}
 use Rattle.host_trait.specs.declared.channels.FileId.{FileId}
 use Rattle.host_trait.specs.World.{Moment, Image, IsImage, moment_of, last_of}
-use Rattle.core_model.specs.World.{Member}
+use Rattle.core_model.specs.CoreState.{Member}
 use Rattle.request_wire.specs.Lines.{lines_of}
 use Rattle.promise_spec.specs.Programs.{Program, shape_in}
 use Rattle.promise_spec.specs.Records.{Commit}

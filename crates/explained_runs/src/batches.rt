@@ -1,7 +1,7 @@
 ghost use Rattle.std.specs.Prelude.{◌++◌, ◌<◌, List};
 ghost use Rattle.host_trait.specs.World as host;
 ghost use Rattle.host_trait.specs.World.{Moment, Passes};
-ghost use Rattle.core_model.specs.World.{World};
+ghost use Rattle.core_model.specs.CoreState.{CoreState};
 ghost use Rattle.promise_spec.specs.Journals.{Settlement, AllLog, IsSealing, commits_of};
 ghost use Rattle.core_model.specs.declared.events.CoreEvent.{CoreEvent};
 ghost use Rattle.core_model.specs.Events.{step};
@@ -35,7 +35,7 @@ pub fn records_are_whole_batches()
 
 /// At the moments of a step: where each image has one log that ends so, and while a batch is sealed, where both logs do.
 pub fn moments_end_batches()
-    ensures logged { (p : Program) (w : World) (opening log : List Commit) (m : Moment) → AllLog p log m.disk → EndsABatch w opening log → AllEnd p w opening m }
-    ensures sealing { (p : Program) (w : World) (opening before : List Commit) (batch : List Settlement) (mid : host.World) (m : Moment) → IsSealing p before batch mid m
+    ensures logged { (p : Program) (w : CoreState) (opening log : List Commit) (m : Moment) → AllLog p log m.disk → EndsABatch w opening log → AllEnd p w opening m }
+    ensures sealing { (p : Program) (w : CoreState) (opening before : List Commit) (batch : List Settlement) (mid : host.World) (m : Moment) → IsSealing p before batch mid m
         → EndsABatch w opening before → EndsABatch w opening (before ++ commits_of batch) → AllEnd p w opening m }
 {}

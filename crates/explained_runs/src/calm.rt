@@ -1,6 +1,6 @@
 ghost use Rattle.std.specs.Prelude.{◌≡◌, false};
 ghost use Rattle.base_types.specs.declared.entries.Entry.{Entry};
-ghost use Rattle.core_model.specs.World.{Member};
+ghost use Rattle.core_model.specs.CoreState.{Member};
 ghost use Rattle.promise_spec.specs.Programs.{Program};
 ghost use Rattle.promise_spec.specs.Causes.{NoneRose, HasDoubt};
 ghost use Rattle.promise_spec.specs.Courses.{Observed, Course, core_run, core_end};

@@ -1,6 +1,6 @@
 ghost use Rattle.std.specs.Prelude.{◌≤◌, length};
 ghost use Rattle.base_types.specs.declared.entries.Entry.{Entry};
-ghost use Rattle.core_model.specs.World.{Member};
+ghost use Rattle.core_model.specs.CoreState.{Member};
 ghost use Rattle.core_model.specs.Lines.{DifferInLine};
 ghost use Rattle.promise_spec.specs.Records.{new_silo};
 ghost use Rattle.promise_spec.specs.Logs.{IsPrefix};

@@ -1,7 +1,7 @@
 ghost use Rattle.std.specs.Prelude.{◌≡◌, ◌↔◌, ◌<◌, true};
 ghost use Rattle.base_types.specs.declared.entries.Entry.{Entry};
 ghost use Rattle.core_model.specs.declared.effects.Effect.{Effect};
-ghost use Rattle.core_model.specs.World.{Member};
+ghost use Rattle.core_model.specs.CoreState.{Member};
 ghost use Rattle.core_model.specs.Causes.{IsCaused};
 ghost use Rattle.core_model.specs.Legal.{Run, IsLegal, ends};
 ghost use Rattle.script_tree.specs.Programs.{ProgramTree};

@@ -7,7 +7,7 @@ use Rattle.core_model.specs.declared.events.CoreEvent.{CoreEvent}
 use Rattle.core_model.specs.declared.events.CoreEvent.TheVariants as event
 use Rattle.core_model.specs.Legal.{Run, ends}
 use Rattle.core_model.specs.Serial.{committed}
-use Rattle.core_model.specs.World.{same_grain, put, put_grain}
+use Rattle.core_model.specs.CoreState.{same_grain, put, put_grain}
 use Rattle.script_meaning.specs.Play.{unit, next, play_over}
 use Rattle.promise_spec.specs.Records.{AreRecordsOf}
 use Rattle.promise_spec.specs.Cores.{applied_in, how_many}

@@ -1,7 +1,7 @@
 -- What holds at the first moment that counts, at those between and at the exit, holds at each; and other files stay.
 use Rattle.std.proofs.Common.{inl, inr, List, [], ◌∷◌, ◌++◌, refl}
 use Rattle.std.specs.List.{AllByRecursion}
-use Rattle.core_model.specs.World.{Member}
+use Rattle.core_model.specs.CoreState.{Member}
 use Rattle.host_trait.specs.World.{Moment}
 use Rattle.promise_spec.proofs.Lists.{each_of, in_append, both_parts}
 

@@ -12,7 +12,7 @@ use Rattle.cell_model.specs.declared.locks.Hold.{Hold}
 use Rattle.cell_model.specs.Locks.{holds_lock}
 use Rattle.core_model.specs.Legal.{Run, begins, ends}
 use Rattle.core_model.specs.Tests.{is_before}
-use Rattle.core_model.specs.World.{same_grain, put, put_grain}
+use Rattle.core_model.specs.CoreState.{same_grain, put, put_grain}
 use Rattle.script_meaning.specs.Play.{unit, next, play_over, IsTransaction}
 use Rattle.promise_spec.specs.Lines.{IsLineCall}
 use Rattle.promise_spec.specs.Cores.{state_before}

@@ -11,7 +11,7 @@ use Rattle.core_model.specs.declared.phases.Verdict.TheVariants as verdict
 use Rattle.core_model.specs.Changes.{seal}
 use Rattle.core_model.specs.Legal.{Run, IsLegal}
 use Rattle.core_model.proofs.Caused.{caused-ends}
-use Rattle.core_model.specs.World.{Member, same_unit, same_grain, put, put_grain}
+use Rattle.core_model.specs.CoreState.{Member, same_unit, same_grain, put, put_grain}
 use Rattle.host_trait.specs.declared.channels.Channel.{Channel}
 use Rattle.host_trait.specs.declared.channels.Channel.TheVariants.{File}
 use Rattle.host_trait.specs.declared.channels.FileId.TheVariants.{Grain}

@@ -8,13 +8,13 @@ use Rattle.core_model.specs.Events.{applies, is_allowed, can, does, step, run}
 use Rattle.core_model.specs.Changes.{swept, swept_by}
 use Rattle.core_model.specs.Answers.{next_learn}
 use Rattle.core_model.specs.Legal.{Run, begins, ends}
-use Rattle.core_model.specs.World.{UnitNo, GrainId, Batch, World}
+use Rattle.core_model.specs.CoreState.{UnitNo, GrainId, Batch, CoreState}
 use Rattle.core_model.proofs.Decoded.{Change, bad, begin, lock, raise, refuse, finish, end_plain, end_snapshot, release, take_batch, vote, decide_some, decide_none, seal_batch, spoil_batch, doubt_batch, learn, emit, halt_run, want, load, decode}
 use Rattle.script_tree.specs.Programs.{ProgramTree}
 use Rattle.promise_spec.specs.Cores.{AppliesAt, state_before}
 use Rattle.promise_spec.specs.TurnRule.{KeepsTurnRule, Makes, batch_step, later_step}
 
-never_fewer : (w w' : World) (e : CoreEvent) → Change w e w' → w.manager.emitted ≤ w'.manager.emitted
+never_fewer : (w w' : CoreState) (e : CoreEvent) → Change w e w' → w.manager.emitted ≤ w'.manager.emitted
 never_fewer w _ _ (bad line why is) = omega arith
 never_fewer w _ _ (begin origin call plain is) = omega arith
 never_fewer w _ _ (lock u g mode p q r s) = omega arith
@@ -37,11 +37,11 @@ never_fewer w _ _ (halt_run p) = omega arith
 never_fewer w _ _ (want u g p q r) = omega arith
 never_fewer w _ _ (load g u state p q) = omega arith
 
-swept_same : (w : World) (capacity : Option ℕ) → (swept_by w capacity).manager.emitted ≡ w.manager.emitted
+swept_same : (w : CoreState) (capacity : Option ℕ) → (swept_by w capacity).manager.emitted ≡ w.manager.emitted
 swept_same w None = refl
 swept_same w (Some n) = refl
 
-step_fewer : (w : World) (e : CoreEvent) → w.manager.emitted ≤ (step w e).manager.emitted
+step_fewer : (w : CoreState) (e : CoreEvent) → w.manager.emitted ≤ (step w e).manager.emitted
 step_fewer w e = by_test (applies w e) refl where
   by_test : (b : Bool) → applies w e ≡ b → w.manager.emitted ≤ (if b then swept (does w e) else w).manager.emitted
   by_test true is =
@@ -50,14 +50,14 @@ step_fewer w e = by_test (applies w e) refl where
       omega arith
   by_test false is = omega arith
 
-run_fewer : (w : World) (events : List CoreEvent) → w.manager.emitted ≤ (run w events).manager.emitted
+run_fewer : (w : CoreState) (events : List CoreEvent) → w.manager.emitted ≤ (run w events).manager.emitted
 run_fewer w [] = omega arith
 run_fewer w (e ∷ events) =
     let one : w.manager.emitted ≤ (step w e).manager.emitted = step_fewer w e in
     let more : (step w e).manager.emitted ≤ (run (step w e) events).manager.emitted = run_fewer (step w e) events in
     omega arith
 
-front_fewer : (w : World) (at : ℕ) (events : List CoreEvent) → (run w (take at events)).manager.emitted ≤ (run w events).manager.emitted
+front_fewer : (w : CoreState) (at : ℕ) (events : List CoreEvent) → (run w (take at events)).manager.emitted ≤ (run w events).manager.emitted
 front_fewer w zero events = run_fewer w events
 front_fewer w (suc at) [] = omega arith
 front_fewer w (suc at) (e ∷ events) = front_fewer (step w e) at events
@@ -66,7 +66,7 @@ front_fewer w (suc at) (e ∷ events) = front_fewer (step w e) at events
 pub emitted_before : (r : Run) (at : ℕ) → (state_before r at).manager.emitted ≤ (ends r).manager.emitted
 emitted_before r at = front_fewer (begins r) at r.events
 
-module _ (w : World) (unwritten : w.manager.emitted < length w.manager.settled) where
+module _ (w : CoreState) (unwritten : w.manager.emitted < length w.manager.settled) where
   less : nat_lt w.manager.emitted (length w.manager.settled) ≡ true
   less = lt-ltb w.manager.emitted (length w.manager.settled) unwritten
 

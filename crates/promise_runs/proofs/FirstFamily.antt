@@ -3,7 +3,7 @@ use Rattle.std.proofs.Common.{◌≡◌, inl, inr, ℕ, zero, suc, ◌<◌, Bool
 use Rattle.std.specs.Prelude.{slice_get, count_by, ◌&&◌}
 use Rattle.base_types.specs.declared.calls.Origin.TheVariants.{Line, Child}
 use Rattle.base_types.specs.declared.calls.UnitNo.{UnitNo}
-use Rattle.core_model.specs.World.{Member, World}
+use Rattle.core_model.specs.CoreState.{Member, CoreState}
 use Rattle.script_tree.specs.Programs.{ProgramTree}
 use Rattle.script_meaning.specs.Play.{unit, play_over}
 use Rattle.promise_spec.specs.Records.{Commit, States, new_silo}
@@ -56,7 +56,7 @@ not_child : (parent : UnitNo) (index depth : ℕ) → Line 1 ≡ Child parent in
 not_child parent index depth same = absurd (cc same)
 
 -- the record comes from line 1
-pub family_of : (lines : List (List ℕ)) (w : World) → IsLineCall accounts lines 1 deposit_call → HasBegun w (unit_no 1) → IsUnitOf w first_commit → IsReached accounts lines w (first_commit ∷ []) (unit_no 1)
+pub family_of : (lines : List (List ℕ)) (w : CoreState) → IsLineCall accounts lines 1 deposit_call → HasBegun w (unit_no 1) → IsUnitOf w first_commit → IsReached accounts lines w (first_commit ∷ []) (unit_no 1)
     → IsFamily accounts lines w (new_silo accounts).states (first_commit ∷ []) (first_commit ∷ [])
 family_of lines w asks begun unit_is reached = record {
   line = λ c n there. only (λ (d : Commit). d.logged.origin ≡ Line n → IsLineCall accounts lines n d.logged.call) first_commit c (λ same. subst (λ k. IsLineCall accounts lines k deposit_call) (line_is n same) asks) there;
@@ -70,7 +70,7 @@ family_of lines w asks begun unit_is reached = record {
 }
 
 -- no records come from lines whatever they are
-pub no_family : (types : ProgramTree) (lines : List (List ℕ)) (w : World) (opening : States) (order : List Commit) → IsFamily types lines w opening order []
+pub no_family : (types : ProgramTree) (lines : List (List ℕ)) (w : CoreState) (opening : States) (order : List Commit) → IsFamily types lines w opening order []
 no_family types lines w opening order = record {
   line = λ c n none is. absurd none;
   one_each = λ c d n none other is also. absurd none;

@@ -1,6 +1,6 @@
 -- A run that keeps its promise over a sound folder, and kept a journal, shows what has to be shown.
 use Rattle.std.proofs.Common.{◌≡◌, List}
-use Rattle.core_model.specs.World.{Member}
+use Rattle.core_model.specs.CoreState.{Member}
 use Rattle.host_trait.specs.World.{Moment, Image, IsImage, moment_of, last_of}
 use Rattle.promise_spec.specs.Programs.{Program}
 use Rattle.promise_spec.specs.Courses.{Observed, Course, moments}

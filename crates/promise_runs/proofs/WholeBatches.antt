@@ -7,12 +7,12 @@ use Rattle.std.proofs.lemmas.List.Sums.{sum_by-take-le}
 use Rattle.core_model.specs.declared.effects.Effect.{Effect}
 use Rattle.core_model.specs.Answers.{effect_of}
 use Rattle.core_model.specs.Tests.{is_good}
-use Rattle.core_model.specs.World.{UnitNo, Batch, World}
+use Rattle.core_model.specs.CoreState.{UnitNo, Batch, CoreState}
 use Rattle.promise_spec.specs.Records.{Commit, AreRecordsOf}
 use Rattle.promise_spec.specs.Batches.{EndsABatch, units_in, kept_by}
 
 -- the opening log has no batch behind it
-pub no_batch : (w : World) (opening : List Commit) → EndsABatch w opening opening
+pub no_batch : (w : CoreState) (opening : List Commit) → EndsABatch w opening opening
 no_batch w opening = record { batches = 0; more = []; split = sym (append-nil opening); records = tt }
 
 -- a longer first part of a list passes no fewer
@@ -32,7 +32,7 @@ more_sum : {A : Type 0} (size : A → ℕ) (xs : List A) (a b : ℕ) → a ≤ b
 more_sum {A} size xs a b low = subst (λ (l : List A). sum_by size l ≤ sum_by size (take b xs)) (take-take a b xs low) (sum_by-take-le size (take b xs) a)
 
 -- more batches have no fewer units to commit
-pub more_kept : (w : World) (a b : ℕ) → a ≤ b → length (kept_by w a) ≤ length (kept_by w b)
+pub more_kept : (w : CoreState) (a b : ℕ) → a ≤ b → length (kept_by w a) ≤ length (kept_by w b)
 more_kept w a b low =
     let test : UnitNo → Bool = λ u. is_good (w.manager.verdict u) in
     let units : units_in w a ≤ units_in w b = more_sum (λ (x : Batch). x.size) w.manager.past a b low in
@@ -49,7 +49,7 @@ same_length (e ∷ effects) [] are = absurd are
 same_length (e ∷ effects) (l ∷ log) are = ap suc (same_length effects log are.1)
 
 -- a log of whole batches doesn't end between two
-pub not_between : (w : World) (opening more : List Commit) (n : ℕ) → EndsABatch w opening (opening ++ more) → length (kept_by w n) < length more → length more < length (kept_by w (n + 1)) → ⊥
+pub not_between : (w : CoreState) (opening more : List Commit) (n : ℕ) → EndsABatch w opening (opening ++ more) → length (kept_by w n) < length more → length more < length (kept_by w (n + 1)) → ⊥
 not_between w opening more n ends above below =
     let same : more ≡ ends.more = append_cancel_left opening more ends.more ends.split in
     let long : length more ≡ length ends.more = ap (λ (l : List Commit). length l) same in

@@ -11,7 +11,7 @@ use Rattle.base_types.specs.declared.calls.Value.TheVariants.{Int}
 use Rattle.base_types.specs.declared.entries.Entry.{Entry}
 use Rattle.base_types.specs.declared.entries.Settled.TheVariants as settled_as
 use Rattle.base_types.specs.declared.stores.Version.{Version}
-use Rattle.core_model.specs.World.{UnitNo, Member}
+use Rattle.core_model.specs.CoreState.{UnitNo, Member}
 use Rattle.field_codec.specs.declared.units.Numbers.TheVariants.{Logged}
 use Rattle.commit_log.specs.Bodies.{IsRecordIn}
 use Rattle.gate_block.specs.Blocks.{block_of}

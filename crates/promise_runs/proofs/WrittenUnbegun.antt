@@ -10,7 +10,7 @@ use Rattle.host_trait.specs.Disk.{settled}
 use Rattle.host_trait.specs.World.{Image, IsImage, Moment, moment_of}
 use Rattle.host_trait.proofs.Crashes.{settled_only}
 use Rattle.core_model.specs.Serial.{chosen}
-use Rattle.core_model.specs.World.{GrainId, Member, put, put_grain}
+use Rattle.core_model.specs.CoreState.{GrainId, Member, put, put_grain}
 use Rattle.gate_block.specs.Log.{HasBlocks}
 use Rattle.silo_spec.specs.Silos.{manager}
 use Rattle.promise_spec.specs.Programs.{shape_in}

@@ -5,7 +5,7 @@ use Rattle.base_types.specs.declared.calls.GrainId.{GrainId}
 use Rattle.base_types.specs.declared.entries.Entry.{Entry}
 use Rattle.base_types.specs.declared.shapes.Shape.{Shape}
 use Rattle.core_model.specs.Tests.{is_before}
-use Rattle.core_model.specs.World.{Member}
+use Rattle.core_model.specs.CoreState.{Member}
 use Rattle.host_trait.specs.Faults.{Rose}
 use Rattle.host_trait.specs.declared.channels.Channel.{Channel}
 use Rattle.host_trait.specs.declared.channels.Channel.TheVariants.{Input, Output, File}

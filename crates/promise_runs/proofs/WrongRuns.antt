@@ -27,7 +27,7 @@ use Rattle.core_model.specs.Events.{applies, run, step}
 use Rattle.core_model.specs.Legal.{begins, ends}
 use Rattle.core_model.specs.Lines.{DifferInLine}
 use Rattle.core_model.specs.Serial.{committed, chosen}
-use Rattle.core_model.specs.World.{Member, Mode}
+use Rattle.core_model.specs.CoreState.{Member, Mode}
 use Rattle.gate_block.proofs.Logs as blocks
 use Rattle.gate_block.specs.Log.{HasBlocks, LogsUpTo}
 use Rattle.host_trait.specs.declared.channels.FileId.{FileId}

@@ -1,7 +1,7 @@
 ghost use Rattle.std.specs.Prelude.{◌≡◌, ◌≢◌, ℕ, true, List, [], ◌∷◌, ◌++◌, codes, length, None, pos, take, drop, slice_get, Some, Err};
 ghost use Rattle.base_types.specs.declared.calls.Value.{Value};
 ghost use Rattle.base_types.specs.declared.calls.Value.TheVariants.{Int};
-ghost use Rattle.core_model.specs.World.{Member};
+ghost use Rattle.core_model.specs.CoreState.{Member};
 ghost use Rattle.field_codec.specs.Spelling.{spelling_of_version};
 ghost use Rattle.gate_block.specs.Blocks.{block_of};
 ghost use Rattle.request_wire.specs.Reply.{reply_line};

@@ -16,7 +16,7 @@ ghost use Rattle.core_model.specs.Events.{run};
 ghost use Rattle.core_model.specs.Legal.{begins};
 ghost use Rattle.core_model.specs.Serial.{committed, chosen};
 ghost use Rattle.core_model.specs.Tests.{is_before};
-ghost use Rattle.core_model.specs.World.{Member, Mode};
+ghost use Rattle.core_model.specs.CoreState.{Member, Mode};
 ghost use Rattle.gate_block.specs.Log.{HasBlocks, LogsUpTo};
 ghost use Rattle.host_trait.specs.declared.channels.Channel.{Channel};
 ghost use Rattle.host_trait.specs.declared.channels.Channel.TheVariants.{Input, Output, File};

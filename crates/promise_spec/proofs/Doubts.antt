@@ -7,7 +7,7 @@ use Rattle.core_model.specs.declared.events.CoreEvent.TheVariants.{Doubt}
 use Rattle.core_model.specs.Events.{applies, is_allowed, can, does, step, run}
 use Rattle.core_model.specs.Changes.{swept, swept_by}
 use Rattle.core_model.specs.Legal.{Run, begins, ends}
-use Rattle.core_model.specs.World.{World}
+use Rattle.core_model.specs.CoreState.{CoreState}
 use Rattle.core_model.proofs.Decoded.{Change, bad, begin, lock, raise, refuse, finish, end_plain, end_snapshot, release, take_batch, vote, decide_some, decide_none, seal_batch, spoil_batch, doubt_batch, learn, emit, halt_run, want, load, decode}
 use Rattle.promise_spec.specs.Causes.{HasDoubt}
 
@@ -16,7 +16,7 @@ abbrev IsOfDoubt : CoreEvent → Type 0
 IsOfDoubt e = (n : ℕ) × (e ≡ Doubt n)
 
 -- no other changes what is in doubt
-one_change : (w w' : World) (e : CoreEvent) → Change w e w' → (w'.manager.doubt ≡ w.manager.doubt) ⊎ IsOfDoubt e
+one_change : (w w' : CoreState) (e : CoreEvent) → Change w e w' → (w'.manager.doubt ≡ w.manager.doubt) ⊎ IsOfDoubt e
 one_change w _ _ (bad line why is) = inl refl
 one_change w _ _ (begin origin call plain is) = inl refl
 one_change w _ _ (lock u g mode p q r s) = inl refl
@@ -39,11 +39,11 @@ one_change w _ _ (halt_run p) = inl refl
 one_change w _ _ (want u g p q r) = inl refl
 one_change w _ _ (load g u state p q) = inl refl
 
-swept_same : (w : World) (capacity : Option ℕ) → (swept_by w capacity).manager.doubt ≡ w.manager.doubt
+swept_same : (w : CoreState) (capacity : Option ℕ) → (swept_by w capacity).manager.doubt ≡ w.manager.doubt
 swept_same w None = refl
 swept_same w (Some n) = refl
 
-one_step : (w : World) (e : CoreEvent) → ((step w e).manager.doubt ≡ w.manager.doubt) ⊎ (IsOfDoubt e × (applies w e ≡ true))
+one_step : (w : CoreState) (e : CoreEvent) → ((step w e).manager.doubt ≡ w.manager.doubt) ⊎ (IsOfDoubt e × (applies w e ≡ true))
 one_step w e = by_test (applies w e) refl where
   by_test : (b : Bool) → applies w e ≡ b → ((if b then swept (does w e) else w).manager.doubt ≡ w.manager.doubt) ⊎ (IsOfDoubt e × (applies w e ≡ true))
   by_test true is = elim (one_change w (does w e) e (decode w e (and_parts (is_allowed w e) (can w e) is).1)) [
@@ -53,14 +53,14 @@ one_step w e = by_test (applies w e) refl where
   by_test false is = inl refl
 
 -- one of the events, which begin in this state, left a batch in doubt
-record HasLeft (w : World) (events : List CoreEvent) : Type 0 where
+record HasLeft (w : CoreState) (events : List CoreEvent) : Type 0 where
   at : ℕ
   number : ℕ
   there : slice_get events at ≡ Some (Doubt number)
   applied : applies (run w (take at events)) (Doubt number) ≡ true
 
 -- what is in doubt behind some events was so before them, or one of them left it so
-left_by : (w : World) (events : List CoreEvent) (begins : ℕ) → (run w events).manager.doubt ≡ Some begins → (w.manager.doubt ≡ Some begins) ⊎ HasLeft w events
+left_by : (w : CoreState) (events : List CoreEvent) (begins : ℕ) → (run w events).manager.doubt ≡ Some begins → (w.manager.doubt ≡ Some begins) ⊎ HasLeft w events
 left_by w [] begins is = inl is
 left_by w (e ∷ events) begins is = elim (left_by (step w e) events begins is) [
   | inl before ↦ elim (one_step w e) [

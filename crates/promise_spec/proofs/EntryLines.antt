@@ -30,7 +30,7 @@ use Rattle.serde_json.specs.Written.{number_text, outline, compact_text}
 use Rattle.serde_json.proofs.Numbers.{number_of-decimal, number_of-negative}
 use Rattle.serde_json.proofs.Texts.{print-outline}
 use Rattle.field_codec.specs.Spelling.{ValueFits}
-use Rattle.core_model.specs.World.{Member}
+use Rattle.core_model.specs.CoreState.{Member}
 use Rattle.request_wire.specs.Lines.{lines_of}
 use Rattle.request_wire.proofs.OneLine.{reply_line-first}
 use Rattle.request_wire.specs.Reply.{grain_text, value_data, settled_data, reply_data, reply_line}

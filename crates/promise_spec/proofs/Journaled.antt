@@ -1,7 +1,7 @@
 -- What a journal says of crashes.
 use Rattle.std.proofs.Common.{◌≡◌, inl, inr, ℕ, List, [], ◌∷◌, ◌++◌, refl, sym, ◌∙◌, ap, subst, append_assoc}
 use Rattle.base_types.specs.declared.entries.Entry.{Entry}
-use Rattle.core_model.specs.World.{Member}
+use Rattle.core_model.specs.CoreState.{Member}
 use Rattle.host_trait.specs.World.{Moment, Image}
 use Rattle.script_tree.specs.Programs.{ProgramTree}
 use Rattle.silo_spec.specs.Silos.{program_file, HasProgram}

@@ -4,7 +4,7 @@ use Rattle.std.proofs.lemmas.List.{append-nil}
 use Rattle.base_types.specs.declared.entries.Entry.{Entry}
 use Rattle.core_model.specs.declared.events.CoreEvent.{CoreEvent}
 use Rattle.core_model.specs.Legal.{ends}
-use Rattle.core_model.specs.World.{Member}
+use Rattle.core_model.specs.CoreState.{Member}
 use Rattle.promise_spec.specs.Programs.{Program, shape_in}
 use Rattle.promise_spec.specs.Records.{Commit}
 use Rattle.promise_spec.specs.Outputs.{Grew, reply_lines}

@@ -1,7 +1,7 @@
 -- A load that follows a run keeps what is promised of a load.
 use Rattle.std.proofs.Common.{◌≡◌, ◌≢◌, ◌⊎◌, inl, inr, ℕ, ◌+◌, List, [], ◌∷◌, ◌++◌, map, refl, sym, ap, subst, ◌∙◌}
 use Rattle.std.proofs.lemmas.List.{append-nil}
-use Rattle.core_model.specs.World.{Member, World as CoreWorld}
+use Rattle.core_model.specs.CoreState.{Member, CoreState}
 use Rattle.host_trait.specs.World.{Moment, Image, IsImage, moment_of, last_of}
 use Rattle.promise_spec.specs.Programs.{Program, shape_in}
 use Rattle.promise_spec.specs.Records.{Commit}
@@ -165,7 +165,7 @@ module _ (p : Program) (r s : Observed) (c : Course) (told : List Moment) (told_
     whole = λ image log is is_log. let o = k.whole image log (of_run image is) is_log in record { batches = o.batches; more = o.more; split = o.split; records = o.records };
   }
 
-  lacks : (w : CoreWorld) (log : _) → LacksDoubtful c w log → LacksDoubtful (quiet_course r c told) w log
+  lacks : (w : CoreState) (log : _) → LacksDoubtful c w log → LacksDoubtful (quiet_course r c told) w log
   lacks w log k = record { begins = k.begins; doubt = k.doubt; last = k.last; split = k.split; units = k.units }
 
   exit : IsLeft p r c → IsLeft p (alike r s) (quiet_course r c told)

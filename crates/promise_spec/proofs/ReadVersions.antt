@@ -26,7 +26,7 @@ use Rattle.grain_log.proofs.Versions.{found_when, only_at}
 use Rattle.commit_log.specs.declared.records.CommitRecord.{CommitRecord}
 use Rattle.commit_log.specs.declared.records.Written.{Written}
 use Rattle.commit_log.specs.Bodies.{IsRecordIn}
-use Rattle.core_model.specs.World.{Member}
+use Rattle.core_model.specs.CoreState.{Member}
 use Rattle.core_model.specs.Tests.{is_before}
 use Rattle.cell_model.specs.Units as cell
 use Rattle.cell_model.proofs.Units.{same_grain-true, same_grain-is, filter-stays}

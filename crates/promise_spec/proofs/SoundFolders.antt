@@ -8,7 +8,7 @@ use Rattle.host_trait.specs.World.{World, Moment, Image, IsImage, Passes, moment
 use Rattle.host_trait.proofs.Runs.{image_with, with_bytes-there}
 use Rattle.gate_block.specs.Log.{LogsUpTo, first_gate}
 use Rattle.gate_block.proofs.Logs.{no_blocks}
-use Rattle.core_model.specs.World.{Member}
+use Rattle.core_model.specs.CoreState.{Member}
 use Rattle.silo_spec.specs.Silos.{manager, IsSilo, IsNewSilo}
 use Rattle.silo_spec.specs.Moments.{IsAsAtEntry, IsUntouched}
 use Rattle.silo_spec.specs.Making.{Makes, IsEarly, FromFirstSync, IsNewAt}

@@ -5,7 +5,7 @@ use Rattle.host_trait.specs.declared.channels.Channel.{Channel}
 use Rattle.host_trait.specs.declared.channels.Channel.TheVariants.{File}
 use Rattle.host_trait.specs.declared.channels.FileId.TheVariants.{Manager, Grain}
 use Rattle.core_model.specs.declared.phases.Verdict.TheVariants.{Aborted}
-use Rattle.core_model.specs.World.{UnitNo, GrainId, same_grain, Member, Entry, Batch, World}
+use Rattle.core_model.specs.CoreState.{UnitNo, GrainId, same_grain, Member, Entry, Batch, CoreState}
 use Rattle.core_model.specs.Causes.{IsAbort, HasCause, IsCaused, decided_state}
 use Rattle.core_model.specs.Dead.{IsDead}
 use Rattle.core_model.specs.declared.events.CoreEvent.{CoreEvent}
@@ -30,7 +30,7 @@ pub record AreCaused (r : Run) : Type 0 where
   pub units : (u : UnitNo) → (ends r).manager.verdict u ≡ Aborted → (why : Settled) × IsAbortedFor r u why
 
 -- the unit isn't dead in a state, and isn't where the event decides the open batch
-pub record IsAlive (w : World) (e : CoreEvent) (u : UnitNo) : Type 0 where
+pub record IsAlive (w : CoreState) (e : CoreEvent) (u : UnitNo) : Type 0 where
   pub before : IsDead w u → ⊥
   pub decided : (b : Batch) → IsDead (decided_state w e b) u → ⊥
 

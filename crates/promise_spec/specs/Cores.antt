@@ -1,7 +1,7 @@
 -- The core's events in a run, from where the opening log stands.
 use Rattle.std.specs.Prelude.{◌≡◌, ℕ, Bool, true, List, [], ◌∷◌, length, take, slice_get, count_by, if◌then◌else◌, Some, None}
 use Rattle.core_model.specs.declared.phases.Phase.TheVariants.{Unborn}
-use Rattle.core_model.specs.World.{UnitNo, World}
+use Rattle.core_model.specs.CoreState.{UnitNo, CoreState}
 use Rattle.core_model.specs.declared.events.CoreEvent.{CoreEvent}
 use Rattle.core_model.specs.Events.{applies, step, run}
 use Rattle.core_model.specs.Legal.{Run, begins}
@@ -15,7 +15,7 @@ core_from types standing events =
     record { base = standing.next; kinds = length types; capacity = None; opening = standing.states; events = events }
 
 -- the state before the event at an index
-abbrev pub state_before : Run → ℕ → World
+abbrev pub state_before : Run → ℕ → CoreState
 state_before r at = run (begins r) (take at r.events)
 
 -- this event stands there in the list, and it applies
@@ -24,7 +24,7 @@ pub record AppliesAt (r : Run) (at : ℕ) (e : CoreEvent) : Type 0 where
   pub applied : applies (state_before r at) e ≡ true
 
 -- the events that applied, of a list that begins in this state
-abbrev pub applied_from : World → List CoreEvent → List CoreEvent
+abbrev pub applied_from : CoreState → List CoreEvent → List CoreEvent
 applied_from w [] = []
 applied_from w (e ∷ events) = if applies w e then e ∷ applied_from (step w e) events else applied_from (step w e) events
 
@@ -37,5 +37,5 @@ abbrev pub how_many : (CoreEvent → Bool) → Run → ℕ
 how_many is r = count_by is (applied_in r)
 
 -- the unit has begun
-abbrev pub HasBegun : World → UnitNo → Type 0
+abbrev pub HasBegun : CoreState → UnitNo → Type 0
 HasBegun w u = w.units.phase u ≡ Unborn → ⊥

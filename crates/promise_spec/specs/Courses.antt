@@ -3,7 +3,7 @@ use Rattle.std.specs.Prelude.{ℕ, List, ◌++◌}
 use Rattle.base_types.specs.declared.entries.Entry.{Entry}
 use Rattle.host_trait.specs.declared.channels.Channel.{Channel}
 use Rattle.host_trait.specs.World.{World, Moment, Image}
-use Rattle.core_model.specs.World as core
+use Rattle.core_model.specs.CoreState as core
 use Rattle.core_model.specs.declared.events.CoreEvent.{CoreEvent}
 use Rattle.core_model.specs.Legal as legal
 use Rattle.promise_spec.specs.Records.{Commit, Standing, standing_of}
@@ -66,5 +66,5 @@ abbrev pub core_run : Program → Course → legal.Run
 core_run p c = core_from p.types (opening_standing p c) c.events
 
 -- the core's last state
-abbrev pub core_end : Program → Course → core.World
+abbrev pub core_end : Program → Course → core.CoreState
 core_end p c = legal.ends (core_run p c)

@@ -3,7 +3,7 @@ use Rattle.std.specs.Prelude.{◌≡◌, ◌≢◌, ◌⊎◌, ℕ, ◌+◌, Lis
 use Rattle.std.specs.List.{flat_map}
 use Rattle.base_types.specs.declared.entries.Entry.{Entry}
 use Rattle.base_types.specs.declared.entries.Settled.TheVariants.{InDoubt}
-use Rattle.core_model.specs.World.{UnitNo, Member, World}
+use Rattle.core_model.specs.CoreState.{UnitNo, Member, CoreState}
 use Rattle.core_model.specs.Serial.{chosen}
 use Rattle.gate_block.specs.Blocks.{block_of}
 use Rattle.gate_block.specs.Log.{HasBlocks}
@@ -20,7 +20,7 @@ use Rattle.promise_spec.specs.Causes.{HasDoubt}
 use Rattle.promise_spec.specs.Replies.{HasNoRecord}
 
 -- the units to commit of the batch in doubt, in their order
-abbrev pub doubtful : World → List UnitNo
+abbrev pub doubtful : CoreState → List UnitNo
 doubtful w = map (λ e. e.unit) (chosen w)
 
 -- the records are those of these units, one for each
@@ -28,7 +28,7 @@ abbrev pub AreOf : List UnitNo → List Commit → Type 0
 AreOf units log = map (λ l. l.logged.unit) log ≡ units
 
 -- the log lacks the records of the batch in doubt, which stand last in the order
-pub record LacksDoubtful (c : Course) (w : World) (log : List Commit) : Type 0 where
+pub record LacksDoubtful (c : Course) (w : CoreState) (log : List Commit) : Type 0 where
   pub begins : ℕ
   pub doubt : w.manager.doubt ≡ Some begins
   pub last : List Commit
@@ -36,14 +36,14 @@ pub record LacksDoubtful (c : Course) (w : World) (log : List Commit) : Type 0 w
   pub units : AreOf (doubtful w) last
 
 -- the image has the whole order as its log, or the order without the records of the batch in doubt
-pub record EndsWith (p : Program) (c : Course) (w : World) (image : Image) : Type 0 where
+pub record EndsWith (p : Program) (c : Course) (w : CoreState) (image : Image) : Type 0 where
   pub log : List Commit
   pub is : IsLog (shape_in p) image log
   pub which : (log ≡ order c) ⊎ LacksDoubtful c w log
 
 -- Where images have different logs the live manager file's count of faults rose, the ending is one of three, and each
 -- unit of the batch is told to be in doubt or has no entry.
-pub record IsDoubt (live : ℕ) (r : Observed) (c : Course) (w : World) : Type 0 where
+pub record IsDoubt (live : ℕ) (r : Observed) (c : Course) (w : CoreState) : Type 0 where
   pub rose : Rose (r.faults_before (File (Manager live))) (r.faults_after (File (Manager live)))
   pub ending : MayDoubt r.ending
   pub told : (e : Entry) → Member e c.entries → Member e.unit (doubtful w) → e.what ≡ InDoubt
@@ -67,7 +67,7 @@ pub record DifferAt (gate : ℕ) (one other : List ℕ) : Type 0 where
 -- The batch has the records of the units to commit of the batch in doubt, and the order is that of the batches before
 -- it, or has it last. In every image at the exit those before it end at the gate, its whole block stands behind that,
 -- and the images differ at most in the gate.
-pub record HasDoubtfulBlock (live : ℕ) (r : Observed) (c : Course) (w : World) : Type 0 where
+pub record HasDoubtfulBlock (live : ℕ) (r : Observed) (c : Course) (w : CoreState) : Type 0 where
   pub gate : ℕ
   pub batch : List Commit
   pub batches : List (List Commit)

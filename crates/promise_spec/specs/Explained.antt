@@ -2,7 +2,7 @@
 use Rattle.std.specs.Prelude.{◌≡◌, ◌⊎◌, ℕ, ◌≤◌, false, List, [], ◌++◌, length, slice_get, Some}
 use Rattle.base_types.specs.declared.entries.Entry.{Entry}
 use Rattle.base_types.specs.declared.shapes.Shape.{Shape}
-use Rattle.core_model.specs.World.{World}
+use Rattle.core_model.specs.CoreState.{CoreState}
 use Rattle.core_model.specs.Serial.{committed, chosen}
 use Rattle.core_model.specs.Legal.{Run}
 use Rattle.host_trait.specs.declared.channels.FileId.{FileId}
@@ -22,14 +22,14 @@ use Rattle.promise_spec.specs.Batches.{EndsABatch}
 use Rattle.promise_spec.specs.Courses.{Observed, Course, order, moments, lines, basis, opening_standing, core_run, core_end}
 
 -- the records of the batch in doubt follow those of the committed units
-pub record FollowInDoubt (w : World) (added : List Commit) : Type 0 where
+pub record FollowInDoubt (w : CoreState) (added : List Commit) : Type 0 where
   pub begins : ℕ
   pub doubt : w.manager.doubt ≡ Some begins
   pub records : AreRecordsOf (committed w ++ chosen w) added
 
 -- what the run added to the order is the records of the committed units, and, where an image has it, of the batch in
 -- doubt
-abbrev pub AreAdded : World → List Commit → Type 0
+abbrev pub AreAdded : CoreState → List Commit → Type 0
 AreAdded w added = AreRecordsOf (committed w) added ⊎ FollowInDoubt w added
 
 -- The records of the order come from the core's events: those that the run added come from the lines, call by call, and

@@ -6,7 +6,7 @@ use Rattle.base_types.specs.declared.calls.Origin.TheVariants.{Line, Child}
 use Rattle.base_types.specs.declared.calls.Outcome.{Outcome}
 use Rattle.base_types.specs.declared.calls.Outcome.TheVariants.{Aborted}
 use Rattle.core_model.specs.declared.effects.Read.{Read}
-use Rattle.core_model.specs.World.{UnitNo, Member, World}
+use Rattle.core_model.specs.CoreState.{UnitNo, Member, CoreState}
 use Rattle.script_tree.specs.Programs.{ProgramTree}
 use Rattle.script_meaning.specs.Play.{play_over}
 use Rattle.promise_spec.specs.Records.{Commit, States, after_writes}
@@ -29,7 +29,7 @@ abbrev pub AreAnswers : List Commit → UnitNo → List Outcome → Type 0
 AreAnswers log u answers = (i : ℕ) (answer : Outcome) → slice_get answers i ≡ Some answer → answer ≡ answer_of log u i
 
 -- the states are those that the unit was granted
-abbrev pub HasGranted : World → UnitNo → States → Type 0
+abbrev pub HasGranted : CoreState → UnitNo → States → Type 0
 HasGranted w u states = (r : Read) → Member r (w.units.reads u) → states r.grain ≡ r.state
 
 -- over these states and answers the call asks for that one at this index
@@ -39,7 +39,7 @@ Asks types states call depth answers index child child_depth =
 
 -- what leads from a unit of the core to its child, which the unit's call asks for over the states that the unit was
 -- granted and the outcomes of the children before
-pub record LeadsTo (types : ProgramTree) (w : World) (log : List Commit) (parent u : UnitNo) (index depth : ℕ) : Type 0 where
+pub record LeadsTo (types : ProgramTree) (w : CoreState) (log : List Commit) (parent u : UnitNo) (index depth : ℕ) : Type 0 where
   pub states : States
   pub answers : List Outcome
   pub granted : HasGranted w parent states
@@ -48,7 +48,7 @@ pub record LeadsTo (types : ProgramTree) (w : World) (log : List Commit) (parent
   pub asks : Asks types states (w.units.call parent) (depth_of (w.units.origin parent)) answers index (w.units.call u) depth
 
 -- The unit has begun, for a line and with that line's call, or as the child of such a unit, whose call asks for it.
-pub data IsReached (types : ProgramTree) (lines : List (List ℕ)) (w : World) (log : List Commit) : UnitNo → Type 0 where
+pub data IsReached (types : ProgramTree) (lines : List (List ℕ)) (w : CoreState) (log : List Commit) : UnitNo → Type 0 where
   by_line : {u : UnitNo} (n : ℕ) → HasBegun w u → w.units.origin u ≡ Line n →
       IsLineCall types lines n (w.units.call u) → IsReached types lines w log u
   by_parent : {u : UnitNo} (parent : UnitNo) (index depth : ℕ) → HasBegun w u →
@@ -69,14 +69,14 @@ pub record IsAskedBefore (types : ProgramTree) (opening : States) (log : List Co
   pub asks : slice_get (played types (states_after opening front) parent.logged).asked index ≡ Some (child.logged.call, depth)
 
 -- the record's unit is one of the core's, with the record's origin and call
-pub record IsUnitOf (w : World) (c : Commit) : Type 0 where
+pub record IsUnitOf (w : CoreState) (c : Commit) : Type 0 where
   pub origin : w.units.origin c.logged.unit ≡ c.logged.origin
   pub call : w.units.call c.logged.unit ≡ c.logged.call
 
 -- The records that a run adds: a line's has the call that the line asks for, and no two are of one line; each has the
 -- outcomes of its children as answers; a child's unit is above its parent's, and where the parent is added too, its
 -- play asks for the child and its record stands later; each is reached from a line, call by call.
-pub record IsFamily (types : ProgramTree) (lines : List (List ℕ)) (w : World) (opening : States) (order added : List Commit) : Type 0 where
+pub record IsFamily (types : ProgramTree) (lines : List (List ℕ)) (w : CoreState) (opening : States) (order added : List Commit) : Type 0 where
   pub line : (c : Commit) (n : ℕ) → Member c added → c.logged.origin ≡ Line n → IsLineCall types lines n c.logged.call
   pub one_each : (c d : Commit) (n : ℕ) → Member c added → Member d added → c.logged.origin ≡ Line n →
       d.logged.origin ≡ Line n → c ≡ d

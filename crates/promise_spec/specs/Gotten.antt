@@ -3,7 +3,7 @@ use Rattle.std.specs.Prelude.{ℕ, List, [], ◌∷◌, ◌++◌, if◌then◌el
 use Rattle.base_types.specs.declared.calls.Origin.TheVariants.{Line, Child}
 use Rattle.base_types.specs.declared.calls.Mode.TheVariants.{Update}
 use Rattle.cell_model.specs.Locks.{holds_lock}
-use Rattle.core_model.specs.World.{UnitNo, GrainId, same_unit, top, Mode, Value, Call, World}
+use Rattle.core_model.specs.CoreState.{UnitNo, GrainId, same_unit, top, Mode, Value, Call, CoreState}
 use Rattle.core_model.specs.Tests.{outcome_of}
 use Rattle.core_model.specs.Changes.{new_unit, cleaned}
 use Rattle.core_model.specs.declared.events.CoreEvent.{CoreEvent}
@@ -22,11 +22,11 @@ pub data Got : Type 0 where
   GotChild : Call → ℕ → UnitNo → Got
 
 -- what a grant gives
-abbrev pub got_lock : World → UnitNo → GrainId → Mode → Got
+abbrev pub got_lock : CoreState → UnitNo → GrainId → Mode → Got
 got_lock w u g mode = if holds_lock u (w.cells.holds g) then GotRaise g else GotLock g mode (top (cleaned w g)).state
 
 -- what an event that applies gives a unit
-abbrev pub got_by : World → UnitNo → CoreEvent → List Got
+abbrev pub got_by : CoreState → UnitNo → CoreEvent → List Got
 got_by w u (Bad n why) = []
 got_by w u (Begin (Line n) call plain) = []
 got_by w u (Begin (Child parent index depth) call plain) =
@@ -50,7 +50,7 @@ got_by w u (WantGrain v g) = []
 got_by w u (Load g v state) = []
 
 -- what a unit got from these events, from this state on
-abbrev pub got_from : World → List CoreEvent → UnitNo → List Got
+abbrev pub got_from : CoreState → List CoreEvent → UnitNo → List Got
 got_from w [] u = []
 got_from w (e ∷ events) u = (if applies w e then got_by w u e else []) ++ got_from (step w e) events u
 
@@ -63,7 +63,7 @@ abbrev pub and_given : Given → Option (List Given) → Option (List Given)
 and_given one rest = option_map (λ more. one ∷ more) rest
 
 -- what a unit was given by now: each child's outcome. There is no such list while a child isn't decided.
-abbrev pub given_by : World → List Got → Option (List Given)
+abbrev pub given_by : CoreState → List Got → Option (List Given)
 given_by w [] = Some []
 given_by w (GotLock g mode state ∷ rest) = and_given (GivenLock g mode state) (given_by w rest)
 given_by w (GotRaise g ∷ rest) = and_given (GivenRaise g) (given_by w rest)
@@ -71,7 +71,7 @@ given_by w (GotChild call depth child ∷ rest) =
     option_and_then (λ outcome. and_given (GivenOutcome call depth outcome) (given_by w rest)) (outcome_of w child)
 
 -- what the unit's script asks for next, over what it was given; nothing while it waits for a child
-abbrev pub wanted_by : ProgramTree → World → UnitNo → List Got → Option Want
+abbrev pub wanted_by : ProgramTree → CoreState → UnitNo → List Got → Option Want
 wanted_by types w u got =
     option_map (λ given. next types (w.units.call u) (depth_of (w.units.origin u)) (locks_of given) (answers_of given)) (given_by w got)
 

@@ -5,7 +5,7 @@ use Rattle.base_types.specs.declared.calls.Origin.TheVariants.{Child}
 use Rattle.base_types.specs.declared.entries.Entry.{Entry}
 use Rattle.base_types.specs.declared.entries.Settled.{Settled}
 use Rattle.base_types.specs.declared.entries.Settled.TheVariants as settled
-use Rattle.core_model.specs.World.{UnitNo, Member}
+use Rattle.core_model.specs.CoreState.{UnitNo, Member}
 use Rattle.core_model.specs.declared.events.CoreEvent.TheVariants.{Begin}
 use Rattle.host_trait.specs.World.{World, Image, IsImage}
 use Rattle.request_wire.specs.Lines.{lines_of}

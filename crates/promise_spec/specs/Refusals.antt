@@ -6,7 +6,7 @@ use Rattle.host_trait.specs.declared.channels.FileId.{FileId}
 use Rattle.host_trait.specs.declared.channels.FileId.TheVariants.{Program as ProgramFile, Manager, Grain}
 use Rattle.host_trait.specs.World.{Image}
 use Rattle.commit_log.specs.declared.records.CommitRecord.{CommitRecord}
-use Rattle.core_model.specs.World.{Member}
+use Rattle.core_model.specs.CoreState.{Member}
 use Rattle.core_model.specs.Tests.{is_before}
 use Rattle.core_model.specs.Lines.{DifferInLine}
 use Rattle.silo_spec.specs.Silos.{manager, program_file}

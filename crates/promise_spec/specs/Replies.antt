@@ -6,7 +6,7 @@ use Rattle.base_types.specs.declared.calls.Outcome.{Outcome}
 use Rattle.base_types.specs.declared.entries.Entry.{Entry}
 use Rattle.base_types.specs.declared.entries.Settled.{Settled}
 use Rattle.base_types.specs.declared.entries.Settled.TheVariants.{Done, Lock, Vote, Dependency, Disk, InDoubt, Bad}
-use Rattle.core_model.specs.World.{UnitNo, Member}
+use Rattle.core_model.specs.CoreState.{UnitNo, Member}
 use Rattle.core_model.specs.Lines.{DifferInLine}
 use Rattle.script_meaning.specs.Play.{play_over, IsTransaction}
 use Rattle.promise_spec.specs.Records.{Commit, new_silo}

@@ -6,7 +6,7 @@ use Rattle.base_types.specs.declared.calls.Origin.TheVariants.{Line, Child}
 use Rattle.base_types.specs.declared.calls.Mode.TheVariants.{Update}
 use Rattle.core_model.specs.declared.questions.AskAnswer.{AskAnswer}
 use Rattle.core_model.specs.declared.questions.AskAnswer.TheVariants as answer
-use Rattle.core_model.specs.World.{UnitNo, same_unit, World}
+use Rattle.core_model.specs.CoreState.{UnitNo, same_unit, CoreState}
 use Rattle.core_model.specs.Tests.{is_running, is_over, is_free, ask}
 pub use Rattle.core_model.specs.Settler.{Makes, batch_step, has_step, later_step, settler_step}
 use Rattle.core_model.specs.declared.events.CoreEvent.{CoreEvent}
@@ -31,7 +31,7 @@ units_from zero n = []
 units_from (suc more) n = record { 0 = n } ∷ units_from more (n + 1)
 
 -- the units of the run so far, in number order
-abbrev pub units_of : Run → World → List UnitNo
+abbrev pub units_of : Run → CoreState → List UnitNo
 units_of r w = units_from (w.units.next - r.base) r.base
 
 -- the unit must wait for younger holders of a lock
@@ -45,7 +45,7 @@ is_wait answer.Absent = false
 is_wait answer.Free = false
 
 -- a unit that asks so can move now
-abbrev pub is_unhindered : World → UnitNo → Option script.Want → Bool
+abbrev pub is_unhindered : CoreState → UnitNo → Option script.Want → Bool
 is_unhindered w u None = false
 is_unhindered w u (Some (script.WantLock g mode)) = not (is_wait (ask w u g mode))
 is_unhindered w u (Some (script.WantRaise g)) = not (is_wait (ask w u g Update))
@@ -53,13 +53,13 @@ is_unhindered w u (Some (script.WantUnit call depth)) = true
 is_unhindered w u (Some (script.Over outcome)) = true
 
 -- A unit can move while it runs, unless it waits for a lock or a child, and afterwards while it has a lock.
-abbrev pub can_move : ProgramTree → World → (UnitNo → List Got) → UnitNo → Bool
+abbrev pub can_move : ProgramTree → CoreState → (UnitNo → List Got) → UnitNo → Bool
 can_move types w got u =
     if is_running (w.units.phase u) then is_unhindered w u (wanted_by types w u (got u)) else is_over (w.units.phase u) && not (is_free w u)
 
 -- the movers: the units that can move, and after them the settler where it has a step; after a doubt the settler
 -- alone
-abbrev pub movers : ProgramTree → Run → World → (UnitNo → List Got) → List Mover
+abbrev pub movers : ProgramTree → Run → CoreState → (UnitNo → List Got) → List Mover
 movers types r w got =
     (if is_some w.manager.doubt then [] else map OfUnit (filter (can_move types w got) (units_of r w)))
     ++ (if has_step (settler_step w) then OfSettler ∷ [] else [])
@@ -71,15 +71,15 @@ is_line (Line n) = true
 is_line (Child parent index depth) = false
 
 -- the unit's line has its entry
-abbrev pub is_settled : World → UnitNo → Bool
+abbrev pub is_settled : CoreState → UnitNo → Bool
 is_settled w u = any (λ x. same_unit x.unit u) w.manager.settled
 
 -- how many lines are in flight: begun, and not settled yet or with a lock left
-abbrev pub in_flight : Run → World → ℕ
+abbrev pub in_flight : Run → CoreState → ℕ
 in_flight r w = count_by (λ u. is_line (w.units.origin u) && (not (is_settled w u) || not (is_free w u))) (units_of r w)
 
 -- a line is left, fewer than the width are in flight, and there is no doubt
-abbrev pub can_begin : ℕ → ℕ → Run → World → Bool
+abbrev pub can_begin : ℕ → ℕ → Run → CoreState → Bool
 can_begin width lines r w = is_none w.manager.doubt && (nat_lt (in_flight r w) width && nat_lt w.units.lines lines)
 
 -- ---- turns
@@ -123,7 +123,7 @@ picked [] pick = None
 picked (m ∷ ms) pick = slice_get (m ∷ ms) (pick % length (m ∷ ms))
 
 -- A line begins where one can; else the picked mover moves, and the settler's event is its step's.
-abbrev pub IsTurn : Bool → Option Mover → World → CoreEvent → Mover → Type 0
+abbrev pub IsTurn : Bool → Option Mover → CoreState → CoreEvent → Mover → Type 0
 IsTurn begins_line chosen w e OfLine = begins_line ≡ true
 IsTurn begins_line chosen w e (OfUnit u) = (begins_line ≡ false) × (chosen ≡ Some (OfUnit u))
 IsTurn begins_line chosen w e OfSettler = (begins_line ≡ false) × (chosen ≡ Some OfSettler) × Makes (settler_step w) e

@@ -3,7 +3,7 @@ use Rattle.std.specs.Prelude.{◌≡◌, ◌↔◌, ℕ, true, false, List, leng
 use Rattle.base_types.specs.declared.calls.Origin.TheVariants.{Line, Child}
 use Rattle.cell_model.specs.Locks.{holds_lock}
 use Rattle.core_model.specs.declared.effects.Effect.{Effect}
-use Rattle.core_model.specs.World.{UnitNo, GrainId, World}
+use Rattle.core_model.specs.CoreState.{UnitNo, GrainId, CoreState}
 use Rattle.core_model.specs.Tests.{is_before}
 use Rattle.core_model.specs.declared.events.CoreEvent.{CoreEvent}
 use Rattle.core_model.specs.declared.events.CoreEvent.TheVariants.{Bad, Begin, Grant, Refuse, Finish, EndPlain, EndSnapshot, Release, Take, Vote, Decide, Sealed, NotSealed, Doubt, Learn, Emitted, Halt, Want, Load}
@@ -37,13 +37,13 @@ pub record IsPlayOf (types : ProgramTree) (e : Effect) : Type 0 where
   pub writes : (played_by types e).writes ≡ e.writes
 
 -- the unit holds no grain before this one
-abbrev pub IsLowestHeld : World → UnitNo → GrainId → Type 0
+abbrev pub IsLowestHeld : CoreState → UnitNo → GrainId → Type 0
 IsLowestHeld w u g = (h : GrainId) → holds_lock u (w.cells.holds h) ≡ true → is_before h g ≡ false
 
 -- An event may be made of a unit or a line in this state, by what each unit got: a line's event is what the line
 -- reads as; each other one is what the unit's script asks for next, over what it was given, and at its end the whole
 -- effect is the call's; locks go in ascending order. Events of the settler are no unit's.
-abbrev pub IsDue : Basis → World → (UnitNo → List Got) → CoreEvent → Type 0
+abbrev pub IsDue : Basis → CoreState → (UnitNo → List Got) → CoreEvent → Type 0
 IsDue s w got (Bad n why) = IsBadLine s.types s.lines n why
 IsDue s w got (Begin (Line n) call plain) =
     IsLineCall s.types s.lines n call × ((plain ≡ false) ↔ IsTransaction s.types call)

@@ -1,7 +1,7 @@
 ghost use Rattle.std.specs.Prelude.{◌≡◌, ◌⊎◌, ◌↔◌, ◌++◌, ◌+◌, ◌≤◌, max, fold, ℕ, Bool, true, false, List, [], ◌∷◌, length, codes, Ok};
 ghost use Rattle.base_types.specs.declared.shapes.Shape.{Shape};
 ghost use Rattle.base_types.specs.declared.entries.Entry.{Entry};
-ghost use Rattle.core_model.specs.World.{Member};
+ghost use Rattle.core_model.specs.CoreState.{Member};
 ghost use Rattle.host_trait.specs.World.{Image, IsImage, Moment};
 ghost use Rattle.host_trait.specs.declared.channels.FileId.{FileId};
 ghost use Rattle.field_codec.specs.Reading.{AreBytes};

@@ -16,7 +16,7 @@ ghost use Rattle.request_wire.specs.Reply.{reply_line};
 ghost use Rattle.promise_spec.specs.Programs.{Program, shape_in};
 ghost use Rattle.promise_spec.specs.Records.{Commit};
 ghost use Rattle.promise_spec.specs.Outputs.{IsProper};
-ghost use Rattle.core_model.specs.World.{Member};
+ghost use Rattle.core_model.specs.CoreState.{Member};
 ghost use Rattle.promise_spec.specs.Crashes.{Acknowledges};
 ghost use Rattle.promise_spec.specs.Journals.{Settlement, Backs, AllKeep, AllSay, AllLog, JournalAt, DoubtAt, CutAt, Seals, Doubts, commits_of, entries_of};
 

@@ -7,7 +7,7 @@ use Rattle.base_types.specs.declared.calls.Origin.TheVariants.{Line, Child}
 use Rattle.base_types.specs.declared.entries.Entry.{Entry}
 use Rattle.cell_model.specs.Locks.{holds_lock}
 use Rattle.cell_model.proofs.Units.{same_unit-true, same_unit-is, cases_unit, Member-left, Member-last}
-use Rattle.core_model.specs.World.{UnitNo, GrainId, nobody, top, Mode, Value, Call, Origin, Member, same_unit, put, World}
+use Rattle.core_model.specs.CoreState.{UnitNo, GrainId, nobody, top, Mode, Value, Call, Origin, Member, same_unit, put, CoreState}
 use Rattle.core_model.specs.declared.phases.Phase.{Phase}
 use Rattle.core_model.specs.declared.phases.Phase.TheVariants.{Unborn, Running, Finished, Refused, Ended}
 use Rattle.core_model.specs.Changes.{new_unit, begun, cleaned, lines_with, kids_with, swept, swept_by}
@@ -37,7 +37,7 @@ kids_got-with : (got : List Got) (x : Got) → kids_got (x ∷ []) ≡ [] → ki
 kids_got-with got x e = kids_got-append got (x ∷ []) ∙ ap (λ (l : List UnitNo). kids_got got ++ l) e ∙ append-nil (kids_got got)
 
 -- nobody begins, and no child is got
-steady : (base : ℕ) (w w' : World) (got got' : UnitNo → List Got) → w'.units.next ≡ w.units.next → w'.units.lines ≡ w.units.lines → w'.units.origin ≡ w.units.origin → w'.units.kids ≡ w.units.kids →
+steady : (base : ℕ) (w w' : CoreState) (got got' : UnitNo → List Got) → w'.units.next ≡ w.units.next → w'.units.lines ≡ w.units.lines → w'.units.origin ≡ w.units.origin → w'.units.kids ≡ w.units.kids →
     ((u : UnitNo) → w'.units.phase u ≡ Unborn → w.units.phase u ≡ Unborn) → ((u : UnitNo) → w.units.phase u ≡ Unborn → w'.units.phase u ≡ Unborn) →
     ((x : Entry) → Member x w.manager.settled → Member x w'.manager.settled) → ((u : UnitNo) → kids_got (got' u) ≡ kids_got (got u)) →
     IsCounted base w got → IsCounted base w' got'
@@ -53,14 +53,14 @@ steady base w w' got got' next lines origin kids back on more same c = record {
 }
 
 -- a unit that ends had begun
-phase-back : (w : World) (u : UnitNo) (end : Phase) → w.units.phase u ≡ Running → (end ≡ Unborn → ⊥) → (v : UnitNo) → put w.units.phase u end v ≡ Unborn → w.units.phase v ≡ Unborn
+phase-back : (w : CoreState) (u : UnitNo) (end : Phase) → w.units.phase u ≡ Running → (end ≡ Unborn → ⊥) → (v : UnitNo) → put w.units.phase u end v ≡ Unborn → w.units.phase v ≡ Unborn
 phase-back w u end running n v e = elim (cases_unit v u) [
   | inl q ↦ absurd (n (sym (put-is w.units.phase u end v q) ∙ e))
   | inr q ↦ sym (put-other w.units.phase u end v q) ∙ e
 ]
 
 -- and others are as they were
-phase-on : (w : World) (u : UnitNo) (end : Phase) → w.units.phase u ≡ Running → (v : UnitNo) → w.units.phase v ≡ Unborn → put w.units.phase u end v ≡ Unborn
+phase-on : (w : CoreState) (u : UnitNo) (end : Phase) → w.units.phase u ≡ Running → (v : UnitNo) → w.units.phase v ≡ Unborn → put w.units.phase u end v ≡ Unborn
 phase-on w u end running v e = elim (cases_unit v u) [
   | inl q ↦ (let t : Unborn ≡ Running = sym e ∙ ap w.units.phase q ∙ running in absurd cc)
   | inr q ↦ put-other w.units.phase u end v q ∙ e
@@ -71,15 +71,15 @@ none-got : (got : UnitNo → List Got) (u : UnitNo) → kids_got (got u ++ []) �
 none-got got u = ap kids_got (append-nil (got u))
 
 -- a unit begins
-begun-phase : (w : World) (origin : Origin) (call : Call) (plain : Bool) (u : UnitNo) → (u ≡ new_unit w → ⊥) → (begun w origin call plain).units.phase u ≡ w.units.phase u
+begun-phase : (w : CoreState) (origin : Origin) (call : Call) (plain : Bool) (u : UnitNo) → (u ≡ new_unit w → ⊥) → (begun w origin call plain).units.phase u ≡ w.units.phase u
 begun-phase w origin call plain u n = put-other w.units.phase (new_unit w) Running u n
 
 -- and has begun
-begun-new : (w : World) (origin : Origin) (call : Call) (plain : Bool) (u : UnitNo) → u ≡ new_unit w → (begun w origin call plain).units.phase u ≡ Unborn → ⊥
+begun-new : (w : CoreState) (origin : Origin) (call : Call) (plain : Bool) (u : UnitNo) → u ≡ new_unit w → (begun w origin call plain).units.phase u ≡ Unborn → ⊥
 begun-new w origin call plain u q e = (let t : Running ≡ Unborn = sym (put-is w.units.phase (new_unit w) Running u q) ∙ e in absurd cc)
 
 -- a unit that begins is the next
-began : (base : ℕ) (w : World) (origin : Origin) (call : Call) (plain : Bool) (got got' : UnitNo → List Got) →
+began : (base : ℕ) (w : CoreState) (origin : Origin) (call : Call) (plain : Bool) (got got' : UnitNo → List Got) →
     ((u : UnitNo) → w.units.next ≤ u.0 → w.units.phase u ≡ Unborn) →
     ((u : UnitNo) → kids_got (got' u) ≡ kids_with w.units.kids origin (new_unit w) u) →
     ((n : ℕ) → 1 ≤ n → n ≤ lines_with w.units.lines origin → (n ≤ w.units.lines) ⊎ (origin ≡ Line n)) →
@@ -110,7 +110,7 @@ began base w origin call plain got got' fresh kids line c = record {
 }
 
 -- one more child
-kids-child : (w : World) (got : UnitNo → List Got) (p : UnitNo) (i d : ℕ) (call : Call) (u : UnitNo) → kids_got (got u) ≡ w.units.kids u →
+kids-child : (w : CoreState) (got : UnitNo → List Got) (p : UnitNo) (i d : ℕ) (call : Call) (u : UnitNo) → kids_got (got u) ≡ w.units.kids u →
     kids_got (got u ++ (if same_unit p u then GotChild call d (new_unit w) ∷ [] else [])) ≡ put w.units.kids p (w.units.kids p ++ new_unit w ∷ []) u
 kids-child w got p i d call u e = by (cases_Bool (same_unit p u))
   where
@@ -126,17 +126,17 @@ kids-child w got p i d call u e = by (cases_Bool (same_unit p u))
         ∙ sym (put-other w.units.kids p (w.units.kids p ++ new_unit w ∷ []) u (λ q. (let t : true ≡ false = sym (same_unit-is p u (sym q)) ∙ a in cc)))
 
 -- a lock is no child
-lock-none : (w : World) (v : UnitNo) (g : GrainId) (mode : Mode) → kids_got (got_lock w v g mode ∷ []) ≡ []
+lock-none : (w : CoreState) (v : UnitNo) (g : GrainId) (mode : Mode) → kids_got (got_lock w v g mode ∷ []) ≡ []
 lock-none w v g mode = cond_both (holds_lock v (w.cells.holds g)) (GotRaise g) (GotLock g mode (top (cleaned w g)).state) (λ (x : Got). kids_got (x ∷ []) ≡ []) (λ e. refl) (λ e. refl)
 
 -- so a lock adds none
-kids-lock : (w : World) (got : UnitNo → List Got) (v : UnitNo) (g : GrainId) (mode : Mode) (u : UnitNo) → kids_got (got u ++ (if same_unit v u then got_lock w u g mode ∷ [] else [])) ≡ kids_got (got u)
+kids-lock : (w : CoreState) (got : UnitNo → List Got) (v : UnitNo) (g : GrainId) (mode : Mode) (u : UnitNo) → kids_got (got u ++ (if same_unit v u then got_lock w u g mode ∷ [] else [])) ≡ kids_got (got u)
 kids-lock w got v g mode u = cond_both (same_unit v u) (got_lock w u g mode ∷ []) [] (λ (l : List Got). kids_got (got u ++ l) ≡ kids_got (got u))
     (λ e. kids_got-with (got u) (got_lock w u g mode) (lock-none w u g mode))
     (λ e. none-got got u)
 
 -- by an event that applies
-counted-change : (base : ℕ) (w : World) (got : UnitNo → List Got) (e : CoreEvent) (w' : World) → Change w e w' → ((u : UnitNo) → w.units.next ≤ u.0 → w.units.phase u ≡ Unborn) →
+counted-change : (base : ℕ) (w : CoreState) (got : UnitNo → List Got) (e : CoreEvent) (w' : CoreState) → Change w e w' → ((u : UnitNo) → w.units.next ≤ u.0 → w.units.phase u ≡ Unborn) →
     IsCounted base w got → IsCounted base w' (λ u. got u ++ got_by w u e)
 counted-change base w got e w' (bad line why q) fresh c = record {
   above = c.above;
@@ -188,7 +188,7 @@ counted-change base w got e w' (want v g running free free2) fresh c = steady ba
 counted-change base w got e w' (load g v state gone wanted) fresh c = steady base w w' got (λ u. got u ++ []) refl refl refl refl (λ u q. q) (λ u q. q) (λ x m. m) (none-got got) c
 
 -- grains that leave memory change nothing of it
-counted-swept : (base : ℕ) (w : World) (got : UnitNo → List Got) → IsCounted base w got → IsCounted base (swept w) got
+counted-swept : (base : ℕ) (w : CoreState) (got : UnitNo → List Got) → IsCounted base w got → IsCounted base (swept w) got
 counted-swept base w got c = go w.cells.capacity
   where
     go : (o : Option ℕ) → IsCounted base (swept_by w o) got
@@ -196,7 +196,7 @@ counted-swept base w got c = go w.cells.capacity
     go (Some m) = steady base w (swept_by w (Some m)) got got refl refl refl refl (λ u q. q) (λ u q. q) (λ x m. m) (λ u. refl) c
 
 -- one event, whether it applies or not
-pub counted-step : (opening : GrainId → List Value) (base : ℕ) (w : World) (got : UnitNo → List Got) (e : CoreEvent) → Kept opening w → IsCounted base w got →
+pub counted-step : (opening : GrainId → List Value) (base : ℕ) (w : CoreState) (got : UnitNo → List Got) (e : CoreEvent) → Kept opening w → IsCounted base w got →
     IsCounted base (step w e) (λ u. got u ++ (if applies w e then got_by w u e else []))
 counted-step opening base w got e k c = by (applies w e) refl
   where
@@ -205,7 +205,7 @@ counted-step opening base w got e k c = by (applies w e) refl
     by false a = subst (λ (h : UnitNo → List Got). IsCounted base w h) (λ i u. sym (append-nil (got u)) i) c
 
 -- by a list of events
-counted-run : (opening : GrainId → List Value) (base : ℕ) (es : List CoreEvent) (w : World) (got : UnitNo → List Got) → AllLoadsTrue opening w es → Kept opening w → IsCounted base w got →
+counted-run : (opening : GrainId → List Value) (base : ℕ) (es : List CoreEvent) (w : CoreState) (got : UnitNo → List Got) → AllLoadsTrue opening w es → Kept opening w → IsCounted base w got →
     IsCounted base (run w es) (λ u. got u ++ got_from w es u)
 counted-run opening base [] w got loads k c = subst (λ (h : UnitNo → List Got). IsCounted base w h) (λ i u. sym (append-nil (got u)) i) c
 counted-run opening base (e ∷ es) w got loads k c =

@@ -9,7 +9,7 @@ use Rattle.base_types.specs.declared.calls.Outcome.TheVariants.{Aborted as Abort
 use Rattle.base_types.specs.declared.entries.Entry.{Entry}
 use Rattle.cell_model.specs.Locks.{holds_lock}
 use Rattle.cell_model.proofs.Units.{same_unit-is, any-member}
-use Rattle.core_model.specs.World.{UnitNo, GrainId, Hold, Origin, Outcome, Member, same_unit, World}
+use Rattle.core_model.specs.CoreState.{UnitNo, GrainId, Hold, Origin, Outcome, Member, same_unit, CoreState}
 use Rattle.core_model.specs.declared.effects.Read.{Read}
 use Rattle.core_model.specs.declared.effects.Effect.{Effect}
 use Rattle.core_model.specs.declared.phases.Phase.{Phase}
@@ -49,23 +49,23 @@ allowed : (d : Option ℕ) (h : Bool) → d ≡ None → h ≡ false → ((is_no
 allowed d h p q = subst (λ (o : Option ℕ). ((is_none o || false) && (not h || false)) ≡ true) (sym p) (subst (λ (b : Bool). (not b || false) ≡ true) (sym q) refl)
 
 -- a batch can be taken where units wait for one
-take-applies : (w : World) → w.manager.doubt ≡ None → w.units.halt ≡ false → w.manager.batch ≡ None → 0 < batch_size w → applies w Take ≡ true
+take-applies : (w : CoreState) → w.manager.doubt ≡ None → w.units.halt ≡ false → w.manager.batch ≡ None → 0 < batch_size w → applies w Take ≡ true
 take-applies w d h n size =
     and_from (is_allowed w Take) (is_none w.manager.batch && nat_lt 0 (batch_size w)) (allowed w.manager.doubt w.units.halt d h)
     (and_from (is_none w.manager.batch) (nat_lt 0 (batch_size w)) (ap is_none n) (lt-ltb 0 (batch_size w) size))
 
 -- who is over and can't move has no lock
-over-moves : (types : ProgramTree) (w : World) (got : UnitNo → List Got) (u : UnitNo) → is_over (w.units.phase u) ≡ true → is_running (w.units.phase u) ≡ false → can_move types w got u ≡ false → is_free w u ≡ true
+over-moves : (types : ProgramTree) (w : CoreState) (got : UnitNo → List Got) (u : UnitNo) → is_over (w.units.phase u) ≡ true → is_running (w.units.phase u) ≡ false → can_move types w got u ≡ false → is_free w u ≡ true
 over-moves types w got u o n c = not-false (is_free w u) (subst (λ (t : Bool). (t && not (is_free w u)) ≡ false) o
     (subst (λ (t : Bool). (if t then is_unhindered w u (wanted_by types w u (got u)) else is_over (w.units.phase u) && not (is_free w u)) ≡ false) n c))
 
 -- who runs and can't move waits
-runs-moves : (types : ProgramTree) (w : World) (got : UnitNo → List Got) (u : UnitNo) → w.units.phase u ≡ Running → can_move types w got u ≡ false → is_unhindered w u (wanted_by types w u (got u)) ≡ false
+runs-moves : (types : ProgramTree) (w : CoreState) (got : UnitNo → List Got) (u : UnitNo) → w.units.phase u ≡ Running → can_move types w got u ≡ false → is_unhindered w u (wanted_by types w u (got u)) ≡ false
 runs-moves types w got u q c =
     subst (λ (t : Bool). (if t then is_unhindered w u (wanted_by types w u (got u)) else is_over (w.units.phase u) && not (is_free w u)) ≡ false) (ap is_running q) c
 
 -- a free unit is the first of a batch
-first-free : (w : World) (x : UnitNo) (xs : List UnitNo) → is_free w x ≡ true → 0 < free_prefix w (x ∷ xs)
+first-free : (w : CoreState) (x : UnitNo) (xs : List UnitNo) → is_free w x ≡ true → 0 < free_prefix w (x ∷ xs)
 first-free w x xs e = subst (λ (t : Bool). 0 < (if t then free_prefix w xs + 1 else 0)) (sym e) (omega arith)
 
 module _ (types : ProgramTree) (plays : Effect → Bool) (r : Run) (legal : IsLegal plays r)

@@ -6,7 +6,7 @@ use Rattle.std.proofs.lemmas.Bool.{and_parts, cond_both, cases_Bool}
 use Rattle.base_types.specs.declared.calls.Origin.TheVariants.{Line, Child}
 use Rattle.cell_model.specs.Locks.{is_hold_of, dropped, granted}
 use Rattle.cell_model.proofs.Units.{same_unit-true, same_unit-false}
-use Rattle.core_model.specs.World.{UnitNo, GrainId, same_unit, put_grain, Hold, Mode, Value, Outcome, Origin, Call, Units, World}
+use Rattle.core_model.specs.CoreState.{UnitNo, GrainId, same_unit, put_grain, Hold, Mode, Value, Outcome, Origin, Call, Units, CoreState}
 use Rattle.core_model.specs.declared.phases.Phase.TheVariants.{Unborn}
 use Rattle.core_model.specs.Tests.{outcome_of}
 use Rattle.core_model.specs.declared.events.CoreEvent.{CoreEvent}
@@ -33,7 +33,7 @@ none-if true xs e = absurd cc
 none-if false xs e = refl
 
 -- another's event gives the unit nothing
-pub got-others : (w : World) (u : UnitNo) (e : CoreEvent) → is_own u e ≡ false → got_by w u e ≡ []
+pub got-others : (w : CoreState) (u : UnitNo) (e : CoreEvent) → is_own u e ≡ false → got_by w u e ≡ []
 got-others w u (Bad n why) o = refl
 got-others w u (Begin (Line n) call plain) o = refl
 got-others w u (Begin (Child p i d) call plain) o = none-if (same_unit p u) (GotChild call d (new_unit w) ∷ []) o
@@ -98,18 +98,18 @@ own-granted u v hs mode n =
     none false a = a
 
 -- one grain has other locks, of others
-own-put : (u : UnitNo) (w : World) (g : GrainId) (hs : List Hold) → own_holds u hs ≡ own_holds u (w.cells.holds g) → (k : GrainId) → own_holds u (put_grain w.cells.holds g hs k) ≡ own_holds u (w.cells.holds k)
+own-put : (u : UnitNo) (w : CoreState) (g : GrainId) (hs : List Hold) → own_holds u hs ≡ own_holds u (w.cells.holds g) → (k : GrainId) → own_holds u (put_grain w.cells.holds g hs k) ≡ own_holds u (w.cells.holds k)
 own-put u w g hs e k = grain-at w.cells.holds g hs (λ (l : List Hold). own_holds u l ≡ own_holds u (w.cells.holds k)) k
     (λ q. e ∙ ap (λ (z : GrainId). own_holds u (w.cells.holds z)) (sym q)) (λ q. refl)
 
 -- ---- the unit
 
 -- a unit is as it was
-pub still-same : (u : UnitNo) (w : World) → IsStill u w w
+pub still-same : (u : UnitNo) (w : CoreState) → IsStill u w w
 still-same u w = record { phase = refl; origin = refl; call = refl; plain = refl; kids = refl; reads = refl; own = λ g. refl }
 
 -- and stays so from state to state
-pub still-more : (u : UnitNo) (a b c : World) → IsStill u a b → IsStill u b c → IsStill u a c
+pub still-more : (u : UnitNo) (a b c : CoreState) → IsStill u a b → IsStill u b c → IsStill u a c
 still-more u a b c s t = record {
   phase = t.phase ∙ s.phase;
   origin = t.origin ∙ s.origin;
@@ -125,7 +125,7 @@ other : (u v : UnitNo) → same_unit v u ≡ false → u ≡ v → ⊥
 other u v o q = same_unit-false v u o (sym q)
 
 -- another unit begins
-still-begun : (u : UnitNo) (w : World) (origin : Origin) (call : Call) (plain : Bool) → (u ≡ new_unit w → ⊥) → is_own u (Begin origin call plain) ≡ false → IsStill u w (begun w origin call plain)
+still-begun : (u : UnitNo) (w : CoreState) (origin : Origin) (call : Call) (plain : Bool) → (u ≡ new_unit w → ⊥) → is_own u (Begin origin call plain) ≡ false → IsStill u w (begun w origin call plain)
 still-begun u w (Line n) call plain new o = record {
   phase = put-other w.units.phase (new_unit w) _ u new;
   origin = put-other w.units.origin (new_unit w) _ u new;
@@ -146,7 +146,7 @@ still-begun u w (Child p i d) call plain new o = record {
 }
 
 -- units and locks are the same
-still-units : (u : UnitNo) (w w' : World) → w'.units ≡ w.units → w'.cells.holds ≡ w.cells.holds → IsStill u w w'
+still-units : (u : UnitNo) (w w' : CoreState) → w'.units ≡ w.units → w'.cells.holds ≡ w.cells.holds → IsStill u w w'
 still-units u w w' units holds = record {
   phase = ap (λ (x : Units). x.phase u) units;
   origin = ap (λ (x : Units). x.origin u) units;
@@ -158,7 +158,7 @@ still-units u w w' units holds = record {
 }
 
 -- an event of others that applies
-still-change : (u : UnitNo) (w : World) (e : CoreEvent) (w' : World) → Change w e w' → (is_begin e ≡ true → u ≡ new_unit w → ⊥) → is_own u e ≡ false → IsStill u w w'
+still-change : (u : UnitNo) (w : CoreState) (e : CoreEvent) (w' : CoreState) → Change w e w' → (is_begin e ≡ true → u ≡ new_unit w → ⊥) → is_own u e ≡ false → IsStill u w w'
 still-change u w e w' (bad line why q) new o = record { phase = refl; origin = refl; call = refl; plain = refl; kids = refl; reads = refl; own = λ k. refl }
 still-change u w e w' (begin origin call plain c) new o = still-begun u w origin call plain (new refl) o
 still-change u w e w' (lock v g mode running free first here) new o = record {
@@ -238,7 +238,7 @@ still-change u w e w' (want v g running free fresh) new o = record { phase = ref
 still-change u w e w' (load g v state gone wanted) new o = record { phase = refl; origin = refl; call = refl; plain = refl; kids = refl; reads = refl; own = λ k. refl }
 
 -- grains that leave memory
-still-swept : (u : UnitNo) (w w' : World) → IsStill u w w' → IsStill u w (swept w')
+still-swept : (u : UnitNo) (w w' : CoreState) → IsStill u w w' → IsStill u w (swept w')
 still-swept u w w' s = go w'.cells.capacity
   where
     go : (c : Option ℕ) → IsStill u w (swept_by w' c)
@@ -246,17 +246,17 @@ still-swept u w w' s = go w'.cells.capacity
     go (Some m) = record { phase = s.phase; origin = s.origin; call = s.call; plain = s.plain; kids = s.kids; reads = s.reads; own = s.own }
 
 -- a unit that has begun isn't the next one
-pub begun-old : (opening : GrainId → List Value) (w : World) (u : UnitNo) → Kept opening w → (w.units.phase u ≡ Unborn → ⊥) → u ≡ new_unit w → ⊥
+pub begun-old : (opening : GrainId → List Value) (w : CoreState) (u : UnitNo) → Kept opening w → (w.units.phase u ≡ Unborn → ⊥) → u ≡ new_unit w → ⊥
 begun-old opening w u k born q = born (k.0.unborn u (subst (λ (v : UnitNo). w.units.next ≤ v.0) (sym q) (le_refl w.units.next)))
 
 -- one event of others
-pub still-event : (u : UnitNo) (w : World) (e : CoreEvent) → (is_begin e ≡ true → u ≡ new_unit w → ⊥) → is_own u e ≡ false → IsStill u w (step w e)
+pub still-event : (u : UnitNo) (w : CoreState) (e : CoreEvent) → (is_begin e ≡ true → u ≡ new_unit w → ⊥) → is_own u e ≡ false → IsStill u w (step w e)
 still-event u w e new o = cond_both (applies w e) (swept (does w e)) w (IsStill u w)
     (λ a. still-swept u w (does w e) (still-change u w e (does w e) (decode w e (and_parts (is_allowed w e) (can w e) a).1) new o))
     (λ a. still-same u w)
 
 -- one event of others, for a unit that has begun
-pub still-step : (opening : GrainId → List Value) (u : UnitNo) (w : World) (e : CoreEvent) → Kept opening w → (w.units.phase u ≡ Unborn → ⊥) → is_own u e ≡ false → IsStill u w (step w e)
+pub still-step : (opening : GrainId → List Value) (u : UnitNo) (w : CoreState) (e : CoreEvent) → Kept opening w → (w.units.phase u ≡ Unborn → ⊥) → is_own u e ≡ false → IsStill u w (step w e)
 still-step opening u w e k born o = still-event u w e (λ b. begun-old opening w u k born) o
 
 -- ---- what the script asks for
@@ -275,7 +275,7 @@ and_given-as : (one : Given) (o : Option (List Given)) (more trail : List Given)
 and_given-as one o more trail e q = ap (and_given one) e ∙ ap Some q
 
 -- what was given is given still
-pub given-stays : (w w' : World) (got : List Got) (trail : List Given) → Extends (outcome_of w) (outcome_of w') → given_by w got ≡ Some trail → given_by w' got ≡ Some trail
+pub given-stays : (w w' : CoreState) (got : List Got) (trail : List Given) → Extends (outcome_of w) (outcome_of w') → given_by w got ≡ Some trail → given_by w' got ≡ Some trail
 given-stays w w' [] trail ext e = e
 given-stays w w' (GotLock g mode state ∷ got) trail ext e =
     let t = and_given-some (GivenLock g mode state) (given_by w got) trail e in
@@ -294,6 +294,6 @@ given-stays w w' (GotChild call depth child ∷ got) trail ext e = by (λ more. 
         ∙ and_given-as (GivenOutcome call depth o) (given_by w' got) t.0 trail (rest t.0 t.1) t.2
 
 -- what it asks for over what it was given
-pub wants-as : (types : ProgramTree) (w : World) (u : UnitNo) (got : List Got) (trail : List Given) → given_by w got ≡ Some trail →
+pub wants-as : (types : ProgramTree) (w : CoreState) (u : UnitNo) (got : List Got) (trail : List Given) → given_by w got ≡ Some trail →
     wanted_by types w u got ≡ Some (script.next types (w.units.call u) (depth_of (w.units.origin u)) (locks_of trail) (answers_of trail))
 wants-as types w u got trail e = ap (λ (o : Option (List Given)). option_map (λ given. script.next types (w.units.call u) (depth_of (w.units.origin u)) (locks_of given) (answers_of given)) o) e

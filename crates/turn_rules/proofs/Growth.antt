@@ -3,7 +3,7 @@ use Rattle.std.proofs.Common.{◌≡◌, ℕ, zero, suc, ◌<◌, List, [], ◌�
 use Rattle.std.specs.Prelude.{take, slice_get, if◌then◌else◌, count_by}
 use Rattle.std.proofs.Math.Seq.{take-length, take-append_seam}
 use Rattle.std.proofs.lemmas.List.{take-append-le}
-use Rattle.core_model.specs.World.{UnitNo, World}
+use Rattle.core_model.specs.CoreState.{UnitNo, CoreState}
 use Rattle.core_model.specs.declared.events.CoreEvent.{CoreEvent}
 use Rattle.core_model.specs.Events.{applies, step, run}
 use Rattle.core_model.specs.Legal.{Run, begins, ends}
@@ -27,7 +27,7 @@ last-or (z ∷ xs) y (suc at) x there = elim (last-or xs y at x there) [
 ]
 
 -- the state after one more
-pub run-more : (es : List CoreEvent) (w : World) (more : List CoreEvent) → run w (es ++ more) ≡ run (run w es) more
+pub run-more : (es : List CoreEvent) (w : CoreState) (more : List CoreEvent) → run w (es ++ more) ≡ run (run w es) more
 run-more [] w more = refl
 run-more (e ∷ es) w more = run-more es (step w e) more
 
@@ -36,11 +36,11 @@ pub ends-more : (r : Run) (e : CoreEvent) → ends (with_event r e) ≡ step (en
 ends-more r e = run-more r.events (begins r) (e ∷ [])
 
 -- each event that applies meets this, by the events before it
-abbrev pub EachMeets : (List CoreEvent → CoreEvent → Type 0) → World → List CoreEvent → Type 0
+abbrev pub EachMeets : (List CoreEvent → CoreEvent → Type 0) → CoreState → List CoreEvent → Type 0
 EachMeets Meets w es = (at : ℕ) (e : CoreEvent) → slice_get es at ≡ Some e → applies (run w (take at es)) e ≡ true → Meets (take at es) e
 
 -- with one more that meets it
-pub each-grows : (Meets : List CoreEvent → CoreEvent → Type 0) (w : World) (es : List CoreEvent) (e : CoreEvent) → EachMeets Meets w es →
+pub each-grows : (Meets : List CoreEvent → CoreEvent → Type 0) (w : CoreState) (es : List CoreEvent) (e : CoreEvent) → EachMeets Meets w es →
     (applies (run w es) e ≡ true → Meets es e) → EachMeets Meets w (es ++ (e ∷ []))
 each-grows Meets w es e all one at f there a = elim (last-or es e at f there) [
   | inl p ↦
@@ -73,7 +73,7 @@ turn-grows types lines width picks r e keeps is at f a =
     at f a.there a.applied
 
 -- what a unit got by a list of events, with one more
-pub got-more : (es : List CoreEvent) (w : World) (e : CoreEvent) (u : UnitNo) → got_from w (es ++ (e ∷ [])) u ≡ got_from w es u ++ got_next (run w es) e u
+pub got-more : (es : List CoreEvent) (w : CoreState) (e : CoreEvent) (u : UnitNo) → got_from w (es ++ (e ∷ [])) u ≡ got_from w es u ++ got_next (run w es) e u
 got-more [] w e u = append-nil (got_next w e u)
 got-more (f ∷ es) w e u =
     ap (λ (l : List Got). got_next w f u ++ l) (got-more es (step w f) e u)
@@ -84,7 +84,7 @@ pub got-event : (r : Run) (e : CoreEvent) (u : UnitNo) → got_in (with_event r 
 got-event r e u = got-more r.events (begins r) e u
 
 -- the events that applied, with one more
-pub applied-more : (es : List CoreEvent) (w : World) (e : CoreEvent) → applied_from w (es ++ (e ∷ [])) ≡ applied_from w es ++ (if applies (run w es) e then e ∷ [] else [])
+pub applied-more : (es : List CoreEvent) (w : CoreState) (e : CoreEvent) → applied_from w (es ++ (e ∷ [])) ≡ applied_from w es ++ (if applies (run w es) e then e ∷ [] else [])
 applied-more [] w e = by (applies w e)
   where
     by : (b : Bool) → (if b then e ∷ [] else []) ≡ [] ++ (if b then e ∷ [] else [])

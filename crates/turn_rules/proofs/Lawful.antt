@@ -1,7 +1,7 @@
 -- A run that keeps the unit rule is one of the core's legal runs.
 use Rattle.std.proofs.Common.{◌≡◌, ℕ, suc, ◌<◌, Some, List, [], ◌∷◌, true, refl}
 use Rattle.std.specs.Prelude.{take, slice_get}
-use Rattle.core_model.specs.World.{UnitNo, GrainId, Value, World}
+use Rattle.core_model.specs.CoreState.{UnitNo, GrainId, Value, CoreState}
 use Rattle.core_model.specs.declared.effects.Effect.{Effect}
 use Rattle.core_model.specs.declared.events.CoreEvent.{CoreEvent}
 use Rattle.core_model.specs.declared.events.CoreEvent.TheVariants.{Load, Finish, EndPlain}
@@ -25,12 +25,12 @@ all-play [] = tt
 all-play (e ∷ es) = (plays-one e, all-play es)
 
 -- nothing due is a load
-no-load : (s : Basis) (opening : GrainId → List Value) (w : World) (got : UnitNo → List Got) (e : CoreEvent) → (applies w e ≡ true → IsDue s w got e) → IsTrueLoad opening w e
+no-load : (s : Basis) (opening : GrainId → List Value) (w : CoreState) (got : UnitNo → List Got) (e : CoreEvent) → (applies w e ≡ true → IsDue s w got e) → IsTrueLoad opening w e
 no-load s opening w got (Load g u state) due = λ a. absurd (due a)
 no-load s opening w got _ due = tt
 
 -- so no event loads
-all-loads : (s : Basis) (opening : GrainId → List Value) (w : World) (front es : List CoreEvent) →
+all-loads : (s : Basis) (opening : GrainId → List Value) (w : CoreState) (front es : List CoreEvent) →
     ((at : ℕ) (e : CoreEvent) → slice_get es at ≡ Some e → applies (run w (take at es)) e ≡ true → (got : UnitNo → List Got) × IsDue s (run w (take at es)) got e) → AllLoadsTrue opening w es
 all-loads s opening w front [] all = tt
 all-loads s opening w front (e ∷ es) all = (

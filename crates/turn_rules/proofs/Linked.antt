@@ -6,7 +6,7 @@ use Rattle.base_types.specs.declared.calls.Origin.TheVariants.{Child}
 use Rattle.base_types.specs.declared.calls.Mode.TheVariants.{Update}
 use Rattle.cell_model.specs.Locks.{holds_lock}
 use Rattle.cell_model.proofs.Units.{same_unit-is, same_grain-true, any-true}
-use Rattle.core_model.specs.World.{UnitNo, GrainId, Value, Call, Outcome, Mode, Member, same_grain, top, World}
+use Rattle.core_model.specs.CoreState.{UnitNo, GrainId, Value, Call, Outcome, Mode, Member, same_grain, top, CoreState}
 use Rattle.core_model.specs.declared.effects.Effect.{Effect}
 use Rattle.core_model.specs.declared.phases.Phase.TheVariants.{Unborn, Running}
 use Rattle.core_model.specs.Tests.{is_over, is_before, outcome_of}
@@ -93,14 +93,14 @@ due-release s r u g rest f h e = by (any-true (same_grain h) (g ∷ rest) (sym (
 
 -- a known outcome stays
 pub outcomes-stay : (opening : GrainId → List Value) (r : Run) (e : CoreEvent) → Kept opening (ends r) → Extends (outcome_of (ends r)) (outcome_of (ends (with_event r e)))
-outcomes-stay opening r e k = subst (λ (w : World). Extends (outcome_of (ends r)) (outcome_of w)) (sym (ends-more r e)) (grows-outcome (ends r) (step (ends r) e) (grows-step opening (ends r) e k))
+outcomes-stay opening r e k = subst (λ (w : CoreState). Extends (outcome_of (ends r)) (outcome_of w)) (sym (ends-more r e)) (grows-outcome (ends r) (step (ends r) e) (grows-step opening (ends r) e k))
 
 -- who runs has begun
-runs-born : (w : World) (u : UnitNo) → w.units.phase u ≡ Running → w.units.phase u ≡ Unborn → ⊥
+runs-born : (w : CoreState) (u : UnitNo) → w.units.phase u ≡ Running → w.units.phase u ≡ Unborn → ⊥
 runs-born w u q e = (let t : Unborn ≡ Running = sym e ∙ q in absurd cc)
 
 -- and who is over
-over-born : (w : World) (u : UnitNo) → is_over (w.units.phase u) ≡ true → w.units.phase u ≡ Unborn → ⊥
+over-born : (w : CoreState) (u : UnitNo) → is_over (w.units.phase u) ≡ true → w.units.phase u ≡ Unborn → ⊥
 over-born w u o e = (let t : false ≡ true = sym (ap is_over e) ∙ o in cc)
 
 -- another's event leaves a unit as it was
@@ -146,7 +146,7 @@ freeing-others opening r u held e k o f =
 -- ---- the unit's own events
 
 -- one more was given
-given-last : (w : World) (got : List Got) (trail : List Given) (x : Got) (one : Given) → given_by w got ≡ Some trail → given_by w (x ∷ []) ≡ Some (one ∷ []) → given_by w (got ++ (x ∷ [])) ≡ Some (trail ++ (one ∷ []))
+given-last : (w : CoreState) (got : List Got) (trail : List Given) (x : Got) (one : Given) → given_by w got ≡ Some trail → given_by w (x ∷ []) ≡ Some (one ∷ []) → given_by w (got ++ (x ∷ [])) ≡ Some (trail ++ (one ∷ []))
 given-last w got trail x one e last = by got trail e
   where
     on : (g : Given) (rest : Option (List Given)) (trail : List Given) → and_given g rest ≡ Some trail → (more : List Given) × (rest ≡ Some more) × (g ∷ more ≡ trail)

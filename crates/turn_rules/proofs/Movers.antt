@@ -7,7 +7,7 @@ use Rattle.std.proofs.lemmas.Bool.{and_parts, cond_both, cases_Bool, or_parts, o
 use Rattle.base_types.specs.declared.entries.Entry.{Entry}
 use Rattle.cell_model.specs.Locks.{holds_lock, is_hold_of}
 use Rattle.cell_model.proofs.Units.{same_unit-true, any-true, any-member, Member-left, Member-append, filter-member}
-use Rattle.core_model.specs.World.{UnitNo, GrainId, Value, Call, Origin, Member, same_unit, World}
+use Rattle.core_model.specs.CoreState.{UnitNo, GrainId, Value, Call, Origin, Member, same_unit, CoreState}
 use Rattle.core_model.specs.declared.effects.Read.{Read}
 use Rattle.core_model.specs.declared.phases.Phase.{Phase}
 use Rattle.core_model.specs.declared.phases.Phase.TheVariants.{Unborn, Running, Finished, Refused, Ended}
@@ -39,7 +39,7 @@ use Rattle.turn_rules.proofs.Frame.{still-event, still-same}
 -- ---- movers and lines in flight
 
 -- who can move is to be looked at
-pub moves-live : (types : ProgramTree) (w : World) (got : UnitNo → List Got) (u : UnitNo) → can_move types w got u ≡ true → is_kept w u ≡ true
+pub moves-live : (types : ProgramTree) (w : CoreState) (got : UnitNo → List Got) (u : UnitNo) → can_move types w got u ≡ true → is_kept w u ≡ true
 moves-live types w got u e = by (cases_Bool (is_running (w.units.phase u)))
   where
     by : (is_running (w.units.phase u) ≡ true) ⊎ (is_running (w.units.phase u) ≡ false) → is_kept w u ≡ true
@@ -75,16 +75,16 @@ drop-kept r units stays weak kept = record {
 -- ---- they stay so
 
 -- a unit that doesn't run and is free is left alone by each event
-holds-none : (u : UnitNo) (w : World) → HoldsNothing w u → (g : GrainId) → holds_lock u (w.cells.holds g) ≡ true → ⊥
+holds-none : (u : UnitNo) (w : CoreState) → HoldsNothing w u → (g : GrainId) → holds_lock u (w.cells.holds g) ≡ true → ⊥
 holds-none u w none g e = (let t = any-true (is_hold_of u) (w.cells.holds g) e in none g t.0 t.1 (same_unit-true t.0.unit u t.2))
 
 -- who runs isn't one that doesn't
-not-running : (u v : UnitNo) (w : World) → is_running (w.units.phase u) ≡ false → w.units.phase v ≡ Running → same_unit v u ≡ true → ⊥
+not-running : (u v : UnitNo) (w : CoreState) → is_running (w.units.phase u) ≡ false → w.units.phase v ≡ Running → same_unit v u ≡ true → ⊥
 not-running u v w idle running same =
     let t : true ≡ false = sym (ap is_running running) ∙ ap (λ (x : UnitNo). is_running (w.units.phase x)) (same_unit-true v u same) ∙ idle in cc
 
 -- so no event of its own applies
-no-own : (u : UnitNo) (w : World) (e : CoreEvent) (w' : World) → Change w e w' → is_running (w.units.phase u) ≡ false → HoldsNothing w u → is_own u e ≡ true → ⊥
+no-own : (u : UnitNo) (w : CoreState) (e : CoreEvent) (w' : CoreState) → Change w e w' → is_running (w.units.phase u) ≡ false → HoldsNothing w u → is_own u e ≡ true → ⊥
 no-own u w e w' (bad line why q) idle none o = (let t : true ≡ false = sym o in cc)
 no-own u w e w' (begin (Line n) call plain c) idle none o = (let t : true ≡ false = sym o in cc)
 no-own u w e w' (begin (Child p i d) call plain c) idle none o = not-running u p w idle (is_running-true (w.units.phase p) (and_parts (is_running (w.units.phase p)) _ c).0) o
@@ -110,7 +110,7 @@ no-own u w e w' (want v g running free fresh) idle none o = not-running u v w id
 no-own u w e w' (load g v state gone wanted) idle none o = (let t : true ≡ false = sym o in cc)
 
 -- and each event leaves it as it was
-rest-still : (opening : GrainId → List Value) (u : UnitNo) (w : World) (e : CoreEvent) → (is_begin e ≡ true → u ≡ new_unit w → ⊥) → is_running (w.units.phase u) ≡ false → HoldsNothing w u → IsStill u w (step w e)
+rest-still : (opening : GrainId → List Value) (u : UnitNo) (w : CoreState) (e : CoreEvent) → (is_begin e ≡ true → u ≡ new_unit w → ⊥) → is_running (w.units.phase u) ≡ false → HoldsNothing w u → IsStill u w (step w e)
 rest-still opening u w e new idle none = elim (cases_Bool (is_own u e)) [
   | inl o ↦ cond_both (applies w e) (swept (does w e)) w (IsStill u w)
       (λ a. absurd (no-own u w e (does w e) (decode w e (and_parts (is_allowed w e) (can w e) a).1) idle none o))
@@ -119,11 +119,11 @@ rest-still opening u w e new idle none = elim (cases_Bool (is_own u e)) [
 ]
 
 -- what locks a unit that is as it was has
-pub still-locks : (u : UnitNo) (w w' : World) → IsStill u w w' → (g : GrainId) → holds_lock u (w'.cells.holds g) ≡ holds_lock u (w.cells.holds g)
+pub still-locks : (u : UnitNo) (w w' : CoreState) → IsStill u w w' → (g : GrainId) → holds_lock u (w'.cells.holds g) ≡ holds_lock u (w.cells.holds g)
 still-locks u w w' s g = any-filter (is_hold_of u) (w'.cells.holds g) ∙ ap some_of (s.own g) ∙ sym (any-filter (is_hold_of u) (w.cells.holds g))
 
 -- and whether it has any
-pub still-free : (u : UnitNo) (w w' : World) → IsStill u w w' → is_free w' u ≡ is_free w u
+pub still-free : (u : UnitNo) (w w' : CoreState) → IsStill u w w' → is_free w' u ≡ is_free w u
 still-free u w w' s = λ i. all (λ (r : Read). not (still-locks u w w' s r.grain i)) (s.reads i)
 
 -- what is settled stays settled
@@ -135,7 +135,7 @@ settled-stays r e u s =
     (subst (Member t.0) (sym more.1) (Member-left t.0 (ends r).manager.settled more.0 t.1)) t.2
 
 -- who isn't looked at has no lock, and doesn't run
-idle-free : (opening : GrainId → List Value) (w : World) (u : UnitNo) → Kept opening w → is_live w u ≡ false → (is_running (w.units.phase u) ≡ false) × (is_free w u ≡ true)
+idle-free : (opening : GrainId → List Value) (w : CoreState) (u : UnitNo) → Kept opening w → is_live w u ≡ false → (is_running (w.units.phase u) ≡ false) × (is_free w u ≡ true)
 idle-free opening w u k e =
     let p = or_parts (is_running (w.units.phase u)) (is_over (w.units.phase u) && not (is_free w u)) e in
     (p.0, by (w.units.phase u) refl p.0 p.1)
@@ -158,10 +158,10 @@ gone-stays opening r e u k new later = elim (cases_Bool (is_kept (ends r) u)) [
   | inr a ↦ (let t : true ≡ false = sym later ∙ stays a in cc)
 ]
   where
-    w : World
+    w : CoreState
     w = ends r
 
-    w' : World
+    w' : CoreState
     w' = ends (with_event r e)
 
     not-line : (l s f : Bool) → (l && (not s || not f)) ≡ false → (l ≡ false) ⊎ ((s ≡ true) × (f ≡ true))
@@ -204,7 +204,7 @@ gone-stays opening r e u k new later = elim (cases_Bool (is_kept (ends r) u)) [
 -- an event by which no unit begins
 pub kept-on : (opening : GrainId → List Value) (r : Run) (e : CoreEvent) (units : List UnitNo) → Kept opening (ends r) → is_begin e ≡ false → AreKept r units → AreKept (with_event r e) units
 kept-on opening r e units k o kept =
-    let same : (ends (with_event r e)).units.next ≡ (ends r).units.next = ap (λ (x : World). x.units.next) (ends-more r e) ∙ next-stays (ends r) e o in
+    let same : (ends (with_event r e)).units.next ≡ (ends r).units.next = ap (λ (x : CoreState). x.units.next) (ends-more r e) ∙ next-stays (ends r) e o in
     let weak : (u : UnitNo) → is_kept (ends (with_event r e)) u ≡ true → is_kept (ends r) u ≡ true = λ u later. gone-stays opening r e u k (λ b. (let t : true ≡ false = sym b ∙ o in cc)) later in
     record {
       kept = filter-stronger (is_kept (ends (with_event r e))) (is_kept (ends r)) weak units (units_of r (ends r)) kept.kept
@@ -237,7 +237,7 @@ kept-begun opening r origin call plain units k above a kept =
     later = is_kept (ends (with_event r (Begin origin call plain)))
 
     more : (ends (with_event r (Begin origin call plain))).units.next ≡ (ends r).units.next + 1
-    more = ap (λ (x : World). x.units.next) (ends-more r (Begin origin call plain)) ∙ next-begun (ends r) origin call plain a
+    more = ap (λ (x : CoreState). x.units.next) (ends-more r (Begin origin call plain)) ∙ next-begun (ends r) origin call plain a
 
     size : ℕ
     size = (ends r).units.next - r.base

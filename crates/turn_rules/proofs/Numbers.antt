@@ -3,7 +3,7 @@ use Rattle.std.proofs.Common.{◌≡◌, ℕ, zero, suc, ◌+◌, ◌≤◌, ◌
 use Rattle.std.specs.Prelude.{filter}
 use Rattle.std.proofs.lemmas.Bool.{cond-true, cond_both, and_parts, cases_lt}
 use Rattle.cell_model.proofs.Units.{Member-append, filter-member}
-use Rattle.core_model.specs.World.{UnitNo, Call, Origin, Member, World}
+use Rattle.core_model.specs.CoreState.{UnitNo, Call, Origin, Member, CoreState}
 use Rattle.core_model.specs.declared.events.CoreEvent.{CoreEvent}
 use Rattle.core_model.specs.declared.events.CoreEvent.TheVariants.{Begin}
 use Rattle.core_model.specs.Changes.{swept, swept_by}
@@ -29,7 +29,7 @@ units-below (suc n) b u (inl q) = (let e : u.0 ≡ b = ap (λ (x : UnitNo). x.0)
 units-below (suc n) b u (inr m) = (let less = units-below n (b + 1) u m in omega (arith, less))
 
 -- numbers go up where a unit begins alone
-next-change : (w : World) (e : CoreEvent) (w' : World) → Change w e w' → is_begin e ≡ false → w'.units.next ≡ w.units.next
+next-change : (w : CoreState) (e : CoreEvent) (w' : CoreState) → Change w e w' → is_begin e ≡ false → w'.units.next ≡ w.units.next
 next-change w e w' (bad line why q) o = refl
 next-change w e w' (begin origin call plain c) o = (let t : true ≡ false = o in cc)
 next-change w e w' (lock v g mode running free first here) o = refl
@@ -53,7 +53,7 @@ next-change w e w' (want v g running free fresh) o = refl
 next-change w e w' (load g v state gone wanted) o = refl
 
 -- grains that leave memory leave the next number
-next-swept : (w : World) → (swept w).units.next ≡ w.units.next
+next-swept : (w : CoreState) → (swept w).units.next ≡ w.units.next
 next-swept w = go w.cells.capacity
   where
     go : (c : Option ℕ) → (swept_by w c).units.next ≡ w.units.next
@@ -61,15 +61,15 @@ next-swept w = go w.cells.capacity
     go (Some m) = refl
 
 -- by an event by which no unit begins
-pub next-stays : (w : World) (e : CoreEvent) → is_begin e ≡ false → (step w e).units.next ≡ w.units.next
-next-stays w e o = cond_both (applies w e) (swept (does w e)) w (λ (x : World). x.units.next ≡ w.units.next)
+pub next-stays : (w : CoreState) (e : CoreEvent) → is_begin e ≡ false → (step w e).units.next ≡ w.units.next
+next-stays w e o = cond_both (applies w e) (swept (does w e)) w (λ (x : CoreState). x.units.next ≡ w.units.next)
     (λ a. next-swept (does w e) ∙ next-change w e (does w e) (decode w e (and_parts (is_allowed w e) (can w e) a).1) o)
     (λ a. refl)
 
 -- a unit that begins takes the next
-pub next-begun : (w : World) (origin : Origin) (call : Call) (plain : Bool) → applies w (Begin origin call plain) ≡ true → (step w (Begin origin call plain)).units.next ≡ w.units.next + 1
+pub next-begun : (w : CoreState) (origin : Origin) (call : Call) (plain : Bool) → applies w (Begin origin call plain) ≡ true → (step w (Begin origin call plain)).units.next ≡ w.units.next + 1
 next-begun w origin call plain a =
-    ap (λ (x : World). x.units.next) (cond-true (applies w (Begin origin call plain)) (swept (does w (Begin origin call plain))) w a) ∙ next-swept (does w (Begin origin call plain))
+    ap (λ (x : CoreState). x.units.next) (cond-true (applies w (Begin origin call plain)) (swept (does w (Begin origin call plain))) w a) ∙ next-swept (does w (Begin origin call plain))
 
 -- each number within is one of them
 pub units-member : (n b : ℕ) (u : UnitNo) → b ≤ u.0 → u.0 < b + n → Member u (units_from n b)

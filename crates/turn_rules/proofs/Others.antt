@@ -1,7 +1,7 @@
 -- In a legal run another's event leaves what a unit was given, and what it wants.
 use Rattle.std.proofs.Common.{◌≡◌, Bool, List, Option, Some, None, false, refl, sym, ap, ◌∙◌, subst}
 use Rattle.std.specs.Prelude.{option_map}
-use Rattle.core_model.specs.World.{UnitNo, Call, Origin}
+use Rattle.core_model.specs.CoreState.{UnitNo, Call, Origin}
 use Rattle.core_model.specs.declared.effects.Effect.{Effect}
 use Rattle.core_model.specs.declared.events.CoreEvent.{CoreEvent}
 use Rattle.core_model.specs.Legal.{Run, IsLegal, ends}

@@ -2,7 +2,7 @@
 use Rattle.std.proofs.Common.{◌≡◌, ℕ, ◌≤◌, Option, Some, None, List, [], ◌∷◌, ◌++◌, length, map, Bool, true, false, ◌⊎◌, inl, inr, refl, subst, nat_lt, is_some}
 use Rattle.std.specs.Prelude.{if◌then◌else◌}
 use Rattle.std.proofs.lemmas.Bool.{cases_Bool, ltb-false}
-use Rattle.core_model.specs.World.{UnitNo, GrainId, Batch, World}
+use Rattle.core_model.specs.CoreState.{UnitNo, GrainId, Batch, CoreState}
 use Rattle.core_model.specs.Answers.{next_learn}
 use Rattle.core_model.specs.declared.events.CoreEvent.TheVariants.{Take}
 use Rattle.core_model.specs.Events.{applies}
@@ -13,7 +13,7 @@ use Rattle.turn_rules.proofs.Listed.{empty-append, empty-map}
 -- ---- no mover
 
 -- where there is no mover, no unit can move and the settler has no step
-pub no-doubt-list : (w : World) (us : List UnitNo) (tail : List Mover) → w.manager.doubt ≡ None → (if is_some w.manager.doubt then [] else map OfUnit us) ++ tail ≡ [] → (us ≡ []) × (tail ≡ [])
+pub no-doubt-list : (w : CoreState) (us : List UnitNo) (tail : List Mover) → w.manager.doubt ≡ None → (if is_some w.manager.doubt then [] else map OfUnit us) ++ tail ≡ [] → (us ≡ []) × (tail ≡ [])
 no-doubt-list w us tail d e =
     let f : map OfUnit us ++ tail ≡ [] = subst (λ (o : Option ℕ). (if is_some o then [] else map OfUnit us) ++ tail ≡ []) d e in
     let p = empty-append (map OfUnit us) tail f in
@@ -30,7 +30,7 @@ no-step Takes e = absurd cc
 no-step Rests e = refl
 
 -- what a settler without a step leaves: no open batch, all written, none to take
-pub record Rested (w : World) : Type 0 where
+pub record Rested (w : CoreState) : Type 0 where
   pub none : w.manager.batch ≡ None
   pub written : length w.manager.settled ≤ w.manager.emitted
   pub untaken : applies w Take ≡ false
@@ -41,11 +41,11 @@ undecided-moves n None q = absurd cc
 undecided-moves n (Some g) q = absurd cc
 
 -- or its seal
-open-moves : (w : World) (b : Batch) (t : Bool) → (if t then Seals b.number else undecided_step b.number (first_unvoted b)) ≡ Rests → ⊥
+open-moves : (w : CoreState) (b : Batch) (t : Bool) → (if t then Seals b.number else undecided_step b.number (first_unvoted b)) ≡ Rests → ⊥
 open-moves w b true q = absurd cc
 open-moves w b false q = undecided-moves b.number (first_unvoted b) q
 
-module _ (w : World) (sure : is_some w.manager.doubt ≡ false) where
+module _ (w : CoreState) (sure : is_some w.manager.doubt ≡ false) where
   learning : (x : UnitNo × GrainId) → next_learn w ≡ Some x → later_step w ≡ Rests → ⊥
   learning x q = rw (sure, q) (λ e. absurd (cc e))
 
@@ -68,7 +68,7 @@ module _ (w : World) (sure : is_some w.manager.doubt ≡ false) where
       by None q = test q (cases_Bool (nat_lt w.manager.emitted (length w.manager.settled))) (cases_Bool (applies w Take))
 
 -- a settler that rests leaves that
-pub rested : (w : World) → is_some w.manager.doubt ≡ false → settler_step w ≡ Rests → Rested w
+pub rested : (w : CoreState) → is_some w.manager.doubt ≡ false → settler_step w ≡ Rests → Rested w
 rested w d e = by w.manager.batch refl e
   where
     by : (o : Option Batch) → w.manager.batch ≡ o → batch_step w o ≡ Rests → Rested w

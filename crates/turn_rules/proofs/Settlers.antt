@@ -2,7 +2,7 @@
 use Rattle.std.proofs.Common.{◌≡◌, ℕ, suc, Option, Some, None, List, [], ◌∷◌, get_or, true, false, inl, inr, refl, sym, ap, ◌∙◌, subst}
 use Rattle.std.specs.Prelude.{take, slice_get}
 use Rattle.std.proofs.lemmas.Bool.{cond_both, and_parts}
-use Rattle.core_model.specs.World.{UnitNo, World}
+use Rattle.core_model.specs.CoreState.{UnitNo, CoreState}
 use Rattle.core_model.specs.declared.events.CoreEvent.{CoreEvent}
 use Rattle.core_model.specs.declared.events.CoreEvent.TheVariants.{Halt}
 use Rattle.core_model.specs.Changes.{swept, swept_by}
@@ -20,7 +20,7 @@ use Rattle.turn_rules.specs.Going.{is_begin, is_own}
 -- ---- no stop
 
 -- none but a stop stops the run
-halt-change : (w : World) (e : CoreEvent) (w' : World) → Change w e w' → (e ≡ Halt → ⊥) → w'.units.halt ≡ w.units.halt
+halt-change : (w : CoreState) (e : CoreEvent) (w' : CoreState) → Change w e w' → (e ≡ Halt → ⊥) → w'.units.halt ≡ w.units.halt
 halt-change w e w' (bad line why q) n = refl
 halt-change w e w' (begin origin call plain c) n = refl
 halt-change w e w' (lock v g mode running free first here) n = refl
@@ -44,12 +44,12 @@ halt-change w e w' (want v g running free fresh) n = refl
 halt-change w e w' (load g v state gone wanted) n = refl
 
 -- by one event
-halt-step : (w : World) (e : CoreEvent) → (applies w e ≡ true → e ≡ Halt → ⊥) → (step w e).units.halt ≡ w.units.halt
-halt-step w e n = cond_both (applies w e) (swept (does w e)) w (λ (x : World). x.units.halt ≡ w.units.halt)
+halt-step : (w : CoreState) (e : CoreEvent) → (applies w e ≡ true → e ≡ Halt → ⊥) → (step w e).units.halt ≡ w.units.halt
+halt-step w e n = cond_both (applies w e) (swept (does w e)) w (λ (x : CoreState). x.units.halt ≡ w.units.halt)
     (λ a. sweep (does w e) ∙ halt-change w e (does w e) (decode w e (and_parts (is_allowed w e) (can w e) a).1) (n a))
     (λ a. refl)
   where
-    sweep : (x : World) → (swept x).units.halt ≡ x.units.halt
+    sweep : (x : CoreState) → (swept x).units.halt ≡ x.units.halt
     sweep x = go x.cells.capacity
       where
         go : (c : Option ℕ) → (swept_by x c).units.halt ≡ x.units.halt
@@ -57,7 +57,7 @@ halt-step w e n = cond_both (applies w e) (swept (does w e)) w (λ (x : World). 
         go (Some m) = refl
 
 -- by a list of events
-halt-run : (es : List CoreEvent) (w : World) → ((at : ℕ) (e : CoreEvent) → slice_get es at ≡ Some e → applies (run w (take at es)) e ≡ true → e ≡ Halt → ⊥) → (run w es).units.halt ≡ w.units.halt
+halt-run : (es : List CoreEvent) (w : CoreState) → ((at : ℕ) (e : CoreEvent) → slice_get es at ≡ Some e → applies (run w (take at es)) e ≡ true → e ≡ Halt → ⊥) → (run w es).units.halt ≡ w.units.halt
 halt-run [] w n = refl
 halt-run (e ∷ es) w n = halt-run es (step w e) (λ at f there a. n (suc at) f there a) ∙ halt-step w e (n 0 e refl)
 
@@ -93,7 +93,7 @@ settlers Takes e m = subst (λ (x : CoreEvent). (mover_of x ≡ OfSettler) × (i
 settlers Rests e m = absurd m
 
 -- and is due
-pub settlers-due : (around : Basis) (w : World) (got : UnitNo → List Got) (s : Step) (e : CoreEvent) → Makes s e → IsDue around w got e
+pub settlers-due : (around : Basis) (w : CoreState) (got : UnitNo → List Got) (s : Step) (e : CoreEvent) → Makes s e → IsDue around w got e
 settlers-due around w got (Votes n g) e m = subst (IsDue around w got) (sym m.1) tt
 settlers-due around w got (Decides n) e m = subst (IsDue around w got) (sym m) tt
 settlers-due around w got (Seals n) e (inl m) = subst (IsDue around w got) (sym m) tt

@@ -2,7 +2,7 @@
 use Rattle.std.proofs.Common.{◌≡◌, ℕ, ◌+◌, ◌-◌, ◌<◌, Some, None, List, [], length, get_or, Bool, true, false, refl, sym, ap, ◌∙◌, subst, arith}
 use Rattle.std.specs.Prelude.{filter, take, slice_get, count_by}
 use Rattle.base_types.specs.declared.calls.Origin.TheVariants.{Line, Child}
-use Rattle.core_model.specs.World.{UnitNo, Call, World}
+use Rattle.core_model.specs.CoreState.{UnitNo, Call, CoreState}
 use Rattle.core_model.specs.declared.effects.Effect.{Effect}
 use Rattle.core_model.specs.declared.events.CoreEvent.{CoreEvent}
 use Rattle.core_model.specs.declared.events.CoreEvent.TheVariants.{Begin}
@@ -59,8 +59,8 @@ module _ (l : TurnLoop) (t : IsTurning l) where
 
       same_kept : AreKept (with_event l.run e) l.units
       same_kept = record {
-        kept = subst (λ (w : World). filter (is_kept w) l.units ≡ filter (is_kept w) (units_of l.run w)) (sym same) t.kept.kept;
-        below = λ u m. subst (λ (w : World). u.0 < w.units.next) (sym same) (t.kept.below u m);
+        kept = subst (λ (w : CoreState). filter (is_kept w) l.units ≡ filter (is_kept w) (units_of l.run w)) (sym same) t.kept.kept;
+        below = λ u m. subst (λ (w : CoreState). u.0 < w.units.next) (sym same) (t.kept.below u m);
       }
 
   -- a line that is bad

@@ -7,7 +7,7 @@ use Rattle.cell_model.specs.declared.locks.Ask.{Ask}
 use Rattle.cell_model.specs.declared.locks.Ask.TheVariants.{Free, Held, MustWait, MustDie}
 use Rattle.cell_model.specs.Laws.{AnswersExactly}
 use Rattle.cell_model.proofs.Asking.{ask-exact}
-use Rattle.core_model.specs.World.{UnitNo, GrainId, Hold, Mode, Outcome, Member, World}
+use Rattle.core_model.specs.CoreState.{UnitNo, GrainId, Hold, Mode, Outcome, Member, CoreState}
 use Rattle.core_model.specs.Tests.{ask, ask_lock, ask_doom, doomed_by, is_active, outcome_of}
 use Rattle.script_tree.specs.Programs.{ProgramTree}
 use Rattle.script_meaning.specs.Trails.{Given, GivenLock, GivenRaise, GivenOutcome, locks_of, answers_of}
@@ -22,7 +22,7 @@ use Rattle.script_meaning.specs.Play as script
 -- ---- who waits
 
 -- a unit that waits for a lock waits for a younger holder
-wait-holder : (w : World) (u : UnitNo) (g : GrainId) (mode : Mode) → is_wait (ask w u g mode) ≡ true → (h : Hold) × Member h (w.cells.holds g) × (u.0 < h.unit.0)
+wait-holder : (w : CoreState) (u : UnitNo) (g : GrainId) (mode : Mode) → is_wait (ask w u g mode) ≡ true → (h : Hold) × Member h (w.cells.holds g) × (u.0 < h.unit.0)
 wait-holder w u g mode e = by_active (is_active w u g) e
   where
     Found : Type 0
@@ -52,7 +52,7 @@ and_given-none one None e = refl
 and_given-none one (Some more) e = absurd cc
 
 -- a unit that waits for a child has one that isn't decided
-undecided-kid : (w : World) (got : List Got) → given_by w got ≡ None → (c : UnitNo) × Member c (kids_got got) × (outcome_of w c ≡ None)
+undecided-kid : (w : CoreState) (got : List Got) → given_by w got ≡ None → (c : UnitNo) × Member c (kids_got got) × (outcome_of w c ≡ None)
 undecided-kid w [] e = absurd cc
 undecided-kid w (GotLock g mode state ∷ got) e = undecided-kid w got (and_given-none (GivenLock g mode state) (given_by w got) e)
 undecided-kid w (GotRaise g ∷ got) e = undecided-kid w got (and_given-none (GivenRaise g) (given_by w got) e)
@@ -64,7 +64,7 @@ undecided-kid w (GotChild call depth child ∷ got) e = by (undecided-kid w got)
     by rest (Some o) q h = (let t = rest (and_given-none (GivenOutcome call depth o) (given_by w got) h) in (t.0, inr t.1, t.2))
 
 -- who wants nothing waits for a child
-wanted-none : (types : ProgramTree) (w : World) (u : UnitNo) (got : List Got) → wanted_by types w u got ≡ None → given_by w got ≡ None
+wanted-none : (types : ProgramTree) (w : CoreState) (u : UnitNo) (got : List Got) → wanted_by types w u got ≡ None → given_by w got ≡ None
 wanted-none types w u got e = by (given_by w got) refl e
   where
     by : (o : Option (List Given)) → given_by w got ≡ o → option_map (λ given. script.next types (w.units.call u) (depth_of (w.units.origin u)) (locks_of given) (answers_of given)) o ≡ None → given_by w got ≡ None
@@ -72,7 +72,7 @@ wanted-none types w u got e = by (given_by w got) refl e
     by (Some t) q h = absurd cc
 
 -- the children of a unit that waits for one
-pub waiting-cases : (types : ProgramTree) (w : World) (u : UnitNo) (got : List Got) → is_unhindered w u (wanted_by types w u got) ≡ false →
+pub waiting-cases : (types : ProgramTree) (w : CoreState) (u : UnitNo) (got : List Got) → is_unhindered w u (wanted_by types w u got) ≡ false →
     ((h : Hold) × (g : GrainId) × Member h (w.cells.holds g) × (u.0 < h.unit.0)) ⊎ ((c : UnitNo) × Member c (kids_got got) × (outcome_of w c ≡ None))
 waiting-cases types w u got e = by (wanted_by types w u got) refl e
   where

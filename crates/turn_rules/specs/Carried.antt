@@ -1,6 +1,6 @@
 -- The units that a run's loop has to look at, in place of all units of the run.
 use Rattle.std.specs.Prelude.{◌≡◌, ◌<◌, ℕ, List, [], ◌∷◌, ◌++◌, Bool, ◌&&◌, ◌||◌, not, if◌then◌else◌, filter, map, length, nat_lt, is_none, is_some}
-use Rattle.core_model.specs.World.{UnitNo, Member, World}
+use Rattle.core_model.specs.CoreState.{UnitNo, Member, CoreState}
 use Rattle.core_model.specs.Tests.{is_running, is_over, is_free}
 use Rattle.core_model.specs.Legal.{Run, ends}
 use Rattle.script_tree.specs.Programs.{ProgramTree}
@@ -9,15 +9,15 @@ use Rattle.promise_spec.specs.TurnRule.{Mover, OfUnit, OfSettler, can_move, is_l
 use Rattle.promise_spec.specs.Gotten.{got_in}
 
 -- the unit runs, or has a lock left
-abbrev pub is_live : World → UnitNo → Bool
+abbrev pub is_live : CoreState → UnitNo → Bool
 is_live w u = is_running (w.units.phase u) || (is_over (w.units.phase u) && not (is_free w u))
 
 -- the unit is a line's that is in flight
-abbrev pub is_flying : World → UnitNo → Bool
+abbrev pub is_flying : CoreState → UnitNo → Bool
 is_flying w u = is_line (w.units.origin u) && (not (is_settled w u) || not (is_free w u))
 
 -- the unit is to be looked at still
-abbrev pub is_kept : World → UnitNo → Bool
+abbrev pub is_kept : CoreState → UnitNo → Bool
 is_kept w u = is_live w u || is_flying w u
 
 -- these units are all of the run that are to be looked at, in number order, with others that aren't

@@ -2,7 +2,7 @@
 use Rattle.std.specs.Prelude.{◌≡◌, ◌⊎◌, ◌≤◌, ◌<◌, ℕ, List, [], ◌∷◌}
 use Rattle.base_types.specs.declared.entries.Entry.{Entry}
 use Rattle.base_types.specs.declared.calls.Origin.TheVariants.{Line}
-use Rattle.core_model.specs.World.{UnitNo, Member, World}
+use Rattle.core_model.specs.CoreState.{UnitNo, Member, CoreState}
 use Rattle.promise_spec.specs.Cores.{HasBegun}
 use Rattle.promise_spec.specs.Gotten.{Got, GotLock, GotRaise, GotChild}
 
@@ -14,16 +14,16 @@ kids_got (GotRaise g ∷ rest) = kids_got rest
 kids_got (GotChild call depth child ∷ rest) = child ∷ kids_got rest
 
 -- the line has an entry
-abbrev pub HasEntry : World → ℕ → Type 0
+abbrev pub HasEntry : CoreState → ℕ → Type 0
 HasEntry w n = (x : Entry) × Member x w.manager.settled × (x.line ≡ n)
 
 -- the line has a unit
-abbrev pub HasUnit : World → ℕ → Type 0
+abbrev pub HasUnit : CoreState → ℕ → Type 0
 HasUnit w n = (u : UnitNo) × HasBegun w u × (w.units.origin u ≡ Line n)
 
 -- Units are numbered from the base on without a gap, what a unit got has its children, and each line that was taken has
 -- its unit or its entry.
-pub record IsCounted (base : ℕ) (w : World) (got : UnitNo → List Got) : Type 0 where
+pub record IsCounted (base : ℕ) (w : CoreState) (got : UnitNo → List Got) : Type 0 where
   pub above : base ≤ w.units.next
   pub numbered : (u : UnitNo) → HasBegun w u → base ≤ u.0
   pub born : (u : UnitNo) → base ≤ u.0 → u.0 < w.units.next → HasBegun w u

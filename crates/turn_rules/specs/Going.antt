@@ -1,7 +1,7 @@
 -- A run that goes on by one event: whose event it is, what a unit gets by it, and when it may come.
 use Rattle.std.specs.Prelude.{◌≡◌, ℕ, List, [], ◌∷◌, length, get_or, Bool, true, false, if◌then◌else◌}
 use Rattle.base_types.specs.declared.calls.Origin.TheVariants.{Line, Child}
-use Rattle.core_model.specs.World.{UnitNo, same_unit, World}
+use Rattle.core_model.specs.CoreState.{UnitNo, same_unit, CoreState}
 use Rattle.core_model.specs.declared.events.CoreEvent.{CoreEvent}
 use Rattle.core_model.specs.declared.events.CoreEvent.TheVariants.{Bad, Begin, Grant, Refuse, Finish, EndPlain, EndSnapshot, Release, Take, Vote, Decide, Sealed, NotSealed, Doubt, Learn, Emitted, Halt, Want, Load}
 use Rattle.core_model.specs.Events.{applies}
@@ -17,7 +17,7 @@ abbrev pub with_event : Run → CoreEvent → Run
 with_event r e = extended r (e ∷ [])
 
 -- what a unit gets by one more event
-abbrev pub got_next : World → CoreEvent → UnitNo → List Got
+abbrev pub got_next : CoreState → CoreEvent → UnitNo → List Got
 got_next w e u = if applies w e then got_by w u e else []
 
 -- the event is one of the unit's own; no event of a line or of the settler is one

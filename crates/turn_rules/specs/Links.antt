@@ -1,6 +1,6 @@
 -- What links who carries a unit to the core's run.
 use Rattle.std.specs.Prelude.{◌≡◌, ℕ, List, [], ◌∷◌, ◌++◌, Bool, true, false, Some, ⊤}
-use Rattle.core_model.specs.World.{UnitNo, GrainId, Call, Member, same_grain}
+use Rattle.core_model.specs.CoreState.{UnitNo, GrainId, Call, Member, same_grain}
 use Rattle.core_model.specs.declared.phases.Phase.TheVariants.{Running}
 use Rattle.cell_model.specs.Locks.{holds_lock}
 use Rattle.core_model.specs.Tests.{any, is_over, is_before}

@@ -1,6 +1,6 @@
 -- What a loop of turns keeps.
 use Rattle.std.specs.Prelude.{◌≡◌, ◌<◌, ℕ, List, [], ◌∷◌, ◌++◌, length, get_or, Bool, false, Some, ⊤}
-use Rattle.core_model.specs.World.{UnitNo, Member}
+use Rattle.core_model.specs.CoreState.{UnitNo, Member}
 use Rattle.core_model.specs.Changes.{new_unit}
 use Rattle.core_model.specs.declared.events.CoreEvent.{CoreEvent}
 use Rattle.core_model.specs.Legal.{Run, ends}

@@ -3,7 +3,7 @@ ghost use Rattle.base_types.specs.declared.calls.Origin.{Origin};
 ghost use Rattle.core_model.specs.declared.effects.Effect.{Effect};
 ghost use Rattle.core_model.specs.declared.events.CoreEvent.{CoreEvent};
 ghost use Rattle.core_model.specs.declared.events.CoreEvent.TheVariants.{Begin};
-ghost use Rattle.core_model.specs.World.{UnitNo, Call};
+ghost use Rattle.core_model.specs.CoreState.{UnitNo, Call};
 ghost use Rattle.core_model.specs.Changes.{new_unit};
 ghost use Rattle.core_model.specs.Events.{applies};
 ghost use Rattle.core_model.specs.Legal.{Run, IsLegal, ends};

@@ -1,7 +1,7 @@
 ghost use Rattle.std.specs.Prelude.{◌≡◌, Bool, false, List, Some};
 ghost use Rattle.core_model.specs.declared.effects.Effect.{Effect};
 ghost use Rattle.core_model.specs.declared.events.CoreEvent.{CoreEvent};
-ghost use Rattle.core_model.specs.World.{UnitNo, Outcome};
+ghost use Rattle.core_model.specs.CoreState.{UnitNo, Outcome};
 ghost use Rattle.core_model.specs.Tests.{outcome_of};
 ghost use Rattle.core_model.specs.Legal.{Run, IsLegal, ends};
 ghost use Rattle.script_tree.specs.Programs.{ProgramTree};

@@ -1,6 +1,6 @@
 ghost use Rattle.std.specs.Prelude.{◌≡◌, ◌++◌, ℕ, List};
 ghost use Rattle.core_model.specs.declared.events.CoreEvent.{CoreEvent};
-ghost use Rattle.core_model.specs.World.{UnitNo};
+ghost use Rattle.core_model.specs.CoreState.{UnitNo};
 ghost use Rattle.core_model.specs.Events.{step};
 ghost use Rattle.core_model.specs.Legal.{Run, ends};
 ghost use Rattle.script_tree.specs.Programs.{ProgramTree};

@@ -5,7 +5,7 @@ ghost use Rattle.base_types.specs.declared.calls.Origin.TheVariants.{Child};
 ghost use Rattle.core_model.specs.declared.effects.Effect.{Effect};
 ghost use Rattle.core_model.specs.declared.events.CoreEvent.{CoreEvent};
 ghost use Rattle.core_model.specs.declared.events.CoreEvent.TheVariants.{Begin, Grant, Refuse, Finish, EndPlain, Release};
-ghost use Rattle.core_model.specs.World.{UnitNo, GrainId, Call, Outcome};
+ghost use Rattle.core_model.specs.CoreState.{UnitNo, GrainId, Call, Outcome};
 ghost use Rattle.core_model.specs.Tests.{outcome_of};
 ghost use Rattle.core_model.specs.Legal.{Run, IsLegal, ends};
 ghost use Rattle.script_meaning.specs.Play.{WantLock, WantRaise, WantUnit, Over};

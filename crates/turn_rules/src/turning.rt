@@ -2,7 +2,7 @@ ghost use Rattle.std.specs.Prelude.{◌≡◌, ◌+◌, ◌<◌, ℕ, Bool, true
 ghost use Rattle.base_types.specs.declared.calls.Origin.TheVariants.{Line, Child};
 ghost use Rattle.core_model.specs.declared.events.CoreEvent.{CoreEvent};
 ghost use Rattle.core_model.specs.declared.events.CoreEvent.TheVariants.{Begin};
-ghost use Rattle.core_model.specs.World.{UnitNo, Call};
+ghost use Rattle.core_model.specs.CoreState.{UnitNo, Call};
 ghost use Rattle.core_model.specs.Events.{applies};
 ghost use Rattle.core_model.specs.Legal.{Run, ends};
 ghost use Rattle.promise_spec.specs.UnitRule.{Basis};

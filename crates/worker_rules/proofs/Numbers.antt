@@ -2,7 +2,7 @@
 use Rattle.std.proofs.Common.{◌≡◌, ⊎_elim, ℕ, ◌+◌, ◌≤◌, List, [], ◌∷◌, Bool, true, false, Option, Some, None, refl, sym, ap, ◌∙◌, arith, le_refl}
 use Rattle.std.specs.Prelude.{if◌then◌else◌}
 use Rattle.std.proofs.lemmas.Bool.{and_parts, cond_both}
-use Rattle.core_model.specs.World.{UnitNo, Batch, World}
+use Rattle.core_model.specs.CoreState.{UnitNo, Batch, CoreState}
 use Rattle.core_model.specs.Changes.{new_unit, swept, swept_by}
 use Rattle.core_model.specs.declared.questions.AskAnswer.{AskAnswer}
 use Rattle.core_model.specs.declared.questions.AskAnswer.TheVariants as answer
@@ -20,11 +20,11 @@ use Rattle.turn_rules.proofs.Growth.{ends-more}
 use Rattle.worker_rules.specs.Stories.{Told, IsTrue}
 
 -- the number of the next unit
-abbrev next : World → ℕ
+abbrev next : CoreState → ℕ
 next w = w.units.next
 
 -- grains that leave memory leave it
-swept-next : (w : World) → next (swept w) ≡ next w
+swept-next : (w : CoreState) → next (swept w) ≡ next w
 swept-next w = go w.cells.capacity
   where
     go : (c : Option ℕ) → next (swept_by w c) ≡ next w
@@ -32,7 +32,7 @@ swept-next w = go w.cells.capacity
     go (Some n) = refl
 
 -- no event takes a number back
-change-next : (w : World) (e : CoreEvent) (w' : World) → Change w e w' → next w ≤ next w'
+change-next : (w : CoreState) (e : CoreEvent) (w' : CoreState) → Change w e w' → next w ≤ next w'
 change-next w e w' (bad line why q) = le_refl _
 change-next w e w' (begin origin call plain c) = omega arith
 change-next w e w' (lock u g mode running free first here) = le_refl _
@@ -56,7 +56,7 @@ change-next w e w' (want u g running free fresh) = le_refl _
 change-next w e w' (load g u state gone wanted) = le_refl _
 
 -- nor does a step
-pub step-next : (w : World) (e : CoreEvent) → next w ≤ next (step w e)
+pub step-next : (w : CoreState) (e : CoreEvent) → next w ≤ next (step w e)
 step-next w e = by (applies w e) refl
   where
     by : (a : Bool) → applies w e ≡ a → next w ≤ next (if a then swept (does w e) else w)
@@ -82,12 +82,12 @@ not_granted-names answer.Absent = refl
 not_granted-names answer.Free = refl
 
 -- nor does a decision
-decided-names : (w : World) (b : Option Batch) → names (decided_reply w b) ≡ false
+decided-names : (w : CoreState) (b : Option Batch) → names (decided_reply w b) ≡ false
 decided-names w None = refl
 decided-names w (Some b) = refl
 
 -- nor an event that doesn't apply
-without-names : (w : World) (e : CoreEvent) → names (reply_without w e) ≡ false
+without-names : (w : CoreState) (e : CoreEvent) → names (reply_without w e) ≡ false
 without-names w (Grant u g mode) = cond_both (is_allowed w (Grant u g mode)) (not_granted (ask w u g mode)) reply.Unapplied (λ r. names r ≡ false) (λ a. not_granted-names (ask w u g mode)) (λ a. refl)
 without-names w (Bad line why) = refl
 without-names w (Begin origin call plain) = refl
@@ -121,7 +121,7 @@ unnamed : {A : Type 0} (r : CoreReply) (u : UnitNo) → r ≡ reply.Began u → 
 unnamed r u e f = absurd (let t : true ≡ false = sym (ap names e) ∙ f in cc)
 
 -- who is told to have begun has the next number, which is given
-with-names : (w : World) (e : CoreEvent) (u : UnitNo) → reply_with w e ≡ reply.Began u → (u.0 ≡ next w) × (next (does w e) ≡ next w + 1)
+with-names : (w : CoreState) (e : CoreEvent) (u : UnitNo) → reply_with w e ≡ reply.Began u → (u.0 ≡ next w) × (next (does w e) ≡ next w + 1)
 with-names w (Begin origin call plain) u q = (sym (unit-of (new_unit w) u q), refl)
 with-names w (Grant v g mode) u q = unnamed (reply_with w (Grant v g mode)) u q refl
 with-names w (Bad line why) u q = unnamed reply.Done u q refl
@@ -143,7 +143,7 @@ with-names w (Want v g) u q = unnamed reply.Done u q refl
 with-names w (Load g v state) u q = unnamed reply.Done u q refl
 
 -- so does the reply to any event
-pub began-next : (w : World) (e : CoreEvent) (u : UnitNo) → reply_to w e ≡ reply.Began u → (u.0 ≡ next w) × (next (step w e) ≡ next w + 1)
+pub began-next : (w : CoreState) (e : CoreEvent) (u : UnitNo) → reply_to w e ≡ reply.Began u → (u.0 ≡ next w) × (next (step w e) ≡ next w + 1)
 began-next w e u = by (applies w e)
   where
     by : (a : Bool) → (if a then reply_with w e else reply_without w e) ≡ reply.Began u → (u.0 ≡ next w) × (next (if a then swept (does w e) else w) ≡ next w + 1)

@@ -1,6 +1,6 @@
 -- What one who reaches the core through an access may know of a unit, and promises of the own entries.
 use Rattle.std.specs.Prelude.{◌≡◌, Bool, ◌&&◌, not}
-use Rattle.core_model.specs.World.{UnitNo}
+use Rattle.core_model.specs.CoreState.{UnitNo}
 use Rattle.core_model.specs.declared.events.CoreEvent.{CoreEvent}
 use Rattle.core_model.specs.declared.events.CoreReply.TheVariants.{Began}
 use Rattle.turn_cell.specs.History.{In}

@@ -1,6 +1,6 @@
 -- What those who share a core promise of the events that they put, and what that gives for the whole history.
 use Rattle.std.specs.Prelude.{◌≡◌, ℕ, ◌≤◌, Bool, true, false, List, ◌∷◌, ◌++◌, length}
-use Rattle.core_model.specs.World.{UnitNo}
+use Rattle.core_model.specs.CoreState.{UnitNo}
 use Rattle.core_model.specs.declared.events.CoreEvent.{CoreEvent}
 use Rattle.core_model.specs.declared.events.CoreEvent.TheVariants.{Load}
 use Rattle.core_model.specs.declared.events.CoreReply.TheVariants.{Began}

@@ -2,7 +2,7 @@ ghost use Rattle.std.specs.Prelude.{◌≡◌, ◌++◌, ℕ, List, [], ◌∷�
 ghost use Rattle.core_model.specs.declared.events.CoreEvent.{CoreEvent};
 ghost use Rattle.core_model.specs.declared.events.CoreReply.{CoreReply};
 ghost use Rattle.core_model.specs.declared.events.CoreReply.TheVariants.{Began};
-ghost use Rattle.core_model.specs.World.{UnitNo};
+ghost use Rattle.core_model.specs.CoreState.{UnitNo};
 ghost use Rattle.core_model.specs.Legal.{Run};
 ghost use Rattle.turn_cell.specs.History.{In, entry, entries_of};
 ghost use Rattle.promise_spec.specs.UnitRule.{Basis, KeepsUnitRule};

@@ -1,5 +1,5 @@
 ghost use Rattle.std.specs.Prelude.{◌≡◌, Bool, true, false};
-ghost use Rattle.core_model.specs.World.{UnitNo};
+ghost use Rattle.core_model.specs.CoreState.{UnitNo};
 ghost use Rattle.core_model.specs.declared.events.CoreEvent.{CoreEvent};
 ghost use Rattle.core_model.specs.declared.events.CoreReply.{CoreReply};
 ghost use Rattle.turn_cell.specs.History.{entries_of};

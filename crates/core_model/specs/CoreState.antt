@@ -86,7 +86,7 @@ pub record Manager : Type 0 where
   pub emitted : ℕ  -- how many of them are written
 
 -- the whole state
-pub record World : Type 0 where
+pub record CoreState : Type 0 where
   pub units : Units
   pub cells : Cells
   pub manager : Manager
