@@ -1,4 +1,4 @@
-ghost use Rattle.std.specs.Prelude.{◌≡◌, ◌<◌, ◌≤◌, ◌+◌, ◌-◌, [], ◌∷◌, ◌++◌, position, slice_get, OnOk};
+ghost use Rattle.std.specs.Prelude.{◌≡◌, ◌<◌, ◌≤◌, ◌+◌, ◌-◌, [], ◌∷◌, ◌++◌, position, slice_get, OnOk, IfSome};
 ghost use Rattle.std.specs.List.{count_by};
 ghost use Rattle.std.specs.VecDeque.{deque_len, deque_capacity};
 ghost use Rattle.core_lists.specs.Pairs.{is_pair, has_pair, without_first, other_pairs};
@@ -74,19 +74,22 @@ impl LearnQueue {
         ensures once { count_by (is_pair unit grain) self.old.pairs ≤ 1 → self.new.pairs ≡ other_pairs self.old.pairs unit grain }
         ensures spare { self.old.spare ≤ self.new.spare }
     {
-        if let Some(at) = self.place_of(unit, grain) {
+        if let Some(at) = place_of(&self.pairs, unit, grain) {
             self.pairs.remove(at);
         }
     }
+}
 
-    // Where the first pair of this unit and this grain stands.
-    fn place_of(&self, unit: UnitNo, grain: GrainId) -> Option<usize>
-        ensures { result ≡ position (is_pair unit grain) self.now.pairs }
-    {
-        self.pairs
-            .iter()
-            .position(|pair| is_pair(pair, unit, grain))
-    }
+// Where the first pair of this unit and this grain stands.
+fn place_of(
+    pairs: &VecDeque<(UnitNo, GrainId)>,
+    unit: UnitNo,
+    grain: GrainId,
+) -> Option<usize>
+    ensures place { result ≡ position (is_pair unit grain) pairs.now.items }
+    ensures within { IfSome result (λ at. at < deque_len pairs.now) }
+{
+    pairs.iter().position(|pair| is_pair(pair, unit, grain))
 }
 
 // Whether the pair is of this unit and this grain.
