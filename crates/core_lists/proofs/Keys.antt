@@ -1,5 +1,5 @@
 -- Keys that the order doesn't tell apart are one, so what is written at one key changes no other.
-use Rattle.std.proofs.Common.{◌≡◌, ◌≢◌, ℕ, Bool, true, false, refl, sym, ap, ◌∙◌, cond, List, Option, Some, None}
+use Rattle.std.proofs.Common.{◌≡◌, ◌≢◌, Bool, true, false, refl, sym, ap, ◌∙◌, cond, List, Option, Some, None}
 use Rattle.std.specs.Prelude.{is_ok, Result, Ok, Err, OnOk}
 use Rattle.std.specs.Option.{is_some, option_flatten}
 use Rattle.std.specs.declared.cmp.Ordering.{Ordering}
@@ -14,7 +14,7 @@ use Rattle.base_types.specs.Stores.{grain_cmp}
 use Rattle.core_lists.specs.declared.last_states.LastStates.{LastStates}
 use Rattle.core_lists.specs.declared.handed_states.HandedStates.{HandedStates}
 use Rattle.core_lists.specs.declared.handed_states.HandedKey.{HandedKey}
-use Rattle.core_lists.specs.States.{unit_cmp, handed_cmp, last_in, has_place, handed_in, PutsLast, KeepsPlaces, PutsHanded}
+use Rattle.core_lists.specs.States.{unit_cmp, handed_cmp, last_in, has_place, PutsLast, KeepsPlaces, PutsHanded}
 
 -- what holds after a call that went well, where it did
 pub when_ok : {A E P : Type 0} (r : Result A E) → OnOk r P → is_ok r ≡ true → P
@@ -31,22 +31,22 @@ both_equal Less b e = absurd (cc e)
 both_equal Equal b e = (refl, equal b e)
 both_equal Greater b e = absurd (cc e)
 
-same_unit : (a b : UnitNo) → unit_cmp a b ≡ Equal → a ≡ b
-same_unit a b e =
+exact_unit : (a b : UnitNo) → unit_cmp a b ≡ Equal → a ≡ b
+exact_unit a b e =
     let number : a.0 ≡ b.0 = exact_unsigned a.0 b.0 e in
     λ i. record { 0 = number i }
 
-same_grain : (a b : GrainId) → is_at (grain_cmp a) b ≡ true → a ≡ b
-same_grain a b e =
+exact_grain : (a b : GrainId) → is_at (grain_cmp a) b ≡ true → a ≡ b
+exact_grain a b e =
     let equal = both_equal (nat_cmp a.kind b.kind) (nat_cmp a.key b.key) e in
     let kind : a.kind ≡ b.kind = exact_unsigned a.kind b.kind equal.0 in
     let key : a.key ≡ b.key = exact_unsigned a.key b.key equal.1 in
     λ i. record { kind = kind i; key = key i }
 
-same_key : (a b : HandedKey) → is_at (handed_cmp a) b ≡ true → (a.unit ≡ b.unit) × (a.grain ≡ b.grain)
-same_key a b e =
+exact_key : (a b : HandedKey) → is_at (handed_cmp a) b ≡ true → (a.unit ≡ b.unit) × (a.grain ≡ b.grain)
+exact_key a b e =
     let equal = both_equal (unit_cmp a.unit b.unit) (grain_cmp a.grain b.grain) e in
-    (same_unit a.unit b.unit equal.0, same_grain a.grain b.grain (ap is_eq equal.1))
+    (exact_unit a.unit b.unit equal.0, exact_grain a.grain b.grain (ap is_eq equal.1))
 
 -- what isn't true is false
 apart : (b : Bool) → (b ≡ true → ⊥) → b ≡ false
@@ -54,7 +54,7 @@ apart false n = refl
 apart true n = absurd (n refl)
 
 other_grain : (a b : GrainId) → b ≢ a → is_at (grain_cmp a) b ≡ false
-other_grain a b other = apart (is_at (grain_cmp a) b) (λ e. other (sym (same_grain a b e)))
+other_grain a b other = apart (is_at (grain_cmp a) b) (λ e. other (sym (exact_grain a b e)))
 
 -- a grain gets a last state
 pub puts_last : (old new : LastStates) (grain : GrainId) (state : List Value) → Updates grain_cmp old.states new.states grain (Some (Some state)) → PutsLast old new grain state
@@ -81,7 +81,7 @@ no_state true (Some kept) none = absurd (cc (none refl))
 pub same_states : (old new : LastStates) (grain : GrainId) → has_place old grain ≡ false → Updates grain_cmp old.states new.states grain (Some None) → (other : GrainId) → last_in new other ≡ last_in old other
 same_states old new grain none updates other =
     ap option_flatten (updates.0 other)
-    ∙ no_state (is_at (grain_cmp grain) other) (get grain_cmp old.states other) (λ e. ap (has_place old) (sym (same_grain grain other e)) ∙ none)
+    ∙ no_state (is_at (grain_cmp grain) other) (get grain_cmp old.states other) (λ e. ap (has_place old) (sym (exact_grain grain other e)) ∙ none)
 
 -- a unit gets a state for a grain, or has it no longer
 pub puts_handed : (old new : HandedStates) (unit : UnitNo) (grain : GrainId) (state : Option (List Value)) →
@@ -90,5 +90,5 @@ puts_handed old new unit grain state updates = record {
   put = updates.1;
   others = λ u g differs. updates.2 (record { unit = u; grain = g })
       (apart (is_at (handed_cmp (record { unit = unit; grain = grain })) (record { unit = u; grain = g }))
-      (λ e. (let same = same_key (record { unit = unit; grain = grain }) (record { unit = u; grain = g }) e in differs (sym same.0, sym same.1))));
+      (λ e. (let same = exact_key (record { unit = unit; grain = grain }) (record { unit = u; grain = g }) e in differs (sym same.0, sym same.1))));
 }

@@ -1,5 +1,5 @@
 -- A pair that is taken out of a list, and what a filter leaves of pairs.
-use Rattle.std.proofs.Common.{◌≡◌, ℕ, zero, suc, ◌<◌, ◌≤◌, ◌+◌, List, [], ◌∷◌, ◌++◌, length, get_or, take, drop, Bool, true, false, not, cond, Option, Some, None, position, refl, sym, ap, ◌∙◌, arith, nat_lt, filter}
+use Rattle.std.proofs.Common.{◌≡◌, ℕ, zero, suc, ◌<◌, ◌≤◌, ◌+◌, List, [], ◌∷◌, length, get_or, Bool, true, false, not, cond, Some, None, position, refl, sym, ap, ◌∙◌, arith, nat_lt, filter}
 use Rattle.std.specs.Prelude.{find, slice_get}
 use Rattle.std.specs.List.{position_or_len, remove, count_by}
 use Rattle.std.proofs.lemmas.Bool.{cond_both, ltb-false}
@@ -60,6 +60,7 @@ none-passes p (x ∷ xs) none =
     by_not : (b : Bool) → not b ≡ true → b ≡ false
     by_not false e = refl
     by_not true e = cc e
+
     by_not_not : (b : Bool) → not b ≡ false → b ≡ true
     by_not_not true e = refl
     by_not_not false e = cc e
@@ -70,15 +71,16 @@ takes-one [] unit grain once = refl
 takes-one (p ∷ ps) unit grain once =
     cond_both (is_pair unit grain p) ps (p ∷ without_first ps unit grain) (λ t. t ≡ other_pairs (p ∷ ps) unit grain)
     (λ e.
-      let c = count-yes (is_pair unit grain) p ps e in
-      let none : count_by (is_pair unit grain) ps ≡ 0 = omega (arith, c, once) in
-      sym (none-passes (is_pair unit grain) ps none) ∙ sym (left-out e))
+    let c = count-yes (is_pair unit grain) p ps e in
+    let none : count_by (is_pair unit grain) ps ≡ 0 = omega (arith, c, once) in
+    sym (none-passes (is_pair unit grain) ps none) ∙ sym (left-out e))
     (λ e.
-      let c = count-no (is_pair unit grain) p ps e in
-      ap (λ t. p ∷ t) (takes-one ps unit grain (omega (arith, c, once))) ∙ sym (kept e))
+    let c = count-no (is_pair unit grain) p ps e in
+    ap (λ t. p ∷ t) (takes-one ps unit grain (omega (arith, c, once))) ∙ sym (kept e))
   where
     left-out : is_pair unit grain p ≡ true → other_pairs (p ∷ ps) unit grain ≡ other_pairs ps unit grain
     left-out e = ap (λ b. cond (not b) (p ∷ other_pairs ps unit grain) (other_pairs ps unit grain)) e
+
     kept : is_pair unit grain p ≡ false → other_pairs (p ∷ ps) unit grain ≡ p ∷ other_pairs ps unit grain
     kept e = ap (λ b. cond (not b) (p ∷ other_pairs ps unit grain) (other_pairs ps unit grain)) e
 
@@ -99,3 +101,16 @@ first-passing p (x ∷ xs) =
     cond_both (p x) (Some x) (find p xs) (λ t. t ≡ slice_get (cond (p x) (x ∷ filter p xs) (filter p xs)) 0)
     (λ e. ap (λ b. slice_get (cond b (x ∷ filter p xs) (filter p xs)) 0) (sym e))
     (λ e. first-passing p xs ∙ ap (λ b. slice_get (cond b (x ∷ filter p xs) (filter p xs)) 0) (sym e))
+
+-- what passes one test and then another is what passes both
+pub filter-both : {A : Type 0} (p q r : A → Bool) → ((x : A) → r x ≡ cond (q x) (p x) false) → (xs : List A) → filter p (filter q xs) ≡ filter r xs
+filter-both p q r both [] = refl
+filter-both p q r both (x ∷ xs) =
+    let rest = filter-both p q r both xs in
+    cond_both (q x) (x ∷ filter q xs) (filter q xs) (λ t. filter p t ≡ filter r (x ∷ xs))
+    (λ e.
+    let same : r x ≡ p x = both x ∙ ap (λ b. cond b (p x) false) e in
+    ap (λ t. cond (p x) (x ∷ t) t) rest ∙ ap (λ b. cond b (x ∷ filter r xs) (filter r xs)) (sym same))
+    (λ e.
+    let not_both : r x ≡ false = both x ∙ ap (λ b. cond b (p x) false) e in
+    rest ∙ ap (λ b. cond b (x ∷ filter r xs) (filter r xs)) (sym not_both))

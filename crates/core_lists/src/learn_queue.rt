@@ -81,11 +81,7 @@ impl LearnQueue {
 }
 
 // Where the first pair of this unit and this grain stands.
-fn place_of(
-    pairs: &VecDeque<(UnitNo, GrainId)>,
-    unit: UnitNo,
-    grain: GrainId,
-) -> Option<usize>
+fn place_of(pairs: &VecDeque<(UnitNo, GrainId)>, unit: UnitNo, grain: GrainId) -> Option<usize>
     ensures place { result ≡ position (is_pair unit grain) pairs.now.items }
     ensures within { IfSome result (λ at. at < deque_len pairs.now) }
 {

@@ -1,8 +1,7 @@
-use Rattle.std.proofs.Common.{◌≡◌, ◌∙◌, List, Option, Some, None, sym, ap}
+use Rattle.std.proofs.Common.{◌≡◌, ◌∙◌, Option, Some, None, sym, ap}
 use Rattle.std.specs.Prelude.{IsSome, OnSome}
 use Rattle.std.specs.List.{position}
-use Rattle.cell_model.specs.Units.{UnitNo, GrainId}
-use Rattle.core_lists.specs.Pairs.{is_pair, without_first, other_pairs}
+use Rattle.core_lists.specs.Pairs.{is_pair, without_first}
 use Rattle.core_lists.specs.Room.{PairsInRoom}
 use Rattle.core_lists.proofs.Pairs.{takes-first, takes-none, takes-one}
 use Rattle.core_lists.proofs.learn_queue.LearnQueue.remove.Goals as goal
