@@ -68,7 +68,8 @@ impl LearnQueue {
     }
 
     /// Takes off the first pair of this unit and this grain, if there is one: where it is there once, all others stay.
-    /// Takes no memory, and no room away. Looks at the pairs up to this one, and moves those before it.
+    /// Takes no memory, and no room away. Looks at the pairs up to this one, and moves those before it or those behind
+    /// it, whichever are fewer.
     pub fn remove(&mut self, unit: UnitNo, grain: GrainId)
         ensures first { self.new.pairs ≡ without_first self.old.pairs unit grain }
         ensures once { count_by (is_pair unit grain) self.old.pairs ≤ 1 → self.new.pairs ≡ other_pairs self.old.pairs unit grain }
