@@ -21,7 +21,7 @@ all-false p (x ∷ xs) e = elim (cases_Bool (p x)) [
   | inr h ↦ (x, inl refl, h)
 ]
 
-busy-by : (log : List NodeEntry) (g : GrainId) → is_busy log g ≡ true → (u : TxnId) × (r : List Shift) × Member (Prepared u r) log × (is_done log u ≡ false) × (touches g r ≡ true)
+pub busy-by : (log : List NodeEntry) (g : GrainId) → is_busy log g ≡ true → (u : TxnId) × (r : List Shift) × Member (Prepared u r) log × (is_done log u ≡ false) × (touches g r ≡ true)
 busy-by log g e = (let x = any-true (keeps_busy log g) log e in go x.0 x.1 x.2)
   where
     go : (x : NodeEntry) → Member x log → keeps_busy log g x ≡ true → (u : TxnId) × (r : List Shift) × Member (Prepared u r) log × (is_done log u ≡ false) × (touches g r ≡ true)

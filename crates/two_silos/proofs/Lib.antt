@@ -14,3 +14,7 @@ pub mod Parted
 pub mod Opened
 pub mod Repeated
 pub mod Totals
+pub mod Amounts
+pub mod Money
+pub mod Checked
+pub mod Later

@@ -52,7 +52,7 @@ stays-does w RestartCoordinator = past
     past t (inr h) = inl (omega (arith, h.0))
 stays-does w (Restart n) = λ t h. h
 
-stays-step : (w : World) (e : WorldEvent) → Stays w (step w e)
+pub stays-step : (w : World) (e : WorldEvent) → Stays w (step w e)
 stays-step w e = cond_both (is_within (does w e)) (does w e) w (Stays w) (λ x. stays-does w e) (λ x t h. h)
 
 -- an event leaves the parts of those that were taken
@@ -70,7 +70,7 @@ stay-run : (es : List WorldEvent) (parts : TxnId → List Part) (w : World) (t :
 stay-run [] parts w t h = refl
 stay-run (e ∷ es) parts w t h = stay-run es (parts_with parts w e) (step w e) t (stays-step w e t h) ∙ parts-stay parts w e t h
 
-next-issued : (w : World) (qs : List Part) → Issued (started w qs) (next_txn w)
+pub next-issued : (w : World) (qs : List Part) → Issued (started w qs) (next_txn w)
 next-issued w [] = inr (refl, omega arith)
 next-issued w (q ∷ qs) = inr (refl, omega arith)
 

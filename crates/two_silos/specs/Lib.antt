@@ -4,3 +4,5 @@ pub mod Links
 pub mod Promise
 pub mod Generated
 pub mod Summaries
+pub mod Money
+pub mod Later

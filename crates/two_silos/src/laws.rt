@@ -1,10 +1,13 @@
-ghost use Rattle.std.specs.Prelude.{◌≡◌, ◌++◌, ◌∷◌, [], List, Option, Some, ℕ, ℤ, true, false, get_or};
-ghost use Rattle.two_silos.specs.Nodes.{Done, GrainId, NodeEntry, Part, Shift, TxnId};
-ghost use Rattle.silo_nodes.specs.Packets.{Member};
+ghost use Rattle.std.specs.Prelude.{◌≡◌, ◌++◌, ◌∷◌, ◌+ℤ◌, [], List, Option, Some, ℕ, ℤ, true, false, get_or};
+ghost use Rattle.two_silos.specs.Nodes.{Decision, Done, GrainId, NodeEntry, Part, Shift, TxnId};
+ghost use Rattle.silo_nodes.specs.Packets.{Member, Distinct};
+ghost use Rattle.silo_nodes.specs.Node.{is_busy};
 ghost use Rattle.silo_nodes.specs.Cached.{opening_in};
 ghost use Rattle.silo_nodes.specs.Coordinators.{parts_from};
 ghost use Rattle.two_silos.specs.World.{World, WorldEvent, Start, log_at, opening_at, begin, run, can_start, is_within, does, next_txn, parts_after, parts_in};
 ghost use Rattle.two_silos.specs.Promise.{IsOpening, DecisionsAreKept, CommitsArePrepared, BalanceFollows, NoIsExact, NumberIsNew, QuietIsWhole, OrderAgrees};
+ghost use Rattle.two_silos.specs.Later.{IsLater, IsKept, given_in};
+ghost use Rattle.two_silos.specs.Money.{AreOnce, ArePayments, IsStill, all_opened, held_from, txns_amount};
 
 /// What is done as committed is a commit of the coordinator's. What is done as aborted is none, then or later. A
 /// transaction is done at most once at each participant.
@@ -50,4 +53,31 @@ pub fn orders_agree()
 /// A start that applies gives the next number its parts, and they stay whatever comes.
 pub fn parts_are_started()
     ensures { (parts : TxnId → List Part) (w : World) (lists : List (List Shift)) (more : List WorldEvent) → can_start w lists ≡ true → is_within (does w (Start lists)) ≡ true → parts_after parts w (Start lists ∷ more) (next_txn w) ≡ parts_from 0 lists }
+{}
+
+/// No two decisions that were ever sent of one transaction differ. The coordinator's commits and each log only grow at their
+/// end, whatever comes, so what is decided or logged there stays.
+pub fn decisions_stay()
+    ensures one { (openings : List (List (GrainId × ℤ))) (es : List WorldEvent) → IsOpening openings → (t : TxnId) (n m : ℕ) → Member (Decision t n true) (run (begin openings) es).packets → Member (Decision t m false) (run (begin openings) es).packets → ⊥ }
+    ensures later { (openings : List (List (GrainId × ℤ))) (es more : List WorldEvent) → IsLater (run (begin openings) es) (run (begin openings) (es ++ more)) }
+{}
+
+/// No two transactions are given one number, over restarts too.
+pub fn numbers_are_given_once()
+    ensures { (openings : List (List (GrainId × ℤ))) (es : List WorldEvent) → Distinct (given_in (begin openings) es) }
+{}
+
+/// A participant keeps a grain busy only for a transaction that it has prepared, with the shifts that it was started with, and
+/// that isn't done there; and for one at most.
+pub fn grains_are_kept_by_prepared()
+    ensures kept { (openings : List (List (GrainId × ℤ))) (es : List WorldEvent) → IsOpening openings → (n : ℕ) (g : GrainId) → is_busy (log_at (run (begin openings) es).nodes n) g ≡ true → IsKept (parts_in openings es) (run (begin openings) es) n g }
+    ensures one { (openings : List (List (GrainId × ℤ))) (es : List WorldEvent) → IsOpening openings → (n : ℕ) (g : GrainId) → (a b : IsKept (parts_in openings es) (run (begin openings) es) n g) → a.txn ≡ b.txn }
+{}
+
+/// Money, over all grains of all participants: where none of them waits for a decision, the balances together are the opening
+/// ones and all that the coordinator's commits move; and where each start takes as much from grains as it gives to others, they
+/// are the opening ones.
+pub fn money_stays()
+    ensures moved { (openings : List (List (GrainId × ℤ))) (es : List WorldEvent) → IsOpening openings → AreOnce openings → IsStill (run (begin openings) es) → held_from (run (begin openings) es) 0 openings ≡ all_opened openings +ℤ txns_amount (parts_in openings es) (run (begin openings) es).coordinator.commits }
+    ensures stays { (openings : List (List (GrainId × ℤ))) (es : List WorldEvent) → IsOpening openings → AreOnce openings → ArePayments es → IsStill (run (begin openings) es) → held_from (run (begin openings) es) 0 openings ≡ all_opened openings }
 {}

@@ -43,9 +43,11 @@ impl Summary {
 }
 
 /// Runs a coordinator and two participants with 64 accounts through so many generated starts, each with eight events
-/// after it, then nudges all and delivers what is sent in four passes. Makes no file call and reads nothing.
+/// after it, then nudges all and delivers what is sent in four passes. Makes no file call and reads nothing. Where nothing is
+/// undecided at the end, the sum of all balances is the opening's, 64000.
 pub fn check(starts: u32, seed: u64, alloc: Global) -> Result<Summary, AllocError>
-    ensures { IfOk result (λ summary. summary ≡ summary_of starts (checked starts seed)) }
+    ensures money { IfOk result (λ summary. summary.undecided ≡ 0 → summary.total ≡ pos 64000) }
+    ensures summary { IfOk result (λ summary. summary ≡ summary_of starts (checked starts seed)) }
 {
     let mut course = Course::new(seed, alloc)?;
     for _ in 0..starts {
