@@ -20,7 +20,7 @@ use Rattle.promise_spec.specs.Outputs.{IsProper, Grew}
 use Rattle.promise_spec.specs.Courses.{Observed, Course, order, moments, seen_at_entry, core_end}
 use Rattle.promise_spec.specs.Crashes.{IsAside, LeavesAlone}
 use Rattle.promise_spec.specs.Batches.{EndsABatch}
-use Rattle.promise_spec.specs.Exits.{EndsWith, IsNowhere, AreOf, doubtful}
+use Rattle.promise_spec.specs.Exits.{HasLogAtExit, IsNowhere, AreOf, doubtful}
 use Rattle.promise_spec.specs.Journals.{Settlement, KeepsJournal, AllSay, AllLog, CutAt, IsSealing, commits_of, entries_of}
 use Rattle.promise_spec.specs.Promise.{IsSoundFolder, Promises}
 use Rattle.promise_spec.specs.Replies.{HasNoRecord}
@@ -173,7 +173,7 @@ module _ (p : Program) (r : Observed) (c : Course) (mid : World) (b : IsBehind p
     }
 
     -- an image with all that is in the journal has the whole order
-    whole_order : (image : Image) → IsLog (shape_in p) image (c.opening ++ commits_of ((said ++ unsaid) ++ later)) → EndsWith p c (core_end p c) image
+    whole_order : (image : Image) → IsLog (shape_in p) image (c.opening ++ commits_of ((said ++ unsaid) ++ later)) → HasLogAtExit p c (core_end p c) image
     whole_order image is = record { log = order c; is = subst (IsLog (shape_in p) image) (sym order_is) is; which = inl refl }
 
     -- a unit that no image has is in no record
@@ -181,7 +181,7 @@ module _ (p : Program) (r : Observed) (c : Course) (mid : World) (b : IsBehind p
     nowhere e none l there = none last (order c) l left has (in_append l c.opening c.added (inr there))
 
     -- and what its images hold, where those that lack the last batch are explained
-    lasts : ((image : Image) → IsLog (shape_in p) image (c.opening ++ commits_of (said ++ unsaid)) → EndsWith p c (core_end p c) image) → Lasts p r c
+    lasts : ((image : Image) → IsLog (shape_in p) image (c.opening ++ commits_of (said ++ unsaid)) → HasLogAtExit p c (core_end p c) image) → Lasts p r c
     lasts short = record {
       opens = o;
       journals = journals;

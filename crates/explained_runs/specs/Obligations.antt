@@ -19,7 +19,7 @@ use Rattle.promise_spec.specs.Courses.{Observed, Course, order, moments, lines, 
 use Rattle.promise_spec.specs.Crashes.{LeavesAlone}
 use Rattle.promise_spec.specs.Batches.{EndsABatch}
 use Rattle.promise_spec.specs.Replies.{HasNoRecord}
-use Rattle.promise_spec.specs.Exits.{EndsWith, IsNowhere, HasDoubtfulBlock}
+use Rattle.promise_spec.specs.Exits.{HasLogAtExit, IsNowhere, HasDoubtfulBlock}
 use Rattle.promise_spec.specs.Explained.{AreAdded, AreSettled, IsDoubtful}
 use Rattle.promise_spec.specs.Journals.{Settlement, commits_of, entries_of, KeepsJournal, AllLog, Backs}
 use Rattle.promise_spec.specs.Promise.{HasReadAll, IsDone, IsSoundFolder}
@@ -70,7 +70,7 @@ pub record Explains (p : Program) (r : Observed) (c : Course) : Type 0 where
 -- The log at the exit: each image has the whole order, or lacks the records of the batch in doubt. A unit that is told to
 -- be in doubt and that no image has is in no record, and the block of a batch in doubt stands behind its gate.
 pub record Leaves (p : Program) (r : Observed) (c : Course) : Type 0 where
-  pub logs : (image : Image) → IsImage r.new.disk image → EndsWith p c (core_end p c) image
+  pub logs : (image : Image) → IsImage r.new.disk image → HasLogAtExit p c (core_end p c) image
   pub nowhere : (e : Entry) → Member e c.entries → e.what ≡ InDoubt → IsNowhere p r e.unit → HasNoRecord c e.unit
   pub block : HasDoubt (core_run p c) → HasDoubtfulBlock live_slot r c (core_end p c)
 

@@ -23,7 +23,7 @@ use Rattle.promise_spec.specs.Logs.{magic, IsLog}
 use Rattle.promise_spec.specs.Images.{IsSound}
 use Rattle.promise_spec.specs.Openings.{Reading, NoSilo, DamagedAt, Reads, opened_as}
 use Rattle.promise_spec.specs.Outputs.{reply_lines}
-use Rattle.promise_spec.specs.Words.{Given, Command, Init, Run, Show, History, Audit, Load, Manner}
+use Rattle.promise_spec.specs.Words.{GivenOption, Command, Init, Run, Show, History, Audit, Load, Manner}
 use Rattle.promise_spec.specs.Endings as ending
 use Rattle.promise_spec.specs.Courses.{Observed, seen_at_entry}
 use Rattle.promise_spec.specs.Refusals.{IsHead, IsNamedIn, IsReadFor, IsRefusedBy, MustBeRead, IsUnopened}
@@ -280,7 +280,7 @@ never_bad_use History r reports is = unreported history_text r reports is
 never_bad_use Audit r audits is = unaudited r audits is
 never_bad_use (Load n seed m) r loads is = unloaded n seed m r loads is
 
-module _ (built : Command → Bool) (takes : Given → Bool) (words : List (List ℕ)) (r : Observed) (serves : Serves built takes words r) where
+module _ (built : Command → Bool) (takes : GivenOption → Bool) (words : List (List ℕ)) (r : Observed) (serves : Serves built takes words r) where
   pub other_answer : ((c : Command) → Understands built takes words c → ⊥) → r.ending ≢ ending.BadUse → r.ending ≢ ending.Memory → ⊥
   other_answer none other some = elim (serves.refuses none).ending [ inl bad ↦ other bad | inr want ↦ some want ]
 
@@ -292,7 +292,7 @@ module _ (built : Command → Bool) (takes : Given → Bool) (words : List (List
 
 -- ---- over any host
 
-module _ (built : Command → Bool) (takes : Given → Bool) (words : List (List ℕ)) (e : ending.Ending) (old new : Channel → ℕ) where
+module _ (built : Command → Bool) (takes : GivenOption → Bool) (words : List (List ℕ)) (e : ending.Ending) (old new : Channel → ℕ) where
   pub understood_bad : (c : Command) → AnswersAs built takes words e old new → Understands built takes words c → e ≡ ending.BadUse → ⊥
   understood_bad c answers says is = answers.said c says is
 

@@ -22,7 +22,7 @@ use Rattle.commit_log.specs.Spelling.{spelling_of_record, spelling_of_body}
 use Rattle.core_model.specs.declared.effects.Effect.{Effect}
 use Rattle.core_model.specs.declared.events.CoreEvent.{CoreEvent}
 use Rattle.core_model.specs.declared.events.CoreEvent.TheVariants as event
-use Rattle.core_model.specs.Causes.{HasCause, IsCaused, IsRefusedBy}
+use Rattle.core_model.specs.Causes.{HasCause, IsCaused, IsRefusedLock}
 use Rattle.core_model.specs.Events.{applies, run, step}
 use Rattle.core_model.specs.Legal.{begins, ends}
 use Rattle.core_model.specs.Lines.{DifferInLine}
@@ -44,7 +44,7 @@ use Rattle.promise_spec.specs.Records.{Commit, Standing, States, after_writes, A
 use Rattle.promise_spec.specs.Serial.{IsSerial, played}
 use Rattle.promise_spec.specs.Logs.{live_slot, magic, IsLog, IsPrefix, body_of}
 use Rattle.promise_spec.specs.Moments.{IsImageOf}
-use Rattle.promise_spec.specs.Lines.{Reads, IsLineCall}
+use Rattle.promise_spec.specs.Lines.{ReadsLineAs, IsLineCall}
 use Rattle.promise_spec.specs.Outputs.{reply_lines}
 use Rattle.promise_spec.specs.Cores.{AppliesAt, state_before, core_from}
 use Rattle.promise_spec.specs.Causes.{HasDoubt, IsAlive, NoneRose, syncs_of}
@@ -68,7 +68,7 @@ ok_is : (x y : Result Call BadRequest) (a b : Call) → x ≡ Ok a → y ≡ Ok 
 ok_is x y a b is_a is_b same = cc
 
 -- a line reads in one way
-same_request : (types : ProgramTree) (lines : List (List ℕ)) (n : ℕ) (a b : Result Call BadRequest) → Reads types lines n a → Reads types lines n b → a ≡ b
+same_request : (types : ProgramTree) (lines : List (List ℕ)) (n : ℕ) (a b : Result Call BadRequest) → ReadsLineAs types lines n a → ReadsLineAs types lines n b → a ≡ b
 same_request types lines n a b x y =
     let index : x.index ≡ y.index = (let i : n ≡ x.index + 1 = x.number in let j : n ≡ y.index + 1 = y.number in omega arith) in
     let text : x.text ≡ y.text = some_is x.text y.text (sym x.there ∙ ap (slice_get lines) index ∙ y.there) in
@@ -263,7 +263,7 @@ module _ (p : Program) (r : Observed) (c : Course) where
   no_refusal e by grain keeps there is never =
       let k = settled_too e keeps there in
       let w = run (begins (core_run p c)) k.before in
-      let refused : IsRefusedBy w k.event e.unit by grain = subst (λ (x : Settled). HasCause w k.event (step w k.event) e.unit x) is k.cause in
+      let refused : IsRefusedLock w k.event e.unit by grain = subst (λ (x : Settled). HasCause w k.event (step w k.event) e.unit x) is k.cause in
       let front : take (length k.before) c.events ≡ k.before = ap (take (length k.before)) k.split ∙ take-append_seam k.before (k.event ∷ k.later) in
       let there_at : slice_get c.events (length k.before) ≡ Some (event.Refuse e.unit grain refused.mode) =
       ap (λ (x : List CoreEvent). slice_get x (length k.before)) k.split ∙ get_seam k.before k.event k.later ∙ ap Some refused.refused in

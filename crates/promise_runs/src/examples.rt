@@ -15,7 +15,7 @@ ghost use Rattle.explained_runs.specs.Obligations.{Shows};
 ghost use Rattle.promise_spec.specs.Openings.{NoSilo, DamagedAt, Reads, opened_as};
 ghost use Rattle.promise_spec.specs.Words.{plain_manner, Command, Say};
 ghost use Rattle.promise_runs.specs.HostCalls.{IsHosted};
-ghost use Rattle.promise_runs.specs.WrittenRun.{opened, sealing, written, written_steps};
+ghost use Rattle.promise_runs.specs.WrittenRun.{opened, sealing, written_run, written_steps};
 ghost use Rattle.promise_runs.specs.WrittenDoubt.{pair_manner, told, doubting, doubted, doubted_steps};
 ghost use Rattle.promise_runs.specs.WrittenUnbegun.{unbegun, unbegun_course, unbegun_steps};
 ghost use Rattle.promise_runs.specs.WrittenVote.{reading_manner, failing, vote_told, voted, voted_steps};
@@ -146,11 +146,11 @@ pub fn loads_draw_and_sum()
 /// shows keeps the promise, and a host's calls lead from its begin to its end, each as the host's own contract says.
 pub fn a_run_is_written_out()
     ensures checked { IsChecked account_program }
-    ensures sound { IsSoundFolder account_program written.old }
-    ensures run { IsDepositRun written opened sealing }
-    ensures kept { Keeps account_program written (deposit_course opened sealing written) }
-    ensures promised { Promises plain_manner written }
-    ensures hosted { IsHosted written written_steps }
+    ensures sound { IsSoundFolder account_program written_run.old }
+    ensures run { IsDepositRun written_run opened sealing }
+    ensures kept { Keeps account_program written_run (deposit_course opened sealing written_run) }
+    ensures promised { Promises plain_manner written_run }
+    ensures hosted { IsHosted written_run written_steps }
 {}
 
 /// And so is a run of two deposits at once, of which the second meets the first one's lock, and the first is left in doubt.
@@ -197,7 +197,7 @@ pub fn a_batch_is_written_out()
 
 /// The other three show what a run has to show too: a deposit, a batch in doubt and a vote of no.
 pub fn a_run_shows_enough()
-    ensures deposit { Shows account_program written (deposit_course opened sealing written) }
+    ensures deposit { Shows account_program written_run (deposit_course opened sealing written_run) }
     ensures doubt { Shows account_program doubted (doubt_course opened told doubting doubted) }
     ensures vote { Shows account_program voted (vote_course opened failing vote_told voted) }
 {}
@@ -298,7 +298,7 @@ pub fn an_init_is_written_out()
     ensures hosted { IsHosted made made_steps }
     ensures made { MakesSilo made }
     ensures sound { IsSoundFolder account_program made.new }
-    ensures follows { (file : FileId) → made.new.disk file ≡ written.old.disk file }
+    ensures follows { (file : FileId) → made.new.disk file ≡ written_run.old.disk file }
     ensures served { Serves (λ c. true) (λ g. true) init_words made }
 {}
 

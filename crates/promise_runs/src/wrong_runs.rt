@@ -30,7 +30,7 @@ ghost use Rattle.silo_spec.specs.Silos.{manager, program_file, IsSilo, HasProgra
 ghost use Rattle.promise_spec.specs.Programs.{Program, ProgramFault, IsChecked, shape_in, program_in};
 ghost use Rattle.promise_spec.specs.Images.{IsSound};
 ghost use Rattle.promise_spec.specs.Openings.{DamagedAt, opened_as};
-ghost use Rattle.promise_spec.specs.Words.{Given, Command, Manner};
+ghost use Rattle.promise_spec.specs.Words.{GivenOption, Command, Manner};
 ghost use Rattle.promise_spec.specs.Refusals.{IsUnopened, IsNamedIn};
 ghost use Rattle.promise_spec.specs.Records.{Commit, States, AreRecordsOf};
 ghost use Rattle.promise_spec.specs.Serial.{played};
@@ -224,11 +224,11 @@ pub fn refusals_are_true()
 /// No call keeps what the program promises that answers words that say nothing otherwise than as bad use, but for want of
 /// memory, or that changes the host then; or that answers bad use to words that say a command.
 pub fn words_are_answered()
-    ensures other { (built : Command → Bool) (takes : Given → Bool) (words : List (List ℕ)) (r : Observed) → Serves built takes words r
+    ensures other { (built : Command → Bool) (takes : GivenOption → Bool) (words : List (List ℕ)) (r : Observed) → Serves built takes words r
         → ((c : Command) → Understands built takes words c → ⊥) → r.ending ≢ ending.BadUse → r.ending ≢ ending.Memory → ⊥ }
-    ensures changed { (built : Command → Bool) (takes : Given → Bool) (words : List (List ℕ)) (r : Observed) → Serves built takes words r
+    ensures changed { (built : Command → Bool) (takes : GivenOption → Bool) (words : List (List ℕ)) (r : Observed) → Serves built takes words r
         → ((c : Command) → Understands built takes words c → ⊥) → r.new ≢ r.old → ⊥ }
-    ensures said { (built : Command → Bool) (takes : Given → Bool) (words : List (List ℕ)) (r : Observed) (c : Command) → Serves built takes words r
+    ensures said { (built : Command → Bool) (takes : GivenOption → Bool) (words : List (List ℕ)) (r : Observed) (c : Command) → Serves built takes words r
         → Understands built takes words c → r.ending ≡ ending.BadUse → ⊥ }
 {}
 
@@ -237,22 +237,22 @@ pub fn words_are_answered()
 /// below its last value, is what it was; that is done though a call on the input or the output failed, or that has made a silo, or
 /// reported one, though any call failed; or that names one fault though a call on another channel failed, where it carries no lines.
 pub fn bad_use_is_said_by_words()
-    ensures said { (built : Command → Bool) (takes : Given → Bool) (words : List (List ℕ)) (e : ending.Ending) (old new : Channel → ℕ) (c : Command)
+    ensures said { (built : Command → Bool) (takes : GivenOption → Bool) (words : List (List ℕ)) (e : ending.Ending) (old new : Channel → ℕ) (c : Command)
         → AnswersAs built takes words e old new → Understands built takes words c → e ≡ ending.BadUse → ⊥ }
-    ensures other { (built : Command → Bool) (takes : Given → Bool) (words : List (List ℕ)) (e : ending.Ending) (old new : Channel → ℕ)
+    ensures other { (built : Command → Bool) (takes : GivenOption → Bool) (words : List (List ℕ)) (e : ending.Ending) (old new : Channel → ℕ)
         → AnswersAs built takes words e old new → ((c : Command) → Understands built takes words c → ⊥) → e ≢ ending.BadUse → e ≢ ending.Memory → ⊥ }
-    ensures used { (built : Command → Bool) (takes : Given → Bool) (words : List (List ℕ)) (e : ending.Ending) (old new : Channel → ℕ) (channel : Channel)
+    ensures used { (built : Command → Bool) (takes : GivenOption → Bool) (words : List (List ℕ)) (e : ending.Ending) (old new : Channel → ℕ) (channel : Channel)
         → AnswersAs built takes words e old new → ((c : Command) → Understands built takes words c → ⊥) → new channel ≢ old channel → ⊥ }
-    ensures fault { (built : Command → Bool) (takes : Given → Bool) (words : List (List ℕ)) (e : ending.Ending) (old new : Channel → ℕ) (f : FileId)
+    ensures fault { (built : Command → Bool) (takes : GivenOption → Bool) (words : List (List ℕ)) (e : ending.Ending) (old new : Channel → ℕ) (f : FileId)
         → AnswersAs built takes words e old new → e ≡ ending.DiskFault f → old (File f) < 2 ^ 64 - 1 → new (File f) ≡ old (File f) → ⊥ }
-    ensures input { (built : Command → Bool) (takes : Given → Bool) (words : List (List ℕ)) (e : ending.Ending) (old new : Channel → ℕ)
+    ensures input { (built : Command → Bool) (takes : GivenOption → Bool) (words : List (List ℕ)) (e : ending.Ending) (old new : Channel → ℕ)
         → AnswersAs built takes words e old new → e ≡ ending.Done → new Input ≢ old Input → ⊥ }
-    ensures output { (built : Command → Bool) (takes : Given → Bool) (words : List (List ℕ)) (e : ending.Ending) (old new : Channel → ℕ)
+    ensures output { (built : Command → Bool) (takes : GivenOption → Bool) (words : List (List ℕ)) (e : ending.Ending) (old new : Channel → ℕ)
         → AnswersAs built takes words e old new → e ≡ ending.Done → new Output ≢ old Output → ⊥ }
-    ensures made { (built : Command → Bool) (takes : Given → Bool) (words : List (List ℕ)) (e : ending.Ending) (old new : Channel → ℕ) (c : Command) (channel : Channel)
+    ensures made { (built : Command → Bool) (takes : GivenOption → Bool) (words : List (List ℕ)) (e : ending.Ending) (old new : Channel → ℕ) (c : Command) (channel : Channel)
         → AnswersAs built takes words e old new → Understands built takes words c → ((f : ending.Ending) → GoesOn c f → ⊥) → e ≡ ending.Done
         → new channel ≢ old channel → ⊥ }
-    ensures named { (built : Command → Bool) (takes : Given → Bool) (words : List (List ℕ)) (e : ending.Ending) (old new : Channel → ℕ) (c : Command) (f : FileId) (channel : Channel)
+    ensures named { (built : Command → Bool) (takes : GivenOption → Bool) (words : List (List ℕ)) (e : ending.Ending) (old new : Channel → ℕ) (c : Command) (f : FileId) (channel : Channel)
         → AnswersAs built takes words e old new → Understands built takes words c → ((g : ending.Ending) → GoesOn c g → ⊥) → e ≡ ending.DiskFault f
         → channel ≢ File f → new channel ≢ old channel → ⊥ }
 {}

@@ -39,8 +39,8 @@ abbrev pub HasFault : Observed → ProgramFault → Type 0
 HasFault r fault = (r.new.input ≡ []) × (length r.old.input ≤ text_limit) × (program_in r.old.input ≡ Err fault)
 
 -- what the manager file reads lasts
-abbrev pub Lasts : Observed → Type 0
-Lasts r = (image : Image) → IsImage r.new.disk image → image manager ≡ seen_at_entry r manager
+abbrev pub ManagerLasts : Observed → Type 0
+ManagerLasts r = (image : Image) → IsImage r.new.disk image → image manager ≡ seen_at_entry r manager
 
 -- How `init` ends. The input comes before the program in it, and that before the folder; want of memory is free, and
 -- comes before the folder.
@@ -52,7 +52,7 @@ MakesAs ReadFault r = IsUntouched r.old r.new
 MakesAs WriteFault r = ⊥
 MakesAs (DiskFault file) r = IsProgramText r × IsHead file × StaysSilo r file
 MakesAs NotASilo r = ⊥
-MakesAs AlreadyASilo r = IsProgramText r × WasSilo r × IsUntouched r.old r.new × Lasts r
+MakesAs AlreadyASilo r = IsProgramText r × WasSilo r × IsUntouched r.old r.new × ManagerLasts r
 MakesAs (Damaged file place) r = ⊥
 MakesAs (BadProgram fault) r = HasFault r fault × IsUntouched r.old r.new
 MakesAs (InputTooLong line) r = (line ≡ 0) × (text_limit < length r.old.input) × IsUntouched r.old r.new

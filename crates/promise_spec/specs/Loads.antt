@@ -31,7 +31,7 @@ use Rattle.promise_spec.specs.Promise.{IsAnswered, GoesThrough, HasNoChild, IsNo
 use Rattle.promise_spec.specs.Reports.{line_of}
 use Rattle.promise_spec.specs.Words.{Manner}
 use Rattle.promise_spec.specs.Refusals.{IsHead, IsUnopened}
-use Rattle.promise_spec.specs.Commands.{Prints, WasSilo, StaysSilo, Lasts}
+use Rattle.promise_spec.specs.Commands.{Prints, WasSilo, StaysSilo, ManagerLasts}
 
 -- ---- what is asked
 
@@ -192,7 +192,7 @@ IsUnmadeBy ending.ReadFault r = ⊥
 IsUnmadeBy ending.WriteFault r = ⊥
 IsUnmadeBy (ending.DiskFault file) r = IsHead file × StaysSilo r file
 IsUnmadeBy ending.NotASilo r = ⊥
-IsUnmadeBy ending.AlreadyASilo r = WasSilo r × IsUntouched r.old r.new × Lasts r
+IsUnmadeBy ending.AlreadyASilo r = WasSilo r × IsUntouched r.old r.new × ManagerLasts r
 IsUnmadeBy (ending.Damaged file place) r = ⊥
 IsUnmadeBy (ending.BadProgram fault) r = ⊥
 IsUnmadeBy (ending.InputTooLong line) r = ⊥

@@ -14,8 +14,8 @@ pub record IsImageOf (moments : List Moment) (image : Image) : Type 0 where
 
 -- The moments that count for crashes: the one at which the opening's last sync returned, the later ones, and the
 -- exit. The early moments are those up to that sync's.
-abbrev pub counted : World → List Moment → List Moment → World → List Moment
-counted old early late new = last_of (moment_of old) early ∷ (late ++ moment_of new ∷ [])
+abbrev pub counted_moments : World → List Moment → List Moment → World → List Moment
+counted_moments old early late new = last_of (moment_of old) early ∷ (late ++ moment_of new ∷ [])
 
 -- the order of a run: the longest log that an image of these moments has
 pub record IsLongest (p : Program) (moments : List Moment) (order : List Commit) : Type 0 where

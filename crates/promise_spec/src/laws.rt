@@ -13,7 +13,7 @@ ghost use Rattle.promise_spec.specs.Serial.{IsSerial};
 ghost use Rattle.promise_spec.specs.Logs.{magic, IsLog, IsPrefix};
 ghost use Rattle.promise_spec.specs.Images.{AreChained, AreNumbered, IsSound, IsSoundIfSilo};
 ghost use Rattle.promise_spec.specs.Openings.{NoSilo, Reads, opened_as};
-ghost use Rattle.promise_spec.specs.Words.{Given, Manner, plain_manner, Command, Run, Load, Say};
+ghost use Rattle.promise_spec.specs.Words.{GivenOption, Manner, plain_manner, Command, Run, Load, Say};
 ghost use Rattle.promise_spec.specs.Moments.{IsImageOf, IsLongest};
 ghost use Rattle.request_wire.specs.Reply.{reply_line};
 ghost use Rattle.promise_spec.specs.Outputs.{HavePlainNames, IsProper, Grew};
@@ -119,7 +119,7 @@ pub fn folders_are_read()
 /// The words of a command say one thing: one manner of a run, and one number of transfers, seed and manner of a load; and no
 /// words say two commands.
 pub fn words_say_one_command()
-    ensures { (takes : Given → Bool) (words : List (List ℕ)) (c d : Command) → Say takes words c → Say takes words d → c ≡ d }
+    ensures { (takes : GivenOption → Bool) (words : List (List ℕ)) (c d : Command) → Say takes words c → Say takes words d → c ≡ d }
 {}
 
 /// Words that say a command, and words that say none: an option or a number out of its bounds, without a value or with a
@@ -133,27 +133,27 @@ pub fn words_are_read()
         (Load 4 7 (record { threaded = true; width = 1; picks = [] })) }
     ensures load_between { Say (λ g. true) (codes "load" ∷ codes "4" ∷ codes "--width=2" ∷ codes "7" ∷ [])
         (Load 4 7 (record { threaded = false; width = 2; picks = [] })) }
-    ensures no_width { (takes : Given → Bool) (c : Command) → Say takes (codes "run" ∷ codes "--width" ∷ codes "0" ∷ []) c → ⊥ }
-    ensures too_wide { (takes : Given → Bool) (c : Command) → Say takes (codes "run" ∷ codes "--width" ∷ codes "65" ∷ []) c → ⊥ }
-    ensures leading_zero { (takes : Given → Bool) (c : Command) → Say takes (codes "run" ∷ codes "--width" ∷ codes "02" ∷ []) c → ⊥ }
-    ensures no_value { (takes : Given → Bool) (c : Command) → Say takes (codes "run" ∷ codes "--width" ∷ []) c → ⊥ }
-    ensures no_picks { (takes : Given → Bool) (c : Command) → Say takes (codes "run" ∷ codes "--turns" ∷ [] ∷ []) c → ⊥ }
-    ensures large_pick { (takes : Given → Bool) (c : Command) → Say takes (codes "run" ∷ codes "--turns" ∷ codes "0,4294967296" ∷ []) c → ⊥ }
-    ensures not_alone { (takes : Given → Bool) (c : Command)
+    ensures no_width { (takes : GivenOption → Bool) (c : Command) → Say takes (codes "run" ∷ codes "--width" ∷ codes "0" ∷ []) c → ⊥ }
+    ensures too_wide { (takes : GivenOption → Bool) (c : Command) → Say takes (codes "run" ∷ codes "--width" ∷ codes "65" ∷ []) c → ⊥ }
+    ensures leading_zero { (takes : GivenOption → Bool) (c : Command) → Say takes (codes "run" ∷ codes "--width" ∷ codes "02" ∷ []) c → ⊥ }
+    ensures no_value { (takes : GivenOption → Bool) (c : Command) → Say takes (codes "run" ∷ codes "--width" ∷ []) c → ⊥ }
+    ensures no_picks { (takes : GivenOption → Bool) (c : Command) → Say takes (codes "run" ∷ codes "--turns" ∷ [] ∷ []) c → ⊥ }
+    ensures large_pick { (takes : GivenOption → Bool) (c : Command) → Say takes (codes "run" ∷ codes "--turns" ∷ codes "0,4294967296" ∷ []) c → ⊥ }
+    ensures not_alone { (takes : GivenOption → Bool) (c : Command)
         → Say takes (codes "run" ∷ codes "--workers" ∷ codes "2" ∷ codes "--width" ∷ codes "1" ∷ []) c → ⊥ }
-    ensures twice { (takes : Given → Bool) (c : Command)
+    ensures twice { (takes : GivenOption → Bool) (c : Command)
         → Say takes (codes "run" ∷ codes "--width" ∷ codes "2" ∷ codes "--width" ∷ codes "2" ∷ []) c → ⊥ }
-    ensures extra { (takes : Given → Bool) (c : Command) → Say takes (codes "run" ∷ codes "extra" ∷ []) c → ⊥ }
+    ensures extra { (takes : GivenOption → Bool) (c : Command) → Say takes (codes "run" ∷ codes "extra" ∷ []) c → ⊥ }
     ensures not_taken { (c : Command) → Say (λ g. false) (codes "run" ∷ codes "--width" ∷ codes "2" ∷ []) c → ⊥ }
-    ensures load_of_none { (takes : Given → Bool) (c : Command) → Say takes (codes "load" ∷ codes "0" ∷ codes "7" ∷ []) c → ⊥ }
-    ensures load_of_many { (takes : Given → Bool) (c : Command) → Say takes (codes "load" ∷ codes "100001" ∷ codes "7" ∷ []) c → ⊥ }
-    ensures large_seed { (takes : Given → Bool) (c : Command)
+    ensures load_of_none { (takes : GivenOption → Bool) (c : Command) → Say takes (codes "load" ∷ codes "0" ∷ codes "7" ∷ []) c → ⊥ }
+    ensures load_of_many { (takes : GivenOption → Bool) (c : Command) → Say takes (codes "load" ∷ codes "100001" ∷ codes "7" ∷ []) c → ⊥ }
+    ensures large_seed { (takes : GivenOption → Bool) (c : Command)
         → Say takes (codes "load" ∷ codes "4" ∷ codes "18446744073709551616" ∷ []) c → ⊥ }
-    ensures third_number { (takes : Given → Bool) (c : Command) → Say takes (codes "load" ∷ codes "4" ∷ codes "7" ∷ codes "9" ∷ []) c → ⊥ }
-    ensures no_seed { (takes : Given → Bool) (c : Command) → Say takes (codes "load" ∷ codes "4" ∷ []) c → ⊥ }
-    ensures load_turns { (takes : Given → Bool) (c : Command)
+    ensures third_number { (takes : GivenOption → Bool) (c : Command) → Say takes (codes "load" ∷ codes "4" ∷ codes "7" ∷ codes "9" ∷ []) c → ⊥ }
+    ensures no_seed { (takes : GivenOption → Bool) (c : Command) → Say takes (codes "load" ∷ codes "4" ∷ []) c → ⊥ }
+    ensures load_turns { (takes : GivenOption → Bool) (c : Command)
         → Say takes (codes "load" ∷ codes "4" ∷ codes "7" ∷ codes "--turns" ∷ codes "0" ∷ []) c → ⊥ }
-    ensures no_words { (takes : Given → Bool) (c : Command) → Say takes [] c → ⊥ }
+    ensures no_words { (takes : GivenOption → Bool) (c : Command) → Say takes [] c → ⊥ }
 {}
 
 /// A load can be kept wherever a run can: one that carries its lines as a run that is done, and writes the summary in place of

@@ -29,7 +29,7 @@ is_header file = (slice_index file 0 == 1) && bytes_eq (take 8 (drop 1 file)) ma
 -- The folder reads as a silo with this program and a log. The log's standing is kept: how many records there are, the number of
 -- the next unit, and each grain's state, which is its type's initial fields where it isn't kept. The ends are the greatest of
 -- the places that the log names in each grain's file, and lie in the file. The gate is that at which the log ends.
-pub record IsOpened (image : Image) (o : Opened) : Type 0 where
+pub record IsOpenedFrom (image : Image) (o : Opened) : Type 0 where
   pub text : List ℕ
   pub log : List Commit
   pub reads : opened_as image ≡ Reads (record { text = text; types = program_tree o.checked }) log
