@@ -28,7 +28,7 @@ use Rattle.promise_spec.specs.Promise.{HasReadAll, IsDone, IsSoundFolder}
 -- sync has it; there is one. Until then nothing was written, and each image was one of those at entry.
 pub record Opens (p : Program) (r : Observed) (c : Course) : Type 0 where
   pub folder : IsSoundFolder p r.old
-  pub read : IsLog (shape_in p) (seen_at_entry r) c.opening
+  pub read : IsLog live_slot (shape_in p) (seen_at_entry r) c.opening
   pub opened : AllLog p c.opening (last_of (moment_of r.old) c.early).disk
   pub some : Image
   pub possible : IsImage (last_of (moment_of r.old) c.early).disk some
@@ -49,11 +49,11 @@ pub record Journals (p : Program) (r : Observed) (c : Course) : Type 0 where
   pub commits : c.added ≡ commits_of journal
   pub backs : Backs journal c.added
   pub kept : (m : Moment) → Member m (moments r c) → SaysIn p r c journal m
-  pub batches : (image : Image) (log : List Commit) → IsImageOf (moments r c) image → IsLog (shape_in p) image log →
+  pub batches : (image : Image) (log : List Commit) → IsImageOf (moments r c) image → IsLog live_slot (shape_in p) image log →
       EndsABatch (core_end p c) c.opening log
   pub last : Image
   pub left : IsImageOf (moments r c) last
-  pub longest : IsLog (shape_in p) last (order c)
+  pub longest : IsLog live_slot (shape_in p) last (order c)
   pub alone : (m : Moment) → Member m (moments r c) → LeavesAlone live_slot r m
 
 -- The records are those of the core's committed units. The events keep the unit rule, and on one thread the turn rule.

@@ -266,7 +266,7 @@ module _ (r : Observed) (opened : Moment) (told doubting : List Moment) (run : I
   unfolding put put_grain
   one_batch = record { batches = 1; more = first_commit ∷ []; split = refl; records = (record { unit = refl; origin = refl; call = refl; answers = refl; result = refl; writes = refl }, tt) }
 
-  whole_batches : (image : Image) (log : List Commit) → MayHaveDeposit image → IsLog (shape_in account_program) image log → EndsABatch (core_end account_program course) [] log
+  whole_batches : (image : Image) (log : List Commit) → MayHaveDeposit image → IsLog live_slot (shape_in account_program) image log → EndsABatch (core_end account_program course) [] log
   whole_batches image log (inl none) is =
       subst (EndsABatch (core_end account_program course) []) (one_log (shape_in account_program) image [] log none.0 is) (no_batch (core_end account_program course) [])
   whole_batches image log (inr has) is =

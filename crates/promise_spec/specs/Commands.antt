@@ -9,7 +9,7 @@ use Rattle.script_tree.specs.Programs.{ProgramTree}
 use Rattle.promise_spec.specs.Programs.{Program, ProgramFault, text_limit, program_in}
 use Rattle.promise_spec.specs.Records.{Commit, log_start}
 use Rattle.promise_spec.specs.Serial.{IsSerial, Replays}
-use Rattle.promise_spec.specs.Logs.{magic, IsPrefix}
+use Rattle.promise_spec.specs.Logs.{magic, IsPrefix, live_slot}
 use Rattle.promise_spec.specs.Openings.{Reads, opened_as}
 use Rattle.promise_spec.specs.Endings.{Ending, Done, BadUse, Memory, ReadFault, WriteFault, DiskFault, NotASilo, AlreadyASilo, Damaged, BadProgram, InputTooLong, HasRisen}
 use Rattle.promise_spec.specs.Family.{states_after}
@@ -104,7 +104,7 @@ LeavesAsBefore old m = (image : Image) → IsImage m.disk image →
 pub record IsReported (text : Program → List Commit → List ℕ) (r : Observed) : Type 0 where
   pub program : Program
   pub log : List Commit
-  pub reads : opened_as (seen_at_entry r) ≡ Reads program log
+  pub reads : opened_as live_slot (seen_at_entry r) ≡ Reads program log
   pub prints : Prints (text program log) r
   pub unread : r.new.input ≡ r.old.input
   pub moments : Passes (LeavesAsBefore r.old) r.old.past r.new.past

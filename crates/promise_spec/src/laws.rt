@@ -10,7 +10,7 @@ ghost use Rattle.silo_spec.specs.Silos.{manager, program_file, IsSilo, HasProgra
 ghost use Rattle.promise_spec.specs.Programs.{Program, IsChecked, text_limit, shape_in, program_in};
 ghost use Rattle.promise_spec.specs.Records.{Commit, Standing, new_silo, after_writes, after_records};
 ghost use Rattle.promise_spec.specs.Serial.{IsSerial};
-ghost use Rattle.promise_spec.specs.Logs.{magic, IsLog, IsPrefix};
+ghost use Rattle.promise_spec.specs.Logs.{magic, IsLog, IsPrefix, live_slot};
 ghost use Rattle.promise_spec.specs.Images.{AreChained, AreNumbered, IsSound, IsSoundIfSilo};
 ghost use Rattle.promise_spec.specs.Openings.{NoSilo, Reads, opened_as};
 ghost use Rattle.promise_spec.specs.Words.{GivenOption, Manner, plain_manner, Command, Run, Load, Say};
@@ -36,7 +36,7 @@ pub fn promises_keep_the_headline()
 /// An image has at most one log under a program's shape: the records and their states are the bytes'. So where a
 /// definition says that an image has a log, it is the log.
 pub fn one_log()
-    ensures { (shape : Shape) (image : Image) (a b : List Commit) → IsLog shape image a → IsLog shape image b → a ≡ b }
+    ensures { (shape : Shape) (image : Image) (a b : List Commit) → IsLog live_slot shape image a → IsLog live_slot shape image b → a ≡ b }
 {}
 
 /// The line of an entry determines the entry, where types are known by their names.
@@ -59,8 +59,8 @@ pub fn checked_programs_have_plain_names()
 
 /// Of whatever logs two chained images have, one is a first part of the other.
 pub fn chains_compare()
-    ensures { (p : Program) (one other : Image) (a b : List Commit) → AreChained p one other
-        → IsLog (shape_in p) one a → IsLog (shape_in p) other b → IsPrefix a b ⊎ IsPrefix b a }
+    ensures { (p : Program) (one other : Image) (a b : List Commit) → AreChained live_slot p one other
+        → IsLog live_slot (shape_in p) one a → IsLog live_slot (shape_in p) other b → IsPrefix a b ⊎ IsPrefix b a }
 {}
 
 /// What a log stands for is three folds over its records, each by itself: their count, the number after the greatest unit, and the
@@ -86,13 +86,13 @@ pub fn done_runs_count_syncs()
 /// journal's records, each image is sound where the order is serial, and each holds what was acknowledged by then.
 pub fn journals_survive()
     ensures chained { (p : Program) (opening : List Commit) (before : List ℕ) (journal : List Settlement) (m n : Moment) (a b : Image)
-        → KeepsJournal p opening before journal m a → KeepsJournal p opening before journal n b → AreChained p a b }
+        → KeepsJournal p opening before journal m a → KeepsJournal p opening before journal n b → AreChained live_slot p a b }
     ensures longest { (p : Program) (opening : List Commit) (before : List ℕ) (journal : List Settlement) (moments : List Moment) (image : Image)
-        → IsImageOf moments image → IsLog (shape_in p) image (opening ++ commits_of journal)
+        → IsImageOf moments image → IsLog live_slot (shape_in p) image (opening ++ commits_of journal)
         → ((m : Moment) → Member m moments → AllKeep p opening before journal m) → IsLongest p moments (opening ++ commits_of journal) }
     ensures sound { (p : Program) (opening : List Commit) (before : List ℕ) (journal : List Settlement) (m : Moment) (image : Image)
         → KeepsJournal p opening before journal m image → HasProgram p.text (image program_file)
-        → IsSerial p.types (new_silo p.types).states (opening ++ commits_of journal) → AreNumbered 1 (opening ++ commits_of journal) → IsSoundIfSilo p image }
+        → IsSerial p.types (new_silo p.types).states (opening ++ commits_of journal) → AreNumbered 1 (opening ++ commits_of journal) → IsSoundIfSilo live_slot p image }
     ensures holds { (p : Program) (r : Observed) (c : Course) (journal : List Settlement) (m : Moment) (image : Image) → Backs journal c.added
         → (k : KeepsJournal p c.opening r.old.output journal m image) → IsPrefix (entries_of k.said) c.entries → Holds p r c m image }
 {}
@@ -108,12 +108,12 @@ pub fn programs_are_read()
 /// reads as no silo exactly where it is none. So one that is sound for a checked program is opened with its log, and
 /// is neither called damaged nor no silo.
 pub fn folders_are_read()
-    ensures reads { (image : Image) (p : Program) (log : List Commit) → ((file : FileId) → AreBytes (image file)) → opened_as image ≡ Reads p log
-        → IsChecked p × HasProgram p.text (image program_file) × IsLog (shape_in p) image log }
+    ensures reads { (image : Image) (p : Program) (log : List Commit) → ((file : FileId) → AreBytes (image file)) → opened_as live_slot image ≡ Reads p log
+        → IsChecked p × HasProgram p.text (image program_file) × IsLog live_slot (shape_in p) image log }
     ensures read { (image : Image) (p : Program) (log : List Commit) → IsChecked p → HasProgram p.text (image program_file)
-        → IsLog (shape_in p) image log → opened_as image ≡ Reads p log }
-    ensures no_silo { (image : Image) → (opened_as image ≡ NoSilo) ↔ (IsSilo magic (image manager) → ⊥) }
-    ensures sound { (p : Program) (image : Image) → IsChecked p → (s : IsSound p image) → opened_as image ≡ Reads p s.log }
+        → IsLog live_slot (shape_in p) image log → opened_as live_slot image ≡ Reads p log }
+    ensures no_silo { (image : Image) → (opened_as live_slot image ≡ NoSilo) ↔ (IsSilo magic (image manager) → ⊥) }
+    ensures sound { (p : Program) (image : Image) → IsChecked p → (s : IsSound live_slot p image) → opened_as live_slot image ≡ Reads p s.log }
 {}
 
 /// The words of a command say one thing: one manner of a run, and one number of transfers, seed and manner of a load; and no

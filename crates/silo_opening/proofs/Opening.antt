@@ -1,4 +1,5 @@
 -- The steps of opening: one sync, and what was opened.
+use Rattle.promise_spec.specs.Logs.{live_slot}
 use Rattle.std.proofs.Common.{◌≡◌, inl, inr, ℕ, ◌+◌, ◌≤◌, true, Option, Some, None, List, [], map, length, Ok, Err, refl, sym, ◌∙◌, ap, subst, arith}
 use Rattle.std.specs.Prelude.{unwrap_or}
 use Rattle.base_types.specs.declared.calls.GrainId.{GrainId}
@@ -60,7 +61,7 @@ is_opened image text o silo program h =
     let logged = sym (logged_of shape image h.records) in
     record {
       text = text;
-      log = map (commit_of shape image) h.records;
+      log = map (commit_of live_slot shape image) h.records;
       reads = reads_log image p silo program h.records h.read h.whole;
       count = h.count ∙ sym (count_is shape image base h.records ∙ none_more (length h.records));
       next = h.next ∙ sym (next_is shape image base h.records);

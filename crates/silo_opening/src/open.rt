@@ -1,3 +1,4 @@
+ghost use Rattle.promise_spec.specs.Logs.{live_slot};
 ghost use Rattle.std.specs.Prelude.{◌≡◌, ◌+◌, ◌^◌, ◌<◌, ◌≤◌, ℕ, List, Bool, true, false, nat_le, IsTrue, length, Ok, Err, OnOk, IfOk, IfErr, IsErrOf};
 ghost use Rattle.host_trait.specs.Disk.{settled};
 ghost use Rattle.host_trait.specs.Files.{StaysReady};
@@ -143,7 +144,7 @@ pub fn open_silo<H: Host>(alloc: Global, host: &mut H) -> Result<Opened, OpenFau
 
     // A refusal is what the folder reads as, a fault of a file that has to be read, or want of memory.
     ensures refused { IfErr result (λ e. IsTrue H.tells
-        → IsRefusedBy (seen_in (H.world host.old).disk) (opened_as (seen_in (H.world host.old).disk)) (ending_of e)) }
+        → IsRefusedBy (seen_in (H.world host.old).disk) (opened_as live_slot (seen_in (H.world host.old).disk)) (ending_of e)) }
 
     // `DiskFault` is answered exactly where a call on the file failed: its count rose, and no other changed. With another answer
     // no count has changed.
