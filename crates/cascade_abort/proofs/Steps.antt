@@ -5,7 +5,7 @@ use Rattle.std.proofs.lemmas.List.{take_all, take_more_set}
 use Rattle.cell_model.specs.declared.outcomes.Prepared.{Prepared}
 use Rattle.cell_model.specs.declared.outcomes.Decision.{Decision}
 use Rattle.cell_model.specs.Units.{UnitNo}
-use Rattle.cell_model.specs.Decisions.{decision, decided, and_itself}
+use Rattle.cell_model.specs.Decisions.{decision, all_decided, and_itself}
 use Rattle.cell_model.proofs.Decisions.{decided-length}
 use Rattle.cascade_abort.specs.Dead.{has_fallen, dead_by}
 
@@ -22,28 +22,28 @@ and-later dead p batch decisions = (λ i unit. or_swap (has_fallen unit (p, deci
 
 -- the decision at an index, by those before it
 next-decided : (dead : UnitNo → Bool) (batch : List Prepared) (at : ℕ) (p : Prepared) → at < length batch → p ≡ get_or batch at p →
-    take (suc at) (decided dead batch) ≡ take at (decided dead batch) ++ decision (dead_by dead (take at batch) (take at (decided dead batch))) p ∷ []
+    take (suc at) (all_decided dead batch) ≡ take at (all_decided dead batch) ++ decision (dead_by dead (take at batch) (take at (all_decided dead batch))) p ∷ []
 next-decided dead [] at p l e = absurd (omega arith)
 next-decided dead (q ∷ batch) zero p l e = ap (λ t. decision dead t ∷ []) (sym e)
 next-decided dead (q ∷ batch) (suc at) p l e =
     ap (λ t. decision dead q ∷ t)
     (next-decided (and_itself dead q) batch at p (omega arith) e
-    ∙ ap (λ d. take at (decided (and_itself dead q) batch) ++ decision d p ∷ []) (and-later dead q (take at batch) (take at (decided (and_itself dead q) batch))))
+    ∙ ap (λ d. take at (all_decided (and_itself dead q) batch) ++ decision d p ∷ []) (and-later dead q (take at batch) (take at (all_decided (and_itself dead q) batch))))
 
 -- the decisions so far, with one more
 pub one-more : (dead : UnitNo → Bool) (batch : List Prepared) (into : List Decision) (at : ℕ) (p : Prepared) (d : Decision) → at < length batch → at < length into → p ≡ get_or batch at p →
-    take at into ≡ take at (decided dead batch) → d ≡ decision (dead_by dead (take at batch) (take at into)) p →
-    take (at + 1) (set into at d) ≡ take (at + 1) (decided dead batch)
+    take at into ≡ take at (all_decided dead batch) → d ≡ decision (dead_by dead (take at batch) (take at into)) p →
+    take (at + 1) (set into at d) ≡ take (at + 1) (all_decided dead batch)
 one-more dead batch into at p d l m e so_far is =
     take_more_set into at d m
     ∙ (λ i. so_far i ++ is i ∷ [])
-    ∙ ap (λ t. take at (decided dead batch) ++ decision (dead_by dead (take at batch) t) p ∷ []) so_far
+    ∙ ap (λ t. take at (all_decided dead batch) ++ decision (dead_by dead (take at batch) t) p ∷ []) so_far
     ∙ sym (next-decided dead batch at p l e)
-    ∙ ap (λ n. take n (decided dead batch)) (sym (add-one at))
+    ∙ ap (λ n. take n (all_decided dead batch)) (sym (add-one at))
 
 -- all are decided
-pub all-decided : (dead : UnitNo → Bool) (batch : List Prepared) (into : List Decision) (at : ℕ) → length batch ≡ length into → length batch ≤ at → take at into ≡ take at (decided dead batch) → into ≡ decided dead batch
+pub all-decided : (dead : UnitNo → Bool) (batch : List Prepared) (into : List Decision) (at : ℕ) → length batch ≡ length into → length batch ≤ at → take at into ≡ take at (all_decided dead batch) → into ≡ all_decided dead batch
 all-decided dead batch into at e past done =
     sym (take_all at into (omega (arith, e, past)))
     ∙ done
-    ∙ take_all at (decided dead batch) (omega (arith, past, decided-length dead batch))
+    ∙ take_all at (all_decided dead batch) (omega (arith, past, decided-length dead batch))

@@ -2,7 +2,7 @@ ghost use Rattle.std.specs.Prelude.{◌≡◌, length, filter, zip, Some};
 ghost use Rattle.std.specs.List.{list_any};
 ghost use Rattle.cell_model.specs.Units.{oldest};
 ghost use Rattle.cell_model.specs.Sources.{is_among};
-ghost use Rattle.cell_model.specs.Decisions.{is_commit, decision, decided};
+ghost use Rattle.cell_model.specs.Decisions.{is_commit, decision, all_decided};
 ghost use Rattle.cascade_abort.specs.Dead.{has_fallen, dead_by, joined};
 
 use base_types::{List, UnitNo};
@@ -15,7 +15,7 @@ use cell_model::{Decision, Prepared};
 /// The others commit.
 pub fn decide_batch(batch: &List<Prepared>, aborted: &List<UnitNo>, into: &mut [Decision])
     requires { length batch.now ≡ length into.old }
-    ensures { into.new ≡ decided (is_among aborted.now) batch.now }
+    ensures { into.new ≡ all_decided (is_among aborted.now) batch.now }
 {
     decide_all(batch.as_slice(), aborted.as_slice(), into);
 }
@@ -23,7 +23,7 @@ pub fn decide_batch(batch: &List<Prepared>, aborted: &List<UnitNo>, into: &mut [
 // Decides the units in their order.
 fn decide_all(batch: &[Prepared], aborted: &[UnitNo], into: &mut [Decision])
     requires { length batch.now ≡ length into.old }
-    ensures { into.new ≡ decided (is_among aborted.now) batch.now }
+    ensures { into.new ≡ all_decided (is_among aborted.now) batch.now }
 {
     for (at, prepared) in batch.iter().enumerate() {
         into[at] = decide(prepared, &batch[..at], &into[..at], aborted);

@@ -2,11 +2,11 @@
 use Rattle.std.proofs.Common.{◌≡◌, suc, List, [], ◌∷◌, ◌++◌, length, Bool, true, false, inl, inr, refl, sym, ap, ◌∙◌, subst, Option, Some, None, filter}
 use Rattle.std.proofs.lemmas.Bool.{cases_Bool}
 use Rattle.cell_model.specs.Units.{UnitNo, GrainId, Member, oldest}
-use Rattle.cell_model.specs.Decisions.{Prepared, Commit, by_cause, decision, decided, and_itself}
+use Rattle.cell_model.specs.Decisions.{Prepared, Commit, by_cause, decision, all_decided, and_itself}
 use Rattle.cell_model.specs.Laws.{fallen, CommitsExactly, DecidesInOrder}
 use Rattle.cell_model.proofs.Units.{filter-member, filter-stays, oldest-some, oldest-none}
 
-pub decided-length : (dead : UnitNo → Bool) (batch : List Prepared) → length (decided dead batch) ≡ length batch
+pub decided-length : (dead : UnitNo → Bool) (batch : List Prepared) → length (all_decided dead batch) ≡ length batch
 decided-length dead [] = refl
 decided-length dead (p ∷ ps) = ap suc (decided-length (and_itself dead p) ps)
 

@@ -3,29 +3,29 @@ use Rattle.std.proofs.Common.{◌≡◌, List, [], ◌∷◌, Bool, true, false,
 use Rattle.std.specs.List.{list_any as any}
 use Rattle.std.proofs.lemmas.Bool.{cases_Bool, cond_both, or_cases, or_parts}
 use Rattle.cell_model.specs.Units.{UnitNo}
-use Rattle.cell_model.specs.Stacks.{Version, is_of, top, cut, committed, removed, has_version}
+use Rattle.cell_model.specs.Stacks.{Version, is_of, top, cut, committed_stack, removed, has_version}
 use Rattle.cell_model.specs.Cells.{Cell, learnt, learned}
 use Rattle.cell_model.specs.Laws.{KeepsDownTo, TakesOffFrom, StackFollows}
 use Rattle.cell_model.proofs.Units.{same_unit-true}
 
-pub committed-top : (unit : UnitNo) (xs : List Version) → top (committed unit xs) ≡ top xs
+pub committed-top : (unit : UnitNo) (xs : List Version) → top (committed_stack unit xs) ≡ top xs
 committed-top unit [] = refl
-committed-top unit (x ∷ xs) = cond_both (is_of unit x) (x ∷ []) (x ∷ committed unit xs) (λ t. top t ≡ x) (λ e. refl) (λ e. refl)
+committed-top unit (x ∷ xs) = cond_both (is_of unit x) (x ∷ []) (x ∷ committed_stack unit xs) (λ t. top t ≡ x) (λ e. refl) (λ e. refl)
 
-pub committed-stranger : (unit : UnitNo) (xs : List Version) → has_version unit xs ≡ false → committed unit xs ≡ xs
+pub committed-stranger : (unit : UnitNo) (xs : List Version) → has_version unit xs ≡ false → committed_stack unit xs ≡ xs
 committed-stranger unit [] e = refl
 committed-stranger unit (x ∷ xs) e =
     let p = or_parts (is_of unit x) (has_version unit xs) e in
-    cond_both (is_of unit x) (x ∷ []) (x ∷ committed unit xs) (λ t. t ≡ x ∷ xs)
+    cond_both (is_of unit x) (x ∷ []) (x ∷ committed_stack unit xs) (λ t. t ≡ x ∷ xs)
     (λ q. (let t : true ≡ false = sym q ∙ p.0 in cc))
     (λ q. ap (λ t. x ∷ t) (committed-stranger unit xs p.1))
 
-pub committed-twice : (unit : UnitNo) (xs : List Version) → committed unit (committed unit xs) ≡ committed unit xs
+pub committed-twice : (unit : UnitNo) (xs : List Version) → committed_stack unit (committed_stack unit xs) ≡ committed_stack unit xs
 committed-twice unit [] = refl
 committed-twice unit (x ∷ xs) =
-    cond_both (is_of unit x) (x ∷ []) (x ∷ committed unit xs) (λ t. committed unit t ≡ t)
+    cond_both (is_of unit x) (x ∷ []) (x ∷ committed_stack unit xs) (λ t. committed_stack unit t ≡ t)
     (λ q. cond_both (is_of unit x) (x ∷ []) (x ∷ []) (λ t. t ≡ x ∷ []) (λ e. refl) (λ e. refl))
-    (λ q. cond_both (is_of unit x) (x ∷ []) (x ∷ committed unit (committed unit xs)) (λ t. t ≡ x ∷ committed unit xs)
+    (λ q. cond_both (is_of unit x) (x ∷ []) (x ∷ committed_stack unit (committed_stack unit xs)) (λ t. t ≡ x ∷ committed_stack unit xs)
     (λ e. (let t : true ≡ false = sym e ∙ q in cc))
     (λ e. ap (λ t. x ∷ t) (committed-twice unit xs)))
 
@@ -41,9 +41,9 @@ cut-stranger test (x ∷ xs) e =
     cond_both (any test (x ∷ xs)) (cut test xs) (x ∷ xs) (λ t. t ≡ x ∷ xs) (λ q. (let t : true ≡ false = sym q ∙ e in cc)) (λ q. refl)
 
 -- what a commit keeps
-keeps-down : (unit : UnitNo) (xs : List Version) → has_version unit xs ≡ true → KeepsDownTo unit xs (committed unit xs)
+keeps-down : (unit : UnitNo) (xs : List Version) → has_version unit xs ≡ true → KeepsDownTo unit xs (committed_stack unit xs)
 keeps-down unit [] e = cc
-keeps-down unit (x ∷ xs) e = cond_both (is_of unit x) (x ∷ []) (x ∷ committed unit xs) (KeepsDownTo unit (x ∷ xs))
+keeps-down unit (x ∷ xs) e = cond_both (is_of unit x) (x ∷ []) (x ∷ committed_stack unit xs) (KeepsDownTo unit (x ∷ xs))
     (λ q. record { above = []; own = x; below = xs; split = refl; its = same_unit-true x.unit unit q; newest = refl; rest = refl })
     (λ q.
     (let t = keeps-down unit xs (elim (or_cases (is_of unit x) (has_version unit xs) e) [ inl y ↦ (let z : true ≡ false = sym y ∙ q in cc) | inr y ↦ y ]) in

@@ -59,7 +59,7 @@ released cell unit new = record {
 
 -- the stack where the unit's decision is known: a committed unit's version is the new bottom, an aborted one's goes
 abbrev pub learnt : Bool → UnitNo → List Version → List Version
-learnt commits unit stack = if commits then stacks.committed unit stack else removed unit stack
+learnt commits unit stack = if commits then stacks.committed_stack unit stack else removed unit stack
 
 -- the cell learns the unit's decision
 abbrev pub learned : Cell → UnitNo → Bool → Cell

@@ -8,7 +8,8 @@ use Rattle.cell_model.specs.Units.{UnitNo, GrainId, same_unit, oldest}
 -- the unit commits
 abbrev pub is_commit : Decision → Bool
 is_commit Commit = true
-is_commit _ = false
+is_commit (Vote grain) = false
+is_commit (Dependency source) = false
 
 -- a failed file comes first, then the oldest dead source
 abbrev pub by_cause : Option GrainId → Option UnitNo → Decision
@@ -25,6 +26,6 @@ abbrev pub and_itself : (UnitNo → Bool) → Prepared → UnitNo → Bool
 and_itself dead p unit = (same_unit unit p.unit && not (is_commit (decision dead p))) || dead unit
 
 -- what becomes of each unit of a batch: a unit that can't commit is dead to those after it
-abbrev pub decided : (UnitNo → Bool) → List Prepared → List Decision
-decided dead [] = []
-decided dead (p ∷ ps) = decision dead p ∷ decided (and_itself dead p) ps
+abbrev pub all_decided : (UnitNo → Bool) → List Prepared → List Decision
+all_decided dead [] = []
+all_decided dead (p ∷ ps) = decision dead p ∷ all_decided (and_itself dead p) ps

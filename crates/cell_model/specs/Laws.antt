@@ -2,10 +2,10 @@
 use Rattle.std.specs.Prelude.{◌≡◌, ◌↔◌, ◌<◌, ◌≤◌, List, [], ◌∷◌, ◌++◌, Bool, true, false, None, ◌⊎◌}
 use Rattle.std.specs.List.{list_any as any}
 use Rattle.cell_model.specs.Units.{UnitNo, Member}
-use Rattle.cell_model.specs.Stacks.{Version, top, committed, removed, has_version}
+use Rattle.cell_model.specs.Stacks.{Version, top, committed_stack, removed, has_version}
 use Rattle.cell_model.specs.Locks.{Hold, Mode, Ask, Free, Held, MustWait, MustDie, covers, conflicts, granted, dropped, holds_lock}
-use Rattle.cell_model.specs.Sources.{IsAscending, with_source}
-use Rattle.cell_model.specs.Decisions.{Prepared, Commit, decision, decided, and_itself}
+use Rattle.cell_model.specs.Sources.{SourcesAscend, with_source}
+use Rattle.cell_model.specs.Decisions.{Prepared, Commit, decision, all_decided, and_itself}
 
 -- the unit is the oldest of the holders who conflict
 pub record IsOldestRival (holds : List Hold) (unit : UnitNo) (mode : Mode) (holder : UnitNo) : Type 0 where
@@ -39,11 +39,11 @@ pub record TakesOffFrom (unit : UnitNo) (stack kept : List Version) : Type 0 whe
 
 -- a stack where a unit's decision is learnt
 pub record StackFollows (unit : UnitNo) (stack : List Version) : Type 0 where
-  pub bottom : has_version unit stack ≡ true → KeepsDownTo unit stack (committed unit stack)
+  pub bottom : has_version unit stack ≡ true → KeepsDownTo unit stack (committed_stack unit stack)
   pub taken_off : has_version unit stack ≡ true → TakesOffFrom unit stack (removed unit stack)
-  pub same_top : top (committed unit stack) ≡ top stack
+  pub same_top : top (committed_stack unit stack) ≡ top stack
   pub gone : has_version unit (removed unit stack) ≡ false
-  pub strangers : has_version unit stack ≡ false → (committed unit stack ≡ stack) × (removed unit stack ≡ stack)
+  pub strangers : has_version unit stack ≡ false → (committed_stack unit stack ≡ stack) × (removed unit stack ≡ stack)
 
 -- who holds a lock after a grant and after it is dropped
 pub record LocksFollow (holds : List Hold) (unit : UnitNo) (mode : Mode) : Type 0 where
@@ -53,7 +53,7 @@ pub record LocksFollow (holds : List Hold) (unit : UnitNo) (mode : Mode) : Type 
 
 -- a set of sources with one more
 pub record SourcesFollow (sources : List UnitNo) (source : UnitNo) : Type 0 where
-  pub ascending : IsAscending (with_source sources source)
+  pub ascending : SourcesAscend (with_source sources source)
   pub has : (u : UnitNo) → Member u (with_source sources source) ↔ ((u ≡ source) ⊎ Member u sources)
 
 -- the dead after a batch: those of before, and who can't commit
@@ -69,4 +69,4 @@ CommitsExactly dead p =
 -- each unit is decided where those before it are
 abbrev pub DecidesInOrder : (UnitNo → Bool) → List Prepared → Prepared → List Prepared → Type 0
 DecidesInOrder dead before p later =
-    decided dead (before ++ p ∷ later) ≡ decided dead before ++ decision (fallen dead before) p ∷ decided (fallen dead (before ++ p ∷ [])) later
+    all_decided dead (before ++ p ∷ later) ≡ all_decided dead before ++ decision (fallen dead before) p ∷ all_decided (fallen dead (before ++ p ∷ [])) later

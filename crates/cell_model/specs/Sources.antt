@@ -18,6 +18,6 @@ abbrev pub first_aborted : List UnitNo → List UnitNo → Option UnitNo
 first_aborted sources aborted = find (is_among aborted) sources
 
 -- each is older than all after it
-abbrev pub IsAscending : List UnitNo → Type 0
-IsAscending [] = ⊤
-IsAscending (x ∷ xs) = ((y : UnitNo) → Member y xs → x.0 < y.0) × IsAscending xs
+abbrev pub SourcesAscend : List UnitNo → Type 0
+SourcesAscend [] = ⊤
+SourcesAscend (x ∷ xs) = ((y : UnitNo) → Member y xs → x.0 < y.0) × SourcesAscend xs

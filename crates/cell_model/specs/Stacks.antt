@@ -19,9 +19,9 @@ abbrev pub pushed : List Version → UnitNo → List Value → List Version
 pushed stack unit state = record { unit = unit; state = state } ∷ stack
 
 -- what stands under the unit's version is dropped, and nothing where it has none
-abbrev pub committed : UnitNo → List Version → List Version
-committed unit [] = []
-committed unit (x ∷ xs) = if is_of unit x then x ∷ [] else x ∷ committed unit xs
+abbrev pub committed_stack : UnitNo → List Version → List Version
+committed_stack unit [] = []
+committed_stack unit (x ∷ xs) = if is_of unit x then x ∷ [] else x ∷ committed_stack unit xs
 
 -- the lowest version that meets the test, and all above it, are taken off
 abbrev pub cut : (Version → Bool) → List Version → List Version

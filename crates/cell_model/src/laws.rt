@@ -3,8 +3,8 @@ ghost use Rattle.std.specs.Prelude.{filter};
 ghost use Rattle.cell_model.specs.Units.{UnitNo, oldest};
 ghost use Rattle.cell_model.specs.Stacks.{Version};
 ghost use Rattle.cell_model.specs.Locks.{Hold, Mode, ask};
-ghost use Rattle.cell_model.specs.Sources.{IsAscending, first_aborted, is_among};
-ghost use Rattle.cell_model.specs.Decisions.{Prepared, decided};
+ghost use Rattle.cell_model.specs.Sources.{SourcesAscend, first_aborted, is_among};
+ghost use Rattle.cell_model.specs.Decisions.{Prepared, all_decided};
 ghost use Rattle.cell_model.specs.Cells.{Cell, learned};
 ghost use Rattle.cell_model.specs.Laws.{AnswersExactly, StackFollows, LocksFollow, SourcesFollow, CommitsExactly, DecidesInOrder};
 
@@ -25,13 +25,13 @@ pub fn locks_follow()
 
 /// Sources stay ascending, with the new one among them; the first aborted one is the oldest.
 pub fn sources_are_a_set()
-    ensures kept { (sources : List UnitNo) (source : UnitNo) → IsAscending sources → SourcesFollow sources source }
-    ensures first { (sources aborted : List UnitNo) → IsAscending sources → first_aborted sources aborted ≡ oldest (filter (is_among aborted) sources) }
+    ensures kept { (sources : List UnitNo) (source : UnitNo) → SourcesAscend sources → SourcesFollow sources source }
+    ensures first { (sources aborted : List UnitNo) → SourcesAscend sources → first_aborted sources aborted ≡ oldest (filter (is_among aborted) sources) }
 {}
 
 /// A batch has one decision for each unit, made where those before it stand, and `Commit` exactly for the alive.
 pub fn decisions_are_exact()
-    ensures count { (dead : UnitNo → Bool) (batch : List Prepared) → length (decided dead batch) ≡ length batch }
+    ensures count { (dead : UnitNo → Bool) (batch : List Prepared) → length (all_decided dead batch) ≡ length batch }
     ensures commits { (dead : UnitNo → Bool) (p : Prepared) → CommitsExactly dead p }
     ensures in_order { (dead : UnitNo → Bool) (before : List Prepared) (p : Prepared) (later : List Prepared) → DecidesInOrder dead before p later }
 {}

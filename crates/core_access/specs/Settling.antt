@@ -1,7 +1,7 @@
 -- Which events are the settler's, and what all others leave.
 use Rattle.std.specs.Prelude.{◌≡◌, Bool, true, false, not}
 use Rattle.core_model.specs.declared.events.CoreEvent.{CoreEvent}
-use Rattle.core_model.specs.declared.events.CoreEvent.TheVariants.{Take, Vote, Decide, Sealed, NotSealed, Doubt, Learn, Emitted}
+use Rattle.core_model.specs.declared.events.CoreEvent.TheVariants.{Take, Vote, Decide, Sealed, NotSealed, Doubt, Learn, Emitted, Bad, Begin, Grant, Refuse, Finish, EndPlain, EndSnapshot, Release, Halt, Want, Load}
 use Rattle.core_model.specs.CoreState.{CoreState}
 
 -- an event of the settler's
@@ -14,7 +14,17 @@ is_settling (NotSealed n) = true
 is_settling (Doubt n) = true
 is_settling (Learn u g) = true
 is_settling Emitted = true
-is_settling _ = false
+is_settling (Bad line why) = false
+is_settling (Begin origin call plain) = false
+is_settling (Grant v g mode) = false
+is_settling (Refuse v g mode) = false
+is_settling (Finish v effect) = false
+is_settling (EndPlain v effect) = false
+is_settling (EndSnapshot v at outcome) = false
+is_settling (Release v g) = false
+is_settling Halt = false
+is_settling (Want v g) = false
+is_settling (Load g v state) = false
 
 -- the event is harmless to the settler
 abbrev pub leaves_settling : CoreEvent → Bool

@@ -17,7 +17,17 @@ has_room (event.NotSealed n) = true
 has_room (event.Doubt n) = true
 has_room (event.Learn u g) = true
 has_room event.Emitted = true
-has_room _ = false
+has_room (event.Bad line why) = false
+has_room (event.Begin origin call plain) = false
+has_room (event.Grant v g mode) = false
+has_room (event.Refuse v g mode) = false
+has_room (event.Finish v effect) = false
+has_room (event.EndPlain v effect) = false
+has_room (event.EndSnapshot v at outcome) = false
+has_room event.Take = false
+has_room event.Halt = false
+has_room (event.Want v g) = false
+has_room (event.Load g v state) = false
 
 -- behind this run the event applies, and is never answered want of memory
 abbrev pub is_spared : Run → CoreEvent → Bool
@@ -32,4 +42,7 @@ is_plain question.NextLine = true
 is_plain question.Halted = true
 is_plain question.NextWanted = true
 is_plain (question.IsDecided u) = true
-is_plain _ = false
+is_plain (question.Outcome u) = false
+is_plain question.Batch = false
+is_plain question.NextSettled = false
+is_plain question.NextStep = false

@@ -9,7 +9,7 @@ use Rattle.core_model.specs.declared.events.CoreReply.TheVariants as reply
 use Rattle.core_model.specs.declared.phases.Phase.{Phase}
 use Rattle.core_model.specs.declared.phases.Phase.TheVariants.{Unborn, Running, Finished, Refused, Ended}
 use Rattle.core_model.specs.CoreState.{UnitNo, Call, CoreState, Member, put}
-use Rattle.core_model.specs.Lines.{HasBegun}
+use Rattle.core_model.specs.Lines.{HasBegunFor}
 use Rattle.core_model.specs.Changes.{new_unit}
 use Rattle.core_model.proofs.Decoded.{Change, begin, refuse, finish, end_plain, end_snapshot}
 use Rattle.core_model.proofs.Puts.{put-at, put-is, put-other}
@@ -20,7 +20,7 @@ use Rattle.core_history.proofs.Along.{answered}
 
 -- who began for a line by the state began for it by the history, and the other way round
 abbrev pub LinesOf : List Applied → CoreState → Type 0
-LinesOf h w = (u : UnitNo) (n : ℕ) → HasBegun w u n ↔ BeganFor h u n
+LinesOf h w = (u : UnitNo) (n : ℕ) → HasBegunFor w u n ↔ BeganFor h u n
 
 -- a unit's begin for a line, with its reply
 abbrev began : UnitNo → ℕ → Call → Bool → Applied
@@ -44,7 +44,7 @@ born-after : (w : CoreState) (v : UnitNo) (end : Phase) → (end ≡ Unborn → 
 born-after w v end n u b = put-at w.units.phase v end (λ p. p ≡ Unborn → ⊥) u (λ q. n) (λ q. b)
 
 -- who began for a line by the state, began for it by the history
-lines-to : (h : List Applied) (w : CoreState) (e : CoreEvent) (w' : CoreState) → Change w e w' → LinesOf h w → (u : UnitNo) (n : ℕ) → HasBegun w' u n → BeganFor (more h (answered w e)) u n
+lines-to : (h : List Applied) (w : CoreState) (e : CoreEvent) (w' : CoreState) → Change w e w' → LinesOf h w → (u : UnitNo) (n : ℕ) → HasBegunFor w' u n → BeganFor (more h (answered w e)) u n
 lines-to h w e w' (begin origin call plain c) s u n b = elim (cases_unit u (new_unit w)) [
   | inl q ↦ (let p = sym b.1 ∙ put-is w.units.origin (new_unit w) origin u q in
       let is : began u n call plain ≡ answered w (Begin origin call plain) = λ i. record { event = Begin (p i) call plain; reply = reply.Began (q i) } in
@@ -58,7 +58,7 @@ lines-to h w e w' (end_snapshot v at outcome running plain kids answer) s u n b 
 lines-to h w e w' c s u n b = line-before h (answered w e) u n ((s u n).0 b)
 
 -- and the other way round
-lines-from : (h : List Applied) (w : CoreState) (e : CoreEvent) (w' : CoreState) → Change w e w' → w.units.phase (new_unit w) ≡ Unborn → LinesOf h w → (u : UnitNo) (n : ℕ) → BeganFor (more h (answered w e)) u n → HasBegun w' u n
+lines-from : (h : List Applied) (w : CoreState) (e : CoreEvent) (w' : CoreState) → Change w e w' → w.units.phase (new_unit w) ≡ Unborn → LinesOf h w → (u : UnitNo) (n : ℕ) → BeganFor (more h (answered w e)) u n → HasBegunFor w' u n
 lines-from h w e w' (begin origin call plain c) fresh s u n b = elim (line-cases h (answered w (Begin origin call plain)) u n b) [
   | inl o ↦ (let t = (s u n).1 o in
       (born-after w (new_unit w) Running (λ z. cc) u t.0, put-other w.units.origin (new_unit w) origin u (λ q. t.0 (ap w.units.phase q ∙ fresh)) ∙ t.1))

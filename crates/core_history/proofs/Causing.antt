@@ -18,7 +18,7 @@ use Rattle.core_model.specs.CoreState.{UnitNo, GrainId, Mode, Value, Entry, Sett
 use Rattle.core_model.specs.Tests.{is_bad, is_good, members, ask}
 use Rattle.core_model.specs.Dead.{Dead, itself}
 use Rattle.core_model.specs.Holders.{DifferInUnit}
-use Rattle.core_model.specs.Causes.{Settles, HasCause, IsRefusedBy}
+use Rattle.core_model.specs.Causes.{Settles, HasCause, IsRefusedLock}
 use Rattle.core_model.specs.Changes.{entry_for, entries_in, told, result_told, decisions_of, with_decisions, judged, verdict_of, refusal}
 use Rattle.core_model.proofs.Decoded.{Change, bad, refuse, end_plain, end_snapshot, decide_none, seal_batch, spoil_batch, doubt_batch, ask-refused}
 use Rattle.core_model.proofs.Basics.{Dead-more}
@@ -31,7 +31,7 @@ use Rattle.core_model.proofs.Caused.{entry-parts, entries-parts, dead-bad, refus
 use Rattle.core_history.specs.Histories.{Applied}
 use Rattle.core_history.specs.Units.{BeganFor, reads_in}
 use Rattle.core_history.specs.Fates.{IsDeadIn}
-use Rattle.core_history.specs.Causes.{IsLockedOut, IsVotedDown, once_decided, DependsOnDead, CouldCommit, CauseIn, HasLineIn, IsCausedIn}
+use Rattle.core_history.specs.Causes.{IsLockedOut, WasVotedDown, once_decided, DependedOnDead, CouldCommit, CauseIn, HasLineIn, IsCausedIn}
 use Rattle.core_history.specs.States.{mode_of}
 use Rattle.core_history.proofs.Words.{some-is, more}
 use Rattle.core_history.proofs.Along.{answered}
@@ -71,7 +71,7 @@ mode-lock (h ∷ hs) v m e = elim (cases_Bool (same_unit h.unit v)) [
 ]
 
 -- the oldest rival by the locks is the oldest by the history
-locked-out : (opening : GrainId → List Value) (h : List Applied) (w : CoreState) → Core opening w → Tells h w → (e : CoreEvent) (u by : UnitNo) (g : GrainId) → IsRefusedBy w e u by g → IsLockedOut h e u by g
+locked-out : (opening : GrainId → List Value) (h : List Applied) (w : CoreState) → Core opening w → Tells h w → (e : CoreEvent) (u by : UnitNo) (g : GrainId) → IsRefusedLock w e u by g → IsLockedOut h e u by g
 locked-out opening h w c t e u by g r = record {
   mode = r.mode;
   refused = r.refused;
@@ -130,7 +130,7 @@ told-line h e x answer (decision.Dependency on) l a = l
 
 -- a failed vote
 voted-in : (h : List Applied) (w : CoreState) (e : CoreEvent) (b : Batch) (u : UnitNo) (g : GrainId) (verdict : UnitNo → Verdict) → Tells h w → FatesOf h w → w.manager.batch ≡ Some b → Settles e b.number → Member u (members w b) →
-    Reason b.votes (w.manager.writes u) (w.units.deps u) verdict (decision.Vote g) → IsVotedDown h e u g
+    Reason b.votes (w.manager.writes u) (w.units.deps u) verdict (decision.Vote g) → WasVotedDown h e u g
 voted-in h w e b u g verdict t f q s m r =
     let x = failed-some b.votes (w.manager.writes u) g r in
     record {
@@ -144,7 +144,7 @@ voted-in h w e b u g verdict t f q s m r =
 -- a dead dependency
 depends-in : (h : List Applied) (w : CoreState) (a : Applied) (b : Batch) (u on : UnitNo) (verdict : UnitNo → Verdict) → Tells h w → FatesOf h w → DependsOf h w → w.manager.batch ≡ Some b → Settles a.event b.number → Member u (members w b) →
     Reason b.votes (w.manager.writes u) (w.units.deps u) verdict (decision.Dependency on) → IsDeadIn (once_decided h a a.event) on →
-    ((d : UnitNo) → Member d (w.units.deps u) → IsDeadIn (once_decided h a a.event) d → is_bad (verdict d) ≡ true) → DependsOnDead h a u on
+    ((d : UnitNo) → Member d (w.units.deps u) → IsDeadIn (once_decided h a a.event) d → is_bad (verdict d) ≡ true) → DependedOnDead h a u on
 depends-in h w a b u on verdict t f dep q s m r dead bads = record {
   batch = b.number;
   settled = (s, open-batch h w b t q u m);

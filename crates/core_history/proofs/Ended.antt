@@ -25,7 +25,7 @@ use Rattle.core_model.proofs.Aborting.{judged-aborted, decided-stops, ended-stop
 use Rattle.core_history.specs.Histories.{Applied, Happened}
 use Rattle.core_history.specs.Batches.{InBatch}
 use Rattle.core_history.specs.Fates.{IsDeadIn}
-use Rattle.core_history.specs.Gone.{HasEnded, on_disk, not_on_disk, in_doubt, all_dead, IsDecidedDead}
+use Rattle.core_history.specs.Gone.{BatchHasEnded, on_disk, not_on_disk, in_doubt, all_dead, IsDecidedDead}
 use Rattle.core_history.proofs.Words.{more, reads-more, happened-before, happened-now, happened-cases}
 use Rattle.core_history.proofs.Along.{answered}
 use Rattle.core_history.proofs.Tells.{Tells}
@@ -37,14 +37,14 @@ use Rattle.core_model.proofs.Verdicts.{member-or-not}
 -- What the history tells of decided batches: who is aborted after its finish had a batch that has ended; in a batch in
 -- doubt nobody is to abort any more; and in a decided one somebody is to abort only where somebody is to commit.
 pub record Endings (h : List Applied) (w : CoreState) : Type 0 where
-  pub aborted : (v : UnitNo) → w.units.phase v ≡ Finished → w.manager.verdict v ≡ Aborted → (n : ℕ) × InBatch h n v × HasEnded h n
+  pub aborted : (v : UnitNo) → w.units.phase v ≡ Finished → w.manager.verdict v ≡ Aborted → (n : ℕ) × InBatch h n v × BatchHasEnded h n
   pub doubted : (n : ℕ) → Happened h (Doubt n) → w.manager.doubt ≡ None → ⊥
   pub doubts : (n : ℕ) (v : UnitNo) → InBatch h n v → Happened h (Doubt n) → (is_final (w.manager.verdict v) ≡ true) ⊎ (w.manager.verdict v ≡ Chosen)
   pub decided : (n : ℕ) (v : UnitNo) → InBatch h n v → Happened h (Decide n) → w.manager.verdict v ≡ Open → ⊥
   pub condemned : (n : ℕ) (v : UnitNo) → InBatch h n v → Happened h (Decide n) → w.manager.verdict v ≡ Condemned → (x : UnitNo) × InBatch h n x × (w.manager.verdict x ≡ Chosen)
 
 -- a batch that has ended has ended for good
-ended-more : (opening : GrainId → List Value) (h : List Applied) (w : CoreState) (e : CoreEvent) (w' : CoreState) → Change w e w' → Step opening h w e w' → (n : ℕ) → HasEnded h n → HasEnded (more h (answered w e)) n
+ended-more : (opening : GrainId → List Value) (h : List Applied) (w : CoreState) (e : CoreEvent) (w' : CoreState) → Change w e w' → Step opening h w e w' → (n : ℕ) → BatchHasEnded h n → BatchHasEnded (more h (answered w e)) n
 ended-more opening h w e w' c s n (on_disk m) = on_disk (happened-before h (answered w e) (Sealed n) m)
 ended-more opening h w e w' c s n (not_on_disk m) = not_on_disk (happened-before h (answered w e) (NotSealed n) m)
 ended-more opening h w e w' c s n (in_doubt m) = in_doubt (happened-before h (answered w e) (Doubt n) m)
@@ -54,7 +54,7 @@ ended-more opening h w e w' c s n (all_dead d f) =
 
 -- a unit's batch, which has ended
 abbrev Over : List Applied → UnitNo → Type 0
-Over h v = (n : ℕ) × InBatch h n v × HasEnded h n
+Over h v = (n : ℕ) × InBatch h n v × BatchHasEnded h n
 
 over-more : (opening : GrainId → List Value) (h : List Applied) (w : CoreState) (e : CoreEvent) (w' : CoreState) → Change w e w' → Step opening h w e w' → (v : UnitNo) → Over h v → Over (more h (answered w e)) v
 over-more opening h w e w' c s v t = (t.0, batch-before h (answered w e) t.0 v t.1, ended-more opening h w e w' c s t.0 t.2)
@@ -321,7 +321,7 @@ decided-dead-by opening h w c t f k v x = go x.ended
     from Committed q a b = absurd (alive v (ap is_good q) x.dead)
     from Aborted q a b = q
 
-    go : HasEnded h x.batch → w.manager.verdict v ≡ Aborted
+    go : BatchHasEnded h x.batch → w.manager.verdict v ≡ Aborted
     go (on_disk m) = final (f.ends x.batch v x.within m)
     go (not_on_disk m) = f.spoils x.batch v x.within m
     go (in_doubt m) = elim (k.doubts x.batch v x.within m) [ inl e ↦ final e | inr e ↦ absurd (alive v (ap is_good e) x.dead) ]

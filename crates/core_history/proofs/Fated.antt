@@ -14,7 +14,7 @@ use Rattle.core_model.specs.declared.phases.Phase.TheVariants.{Running, Finished
 use Rattle.core_model.specs.declared.phases.Verdict.{Verdict}
 use Rattle.core_model.specs.declared.phases.Verdict.TheVariants.{Chosen, Committed, Aborted}
 use Rattle.core_model.specs.CoreState.{UnitNo, GrainId, Mode, Value, Batch, CoreState, Member}
-use Rattle.core_model.specs.Tests.{is_bad, is_good, is_final, written, members, has_failed, is_vote_on}
+use Rattle.core_model.specs.Tests.{is_bad, is_good, is_final, state_written, members, has_failed, is_vote_on}
 use Rattle.core_model.specs.Chains.{Wrote}
 use Rattle.core_model.specs.Dead.{IsDead, itself, by_source as dead_source}
 use Rattle.core_model.specs.Changes.{new_batch, decisions_of, judged, verdict_of}
@@ -79,10 +79,10 @@ pub record Step (opening : GrainId → List Value) (h : List Applied) (w : CoreS
 
 -- what a unit wrote, by the state and by the history
 pub wrote-in : (h : List Applied) (w : CoreState) → Tells h w → (u : UnitNo) (g : GrainId) → Wrote w.manager.writes u g → WroteIn h u g
-wrote-in h w t u g wr = (wr.0, ap (written g) (sym (t.writes u)) ∙ wr.1)
+wrote-in h w t u g wr = (wr.0, ap (state_written g) (sym (t.writes u)) ∙ wr.1)
 
 pub wrote-by : (h : List Applied) (w : CoreState) → Tells h w → (u : UnitNo) (g : GrainId) → WroteIn h u g → Wrote w.manager.writes u g
-wrote-by h w t u g wr = (wr.0, ap (written g) (t.writes u) ∙ wr.1)
+wrote-by h w t u g wr = (wr.0, ap (state_written g) (t.writes u) ∙ wr.1)
 
 -- what a finished unit wrote stays
 writes-stay : (w : CoreState) (e : CoreEvent) (w' : CoreState) → Change w e w' → (u : UnitNo) → w.units.phase u ≡ Finished → w'.manager.writes u ≡ w.manager.writes u
@@ -93,13 +93,13 @@ writes-stay w e w' c u f = refl
 wrote-more : (opening : GrainId → List Value) (h : List Applied) (w : CoreState) (e : CoreEvent) (w' : CoreState) → Change w e w' → Step opening h w e w' → (n : ℕ) (u : UnitNo) (g : GrainId) → InBatch h n u → WroteIn h u g → WroteIn (more h (answered w e)) u g
 wrote-more opening h w e w' c s n u g b wr =
     let t = wrote-by h w s.told u g wr in
-    wrote-in (more h (answered w e)) w' s.next u g (t.0, ap (written g) (writes-stay w e w' c u (batch-finished opening h w s.core.kept s.told n u b)) ∙ t.1)
+    wrote-in (more h (answered w e)) w' s.next u g (t.0, ap (state_written g) (writes-stay w e w' c u (batch-finished opening h w s.core.kept s.told n u b)) ∙ t.1)
 
 -- and was so before
 wrote-less : (opening : GrainId → List Value) (h : List Applied) (w : CoreState) (e : CoreEvent) (w' : CoreState) → Change w e w' → Step opening h w e w' → (n : ℕ) (u : UnitNo) (g : GrainId) → InBatch h n u → WroteIn (more h (answered w e)) u g → Wrote w.manager.writes u g
 wrote-less opening h w e w' c s n u g b wr =
     let t = wrote-by (more h (answered w e)) w' s.next u g wr in
-    (t.0, ap (written g) (sym (writes-stay w e w' c u (batch-finished opening h w s.core.kept s.told n u b))) ∙ t.1)
+    (t.0, ap (state_written g) (sym (writes-stay w e w' c u (batch-finished opening h w s.core.kept s.told n u b))) ∙ t.1)
 
 -- what was read stays read
 pub read-stays : (reads : List Read) (o : Option Read) (r : Read) → Member r reads → Member r (with_read reads o)

@@ -16,7 +16,7 @@ use Rattle.core_model.specs.declared.phases.Phase.{Phase}
 use Rattle.core_model.specs.declared.phases.Phase.TheVariants.{Running, Finished, Refused, Ended}
 use Rattle.core_model.specs.declared.phases.Verdict.TheVariants.{Open, Committed, Aborted}
 use Rattle.core_model.specs.CoreState.{UnitNo, GrainId, Mode, Value, Version, CoreState, Member, nobody, top, cut, put}
-use Rattle.core_model.specs.Tests.{is_aborted, is_committed, is_final, is_gone, written}
+use Rattle.core_model.specs.Tests.{is_aborted, is_committed, is_final, is_gone, state_written}
 use Rattle.core_model.specs.Chains.{Chain, IsBottom, IsLink}
 use Rattle.core_model.specs.Serial.{IsTrueLoad}
 use Rattle.core_model.specs.Changes.{new_unit, restacked, cleaned, locked, released, loaded, read_of}
@@ -129,11 +129,11 @@ absent-stays opening h w e w' (raise u k mode running free held here uncovered) 
     (λ z m. b x (subst (λ j. Member x (w.cells.stack j)) (sym z) (cut-member (λ y. is_aborted (w.manager.verdict y.unit)) (w.cells.stack k) x m)))
     (λ z m. b x m)
 absent-stays opening h w e w' (release u k over held) s l v g a b x =
-    grain-from w.cells.stack k (stacked (w.cells.readings k) (w.cells.stack k) u (written k (w.manager.writes u))) (Member x) (x.unit ≡ v → ⊥) g
-    (λ z m. go (λ y. b x (subst (λ j. Member x (w.cells.stack j)) (sym z) y)) (written k (w.manager.writes u)) refl m)
+    grain-from w.cells.stack k (stacked (w.cells.readings k) (w.cells.stack k) u (state_written k (w.manager.writes u))) (Member x) (x.unit ≡ v → ⊥) g
+    (λ z m. go (λ y. b x (subst (λ j. Member x (w.cells.stack j)) (sym z) y)) (state_written k (w.manager.writes u)) refl m)
     (λ z m. b x m)
   where
-    go : (Member x (w.cells.stack k) → x.unit ≡ v → ⊥) → (o : Option (List Value)) → written k (w.manager.writes u) ≡ o → Member x (stacked (w.cells.readings k) (w.cells.stack k) u o) → x.unit ≡ v → ⊥
+    go : (Member x (w.cells.stack k) → x.unit ≡ v → ⊥) → (o : Option (List Value)) → state_written k (w.manager.writes u) ≡ o → Member x (stacked (w.cells.readings k) (w.cells.stack k) u o) → x.unit ≡ v → ⊥
     go old None q m = old m
     go old (Some val) q m = cond_both (reads_top (w.cells.readings k) (w.cells.stack k) u) (pushed (w.cells.stack k) u val) (w.cells.stack k) (λ t. Member x t → x.unit ≡ v → ⊥)
         (λ y m'. elim m' [
@@ -260,12 +260,12 @@ viewed-released opening G n w i u g held k x r p m = grain-at w.cells.stack g st
     (λ e. k x r p m)
   where
     stack_g : List Version
-    stack_g = stacked (w.cells.readings g) (w.cells.stack g) u (written g (w.manager.writes u))
+    stack_g = stacked (w.cells.readings g) (w.cells.stack g) u (state_written g (w.manager.writes u))
 
     same : r.grain ≡ g → stack_g ≡ w.cells.stack g
-    same e = go (written g (w.manager.writes u)) refl
+    same e = go (state_written g (w.manager.writes u)) refl
       where
-        go : (o : Option (List Value)) → written g (w.manager.writes u) ≡ o → stacked (w.cells.readings g) (w.cells.stack g) u o ≡ w.cells.stack g
+        go : (o : Option (List Value)) → state_written g (w.manager.writes u) ≡ o → stacked (w.cells.readings g) (w.cells.stack g) u o ≡ w.cells.stack g
         go None q = refl
         go (Some v) q =
             let own = any-true (is_hold_of u) (w.cells.holds g) held in

@@ -42,7 +42,7 @@ abbrev pub IsSettledBy : List Applied → CoreEvent → ℕ → UnitNo → Type 
 IsSettledBy front e n u = Settles e n × InBatch front n u
 
 -- The unit's batch is settled; it wrote the grain, whose file failed, and the grain is the first such.
-pub record IsVotedDown (front : List Applied) (e : CoreEvent) (u : UnitNo) (g : GrainId) : Type 0 where
+pub record WasVotedDown (front : List Applied) (e : CoreEvent) (u : UnitNo) (g : GrainId) : Type 0 where
   pub batch : ℕ
   pub settled : IsSettledBy front e batch u
   pub wrote : WroteIn front u g
@@ -57,7 +57,7 @@ once_decided front at _ = front
 
 -- The unit's batch is settled; no file that the unit wrote failed, and the other is the oldest of its dependencies that were
 -- dead once the batch was decided.
-pub record DependsOnDead (front : List Applied) (at : Applied) (u on : UnitNo) : Type 0 where
+pub record DependedOnDead (front : List Applied) (at : Applied) (u on : UnitNo) : Type 0 where
   pub batch : ℕ
   pub settled : IsSettledBy front at.event batch u
   pub written : (g : GrainId) → WroteIn front u g → Happened front (Vote batch g false) → ⊥
@@ -70,18 +70,18 @@ abbrev pub CouldCommit : List Applied → ℕ → UnitNo → Type 0
 CouldCommit front n u = InBatch front n u × (IsDeadIn front u → ⊥)
 
 -- the unit ends as a plain run with that result, or its batch comes to disk, it isn't dead and finished with that result
-abbrev pub EndsWith : List Applied → CoreEvent → UnitNo → Outcome → Type 0
-EndsWith front (EndPlain v effect) u result = (v ≡ u) × (effect.result ≡ result)
-EndsWith front (EndSnapshot v at outcome) u result = (v ≡ u) × (outcome ≡ result)
-EndsWith front (Sealed n) u result = CouldCommit front n u × (result_in u front ≡ Some result)
-EndsWith front _ u result = ⊥
+abbrev pub EndedWith : List Applied → CoreEvent → UnitNo → Outcome → Type 0
+EndedWith front (EndPlain v effect) u result = (v ≡ u) × (effect.result ≡ result)
+EndedWith front (EndSnapshot v at outcome) u result = (v ≡ u) × (outcome ≡ result)
+EndedWith front (Sealed n) u result = CouldCommit front n u × (result_in u front ≡ Some result)
+EndedWith front _ u result = ⊥
 
 -- why an event, after what had happened in front of it, settles a unit so
 abbrev pub CauseIn : List Applied → Applied → UnitNo → Settled → Type 0
-CauseIn front at u (settled.Done result) = EndsWith front at.event u result
+CauseIn front at u (settled.Done result) = EndedWith front at.event u result
 CauseIn front at u (settled.Lock by g) = IsLockedOut front at.event u by g
-CauseIn front at u (settled.Vote g) = IsVotedDown front at.event u g
-CauseIn front at u (settled.Dependency on) = IsDoomed front at.event u on ⊎ DependsOnDead front at u on
+CauseIn front at u (settled.Vote g) = WasVotedDown front at.event u g
+CauseIn front at u (settled.Dependency on) = IsDoomed front at.event u on ⊎ DependedOnDead front at u on
 CauseIn front at u settled.Disk = (n : ℕ) × (at.event ≡ NotSealed n) × CouldCommit front n u
 CauseIn front at u settled.InDoubt = (n : ℕ) × (at.event ≡ Doubt n) × CouldCommit front n u
 CauseIn front at u (settled.Bad why) = (line : ℕ) × (at.event ≡ Bad line why)

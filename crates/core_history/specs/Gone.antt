@@ -11,18 +11,18 @@ use Rattle.core_history.specs.Fates.{IsDeadIn}
 
 -- The batch of that number has ended: it is on disk, or it isn't, or nobody knows; or it was decided and all its units are
 -- dead.
-pub data HasEnded (h : List Applied) (n : ℕ) : Type 0 where
-  on_disk : Happened h (Sealed n) → HasEnded h n
-  not_on_disk : Happened h (NotSealed n) → HasEnded h n
-  in_doubt : Happened h (Doubt n) → HasEnded h n
-  all_dead : Happened h (Decide n) → ((u : UnitNo) → InBatch h n u → IsDeadIn h u) → HasEnded h n
+pub data BatchHasEnded (h : List Applied) (n : ℕ) : Type 0 where
+  on_disk : Happened h (Sealed n) → BatchHasEnded h n
+  not_on_disk : Happened h (NotSealed n) → BatchHasEnded h n
+  in_doubt : Happened h (Doubt n) → BatchHasEnded h n
+  all_dead : Happened h (Decide n) → ((u : UnitNo) → InBatch h n u → IsDeadIn h u) → BatchHasEnded h n
 
 -- the unit is dead, and its batch has ended
 pub record IsDecidedDead (h : List Applied) (u : UnitNo) : Type 0 where
   pub dead : IsDeadIn h u
   pub batch : ℕ
   pub within : InBatch h batch u
-  pub ended : HasEnded h batch
+  pub ended : BatchHasEnded h batch
 
 -- the event takes the version of that unit, once it is decided dead, off the grain's stack: any grant of the grain, or the
 -- grain learns of the unit

@@ -7,7 +7,7 @@ use Rattle.core_model.specs.declared.events.CoreReply.TheVariants as reply
 use Rattle.core_model.specs.declared.effects.Read.{Read}
 use Rattle.core_model.specs.declared.effects.Effect.{Effect}
 use Rattle.core_model.specs.CoreState.{UnitNo, GrainId, Mode, Value, Call, Outcome, Write, Member, same_unit, same_grain}
-use Rattle.core_model.specs.Tests.{written}
+use Rattle.core_model.specs.Tests.{state_written}
 use Rattle.core_model.specs.declared.events.CoreEvent.{CoreEvent}
 use Rattle.core_model.specs.declared.events.CoreEvent.TheVariants.{Begin, Grant, Refuse, Finish, EndPlain, EndSnapshot, Release}
 use Rattle.core_history.specs.Histories.{Applied}
@@ -107,4 +107,4 @@ result_in u h = option_map (λ (effect : Effect). effect.result) (effect_in u h)
 
 -- the unit wrote the grain
 abbrev pub WroteIn : List Applied → UnitNo → GrainId → Type 0
-WroteIn h u g = (v : List Value) × (written g (writes_in u h) ≡ Some v)
+WroteIn h u g = (v : List Value) × (state_written g (writes_in u h) ≡ Some v)

@@ -5,7 +5,7 @@ ghost use Rattle.core_model.specs.declared.phases.Phase.TheVariants.{Running, Fi
 ghost use Rattle.core_model.specs.declared.phases.Verdict.TheVariants.{Committed, Aborted};
 ghost use Rattle.core_model.specs.CoreState.{UnitNo, GrainId, Entry, Settled, Batch, Member};
 ghost use Rattle.core_model.specs.Tests.{is_running, is_gone, members};
-ghost use Rattle.core_model.specs.Lines.{HasBegun};
+ghost use Rattle.core_model.specs.Lines.{HasBegunFor};
 ghost use Rattle.core_model.specs.Dead.{IsDead};
 ghost use Rattle.core_model.specs.Legal.{Run, IsLegal, ends};
 ghost use Rattle.core_history.specs.Histories.{history_of};
@@ -24,7 +24,7 @@ pub fn holders_are_granted()
     ensures holders { (r : Run) (u : UnitNo) (g : GrainId) → mode_of u ((ends r).cells.holds g) ≡ held u g (history_of r) }
     ensures order { (r : Run) → (ends r).manager.order ≡ finish_order (history_of r) }
     ensures running { (r : Run) (u : UnitNo) → is_running ((ends r).units.phase u) ≡ runs u (history_of r) }
-    ensures lines { (r : Run) (u : UnitNo) (n : ℕ) → HasBegun (ends r) u n ↔ BeganFor (history_of r) u n }
+    ensures lines { (r : Run) (u : UnitNo) (n : ℕ) → HasBegunFor (ends r) u n ↔ BeganFor (history_of r) u n }
 {}
 
 /// A unit's reads are what its first grants showed, its writes and its result what it finished with, and its

@@ -9,7 +9,7 @@ use Rattle.base_types.specs.declared.calls.Origin.TheVariants.{Line, Child}
 use Rattle.cell_model.proofs.Units.{same_unit-true, same_grain-true}
 use Rattle.core_model.specs.Equality.{same_list, same_text, same_value, same_state, same_outcome, same_call, same_origin, same_read, same_reads}
 use Rattle.core_model.specs.CoreState.{UnitNo, GrainId, Member, same_unit, same_grain, Value, Outcome, Call, Origin, Phase, Unborn, Running, Finished, Refused, Ended, Verdict, Open, Chosen, Condemned, Committed, Aborted, Read, Write}
-use Rattle.core_model.specs.Tests.{is_running, is_over, is_bad, is_good, is_aborted, is_committed, is_final, written}
+use Rattle.core_model.specs.Tests.{is_running, is_over, is_bad, is_good, is_aborted, is_committed, is_final, state_written}
 use Rattle.core_model.specs.Dead.{Dead, itself, by_source}
 
 pub is_running-true : (p : Phase) → is_running p ≡ true → p ≡ Running
@@ -58,12 +58,12 @@ good_from Committed n e = refl
 good_from Aborted n e = cc
 
 -- what is written in a grain is one of the writes
-pub written-member : (g : GrainId) (v : List Value) (xs : List Write) → written g xs ≡ Some v → (x : Write) × Member x xs × (x.0 ≡ g)
+pub written-member : (g : GrainId) (v : List Value) (xs : List Write) → state_written g xs ≡ Some v → (x : Write) × Member x xs × (x.0 ≡ g)
 written-member g v [] e = cc
 written-member g v (x ∷ xs) e =
     elim (cases_Bool (same_grain x.0 g)) [
       | inl h ↦ (x, inl refl, same_grain-true _ _ h)
-      | inr h ↦ (let t = written-member g v xs (ap (λ (b : Bool). if b then Some x.1 else written g xs) (sym h) ∙ e) in (t.0, inr t.1, t.2))
+      | inr h ↦ (let t = written-member g v xs (ap (λ (b : Bool). if b then Some x.1 else state_written g xs) (sym h) ∙ e) in (t.0, inr t.1, t.2))
     ]
 
 -- what is tested to be one, is one

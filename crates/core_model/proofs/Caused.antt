@@ -21,7 +21,7 @@ use Rattle.cell_model.specs.Locks as locks
 use Rattle.cell_model.specs.declared.locks.Ask.TheVariants.{MustDie}
 use Rattle.core_model.specs.Tests.{doomed_by, members, waiting, outcome_of, outcome_in, is_gone, ask}
 use Rattle.core_model.specs.Changes.{entry_for, told, entries_in, result_told, refusal, ended, verdict_of, decisions_of, with_decisions, seal, swept, swept_by}
-use Rattle.core_model.specs.Causes.{IsVotedDown, DependsOnDead, CanCommit, EndsWith, IsRefusedFor, IsRefusedBy, AtDecision, HasCause, HasLine, IsCaused}
+use Rattle.core_model.specs.Causes.{IsVotedDown, DependsOnDead, CanCommit, EndsWith, IsRefusedFor, IsRefusedLock, AtDecision, HasCause, HasLine, IsCaused}
 use Rattle.core_model.specs.Legal.{Run, IsLegal, begins, ends}
 use Rattle.core_model.specs.Events.{CoreEvent, Bad, Refuse, EndPlain, EndSnapshot, Decide, Sealed, NotSealed, Doubt, applies, can, does, step, run, is_allowed}
 use Rattle.core_model.specs.Serial.{AllLoadsTrue}
@@ -156,7 +156,7 @@ refused-cause opening w u g mode why next k running q = elim (ask-refused w u g 
   )
 ]
   where
-    locked : (by : UnitNo) → locks.ask (w.cells.holds g) u mode ≡ MustDie by → IsRefusedBy w (Refuse u g mode) u by g
+    locked : (by : UnitNo) → locks.ask (w.cells.holds g) u mode ≡ MustDie by → IsRefusedLock w (Refuse u g mode) u by g
     locked by e = (let t = ask-die (w.cells.holds g) u mode by e in record { mode = mode; refused = refl; rival = t.1; older = t.2 })
 
     sources : (rs : List Read) (s : UnitNo) → Member s (map (λ r. r.source) rs) → (r : Read) × Member r rs × (r.source ≡ s)

@@ -2,7 +2,7 @@
 use Rattle.std.proofs.Common.{◌≡◌, List, [], ◌∷◌, Bool, true, false, ◌⊎◌, inl, inr, refl, sym, subst}
 use Rattle.std.specs.List.{list_any as any}
 use Rattle.std.proofs.lemmas.Bool.{cond_both, or_cases}
-use Rattle.cell_model.specs.Stacks.{is_of, committed}
+use Rattle.cell_model.specs.Stacks.{is_of, committed_stack}
 use Rattle.cell_model.proofs.Units.{same_unit-true}
 use Rattle.cell_model.proofs.Stacks.{committed-top}
 use Rattle.core_model.specs.CoreState.{UnitNo, Version, top, cut}
@@ -61,13 +61,13 @@ cut-Chain B L p b (x ∷ y ∷ ys) c =
 -- the unit is committed, so its version can be the bottom
 pub committed-Chain : (B : Version → Type 0) (L : Version → Version → Type 0) (u : UnitNo)
     → ((x y : Version) → x.unit ≡ u → L x y → B x)
-    → (xs : List Version) → Chain B L xs → Chain B L (committed u xs)
+    → (xs : List Version) → Chain B L xs → Chain B L (committed_stack u xs)
 committed-Chain B L u b [] c = c
 committed-Chain B L u b (x ∷ []) c = cond_both (is_of u x) (x ∷ []) (x ∷ []) (λ t. Chain B L t) (λ e. c) (λ e. c)
 committed-Chain B L u b (x ∷ y ∷ ys) c =
-    cond_both (is_of u x) (x ∷ []) (x ∷ committed u (y ∷ ys)) (λ t. Chain B L t)
+    cond_both (is_of u x) (x ∷ []) (x ∷ committed_stack u (y ∷ ys)) (λ t. Chain B L t)
     (λ e. b x y (same_unit-true _ _ e) c.0)
-    (λ e. Chain-push B L x (committed u (y ∷ ys)) (subst (λ t. L x t) (sym (committed-top u (y ∷ ys))) c.0) (committed-Chain B L u b (y ∷ ys) c.1))
+    (λ e. Chain-push B L x (committed_stack u (y ∷ ys)) (subst (λ t. L x t) (sym (committed-top u (y ∷ ys))) c.0) (committed-Chain B L u b (y ∷ ys) c.1))
 
 -- a single bottom stays, whatever is taken off
 pub cut-single : (p : Version → Bool) (x : Version) → (p x ≡ true → ⊥) → cut p (x ∷ []) ≡ x ∷ []
@@ -75,5 +75,5 @@ cut-single p x no' = cond_both (any p (x ∷ [])) (cut p []) (x ∷ []) (λ t. t
     (λ e. elim (or_cases (p x) false e) [ inl h ↦ absurd (no' h) | inr h ↦ cc ])
     (λ e. refl)
 
-pub committed-single : (u : UnitNo) (x : Version) → committed u (x ∷ []) ≡ x ∷ []
+pub committed-single : (u : UnitNo) (x : Version) → committed_stack u (x ∷ []) ≡ x ∷ []
 committed-single u x = cond_both (is_of u x) (x ∷ []) (x ∷ []) (λ t. t ≡ x ∷ []) (λ e. refl) (λ e. refl)

@@ -3,7 +3,7 @@ use Rattle.std.proofs.Common.{◌≡◌, ℕ, ◌+◌, ◌<◌, ◌≤◌, List,
 use Rattle.std.proofs.lemmas.Bool.{cases_lt}
 use Rattle.cell_model.specs.Locks.{is_update}
 use Rattle.core_model.specs.CoreState.{UnitNo, GrainId, Member, Value, Finished, Committed, Version, top, Hold, Effect, Batch, CoreState}
-use Rattle.core_model.specs.Tests.{is_good, written}
+use Rattle.core_model.specs.Tests.{is_good, state_written}
 use Rattle.core_model.specs.Dead.{Dead}
 use Rattle.core_model.specs.Chains.{Chain, Wrote, IsBottom, IsLink}
 use Rattle.core_model.proofs.Invariant.{Inv, same_place, wrote-finished}
@@ -41,7 +41,7 @@ in_stack_or_below opening n w i u g f wr free =
     ]
     go (x ∷ y ∷ ys) c le = elim (cases_lt (w.manager.place u) (w.manager.place x.unit)) [
       | inl lt ↦ elim (cases_lt (w.manager.place y.unit) (w.manager.place u)) [
-        | inl above ↦ inl (i.gap x.unit c.0.1.0 u c.0.1.1 (inr (c.0.0.0, lt)) f (wr.0, ap (λ k. written k (w.manager.writes u)) c.0.1.2 ∙ wr.1)
+        | inl above ↦ inl (i.gap x.unit c.0.1.0 u c.0.1.1 (inr (c.0.0.0, lt)) f (wr.0, ap (λ k. state_written k (w.manager.writes u)) c.0.1.2 ∙ wr.1)
             (subst (λ k. w.manager.place k < w.manager.place u) (sym c.0.1.3) above))
         | inr below ↦ elim (go (y ∷ ys) c.1 below) [
           | inl d ↦ inl d
@@ -57,7 +57,7 @@ last-version opening n w i g h =
     let t = i.away g h in
     (t.1.0, t.1.1, go t.0 t.1.0 t.1.1 (subst (Chain (IsBottom opening w.units.phase w.manager.writes w.manager.verdict g) (IsLink w.units.phase w.manager.writes w.units.reads g)) t.1.1 (i.chain g)))
   where
-    below : w.cells.holds g ≡ [] → (x : Version) → w.cells.stack g ≡ x ∷ [] → (c : UnitNo) (v : List Value) → w.manager.verdict c ≡ Committed → written g (w.manager.writes c) ≡ Some v → w.manager.place c ≤ w.manager.place x.unit
+    below : w.cells.holds g ≡ [] → (x : Version) → w.cells.stack g ≡ x ∷ [] → (c : UnitNo) (v : List Value) → w.manager.verdict c ≡ Committed → state_written g (w.manager.writes c) ≡ Some v → w.manager.place c ≤ w.manager.place x.unit
     below none x is c v q wr =
         elim (i.latest c g (wrote-finished opening n w i c g v wr) (v, wr) (λ h m e up. subst (Member h) none m)) [
           | inl d ↦ absurd (good-alive opening n w i c (ap is_good q) d)

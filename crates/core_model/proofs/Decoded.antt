@@ -13,7 +13,7 @@ use Rattle.cell_model.specs.Decisions.{is_commit}
 use Rattle.cell_model.proofs.Asking.{ask-free}
 use Rattle.core_model.specs.declared.questions.AskAnswer.TheVariants as answer
 use Rattle.core_model.specs.CoreState.{UnitNo, GrainId, Member, same_unit, same_grain, Value, Call, Outcome, Origin, Settled, Running, Hold, Mode, Effect, Batch, Decision, CoreState}
-use Rattle.core_model.specs.Tests.{any, all, is_running, is_over, is_final, written, ask, ask_lock, ask_doom, doomed_by, is_active, is_planned, is_vote_on, is_voted, is_wanted, is_empty}
+use Rattle.core_model.specs.Tests.{any, all, is_running, is_over, is_final, state_written, ask, ask_lock, ask_doom, doomed_by, is_active, is_planned, is_vote_on, is_voted, is_wanted, is_empty}
 use Rattle.core_model.specs.Equality.{same_reads, same_outcome}
 use Rattle.core_model.specs.Changes.{spoiled_line, begun, restacked, cleaned, locked, raised, refusal, refused, refused_by, finished, ended, released, taken, voted, decisions_of, with_decisions, decided, on_batch, on_decided, on_decisions, sealed, spoiled, in_doubt, learned, loaded}
 use Rattle.core_model.specs.Events.{CoreEvent, Bad, Begin, Grant, Refuse, Finish, EndPlain, EndSnapshot, Release, Take, Vote, Decide, Sealed, NotSealed, Doubt, Learn, Emitted, Halt, Want, Load, is_free_answer, can_begin, is_of_call, holds_alone, batch_size, is_open, is_judged, can, does}
@@ -43,7 +43,7 @@ pub data Change (w : CoreState) : CoreEvent → CoreState → Type 0 where
   seal_batch : (n : ℕ) (b : Batch) (ds : List Decision) → w.manager.batch ≡ Some b → b.number ≡ n → b.decisions ≡ Some ds → Change w (Sealed n) (sealed w b ds)
   spoil_batch : (n : ℕ) (b : Batch) (ds : List Decision) → w.manager.batch ≡ Some b → b.number ≡ n → b.decisions ≡ Some ds → Change w (NotSealed n) (spoiled w b ds)
   doubt_batch : (n : ℕ) (b : Batch) (ds : List Decision) → w.manager.batch ≡ Some b → b.number ≡ n → b.decisions ≡ Some ds → Change w (Doubt n) (in_doubt w b ds)
-  learn : (u : UnitNo) (g : GrainId) → is_some (written g (w.manager.writes u)) ≡ true → is_final (w.manager.verdict u) ≡ true → w.cells.learnt u g ≡ false → Change w (Learn u g) (learned w u g)
+  learn : (u : UnitNo) (g : GrainId) → is_some (state_written g (w.manager.writes u)) ≡ true → is_final (w.manager.verdict u) ≡ true → w.cells.learnt u g ≡ false → Change w (Learn u g) (learned w u g)
   emit : w.manager.emitted < length w.manager.settled → Change w Emitted (does w Emitted)
   halt_run : w.units.halt ≡ false → Change w Halt (does w Halt)
   want : (u : UnitNo) (g : GrainId) → w.units.phase u ≡ Running → holds_lock u (w.cells.holds g) ≡ false → any (λ t. same_unit t.0 u && same_grain t.1 g) w.units.wants ≡ false → Change w (Want u g) (does w (Want u g))
@@ -178,7 +178,7 @@ decode w (Doubt n) c =
     let t = is_judged-true n w.manager.batch c in
     subst (Change w (Doubt n)) (sym (judged-is w (in_doubt w) t.0 t.3.0 t.1 t.3.1)) (doubt_batch n t.0 t.3.0 t.1 t.2 t.3.1)
 decode w (Learn u g) c =
-    let p = and_parts (is_some (written g (w.manager.writes u))) _ c in
+    let p = and_parts (is_some (state_written g (w.manager.writes u))) _ c in
     let q = and_parts (is_final (w.manager.verdict u)) _ p.1 in
     learn u g p.0 q.0 (not-true _ q.1)
 decode w Emitted c = emit (ltb-true _ _ c)

@@ -5,7 +5,7 @@ use Rattle.cell_model.proofs.Units.{same_unit-false, Member-left, Member-last}
 use Rattle.core_model.specs.CoreState.{UnitNo, GrainId, nobody, same_unit, put, Member, Value, Read, top, Mode, CoreState}
 use Rattle.core_model.specs.Tests.{is_committed}
 use Rattle.core_model.proofs.Puts.{put-at, put-from, put-is}
-use Rattle.cell_model.specs.Sources.{with_source, IsAscending}
+use Rattle.cell_model.specs.Sources.{with_source, SourcesAscend}
 use Rattle.cell_model.proofs.Sources.{with-only, with-ascending}
 use Rattle.core_model.specs.Changes.{restacked, cleaned, locked, deps_with, is_sure, read_of, swept, swept_by}
 use Rattle.core_model.specs.Events.{CoreEvent, applies, can, does, step, run, is_allowed}
@@ -15,13 +15,13 @@ use Rattle.core_model.proofs.Kept.{Kept, kept-step}
 
 abbrev pub Depends : CoreState → Type 0
 Depends w =
-    ((u : UnitNo) → IsAscending (w.units.deps u))
+    ((u : UnitNo) → SourcesAscend (w.units.deps u))
     × ((u d : UnitNo) → Member d (w.units.deps u) → (r : Read) × Member r (w.units.reads u) × (r.source ≡ d) × (d ≡ nobody → ⊥))
 
 depends-locked : (w : CoreState) (u : UnitNo) (g : GrainId) (mode : Mode) → Depends w → Depends (locked w u g mode)
 depends-locked w u g mode s = (
-  (λ x. put-at w.units.deps u new_deps IsAscending x
-      (λ e. cond_both (is_sure w source) (w.units.deps u) (with_source (w.units.deps u) source) IsAscending (λ q. s.0 u) (λ q. with-ascending (w.units.deps u) source (s.0 u)))
+  (λ x. put-at w.units.deps u new_deps SourcesAscend x
+      (λ e. cond_both (is_sure w source) (w.units.deps u) (with_source (w.units.deps u) source) SourcesAscend (λ q. s.0 u) (λ q. with-ascending (w.units.deps u) source (s.0 u)))
       (λ e. s.0 x)),
   (λ x d. put-from w.units.deps u new_deps (Member d) ((r : Read) × Member r (put w.units.reads u reads_u x) × (r.source ≡ d) × (d ≡ nobody → ⊥)) x
       (λ e m. elim (only d m) [

@@ -4,7 +4,7 @@ use Rattle.std.specs.Prelude.{◌==◌, if◌then◌else◌}
 use Rattle.std.proofs.lemmas.Bool.{cases_Bool, or_cases, or_parts, and_parts, and_cases, ltb-true, ltb-false, eqb-false, cond-true, cond-false, cases_order}
 use Rattle.cell_model.proofs.Units.{same_grain-true, same_grain-is, filter-member, filter-stays}
 use Rattle.core_model.specs.CoreState.{GrainId, Member, Value, Write, same_grain}
-use Rattle.core_model.specs.Tests.{written, is_before, first_of_two, first_grain, has_failed, failed_in}
+use Rattle.core_model.specs.Tests.{state_written, is_before, first_of_two, first_grain, has_failed, failed_in}
 
 pub before-true : (a b : GrainId) → is_before a b ≡ true → (a.kind < b.kind) ⊎ ((a.kind ≡ b.kind) × (a.key < b.key))
 before-true a b e = elim (or_cases (nat_lt a.kind b.kind) _ e) [
@@ -95,32 +95,32 @@ first_grain-some (x ∷ xs) g e = go (λ y q. first_grain-some xs y q) (first_gr
         ]
 
 -- the grains that are named are those that are written
-pub named-written : (g : GrainId) (xs : List Write) → Member g (map (λ x. x.0) xs) → (v : List Value) × (written g xs ≡ Some v)
+pub named-written : (g : GrainId) (xs : List Write) → Member g (map (λ x. x.0) xs) → (v : List Value) × (state_written g xs ≡ Some v)
 named-written g [] m = absurd m
 named-written g (x ∷ xs) m = elim (cases_Bool (same_grain x.0 g)) [
-  | inl e ↦ (x.1, cond-true (same_grain x.0 g) (Some x.1) (written g xs) e)
+  | inl e ↦ (x.1, cond-true (same_grain x.0 g) (Some x.1) (state_written g xs) e)
   | inr e ↦ elim m [
     | inl q ↦ (let z : true ≡ false = sym (same_grain-is x.0 g (sym q)) ∙ e in cc)
-    | inr q ↦ (let t = named-written g xs q in (t.0, cond-false (same_grain x.0 g) (Some x.1) (written g xs) e ∙ t.1))
+    | inr q ↦ (let t = named-written g xs q in (t.0, cond-false (same_grain x.0 g) (Some x.1) (state_written g xs) e ∙ t.1))
   ]
 ]
 
-pub written-named : (g : GrainId) (v : List Value) (xs : List Write) → written g xs ≡ Some v → Member g (map (λ x. x.0) xs)
+pub written-named : (g : GrainId) (v : List Value) (xs : List Write) → state_written g xs ≡ Some v → Member g (map (λ x. x.0) xs)
 written-named g v [] e = cc
 written-named g v (x ∷ xs) e = elim (cases_Bool (same_grain x.0 g)) [
   | inl s ↦ inl (sym (same_grain-true _ _ s))
-  | inr s ↦ inr (written-named g v xs (sym (cond-false (same_grain x.0 g) (Some x.1) (written g xs) s) ∙ e))
+  | inr s ↦ inr (written-named g v xs (sym (cond-false (same_grain x.0 g) (Some x.1) (state_written g xs) s) ∙ e))
 ]
 
 -- the first grain whose file failed
 pub failed-some : (votes : List (GrainId × Bool)) (ws : List Write) (g : GrainId) → failed_in votes ws ≡ Some g →
-    ((v : List Value) × (written g ws ≡ Some v)) × (has_failed votes g ≡ true) × ((k : GrainId) → (v : List Value) × (written k ws ≡ Some v) → has_failed votes k ≡ true → is_before k g ≡ false)
+    ((v : List Value) × (state_written g ws ≡ Some v)) × (has_failed votes g ≡ true) × ((k : GrainId) → (v : List Value) × (state_written k ws ≡ Some v) → has_failed votes k ≡ true → is_before k g ≡ false)
 failed-some votes ws g e =
     let t = first_grain-some (filter (has_failed votes) (map (λ x. x.0) ws)) g e in
     let m = filter-member (has_failed votes) (map (λ x. x.0) ws) g t.0 in
     (named-written g ws m.0, m.1, λ k w f. t.1 k (filter-stays (has_failed votes) (map (λ x. x.0) ws) k (written-named k w.0 ws w.1) f))
 
-pub failed-none : (votes : List (GrainId × Bool)) (ws : List Write) → failed_in votes ws ≡ None → (k : GrainId) → (v : List Value) × (written k ws ≡ Some v) → has_failed votes k ≡ false
+pub failed-none : (votes : List (GrainId × Bool)) (ws : List Write) → failed_in votes ws ≡ None → (k : GrainId) → (v : List Value) × (state_written k ws ≡ Some v) → has_failed votes k ≡ false
 failed-none votes ws e k w = elim (cases_Bool (has_failed votes k)) [
   | inl f ↦ absurd (subst (Member k) (first_grain-none _ e) (filter-stays (has_failed votes) (map (λ x. x.0) ws) k (written-named k w.0 ws w.1) f))
   | inr f ↦ f

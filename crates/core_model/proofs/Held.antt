@@ -4,7 +4,7 @@ use Rattle.std.proofs.lemmas.Bool.{and_parts, cond_both}
 use Rattle.cell_model.specs.Locks.{is_update, is_hold_of, holds_lock, dropped}
 use Rattle.cell_model.proofs.Units.{same_unit-true, same_unit-false, cases_unit, any-true, any-false, all-true, Member-append, Member-left, filter-member}
 use Rattle.core_model.specs.CoreState.{UnitNo, GrainId, put, put_grain, Member, Value, Running, Verdict, Aborted, Read, Write, top, Hold, Mode, Reading, Effect, CoreState}
-use Rattle.core_model.specs.Tests.{any, all, is_final, written}
+use Rattle.core_model.specs.Tests.{any, all, is_final, state_written}
 use Rattle.core_model.specs.Chains.{Wrote}
 use Rattle.core_model.proofs.Puts.{put-at, put-is, put-other, grain-at, grain-other}
 use Rattle.core_model.proofs.Basics.{written-member}
@@ -117,13 +117,13 @@ tidy-finished n w u effect i alone s = (
   s.1,
   s.2,
   (λ x g wr. elim (cases_unit x u) [
-    | inl e ↦ (let a = written-member g wr.0 effect.writes (ap (written g) (sym (put-is w.manager.writes u effect.writes x e)) ∙ wr.1) in
+    | inl e ↦ (let a = written-member g wr.0 effect.writes (ap (state_written g) (sym (put-is w.manager.writes u effect.writes x e)) ∙ wr.1) in
         let b = any-true (λ h. is_hold_of u h && is_update h.mode) (w.cells.holds a.0.0) (all-true (λ (y : Write). holds_alone w u y.0) effect.writes alone a.0 a.1) in
         let c = and_parts (is_hold_of u b.0) (is_update b.0.mode) b.2 in
         let t = i.told a.0.0 b.0 b.1 in
         let r = i.seen a.0.0 t.0 t.1 in
         (r.0, subst (λ z. Member r.0 (w.units.reads z)) (t.2 ∙ same_unit-true _ _ c.0 ∙ sym e) r.1, r.2 ∙ a.2))
-    | inr e ↦ s.3 x g (wr.0, ap (written g) (sym (put-other w.manager.writes u effect.writes x e)) ∙ wr.1)
+    | inr e ↦ s.3 x g (wr.0, ap (state_written g) (sym (put-other w.manager.writes u effect.writes x e)) ∙ wr.1)
   ]),
 )
 
@@ -189,7 +189,7 @@ knows-change opening w e w' (refuse u g mode why running q) a k s = knows-from w
 knows-change opening w e w' (finish u effect running plain of_call reads alone) a k s =
     λ x g z. (let t = s x g z in
     let apart : x ≡ u → ⊥ = λ q. (let y : false ≡ true = sym (ap is_final (ap w.manager.verdict q ∙ k.0.undecided u (inr running))) ∙ t.0 in cc) in
-    (t.0, (t.1.0, ap (written g) (put-other w.manager.writes u effect.writes x apart) ∙ t.1.1)))
+    (t.0, (t.1.0, ap (state_written g) (put-other w.manager.writes u effect.writes x apart) ∙ t.1.1)))
 knows-change opening w e w' (end_plain u effect running plain of_call bare) a k s = s
 knows-change opening w e w' (end_snapshot u at outcome running plain kids answer) a k s = s
 knows-change opening w e w' (release u g over held) a k s = s
@@ -203,8 +203,8 @@ knows-change opening w e w' (doubt_batch n b ds q number d) a k s = knows-from w
 knows-change opening w e w' (learn u g wrote final fresh) a k s =
     λ x j z. elim (cases_unit x u) [
       | inl q ↦ elim (cases_grain j g) [
-        | inl y ↦ (let t = wrote-some (written g (w.manager.writes u)) wrote in
-            (ap (λ i. is_final (w.manager.verdict i)) q ∙ final, (t.0, (λ i. written (y i) (w.manager.writes (q i))) ∙ t.1)))
+        | inl y ↦ (let t = wrote-some (state_written g (w.manager.writes u)) wrote in
+            (ap (λ i. is_final (w.manager.verdict i)) q ∙ final, (t.0, (λ i. state_written (y i) (w.manager.writes (q i))) ∙ t.1)))
         | inr y ↦ s x j (ap (λ i. w.cells.learnt i j) q ∙ sym (grain-other (w.cells.learnt u) g true j y) ∙ ap (λ (f : GrainId → Bool). f j) (sym (put-is w.cells.learnt u (put_grain (w.cells.learnt u) g true) x q)) ∙ z)
       ]
       | inr q ↦ s x j (ap (λ (f : GrainId → Bool). f j) (sym (put-other w.cells.learnt u (put_grain (w.cells.learnt u) g true) x q)) ∙ z)

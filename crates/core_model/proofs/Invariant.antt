@@ -3,7 +3,7 @@ use Rattle.std.proofs.Common.{◌≡◌, ℕ, ◌+◌, ◌<◌, ◌≤◌, List,
 use Rattle.std.proofs.lemmas.Bool.{cases_lt}
 use Rattle.cell_model.specs.Locks.{is_update}
 use Rattle.core_model.specs.CoreState.{UnitNo, GrainId, nobody, Member, Value, Phase, Unborn, Running, Finished, Refused, Ended, Verdict, Open, Committed, Read, Write, Version, top, Hold, Reading, CoreState}
-use Rattle.core_model.specs.Tests.{is_good, written}
+use Rattle.core_model.specs.Tests.{is_good, state_written}
 use Rattle.core_model.specs.Dead.{Dead}
 use Rattle.core_model.specs.Chains.{Chain, Wrote, IsBottom, IsLink}
 use Rattle.core_model.proofs.Loadless.{LoadlessAt}
@@ -34,7 +34,7 @@ pub record Facts (opening : GrainId → List Value) (n : ℕ) (next : ℕ) (phas
   pub view : (g : GrainId) (s : Reading) → Member s (readings g) → (s.source ≡ (top (stack g)).unit) ⊎ Dead verdict reads s.source
   pub source : (u : UnitNo) (r : Read) → Member r (reads u) →
       ((r.source ≡ nobody) × (r.state ≡ opening r.grain))
-      ⊎ ((phase r.source ≡ Finished) × (written r.grain (writes r.source) ≡ Some r.state) × (phase u ≡ Finished → place r.source < place u))
+      ⊎ ((phase r.source ≡ Finished) × (state_written r.grain (writes r.source) ≡ Some r.state) × (phase u ≡ Finished → place r.source < place u))
   pub gap : (u : UnitNo) (r : Read) (x : UnitNo) → Member r (reads u) → (phase u ≡ Running) ⊎ ((phase u ≡ Finished) × (place x < place u)) →
       phase x ≡ Finished → Wrote writes x r.grain → place r.source < place x → Dead verdict reads x
   pub chain : (g : GrainId) → Chain (IsBottom opening phase writes verdict g) (IsLink phase writes reads g) (stack g)
@@ -84,11 +84,11 @@ same_place opening n w i u x fu fx e =
 
 -- a unit that wrote has finished
 pub wrote-finished : (opening : GrainId → List Value) (n : ℕ) (w : CoreState) → Inv opening n w →
-    (u : UnitNo) (g : GrainId) (v : List Value) → written g (w.manager.writes u) ≡ Some v → w.units.phase u ≡ Finished
+    (u : UnitNo) (g : GrainId) (v : List Value) → state_written g (w.manager.writes u) ≡ Some v → w.units.phase u ≡ Finished
 wrote-finished opening n w i u g v e = go (w.units.phase u) refl
   where
     no_write : (w.units.phase u ≡ Finished → ⊥) → ⊥
-    no_write h = (let t : Some v ≡ None = sym e ∙ ap (written g) (i.unwritten u h) in cc)
+    no_write h = (let t : Some v ≡ None = sym e ∙ ap (state_written g) (i.unwritten u h) in cc)
 
     go : (p : Phase) → w.units.phase u ≡ p → w.units.phase u ≡ Finished
     go Unborn q = absurd (no_write (λ f. cc))
@@ -107,7 +107,7 @@ down-latest opening n w i u g fu wu x y l d (inr h) = go (cases_lt (w.manager.pl
     go : (w.manager.place y.unit < w.manager.place u) ⊎ (w.manager.place u ≤ w.manager.place y.unit) → (w.manager.place u < w.manager.place x.unit) ⊎ (w.manager.place x.unit ≤ w.manager.place u) → Dead w.manager.verdict w.units.reads u ⊎ (w.manager.place u ≤ w.manager.place y.unit)
     go (inr a) b = inr a
     go (inl a) (inl b) =
-        inl (i.gap x.unit l.1.0 u l.1.1 (inr (l.0.0, b)) fu (wu.0, ap (λ k. written k (w.manager.writes u)) l.1.2 ∙ wu.1)
+        inl (i.gap x.unit l.1.0 u l.1.1 (inr (l.0.0, b)) fu (wu.0, ap (λ k. state_written k (w.manager.writes u)) l.1.2 ∙ wu.1)
         (subst (λ k. w.manager.place k < w.manager.place u) (sym l.1.3) a))
     go (inl a) (inr b) =
         let e : w.manager.place x.unit ≡ w.manager.place u = omega arith in

@@ -13,7 +13,7 @@ use Rattle.core_model.proofs.Chained.{Chain-more}
 use Rattle.core_model.proofs.Invariant.{Inv}
 use Rattle.std.proofs.Common.{map}
 use Rattle.cell_model.specs.declared.outcomes.Decision.TheVariants as decision
-use Rattle.cell_model.specs.Decisions.{is_commit, decision, decided, and_itself}
+use Rattle.cell_model.specs.Decisions.{is_commit, decision, all_decided, and_itself}
 use Rattle.cell_model.proofs.Decisions.{commits-exactly}
 use Rattle.core_model.specs.CoreState.{Prepared}
 use Rattle.core_model.specs.Changes.{verdict_of, judged, seal, spoil, leave}
@@ -142,7 +142,7 @@ source_decided opening n w i u r m is lt apart = elim (i.source u r m) [
 pub kept-decide : (opening : GrainId → List Value) (dead : UnitNo → Bool) (failed : UnitNo → Option GrainId) (us : List UnitNo) (n : ℕ) (w : CoreState) → Inv opening n w →
     ((x : UnitNo) → dead x ≡ is_bad (w.manager.verdict x)) → Covers w.units.reads w.units.deps w.manager.verdict →
     ((k : ℕ) → k < length us → (n + k < length w.manager.order) × (get_or us k nobody ≡ get_or w.manager.order (n + k) nobody)) →
-    Inv opening (n + length us) (record w { manager = record w.manager { verdict = judged us (decided dead (map (prepare failed w.units.deps) us)) w.manager.verdict } })
+    Inv opening (n + length us) (record w { manager = record w.manager { verdict = judged us (all_decided dead (map (prepare failed w.units.deps) us)) w.manager.verdict } })
 kept-decide opening dead failed [] n w i agree covers at = subst (λ k. Inv opening k w) (omega arith) i
 kept-decide opening dead failed (u ∷ us) n w i agree covers at =
     let a = at 0 (omega arith) in
@@ -163,7 +163,7 @@ kept-decide opening dead failed (u ∷ us) n w i agree covers at =
         ]
       ]
     ]) in
-    subst (λ k. Inv opening k (record w { manager = record w.manager { verdict = judged (u ∷ us) (decided dead (map (prepare failed w.units.deps) (u ∷ us))) w.manager.verdict } })) (omega arith)
+    subst (λ k. Inv opening k (record w { manager = record w.manager { verdict = judged (u ∷ us) (all_decided dead (map (prepare failed w.units.deps) (u ∷ us))) w.manager.verdict } })) (omega arith)
     (kept-decide opening (and_itself dead (prepare failed w.units.deps u)) failed us (n + 1) (with_verdict w u (verdict_of (decision dead (prepare failed w.units.deps u)))) next
     (dead-agrees dead w.manager.verdict (prepare failed w.units.deps u) agree open_u)
     (λ x r m. elim (covers x r m) [

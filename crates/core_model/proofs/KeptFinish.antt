@@ -4,7 +4,7 @@ use Rattle.std.proofs.lemmas.Bool.{and_parts}
 use Rattle.cell_model.specs.Locks.{is_update, is_hold_of}
 use Rattle.cell_model.proofs.Units.{same_unit-true, cases_unit, any-true, all-true}
 use Rattle.core_model.specs.CoreState.{UnitNo, GrainId, nobody, put, Member, Value, Unborn, Running, Finished, Read, Write, Version, top, Hold, Effect, CoreState}
-use Rattle.core_model.specs.Tests.{any, all, written}
+use Rattle.core_model.specs.Tests.{any, all, state_written}
 use Rattle.core_model.specs.Chains.{Wrote, IsVersion, IsBottom, IsLink}
 use Rattle.core_model.proofs.Puts.{put-at, put-from, put-other}
 use Rattle.core_model.proofs.Basics.{written-member}
@@ -43,7 +43,7 @@ kept-finished opening n w u effect i running holds =
         | inl a ↦ inl a
         | inr a ↦ inr (
           back _ a.0,
-          ap (written r.grain) (put-other w.manager.writes u ws r.source (λ e. not_finished _ e a.0)) ∙ a.1,
+          ap (state_written r.grain) (put-other w.manager.writes u ws r.source (λ e. not_finished _ e a.0)) ∙ a.1,
           put-from w.units.phase u Finished (λ p. p ≡ Finished) _ x
               (λ e f. omega (arith, put-other w.manager.place u last r.source (λ q. not_finished _ q a.0), place_new x e, place_old r.source a.0))
               (λ e f. omega (arith, put-other w.manager.place u last r.source (λ q. not_finished _ q a.0), put-other w.manager.place u last x e, a.2 f)),
@@ -87,7 +87,7 @@ kept-finished opening n w u effect i running holds =
     run : (x : UnitNo) → put w.units.phase u Finished x ≡ Running → w.units.phase x ≡ Running
     run x = put-at w.units.phase u Finished (λ p. p ≡ Running → w.units.phase x ≡ Running) x (λ e h. cc) (λ k h. h)
 
-    holder : (g : GrainId) → (v : List Value) × (written g ws ≡ Some v) → (k : Hold) × Member k (w.cells.holds g) × (k.unit ≡ u) × (is_update k.mode ≡ true)
+    holder : (g : GrainId) → (v : List Value) × (state_written g ws ≡ Some v) → (k : Hold) × Member k (w.cells.holds g) × (k.unit ≡ u) × (is_update k.mode ≡ true)
     holder g wr =
         let a = written-member g wr.0 ws wr.1 in
         let b = any-true (is_alone u) (w.cells.holds a.0.0) (all-true (λ (x : Write). any (is_alone u) (w.cells.holds x.0)) ws holds a.0 a.1) in
@@ -95,10 +95,10 @@ kept-finished opening n w u effect i running holds =
         (b.0, subst (λ k. Member b.0 (w.cells.holds k)) a.2 b.1, same_unit-true _ _ c.0, c.1)
 
     old_wrote : (x : UnitNo) (g : GrainId) → (x ≡ u → ⊥) → Wrote (put w.manager.writes u ws) x g → Wrote w.manager.writes x g
-    old_wrote x g e wr = (wr.0, ap (written g) (sym (put-other w.manager.writes u ws x e)) ∙ wr.1)
+    old_wrote x g e wr = (wr.0, ap (state_written g) (sym (put-other w.manager.writes u ws x e)) ∙ wr.1)
 
     entry : (g : GrainId) (x : Version) → IsVersion w.units.phase w.manager.writes g x → IsVersion (put w.units.phase u Finished) (put w.manager.writes u ws) g x
-    entry g x a = (back _ a.0, ap (written g) (put-other w.manager.writes u ws x.unit (λ e. not_finished _ e a.0)) ∙ a.1)
+    entry g x a = (back _ a.0, ap (state_written g) (put-other w.manager.writes u ws x.unit (λ e. not_finished _ e a.0)) ∙ a.1)
 
     place_new : (x : UnitNo) → x ≡ u → put w.manager.place u last x ≡ length w.manager.order + 1
     place_new x e = put-at w.manager.place u last (λ z. z ≡ length w.manager.order + 1) x (λ q. refl) (λ q. absurd (q e))
@@ -106,8 +106,8 @@ kept-finished opening n w u effect i running holds =
     place_old : (x : UnitNo) → w.units.phase x ≡ Finished → w.manager.place x ≤ length w.manager.order
     place_old x f = (let t = i.placed x f in omega (arith, t.1, t.2))
 
-    wrote_new : (x : UnitNo) (g : GrainId) → x ≡ u → Wrote (put w.manager.writes u ws) x g → (v : List Value) × (written g ws ≡ Some v)
-    wrote_new x g e = put-from w.manager.writes u ws (λ t. (v : List Value) × (written g t ≡ Some v)) _ x (λ k z. z) (λ k z. absurd (k e))
+    wrote_new : (x : UnitNo) (g : GrainId) → x ≡ u → Wrote (put w.manager.writes u ws) x g → (v : List Value) × (state_written g ws ≡ Some v)
+    wrote_new x g e = put-from w.manager.writes u ws (λ t. (v : List Value) × (state_written g t ≡ Some v)) _ x (λ k z. z) (λ k z. absurd (k e))
 
     fin : (x : UnitNo) → (x ≡ u → ⊥) → put w.units.phase u Finished x ≡ Finished → w.units.phase x ≡ Finished
     fin x e = put-at w.units.phase u Finished (λ p. p ≡ Finished → w.units.phase x ≡ Finished) x (λ q. absurd (e q)) (λ q h. h)
@@ -132,7 +132,7 @@ kept-finished opening n w u effect i running holds =
       | inr q ↦ inr (fin x q a.0, omega (arith, put-other w.manager.place u last x q, put-other w.manager.place u last y e, a.1))
     ]
 
-    writer_last : (x : UnitNo) (r : Read) → Member r (w.units.reads x) → (put w.units.phase u Finished x ≡ Running) ⊎ ((put w.units.phase u Finished x ≡ Finished) × (put w.manager.place u last u < put w.manager.place u last x)) → (v : List Value) × (written r.grain ws ≡ Some v) → ⊥
+    writer_last : (x : UnitNo) (r : Read) → Member r (w.units.reads x) → (put w.units.phase u Finished x ≡ Running) ⊎ ((put w.units.phase u Finished x ≡ Finished) × (put w.manager.place u last u < put w.manager.place u last x)) → (v : List Value) × (state_written r.grain ws ≡ Some v) → ⊥
     writer_last x r m (inl a) wr =
         let h = i.keeps x r (run x a) m in
         let k = holder r.grain wr in

@@ -3,7 +3,7 @@ use Rattle.std.proofs.Common.{◌≡◌, ℕ, ◌<◌, List, [], ◌∷◌, ◌+
 use Rattle.cell_model.specs.Locks.{is_hold_of, holds_lock, conflicts}
 use Rattle.cell_model.proofs.Units.{same_unit-true, same_unit-false, any-true, any-false, Member-append, Member-left}
 use Rattle.core_model.specs.CoreState.{UnitNo, GrainId, nobody, put, put_grain, Member, Value, Running, Finished, Read, top, Hold, Mode, Reading, CoreState}
-use Rattle.core_model.specs.Tests.{is_good, written}
+use Rattle.core_model.specs.Tests.{is_good, state_written}
 use Rattle.core_model.specs.Dead.{Dead}
 use Rattle.core_model.specs.Chains.{Wrote, IsBottom, IsLink}
 use Rattle.core_model.proofs.Puts.{put-at, put-from, grain-at, grain-from, grain-other}
@@ -23,7 +23,7 @@ use Rattle.core_model.proofs.LoadlessEvents.{loadless-raised}
 -- where a read came from
 abbrev Src : (GrainId → List Value) → CoreState → UnitNo → Read → Type 0
 Src opening w x r = ((r.source ≡ nobody) × (r.state ≡ opening r.grain))
-    ⊎ ((w.units.phase r.source ≡ Finished) × (written r.grain (w.manager.writes r.source) ≡ Some r.state) × (w.units.phase x ≡ Finished → w.manager.place r.source < w.manager.place x))
+    ⊎ ((w.units.phase r.source ≡ Finished) × (state_written r.grain (w.manager.writes r.source) ≡ Some r.state) × (w.units.phase x ≡ Finished → w.manager.place r.source < w.manager.place x))
 
 pub kept-locked : (opening : GrainId → List Value) (n : ℕ) (w : CoreState) (u : UnitNo) (g : GrainId) (mode : Mode) → Inv opening n w →
     w.units.phase u ≡ Running → ((h : Hold) → Member h (w.cells.holds g) → conflicts u mode h ≡ false) → holds_lock u (w.cells.holds g) ≡ false → w.cells.here g ≡ true → Inv opening n (locked w u g mode)

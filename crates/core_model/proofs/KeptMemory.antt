@@ -2,7 +2,7 @@
 use Rattle.std.proofs.Common.{◌≡◌, ℕ, ◌≤◌, List, [], ◌∷◌, Bool, true, false, ◌||◌, not, ◌⊎◌, inl, inr, refl, sym, ap, ◌∙◌, subst, arith, Option, Some, None}
 use Rattle.std.proofs.lemmas.Bool.{and_parts, not-false, or_parts}
 use Rattle.core_model.specs.CoreState.{UnitNo, GrainId, put_grain, Member, Value, Finished, Committed, Version, top, CoreState}
-use Rattle.core_model.specs.Tests.{is_good, written}
+use Rattle.core_model.specs.Tests.{is_good, state_written}
 use Rattle.core_model.specs.Dead.{Dead}
 use Rattle.core_model.specs.Chains.{Chain, Wrote, IsBottom, IsLink}
 use Rattle.core_model.proofs.Puts.{grain-at}
@@ -77,7 +77,7 @@ load-same : (opening : GrainId → List Value) (n : ℕ) (w : CoreState) (g : Gr
 load-same opening n w g u s x i none is last =
     go (subst (λ t. Chain (IsBottom opening w.units.phase w.manager.writes w.manager.verdict g) (IsLink w.units.phase w.manager.writes w.units.reads g) t) is (i.chain g)) last
   where
-    below : (c : UnitNo) (v : List Value) → w.manager.verdict c ≡ Committed → written g (w.manager.writes c) ≡ Some v → w.manager.place c ≤ w.manager.place x.unit
+    below : (c : UnitNo) (v : List Value) → w.manager.verdict c ≡ Committed → state_written g (w.manager.writes c) ≡ Some v → w.manager.place c ≤ w.manager.place x.unit
     below c v q wr =
         elim (i.latest c g (wrote-finished opening n w i c g v wr) (v, wr) (λ h m e up. subst (Member h) none m)) [
           | inl d ↦ absurd (good-alive opening n w i c (ap is_good q) d)
@@ -93,7 +93,7 @@ load-same opening n w g u s x i none is last =
     go (inr a) (inl b) = absurd (b.2 x.unit x.state a.0 a.1.1)
     go (inr a) (inr b) =
         let e = same_place opening n w i x.unit u a.1.0 (wrote-finished opening n w i u g s b.wrote) (omega (arith, below u s b.commits b.wrote, b.last x.unit x.state a.0 a.1.1)) in
-        let q : Some x.state ≡ Some s = sym a.1.1 ∙ ap (λ z. written g (w.manager.writes z)) e ∙ b.wrote in
+        let q : Some x.state ≡ Some s = sym a.1.1 ∙ ap (λ z. state_written g (w.manager.writes z)) e ∙ b.wrote in
         let r : x.state ≡ s = cc in
         λ j. record { unit = e j; state = r j }
 

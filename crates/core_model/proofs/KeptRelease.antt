@@ -4,7 +4,7 @@ use Rattle.std.proofs.lemmas.Bool.{cases_Bool, cond-true, cond-false}
 use Rattle.cell_model.specs.Locks.{is_update, is_hold_of, holds_lock, dropped}
 use Rattle.cell_model.proofs.Units.{same_unit-true, cases_unit, any-true}
 use Rattle.core_model.specs.CoreState.{UnitNo, GrainId, put_grain, Member, Value, Running, Finished, Read, Version, top, Hold, Reading, CoreState}
-use Rattle.core_model.specs.Tests.{written}
+use Rattle.core_model.specs.Tests.{state_written}
 use Rattle.core_model.specs.Dead.{Dead, by_source}
 use Rattle.core_model.specs.Chains.{Chain, Wrote, IsBottom, IsLink}
 use Rattle.core_model.proofs.Puts.{grain-at, grain-from, grain-other}
@@ -79,7 +79,7 @@ kept-released opening n w u g i stopped held =
     readings_g = without_reading (w.cells.readings g) u
 
     stack_g : List Version
-    stack_g = stacked (w.cells.readings g) (w.cells.stack g) u (written g (w.manager.writes u))
+    stack_g = stacked (w.cells.readings g) (w.cells.stack g) u (state_written g (w.manager.writes u))
 
     own : (h : Hold) × Member h (w.cells.holds g) × (is_hold_of u h ≡ true)
     own = any-true (is_hold_of u) (w.cells.holds g) held
@@ -90,15 +90,15 @@ kept-released opening n w u g i stopped held =
 
     -- a version is pushed where the unit wrote the grain and what it read is on top
     Pushes : Type 0
-    Pushes = ((v : List Value) × (written g (w.manager.writes u) ≡ Some v) × (reads_top (w.cells.readings g) (w.cells.stack g) u ≡ true) × (stack_g ≡ pushed (w.cells.stack g) u v))
+    Pushes = ((v : List Value) × (state_written g (w.manager.writes u) ≡ Some v) × (reads_top (w.cells.readings g) (w.cells.stack g) u ≡ true) × (stack_g ≡ pushed (w.cells.stack g) u v))
 
     Same : Type 0
-    Same = (stack_g ≡ w.cells.stack g) × ((v : List Value) → written g (w.manager.writes u) ≡ Some v → reads_top (w.cells.readings g) (w.cells.stack g) u ≡ false)
+    Same = (stack_g ≡ w.cells.stack g) × ((v : List Value) → state_written g (w.manager.writes u) ≡ Some v → reads_top (w.cells.readings g) (w.cells.stack g) u ≡ false)
 
     either : Pushes ⊎ Same
-    either = go (written g (w.manager.writes u)) refl (cases_Bool (reads_top (w.cells.readings g) (w.cells.stack g) u))
+    either = go (state_written g (w.manager.writes u)) refl (cases_Bool (reads_top (w.cells.readings g) (w.cells.stack g) u))
       where
-        go : (o : Option (List Value)) → written g (w.manager.writes u) ≡ o → (reads_top (w.cells.readings g) (w.cells.stack g) u ≡ true) ⊎ (reads_top (w.cells.readings g) (w.cells.stack g) u ≡ false) → Pushes ⊎ Same
+        go : (o : Option (List Value)) → state_written g (w.manager.writes u) ≡ o → (reads_top (w.cells.readings g) (w.cells.stack g) u ≡ true) ⊎ (reads_top (w.cells.readings g) (w.cells.stack g) u ≡ false) → Pushes ⊎ Same
         go None e t = inr (ap (stacked (w.cells.readings g) (w.cells.stack g) u) e, λ v q. (let z : Some v ≡ None = sym q ∙ e in cc))
         go (Some v) e (inl t) = inl (v, e, t, ap (stacked (w.cells.readings g) (w.cells.stack g) u) e ∙ cond-true _ (pushed (w.cells.stack g) u v) (w.cells.stack g) t)
         go (Some v) e (inr t) = inr (ap (stacked (w.cells.readings g) (w.cells.stack g) u) e ∙ cond-false _ (pushed (w.cells.stack g) u v) (w.cells.stack g) t, λ v' q. t)
@@ -149,7 +149,7 @@ kept-released opening n w u g i stopped held =
           let k = i.seen g t.0 t.1 in
           let mine : t.0.unit ≡ u = t.2 ∙ same_unit-true _ _ own.2 in
           elim (i.view g t.0 t.1) [
-            | inl a ↦ (let z : true ≡ false = sym (reads_top-has (w.cells.readings g) (w.cells.stack g) u t.0 t.1 mine a) ∙ s.1 wr.0 (ap (λ k. written g (w.manager.writes k)) (sym q) ∙ wr.1) in cc)
+            | inl a ↦ (let z : true ≡ false = sym (reads_top-has (w.cells.readings g) (w.cells.stack g) u t.0 t.1 mine a) ∙ s.1 wr.0 (ap (λ k. state_written g (w.manager.writes k)) (sym q) ∙ wr.1) in cc)
             | inr d ↦ inl (by_source k.0 (subst (λ z. Member k.0 (w.units.reads z)) (mine ∙ sym q) k.1) (subst (Dead w.manager.verdict w.units.reads) (sym k.3) d))
           ])
     ]

@@ -10,7 +10,7 @@ use Rattle.core_model.proofs.Basics.{is_aborted-true, is_final-cases}
 use Rattle.core_model.proofs.Chained.{cut-top, cut-Chain, committed-Chain, cut-single, committed-single}
 use Rattle.core_model.proofs.Invariant.{Inv, down-latest}
 use Rattle.core_model.specs.Changes.{restacked, cleaned}
-use Rattle.cell_model.specs.Stacks.{is_of, committed}
+use Rattle.cell_model.specs.Stacks.{is_of, committed_stack}
 use Rattle.cell_model.specs.Cells.{learnt}
 use Rattle.cell_model.proofs.Stacks.{committed-top}
 
@@ -110,10 +110,10 @@ kept-learnt opening n w u g i final = elim (is_final-cases (w.manager.verdict u)
       (kept-cut opening n w g (is_of u) i (λ x q. ap w.manager.verdict (same_unit-true _ _ q) ∙ c))
 ]
   where
-    commits : w.manager.verdict u ≡ Committed → Inv opening n (restacked w g (committed u (w.cells.stack g)))
+    commits : w.manager.verdict u ≡ Committed → Inv opening n (restacked w g (committed_stack u (w.cells.stack g)))
     commits e =
-        kept-restacked opening n w g (committed u (w.cells.stack g)) i
-        (λ h. (let t = (i.away g h).1 in (t.0, ap (committed u) t.1 ∙ committed-single u t.0)))
+        kept-restacked opening n w g (committed_stack u (w.cells.stack g)) i
+        (λ h. (let t = (i.away g h).1 in (t.0, ap (committed_stack u) t.1 ∙ committed-single u t.0)))
         (committed-Chain (IsBottom opening w.units.phase w.manager.writes w.manager.verdict g) (IsLink w.units.phase w.manager.writes w.units.reads g) u (λ x y q l. inr (ap w.manager.verdict q ∙ e, l.0)) (w.cells.stack g) (i.chain g))
         (λ k. subst (λ t. ((w.units.phase k ≡ Finished → Wrote w.manager.writes k g → Dead w.manager.verdict w.units.reads k ⊎ (w.manager.place k ≤ w.manager.place (top (w.cells.stack g)).unit) → Dead w.manager.verdict w.units.reads k ⊎ (w.manager.place k ≤ w.manager.place t.unit))
         × ((k ≡ (top (w.cells.stack g)).unit) ⊎ Dead w.manager.verdict w.units.reads k → (k ≡ t.unit) ⊎ Dead w.manager.verdict w.units.reads k))) (sym (committed-top u (w.cells.stack g))) ((λ f wr h. h), (λ h. h)))

@@ -11,7 +11,7 @@ use Rattle.base_types.specs.declared.calls.Origin.TheVariants.{Line, Child}
 use Rattle.base_types.specs.declared.entries.Settled.TheVariants as settled
 use Rattle.core_model.specs.CoreState.{Entry, Outcome, Call}
 use Rattle.core_model.specs.Tests.{members, waiting}
-use Rattle.core_model.specs.Lines.{HasBegun, IsSettled, DifferInLine, StandInOrder, LinesAreTaken, EntriesAreOnce}
+use Rattle.core_model.specs.Lines.{HasBegunFor, IsSettled, DifferInLine, SettleInOrder, LinesAreTaken, EntriesAreOnce}
 use Rattle.core_model.proofs.TakenLines.{taken-change}
 use Rattle.core_model.specs.Changes.{begun, new_unit, lines_with, entry_for, told, entries_in, refused, finished, ended, decisions_of, with_decisions, closed, result_told, seal, spoil, leave, swept, swept_by}
 use Rattle.core_model.specs.Events.{can_begin}
@@ -29,12 +29,12 @@ use Rattle.core_model.proofs.Kept.{Kept, kept-step, inv-decided, size-open}
 -- all of it, in parts
 abbrev pub Once : CoreState → Type 0
 Once w =
-    ((u : UnitNo) (n : ℕ) → HasBegun w u n → (0 < n) × (n ≤ w.units.lines))
-    × ((u v : UnitNo) (n : ℕ) → HasBegun w u n → HasBegun w v n → u ≡ v)
+    ((u : UnitNo) (n : ℕ) → HasBegunFor w u n → (0 < n) × (n ≤ w.units.lines))
+    × ((u v : UnitNo) (n : ℕ) → HasBegunFor w u n → HasBegunFor w v n → u ≡ v)
     × DifferInLine w.manager.settled
-    × ((x : Entry) → Member x w.manager.settled → (0 < x.line) × (x.line ≤ w.units.lines) × (((x.unit ≡ nobody) × ((u : UnitNo) → HasBegun w u x.line → ⊥)) ⊎ (HasBegun w x.unit x.line × IsSettled w x.unit)))
-    × ((u : UnitNo) (n : ℕ) → HasBegun w u n → IsSettled w u → (x : Entry) × Member x w.manager.settled × (x.unit ≡ u) × (x.line ≡ n))
-    × StandInOrder w w.manager.settled
+    × ((x : Entry) → Member x w.manager.settled → (0 < x.line) × (x.line ≤ w.units.lines) × (((x.unit ≡ nobody) × ((u : UnitNo) → HasBegunFor w u x.line → ⊥)) ⊎ (HasBegunFor w x.unit x.line × IsSettled w x.unit)))
+    × ((u : UnitNo) (n : ℕ) → HasBegunFor w u n → IsSettled w u → (x : Entry) × Member x w.manager.settled × (x.unit ≡ u) × (x.line ≡ n))
+    × SettleInOrder w w.manager.settled
     × (w.manager.emitted ≤ length w.manager.settled)
 
 differ-append : (xs ys : List Entry) → DifferInLine xs → DifferInLine ys → ((x y : Entry) → Member x xs → Member y ys → x.line ≡ y.line → ⊥) → DifferInLine (xs ++ ys)
@@ -44,8 +44,8 @@ differ-append (x ∷ xs) ys a b c = (
   differ-append xs ys a.1 b (λ z y m n. c z y (inr m) n),
 )
 
-order-append : (w : CoreState) (xs ys : List Entry) → StandInOrder w xs → StandInOrder w ys →
-    ((x y : Entry) → Member x xs → Member y ys → w.units.phase x.unit ≡ Finished → w.units.phase y.unit ≡ Finished → w.manager.place x.unit < w.manager.place y.unit) → StandInOrder w (xs ++ ys)
+order-append : (w : CoreState) (xs ys : List Entry) → SettleInOrder w xs → SettleInOrder w ys →
+    ((x y : Entry) → Member x xs → Member y ys → w.units.phase x.unit ≡ Finished → w.units.phase y.unit ≡ Finished → w.manager.place x.unit < w.manager.place y.unit) → SettleInOrder w (xs ++ ys)
 order-append w [] ys a b c = b
 order-append w (x ∷ xs) ys a b c = (
   (λ y m. elim (Member-append y xs ys m) [ inl o ↦ a.0 y o | inr o ↦ c x y (inl refl) o ]),
@@ -53,7 +53,7 @@ order-append w (x ∷ xs) ys a b c = (
 )
 
 -- entries whose units keep their places
-order-same : (w w' : CoreState) (xs : List Entry) → ((x : Entry) → Member x xs → w'.units.phase x.unit ≡ Finished → (w.units.phase x.unit ≡ Finished) × (w'.manager.place x.unit ≡ w.manager.place x.unit)) → StandInOrder w xs → StandInOrder w' xs
+order-same : (w w' : CoreState) (xs : List Entry) → ((x : Entry) → Member x xs → w'.units.phase x.unit ≡ Finished → (w.units.phase x.unit ≡ Finished) × (w'.manager.place x.unit ≡ w.manager.place x.unit)) → SettleInOrder w xs → SettleInOrder w' xs
 order-same w w' [] same s = tt
 order-same w w' (x ∷ xs) same s = (
   (λ y m f g. (let a = same x (inl refl) f in let b = same y (inr m) g in omega (arith, s.0 y m a.0 b.0, a.1, b.1))),
@@ -65,13 +65,13 @@ pub record Settles (w w' : CoreState) (new : List Entry) : Type 0 where
   pub all : w'.manager.settled ≡ w.manager.settled ++ new
   pub emitted : w'.manager.emitted ≡ w.manager.emitted
   pub lines : w'.units.lines ≡ w.units.lines
-  pub back : (u : UnitNo) (n : ℕ) → HasBegun w' u n → HasBegun w u n
-  pub on : (u : UnitNo) (n : ℕ) → HasBegun w u n → HasBegun w' u n
+  pub back : (u : UnitNo) (n : ℕ) → HasBegunFor w' u n → HasBegunFor w u n
+  pub on : (u : UnitNo) (n : ℕ) → HasBegunFor w u n → HasBegunFor w' u n
   pub stays : (u : UnitNo) → IsSettled w u → IsSettled w' u
-  pub known : (u : UnitNo) (n : ℕ) → HasBegun w u n → IsSettled w' u → IsSettled w u ⊎ ((y : Entry) × Member y new × (y.unit ≡ u) × (y.line ≡ n))
-  pub fresh : (y : Entry) → Member y new → HasBegun w y.unit y.line × (IsSettled w y.unit → ⊥) × IsSettled w' y.unit
+  pub known : (u : UnitNo) (n : ℕ) → HasBegunFor w u n → IsSettled w' u → IsSettled w u ⊎ ((y : Entry) × Member y new × (y.unit ≡ u) × (y.line ≡ n))
+  pub fresh : (y : Entry) → Member y new → HasBegunFor w y.unit y.line × (IsSettled w y.unit → ⊥) × IsSettled w' y.unit
   pub differ : DifferInLine new
-  pub order : StandInOrder w' new
+  pub order : SettleInOrder w' new
   pub same : (x : Entry) → Member x w.manager.settled → w'.units.phase x.unit ≡ Finished → (w.units.phase x.unit ≡ Finished) × (w'.manager.place x.unit ≡ w.manager.place x.unit)
   pub after : (x y : Entry) → Member x w.manager.settled → Member y new → w'.units.phase x.unit ≡ Finished → w'.units.phase y.unit ≡ Finished → w'.manager.place x.unit < w'.manager.place y.unit
 
@@ -100,7 +100,7 @@ once-settles w w' new t s = (
     | inl o ↦ (let z = s.4 u n (t.back u n b) o in (z.0, subst (Member z.0) (sym t.all) (Member-left z.0 w.manager.settled new z.1), z.2, z.3))
     | inr o ↦ (o.0, subst (Member o.0) (sym t.all) (member-right o.0 w.manager.settled o.1), o.2, o.3)
   ]),
-  subst (StandInOrder w') (sym t.all) (order-append w' w.manager.settled new (order-same w w' w.manager.settled t.same s.5) t.order t.after),
+  subst (SettleInOrder w') (sym t.all) (order-append w' w.manager.settled new (order-same w w' w.manager.settled t.same s.5) t.order t.after),
   (let len : length w'.manager.settled ≡ length w.manager.settled + length new = ap length t.all ∙ length-append w.manager.settled new in omega (arith, s.6, t.emitted, len)),
 )
   where
@@ -121,10 +121,10 @@ entry-running opening n w i s x m p = elim (s.3 x m).2 [
   | inr o ↦ settled-running w x.unit o.1 p
 ]
 
-one-entry : (w : CoreState) (u : UnitNo) (what : Settled) → DifferInLine (entry_for (w.units.origin u) u what) × ((w' : CoreState) → StandInOrder w' (entry_for (w.units.origin u) u what))
+one-entry : (w : CoreState) (u : UnitNo) (what : Settled) → DifferInLine (entry_for (w.units.origin u) u what) × ((w' : CoreState) → SettleInOrder w' (entry_for (w.units.origin u) u what))
 one-entry w u what = go (w.units.origin u)
   where
-    go : (o : Origin) → DifferInLine (entry_for o u what) × ((w' : CoreState) → StandInOrder w' (entry_for o u what))
+    go : (o : Origin) → DifferInLine (entry_for o u what) × ((w' : CoreState) → SettleInOrder w' (entry_for o u what))
     go (Line n) = (((λ y m. absurd m), tt), λ w'. ((λ y m. absurd m), tt))
     go (Child p i d) = (tt, λ w'. tt)
 
@@ -263,7 +263,7 @@ rises-part opening n w i (u ∷ us) k at = (
         (omega (arith, b.0), b.1 ∙ ap (λ x. get_or w.manager.order x nobody) e)
 
 -- the entries of a batch differ in line, and stand in its order
-entries-differ : (w : CoreState) (answer : UnitNo → Settled) (us : List UnitNo) (ds : List Decision) → Rises w.manager.place us → ((u : UnitNo) → Member u us → w.units.phase u ≡ Unborn → ⊥) → ((u v : UnitNo) (n : ℕ) → HasBegun w u n → HasBegun w v n → u ≡ v) → DifferInLine (entries_in w answer us ds)
+entries-differ : (w : CoreState) (answer : UnitNo → Settled) (us : List UnitNo) (ds : List Decision) → Rises w.manager.place us → ((u : UnitNo) → Member u us → w.units.phase u ≡ Unborn → ⊥) → ((u v : UnitNo) (n : ℕ) → HasBegunFor w u n → HasBegunFor w v n → u ≡ v) → DifferInLine (entries_in w answer us ds)
 entries-differ w answer [] ds rises born one = tt
 entries-differ w answer (u ∷ us) [] rises born one = tt
 entries-differ w answer (u ∷ us) (d ∷ ds) rises born one =
@@ -275,7 +275,7 @@ entries-differ w answer (u ∷ us) (d ∷ ds) rises born one =
     let lt = rises.0 y.unit b.0 in
     omega (arith, lt, ap w.manager.place e)))
 
-entries-order : (w w' : CoreState) (answer : UnitNo → Settled) (us : List UnitNo) (ds : List Decision) → Rises w'.manager.place us → StandInOrder w' (entries_in w answer us ds)
+entries-order : (w w' : CoreState) (answer : UnitNo → Settled) (us : List UnitNo) (ds : List Decision) → Rises w'.manager.place us → SettleInOrder w' (entries_in w answer us ds)
 entries-order w w' answer [] ds rises = tt
 entries-order w w' answer (u ∷ us) [] rises = tt
 entries-order w w' answer (u ∷ us) (d ∷ ds) rises =
@@ -391,16 +391,16 @@ once-begun opening n w origin call plain i c s = (
     new : w.units.phase (new_unit w) ≡ Unborn
     new = i.unborn (new_unit w) (le_refl w.units.next)
 
-    begun_of : (u : UnitNo) (m : ℕ) → HasBegun (begun w origin call plain) u m → ((u ≡ new_unit w) × (origin ≡ Line m)) ⊎ HasBegun w u m
+    begun_of : (u : UnitNo) (m : ℕ) → HasBegunFor (begun w origin call plain) u m → ((u ≡ new_unit w) × (origin ≡ Line m)) ⊎ HasBegunFor w u m
     begun_of u m b = elim (cases_unit u (new_unit w)) [
       | inl q ↦ inl (q, sym (put-is w.units.origin (new_unit w) origin u q) ∙ b.1)
       | inr q ↦ inr ((λ z. b.0 (put-other w.units.phase (new_unit w) Running u q ∙ z)), sym (put-other w.units.origin (new_unit w) origin u q) ∙ b.1)
     ]
 
-    old : (u : UnitNo) (m : ℕ) → HasBegun w u m → u ≡ new_unit w → ⊥
+    old : (u : UnitNo) (m : ℕ) → HasBegunFor w u m → u ≡ new_unit w → ⊥
     old u m b q = b.0 (ap w.units.phase q ∙ new)
 
-    keep : (u : UnitNo) (m : ℕ) → HasBegun w u m → HasBegun (begun w origin call plain) u m
+    keep : (u : UnitNo) (m : ℕ) → HasBegunFor w u m → HasBegunFor (begun w origin call plain) u m
     keep u m b = ((λ z. b.0 (sym (put-other w.units.phase (new_unit w) Running u (old u m b)) ∙ z)), put-other w.units.origin (new_unit w) origin u (old u m b) ∙ b.1)
 
     settled_on : (u : UnitNo) → (u ≡ new_unit w → ⊥) → IsSettled w u → IsSettled (begun w origin call plain) u

@@ -6,7 +6,7 @@ use Rattle.cell_model.specs.Cells.{with_reading, without_reading}
 use Rattle.cell_model.proofs.Units.{same_unit-true, same_unit-false, cases_unit, any-true, any-false, all-true, Member-append, Member-left, Member-last}
 use Rattle.cell_model.proofs.Asking.{no_conflict, granted-member, granted-new, granted-stays, dropped-member, dropped-stays}
 use Rattle.core_model.specs.CoreState.{UnitNo, GrainId, nobody, put, put_grain, Member, Value, Call, Origin, Phase, Unborn, Running, Finished, Refused, Verdict, Open, Aborted, Read, Write, top, Hold, Mode, Reading, Effect, Settled, CoreState}
-use Rattle.core_model.specs.Tests.{any, all, written}
+use Rattle.core_model.specs.Tests.{any, all, state_written}
 use Rattle.core_model.specs.Chains.{Wrote}
 use Rattle.core_model.specs.Changes.{begun, new_unit, finished, locked, raised, released, read_of, refused}
 use Rattle.core_model.specs.Events.{holds_alone}
@@ -183,7 +183,7 @@ loadless-finished n w u effect i running holds =
       alone = i.alone;
       keeps = λ x r p m. i.keeps x r (run x p) m;
       strong = λ x g h. put-from w.units.phase u Finished (λ p. p ≡ Finished) _ x
-          (λ e f wr m q. (let t = holder g (put-from w.manager.writes u ws (λ t. (v : List Value) × (written g t ≡ Some v)) _ x (λ k z. z) (λ k z. absurd (k e)) wr) in (t.0, t.1, t.2 ∙ sym e, t.3)))
+          (λ e f wr m q. (let t = holder g (put-from w.manager.writes u ws (λ t. (v : List Value) × (state_written g t ≡ Some v)) _ x (λ k z. z) (λ k z. absurd (k e)) wr) in (t.0, t.1, t.2 ∙ sym e, t.3)))
           (λ e f wr m q. i.strong x g h f (old_wrote x g e wr) m q);
       told = i.told;
       seen = i.seen;
@@ -208,7 +208,7 @@ loadless-finished n w u effect i running holds =
     run : (x : UnitNo) → put w.units.phase u Finished x ≡ Running → w.units.phase x ≡ Running
     run x = put-at w.units.phase u Finished (λ p. p ≡ Running → w.units.phase x ≡ Running) x (λ e h. cc) (λ k h. h)
 
-    holder : (g : GrainId) → (v : List Value) × (written g ws ≡ Some v) → (k : Hold) × Member k (w.cells.holds g) × (k.unit ≡ u) × (is_update k.mode ≡ true)
+    holder : (g : GrainId) → (v : List Value) × (state_written g ws ≡ Some v) → (k : Hold) × Member k (w.cells.holds g) × (k.unit ≡ u) × (is_update k.mode ≡ true)
     holder g wr =
         let a = written-member g wr.0 ws wr.1 in
         let b = any-true (is_alone u) (w.cells.holds a.0.0) (all-true (λ (x : Write). any (is_alone u) (w.cells.holds x.0)) ws holds a.0 a.1) in
@@ -216,7 +216,7 @@ loadless-finished n w u effect i running holds =
         (b.0, subst (λ k. Member b.0 (w.cells.holds k)) a.2 b.1, same_unit-true _ _ c.0, c.1)
 
     old_wrote : (x : UnitNo) (g : GrainId) → (x ≡ u → ⊥) → Wrote (put w.manager.writes u ws) x g → Wrote w.manager.writes x g
-    old_wrote x g e wr = (wr.0, ap (written g) (sym (put-other w.manager.writes u ws x e)) ∙ wr.1)
+    old_wrote x g e wr = (wr.0, ap (state_written g) (sym (put-other w.manager.writes u ws x e)) ∙ wr.1)
 
 pub loadless-locked : (n : ℕ) (w : CoreState) (u : UnitNo) (g : GrainId) (mode : Mode) → LoadlessAt n w →
     w.units.phase u ≡ Running → ((h : Hold) → Member h (w.cells.holds g) → conflicts u mode h ≡ false) → holds_lock u (w.cells.holds g) ≡ false → w.cells.here g ≡ true → LoadlessAt n (locked w u g mode)

@@ -6,7 +6,7 @@ use Rattle.cell_model.specs.Locks.{dropped, granted, is_hold_of, is_update}
 use Rattle.cell_model.proofs.Units.{any-true, all-true}
 use Rattle.cell_model.proofs.Asking.{dropped-member}
 use Rattle.core_model.specs.CoreState.{UnitNo, GrainId, put, put_grain, Member, Value, Phase, Unborn, Running, Finished, Refused, Ended, Mode, Write, Hold, CoreState}
-use Rattle.core_model.specs.Tests.{is_running, written}
+use Rattle.core_model.specs.Tests.{is_running, state_written}
 use Rattle.core_model.specs.Chains.{Wrote}
 use Rattle.core_model.specs.Changes.{new_unit}
 use Rattle.core_model.specs.Events.{CoreEvent, Grant, applies, can, run, is_allowed, holds_alone}
@@ -146,7 +146,7 @@ in-kinds-change w e w' (raise u g mode running free held here uncovered) a s = (
 in-kinds-change w e w' (refuse u g mode why running q) a s = s
 in-kinds-change w e w' (finish u effect running plain of_call reads alone) a s = (
   s.0,
-  λ x g. put-from w.manager.writes u effect.writes (λ ws. (v : List Value) × (written g ws ≡ Some v)) (g.kind < w.units.kinds) x
+  λ x g. put-from w.manager.writes u effect.writes (λ ws. (v : List Value) × (state_written g ws ≡ Some v)) (g.kind < w.units.kinds) x
       (λ q wrote.
       (let m = written-member g wrote.0 effect.writes wrote.1 in
       let h = any-true (λ h. is_hold_of u h && is_update h.mode) (w.cells.holds m.0.0) (all-true (λ (y : Write). holds_alone w u y.0) effect.writes alone m.0 m.1) in

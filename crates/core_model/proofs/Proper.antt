@@ -5,7 +5,7 @@ use Rattle.base_types.specs.declared.calls.Origin.TheVariants.{Line}
 use Rattle.base_types.specs.declared.calls.Outcome.TheVariants as outcome
 use Rattle.base_types.specs.declared.entries.Settled.TheVariants as settled
 use Rattle.core_model.specs.CoreState.{UnitNo, GrainId, Member, Value, Unborn, Finished, Outcome, Read, Effect, Entry, Settled, Batch, Write, CoreState}
-use Rattle.core_model.specs.Tests.{is_empty, is_running, written}
+use Rattle.core_model.specs.Tests.{is_empty, is_running, state_written}
 use Rattle.core_model.specs.Equality.{same_outcome}
 use Rattle.core_model.specs.Causes.{EndsWith, HasCause, HasLine, IsCaused, decided_state}
 use Rattle.core_model.specs.Proper.{NeverAborts, HasUnitOf, MaySettle, IsProperEntry}
@@ -157,7 +157,7 @@ module _ (plays : Effect → Bool) (r : Run) (l : IsLegal plays r) (never : Neve
   may-settle (settled.Lock by g) h =
       (h.older, kind-of g.kind ((in-kinds-ends (front r c.before)).0 g h.rival.rival.0 h.rival.rival.1))
   may-settle (settled.Vote g) h =
-      kind-of g.kind ((in-kinds-ends (front r c.before)).1 x.unit g (subst (λ (ws : UnitNo → List Write). (v : List Value) × (written g (ws x.unit) ≡ Some v)) (decided-parts (ends (front r c.before)) c.event h.0).0 h.4.wrote))
+      kind-of g.kind ((in-kinds-ends (front r c.before)).1 x.unit g (subst (λ (ws : UnitNo → List Write). (v : List Value) × (state_written g (ws x.unit) ≡ Some v)) (decided-parts (ends (front r c.before)) c.event h.0).0 h.4.wrote))
   may-settle (settled.Dependency on) (inl h) = on-source x.unit on h.gone.0 h.gone.1 h.gone.2
   may-settle (settled.Dependency on) (inr h) =
       let m = subst (λ (ds : UnitNo → List UnitNo). Member on (ds x.unit)) (decided-parts (ends (front r c.before)) c.event h.0).1 h.4.source in

@@ -10,7 +10,7 @@ use Rattle.std.specs.Prelude.{⊤}
 use Rattle.std.proofs.Common.{take, drop, map, filter, length-drop}
 use Rattle.cell_model.specs.declared.outcomes.Decision.TheVariants as decision
 use Rattle.cell_model.specs.Units.{oldest}
-use Rattle.cell_model.specs.Decisions.{by_cause, decision, decided, and_itself}
+use Rattle.cell_model.specs.Decisions.{by_cause, decision, all_decided, and_itself}
 use Rattle.cell_model.proofs.Decisions.{none-dead, some-dead}
 use Rattle.cell_model.proofs.Units.{oldest-some}
 use Rattle.core_model.specs.CoreState.{Prepared}
@@ -70,12 +70,12 @@ decision-reason votes ws ds v dead agree None p (Some on) q =
 -- the decisions of a batch have their reasons in the verdicts that they make
 pub reasons-decide : (votes : List (GrainId × Bool)) (writes : UnitNo → List Write) (deps : UnitNo → List UnitNo) (us : List UnitNo) (dead : UnitNo → Bool) (v : UnitNo → Verdict) →
     ((x : UnitNo) → dead x ≡ is_bad (v x)) → ((u : UnitNo) → Member u us → v u ≡ Open) → Ordered deps us →
-    Reasons votes writes deps (judged us (decided dead (map (prepare (λ u. failed_in votes (writes u)) deps) us)) v) us (decided dead (map (prepare (λ u. failed_in votes (writes u)) deps) us))
+    Reasons votes writes deps (judged us (all_decided dead (map (prepare (λ u. failed_in votes (writes u)) deps) us)) v) us (all_decided dead (map (prepare (λ u. failed_in votes (writes u)) deps) us))
 reasons-decide votes writes deps [] dead v agree opens ordered = tt
 reasons-decide votes writes deps (u ∷ us) dead v agree opens ordered =
     let p : Prepared = prepare (λ x. failed_in votes (writes x)) deps u in
     let c : Decision = decision dead p in
-    let rest : List Decision = decided (and_itself dead p) (map (prepare (λ x. failed_in votes (writes x)) deps) us) in
+    let rest : List Decision = all_decided (and_itself dead p) (map (prepare (λ x. failed_in votes (writes x)) deps) us) in
     let mine : judged us rest (put v u (verdict_of c)) u ≡ verdict_of c = judged-other us rest (put v u (verdict_of c)) u ordered.0 ∙ put-same v u (verdict_of c) in (
       mine,
       decision-reason votes (writes u) (deps u) (judged us rest (put v u (verdict_of c))) dead

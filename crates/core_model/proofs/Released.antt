@@ -3,12 +3,12 @@ use Rattle.std.proofs.Common.{◌≡◌, ℕ, List, [], ◌∷◌, Bool, true, f
 use Rattle.std.proofs.lemmas.Bool.{and_parts, cond_both}
 use Rattle.cell_model.specs.Locks.{dropped}
 use Rattle.core_model.specs.CoreState.{UnitNo, GrainId, put_grain, Member, Value, Unborn, Running, Finished, Version, cut, Hold, Mode, CoreState}
-use Rattle.core_model.specs.Tests.{any, is_aborted, is_committed, written}
+use Rattle.core_model.specs.Tests.{any, is_aborted, is_committed, state_written}
 use Rattle.core_model.specs.Chains.{Chain, IsBottom, IsLink}
 use Rattle.core_model.proofs.Puts.{grain-from, grain-is, grain-other}
 use Rattle.core_model.proofs.Invariant.{Inv}
 use Rattle.cell_model.specs.Locks.{granted}
-use Rattle.cell_model.specs.Stacks.{pushed, is_of, committed}
+use Rattle.cell_model.specs.Stacks.{pushed, is_of, committed_stack}
 use Rattle.cell_model.specs.Cells.{stacked, reads_top, learnt}
 use Rattle.cell_model.proofs.Asking.{granted-member, dropped-member}
 use Rattle.core_model.specs.Changes.{restacked, cleaned, released, learned, loaded, swept, swept_by}
@@ -25,9 +25,9 @@ pub cut-member : (p : Version → Bool) (xs : List Version) (x : Version) → Me
 cut-member p [] x m = m
 cut-member p (y ∷ ys) x m = cond_both (any p (y ∷ ys)) (cut p ys) (y ∷ ys) (λ t. Member x t → Member x (y ∷ ys)) (λ e m'. inr (cut-member p ys x m')) (λ e m'. m') m
 
-pub committed-member : (u : UnitNo) (xs : List Version) (x : Version) → Member x (committed u xs) → Member x xs
+pub committed-member : (u : UnitNo) (xs : List Version) (x : Version) → Member x (committed_stack u xs) → Member x xs
 committed-member u [] x m = m
-committed-member u (y ∷ ys) x m = cond_both (is_of u y) (y ∷ []) (y ∷ committed u ys) (λ t. Member x t → Member x (y ∷ ys))
+committed-member u (y ∷ ys) x m = cond_both (is_of u y) (y ∷ []) (y ∷ committed_stack u ys) (λ t. Member x t → Member x (y ∷ ys))
     (λ e m'. elim m' [ inl q ↦ inl q | inr q ↦ absurd q ])
     (λ e m'. elim m' [ inl q ↦ inl q | inr q ↦ inr (committed-member u ys x q) ])
     m
@@ -78,10 +78,10 @@ gone-released w u g s k x h mx m = grain-from w.cells.holds g (dropped (w.cells.
     (λ e m'. s k x h (subst (Member x) (grain-other w.cells.stack g stack_g k e) mx) m') m
   where
     stack_g : List Version
-    stack_g = stacked (w.cells.readings g) (w.cells.stack g) u (written g (w.manager.writes u))
+    stack_g = stacked (w.cells.readings g) (w.cells.stack g) u (state_written g (w.manager.writes u))
 
     old : (x : Version) → Member x stack_g → Member x (w.cells.stack g) ⊎ (x.unit ≡ u)
-    old x = go (written g (w.manager.writes u))
+    old x = go (state_written g (w.manager.writes u))
       where
         go : (o : Option (List Value)) → Member x (stacked (w.cells.readings g) (w.cells.stack g) u o) → Member x (w.cells.stack g) ⊎ (x.unit ≡ u)
         go None m = inl m

@@ -4,11 +4,11 @@ use Rattle.std.proofs.lemmas.Bool.{and_parts, not-true, cond_both}
 use Rattle.cell_model.specs.Locks.{is_hold_of, holds_lock}
 use Rattle.cell_model.proofs.Units.{same_unit-true, same_unit-false, any-true, Member-append}
 use Rattle.core_model.specs.CoreState.{UnitNo, GrainId, put, Member, Value, Phase, Running, Finished, Refused, Ended, Read, Version, top, cut, Mode, CoreState}
-use Rattle.core_model.specs.Tests.{any, is_aborted, is_committed, written}
+use Rattle.core_model.specs.Tests.{any, is_aborted, is_committed, state_written}
 use Rattle.core_model.specs.Chains.{Chain, IsBottom, IsLink}
 use Rattle.core_model.proofs.Puts.{put-from, grain-at}
 use Rattle.core_model.proofs.Invariant.{Inv, wrote-finished}
-use Rattle.cell_model.specs.Stacks.{is_of, committed}
+use Rattle.cell_model.specs.Stacks.{is_of, committed_stack}
 use Rattle.cell_model.specs.Cells.{stacked, learnt}
 use Rattle.cell_model.proofs.Stacks.{committed-top}
 use Rattle.core_model.specs.Tests.{is_gone}
@@ -73,7 +73,7 @@ removed-cut opening n w i g p s =
     (elim (cut-absent opening n w i g p (w.cells.stack g) (i.chain g)) [ inl e ↦ inl (ap (λ t. (top t).unit) e) | inr a ↦ inr a ]) s
 
 removed-learnt : (opening : GrainId → List Value) (n : ℕ) (w : CoreState) → Inv opening n w → (u : UnitNo) (g : GrainId) → Removed w → (b : Bool) → Removed (restacked w g (learnt b u (w.cells.stack g)))
-removed-learnt opening n w i u g s true = removed-restacked w g (committed u (w.cells.stack g)) (λ x m. committed-member u (w.cells.stack g) x m) (inl (ap (λ (t : Version). t.unit) (committed-top u (w.cells.stack g)))) s
+removed-learnt opening n w i u g s true = removed-restacked w g (committed_stack u (w.cells.stack g)) (λ x m. committed-member u (w.cells.stack g) x m) (inl (ap (λ (t : Version). t.unit) (committed-top u (w.cells.stack g)))) s
 removed-learnt opening n w i u g s false = removed-cut opening n w i g (is_of u) s
 
 removed-locked : (w : CoreState) (u : UnitNo) (g : GrainId) (mode : Mode) → Removed w → Removed (locked w u g mode)
@@ -91,12 +91,12 @@ removed-released opening n w i u g over held s x r p m = grain-at w.cells.stack 
     (λ e. s x r p m)
   where
     stack_g : List Version
-    stack_g = stacked (w.cells.readings g) (w.cells.stack g) u (written g (w.manager.writes u))
+    stack_g = stacked (w.cells.readings g) (w.cells.stack g) u (state_written g (w.manager.writes u))
 
     same : r.grain ≡ g → stack_g ≡ w.cells.stack g
-    same e = go (written g (w.manager.writes u)) refl
+    same e = go (state_written g (w.manager.writes u)) refl
       where
-        go : (o : Option (List Value)) → written g (w.manager.writes u) ≡ o → stacked (w.cells.readings g) (w.cells.stack g) u o ≡ w.cells.stack g
+        go : (o : Option (List Value)) → state_written g (w.manager.writes u) ≡ o → stacked (w.cells.readings g) (w.cells.stack g) u o ≡ w.cells.stack g
         go None q = refl
         go (Some v) q =
             let own = any-true (is_hold_of u) (w.cells.holds g) held in

@@ -9,7 +9,7 @@ use Rattle.cell_model.specs.Locks.{is_hold_of}
 use Rattle.cell_model.proofs.Units.{same_unit-true, same_unit-false, any-true, any-false, filter-stays, cases_unit}
 use Rattle.cell_model.proofs.Stacks.{cut-none}
 use Rattle.core_model.specs.CoreState.{UnitNo, GrainId, put, put_grain, Member, Value, Finished, Committed, Write, Version, Reading, top, cut, Effect, CoreState}
-use Rattle.core_model.specs.Tests.{any, is_final, is_good, is_aborted, is_committed, written}
+use Rattle.core_model.specs.Tests.{any, is_final, is_good, is_aborted, is_committed, state_written}
 use Rattle.core_model.specs.Chains.{Chain, Wrote, IsBottom, IsLink}
 use Rattle.core_model.specs.Learning.{to_learn, next_learn}
 use Rattle.core_model.specs.Asked.{IsSettledGrain, SettledStacksAreSingle}
@@ -49,19 +49,19 @@ only-cut : (u : UnitNo) (test : Version → Bool) (xs : List Version) → OnlyBo
 only-cut u test [] o = tt
 only-cut u test (x ∷ xs) o = cond_both (any test (x ∷ xs)) (cut test xs) (x ∷ xs) (OnlyBottom u) (λ e. only-cut u test xs (only-rest u x xs o)) (λ e. o)
 
-only-committed : (u v : UnitNo) (xs : List Version) → OnlyBottom u xs → OnlyBottom u (stacks.committed v xs)
+only-committed : (u v : UnitNo) (xs : List Version) → OnlyBottom u xs → OnlyBottom u (stacks.committed_stack v xs)
 only-committed u v [] o = tt
 only-committed u v (x ∷ []) o = cond_both (is_of v x) (x ∷ []) (x ∷ []) (OnlyBottom u) (λ e. tt) (λ e. tt)
-only-committed u v (x ∷ y ∷ ys) o = cond_both (is_of v x) (x ∷ []) (x ∷ stacks.committed v (y ∷ ys)) (OnlyBottom u)
+only-committed u v (x ∷ y ∷ ys) o = cond_both (is_of v x) (x ∷ []) (x ∷ stacks.committed_stack v (y ∷ ys)) (OnlyBottom u)
     (λ e. tt)
-    (λ e. only-pushed u x (stacks.committed v (y ∷ ys)) o.0 (only-committed u v (y ∷ ys) o.1))
+    (λ e. only-pushed u x (stacks.committed_stack v (y ∷ ys)) o.0 (only-committed u v (y ∷ ys) o.1))
 
 -- the unit that is committed is the bottom
-committed-only : (u : UnitNo) (xs : List Version) → OnlyBottom u (stacks.committed u xs)
+committed-only : (u : UnitNo) (xs : List Version) → OnlyBottom u (stacks.committed_stack u xs)
 committed-only u [] = tt
-committed-only u (x ∷ xs) = cond_both (is_of u x) (x ∷ []) (x ∷ stacks.committed u xs) (OnlyBottom u)
+committed-only u (x ∷ xs) = cond_both (is_of u x) (x ∷ []) (x ∷ stacks.committed_stack u xs) (OnlyBottom u)
     (λ e. tt)
-    (λ e. only-pushed u x (stacks.committed u xs) (same_unit-false x.unit u e) (committed-only u xs))
+    (λ e. only-pushed u x (stacks.committed_stack u xs) (same_unit-false x.unit u e) (committed-only u xs))
 
 absent-only : (u : UnitNo) (xs : List Version) → ((x : Version) → Member x xs → x.unit ≡ u → ⊥) → OnlyBottom u xs
 absent-only u [] n = tt
@@ -103,10 +103,10 @@ below-change opening w e w' (finish u effect running plain of_call reads alone) 
 below-change opening w e w' (end_plain u effect running plain of_call bare) k bat un kn s = s
 below-change opening w e w' (end_snapshot u at outcome running plain kids answer) k bat un kn s = s
 below-change opening w e w' (release u g over held) k bat un kn s =
-    λ x j e. grain-at w.cells.stack g (stacked (w.cells.readings g) (w.cells.stack g) u (written g (w.manager.writes u))) (OnlyBottom x) j
+    λ x j e. grain-at w.cells.stack g (stacked (w.cells.readings g) (w.cells.stack g) u (state_written g (w.manager.writes u))) (OnlyBottom x) j
     (λ q.
     (let l : w.cells.learnt x g ≡ true = ap (w.cells.learnt x) (sym q) ∙ e in
-    stacked-only x u (w.cells.readings g) (w.cells.stack g) (written g (w.manager.writes u)) (λ is. busy (subst (λ z. w.cells.learnt z g ≡ true) (sym is) l)) (s x g l)))
+    stacked-only x u (w.cells.readings g) (w.cells.stack g) (state_written g (w.manager.writes u)) (λ is. busy (subst (λ z. w.cells.learnt z g ≡ true) (sym is) l)) (s x g l)))
     (λ q. s x j e)
   where
     busy : w.cells.learnt u g ≡ true → ⊥
@@ -224,7 +224,7 @@ all-learnt opening w s none u g f wrote final =
 last-one : (opening : GrainId → List Value) (w : CoreState) → Going opening w → (g : GrainId) → IsSettledGrain w g → (x : Version) → w.cells.stack g ≡ x ∷ [] → IsLastVersion opening w g x.unit x.state
 last-one opening w s g done x is = go (subst (Chain (IsBottom opening w.units.phase w.manager.writes w.manager.verdict g) (IsLink w.units.phase w.manager.writes w.units.reads g)) is (s.kept.0.chain g))
   where
-    below : (c : UnitNo) (v : List Value) → w.manager.verdict c ≡ Committed → written g (w.manager.writes c) ≡ Some v → (w.units.phase c ≡ Finished) × (w.manager.place c ≤ w.manager.place x.unit)
+    below : (c : UnitNo) (v : List Value) → w.manager.verdict c ≡ Committed → state_written g (w.manager.writes c) ≡ Some v → (w.units.phase c ≡ Finished) × (w.manager.place c ≤ w.manager.place x.unit)
     below c v q wr =
         let f = wrote-finished opening _ w s.kept.0 c g v wr in (
           f,

@@ -5,7 +5,7 @@ use Rattle.std.proofs.lemmas.Option.{slice_get_cases}
 use Rattle.std.proofs.lemmas.Bool.{ltb-true, and_parts, and_from, cases_Bool, cond_both, cond-true, cond-false, eq-eqb}
 use Rattle.cell_model.proofs.Units.{any-member, same_grain-is, filter-member}
 use Rattle.core_model.specs.CoreState.{UnitNo, GrainId, same_grain, Member, Value, Version, Outcome, Write, Effect, Batch, Decision, CoreState}
-use Rattle.core_model.specs.Tests.{any, all, is_final, is_good, outcome_of, waiting, is_planned, is_voted, is_vote_on, members, has_bad_source, written}
+use Rattle.core_model.specs.Tests.{any, all, is_final, is_good, outcome_of, waiting, is_planned, is_voted, is_vote_on, members, has_bad_source, state_written}
 use Rattle.core_model.specs.Chains.{Wrote}
 use Rattle.core_model.specs.Changes.{swept, swept_by}
 use Rattle.core_model.specs.Learning.{to_learn, next_learn}
@@ -130,7 +130,7 @@ learn-can w x q =
     let t = find-some (λ (y : UnitNo × GrainId). not (w.cells.learnt y.0 y.1)) (to_learn w) x q in
     let s = in-writes w (filter (λ u. is_final (w.manager.verdict u)) (take w.manager.closed w.manager.order)) x t.0 in
     let f = filter-member (λ u. is_final (w.manager.verdict u)) (take w.manager.closed w.manager.order) x.0 s.0 in
-    and_from (is_some (written x.1 (w.manager.writes x.0))) (is_final (w.manager.verdict x.0) && not (w.cells.learnt x.0 x.1)) (ap is_some s.1.1)
+    and_from (is_some (state_written x.1 (w.manager.writes x.0))) (is_final (w.manager.verdict x.0) && not (w.cells.learnt x.0 x.1)) (ap is_some s.1.1)
     (and_from (is_final (w.manager.verdict x.0)) (not (w.cells.learnt x.0 x.1)) f.1 t.1)
 
 module _ (w : CoreState) (ended : Ended w) (e : CoreEvent) where
@@ -245,19 +245,19 @@ shows-versions w b g = record {
   only = λ x m.
       (let t = flat-member (version_to_write w g) (members w b) x m in
       let s = by t.0 x t.2 in
-      (subst (λ u. Member u (members w b)) (sym s.1) t.1, ap (has_bad_source w) s.1 ∙ s.0, ap (λ u. written g (w.manager.writes u)) s.1 ∙ s.2));
+      (subst (λ u. Member u (members w b)) (sym s.1) t.1, ap (has_bad_source w) s.1 ∙ s.0, ap (λ u. state_written g (w.manager.writes u)) s.1 ∙ s.2));
   all = λ u m n wrote. (
     record { unit = u; state = wrote.0 },
     member-flat (version_to_write w g) (members w b) (record { unit = u; state = wrote.0 }) u m
-        (subst (Member (record { unit = u; state = wrote.0 })) (sym (cond-false (has_bad_source w u) [] (version_of u (written g (w.manager.writes u))) n ∙ ap (version_of u) wrote.1)) (inl refl)),
+        (subst (Member (record { unit = u; state = wrote.0 })) (sym (cond-false (has_bad_source w u) [] (version_of u (state_written g (w.manager.writes u))) n ∙ ap (version_of u) wrote.1)) (inl refl)),
     refl,
   );
 }
   where
-    by : (u : UnitNo) (x : Version) → Member x (version_to_write w g u) → (has_bad_source w u ≡ false) × (x.unit ≡ u) × (written g (w.manager.writes u) ≡ Some x.state)
-    by u x = cond_both (has_bad_source w u) [] (version_of u (written g (w.manager.writes u))) (λ xs. Member x xs → (has_bad_source w u ≡ false) × (x.unit ≡ u) × (written g (w.manager.writes u) ≡ Some x.state))
+    by : (u : UnitNo) (x : Version) → Member x (version_to_write w g u) → (has_bad_source w u ≡ false) × (x.unit ≡ u) × (state_written g (w.manager.writes u) ≡ Some x.state)
+    by u x = cond_both (has_bad_source w u) [] (version_of u (state_written g (w.manager.writes u))) (λ xs. Member x xs → (has_bad_source w u ≡ false) × (x.unit ≡ u) × (state_written g (w.manager.writes u) ≡ Some x.state))
         (λ h m. absurd m)
-        (λ h m. (let t = version-only u (written g (w.manager.writes u)) x m in (h, t.0, t.1)))
+        (λ h m. (let t = version-only u (state_written g (w.manager.writes u)) x m in (h, t.0, t.1)))
 
 -- the answer on whether a unit is decided is yes exactly where its outcome is shown
 pub tells-decided : (w : CoreState) (u : UnitNo) → TellsDecided w u

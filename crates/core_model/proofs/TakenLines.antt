@@ -6,7 +6,7 @@ use Rattle.base_types.specs.declared.calls.Origin.{Origin}
 use Rattle.base_types.specs.declared.calls.Origin.TheVariants.{Line, Child}
 use Rattle.cell_model.proofs.Units.{Member-left, Member-last}
 use Rattle.core_model.specs.CoreState.{UnitNo, GrainId, nobody, put, Member, Value, Phase, Unborn, Running, Finished, Refused, Ended, Entry, CoreState}
-use Rattle.core_model.specs.Lines.{HasBegun, LinesAreTaken}
+use Rattle.core_model.specs.Lines.{HasBegunFor, LinesAreTaken}
 use Rattle.core_model.specs.Changes.{new_unit, lines_with}
 use Rattle.core_model.specs.Events.{CoreEvent, can_begin}
 use Rattle.core_model.proofs.Puts.{put-is, put-other}
@@ -15,7 +15,7 @@ use Rattle.core_model.proofs.Keeping.{born-put}
 use Rattle.core_model.proofs.Kept.{Kept}
 
 -- what is taken stays so where units stay begun, and entries are added
-taken-on : (w : CoreState) (v : CoreState) (new : List Entry) → v.units.lines ≡ w.units.lines → v.manager.settled ≡ w.manager.settled ++ new → ((u : UnitNo) (n : ℕ) → HasBegun w u n → HasBegun v u n) → LinesAreTaken w → LinesAreTaken v
+taken-on : (w : CoreState) (v : CoreState) (new : List Entry) → v.units.lines ≡ w.units.lines → v.manager.settled ≡ w.manager.settled ++ new → ((u : UnitNo) (n : ℕ) → HasBegunFor w u n → HasBegunFor v u n) → LinesAreTaken w → LinesAreTaken v
 taken-on w v new lines all on s = λ n low high. elim (s n low (subst (λ m. n ≤ m) lines high)) [
   | inl t ↦ inl (t.0, on t.0 n t.1)
   | inr t ↦ inr (t.0, subst (Member t.0) (sym all) (Member-left t.0 w.manager.settled new t.1), t.2)
@@ -24,12 +24,12 @@ taken-on w v new lines all on s = λ n low high. elim (s n low (subst (λ m. n �
 more : (xs : List Entry) → xs ≡ xs ++ []
 more xs = sym (append-nil xs)
 
-taken-phase : (w : CoreState) (u : UnitNo) (end : Phase) → (end ≡ Unborn → ⊥) → (x : UnitNo) (n : ℕ) → HasBegun w x n → (put w.units.phase u end x ≡ Unborn → ⊥) × (w.units.origin x ≡ Line n)
+taken-phase : (w : CoreState) (u : UnitNo) (end : Phase) → (end ≡ Unborn → ⊥) → (x : UnitNo) (n : ℕ) → HasBegunFor w x n → (put w.units.phase u end x ≡ Unborn → ⊥) × (w.units.origin x ≡ Line n)
 taken-phase w u end n x m b = (born-put w u end n x b.0, b.1)
 
 -- who has begun has begun, where another does
 taken-keep : (opening : GrainId → List Value) (w : CoreState) (origin : Origin) → Kept opening w → (v : CoreState) → v.units.phase ≡ put w.units.phase (new_unit w) Running → v.units.origin ≡ put w.units.origin (new_unit w) origin →
-    (u : UnitNo) (n : ℕ) → HasBegun w u n → HasBegun v u n
+    (u : UnitNo) (n : ℕ) → HasBegunFor w u n → HasBegunFor v u n
 taken-keep opening w origin k v phase from u n b =
     let apart : u ≡ new_unit w → ⊥ = λ q. b.0 (ap w.units.phase q ∙ k.0.unborn (new_unit w) (le_refl w.units.next)) in (
       (λ z. b.0 (sym (put-other w.units.phase (new_unit w) Running u apart) ∙ (λ i. sym phase i u) ∙ z)),

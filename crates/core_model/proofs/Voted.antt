@@ -3,7 +3,7 @@ use Rattle.std.proofs.Common.{◌≡◌, ℕ, zero, suc, ◌+◌, ◌<◌, ◌�
 use Rattle.std.proofs.lemmas.Bool.{and_parts, and_from, cases_Bool, cond_both}
 use Rattle.cell_model.proofs.Units.{any-true, any-false, all-true}
 use Rattle.core_model.specs.CoreState.{UnitNo, GrainId, put, Member, Value, Running, Finished, Verdict, Write, Effect, Settled, Batch, Decision, CoreState}
-use Rattle.core_model.specs.Tests.{any, is_bad, written}
+use Rattle.core_model.specs.Tests.{any, is_bad, state_written}
 use Rattle.core_model.specs.Chains.{Wrote}
 use Rattle.core_model.proofs.Puts.{put-other}
 use Rattle.std.proofs.Common.{take, drop, length-drop}
@@ -85,7 +85,7 @@ are-same ws ws' votes [] [] same a = tt
 are-same ws ws' votes [] (d ∷ ds) same a = a
 are-same ws ws' votes (u ∷ us) [] same a = a
 are-same ws ws' votes (u ∷ us) (d ∷ ds) same a =
-    ((λ c g wrote. a.0 c g (wrote.0, ap (written g) (sym (same u (inl refl))) ∙ wrote.1)), are-same ws ws' votes us ds (λ x m. same x (inr m)) a.1)
+    ((λ c g wrote. a.0 c g (wrote.0, ap (state_written g) (sym (same u (inl refl))) ∙ wrote.1)), are-same ws ws' votes us ds (λ x m. same x (inr m)) a.1)
 
 take-push : (m : ℕ) (xs : List UnitNo) (x : UnitNo) → m ≤ length xs → take m (xs ++ x ∷ []) ≡ take m xs
 take-push zero xs x h = refl

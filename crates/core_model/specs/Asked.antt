@@ -23,7 +23,7 @@ pub record IsOldestRemoved (w : CoreState) (u source : UnitNo) : Type 0 where
   pub oldest : (r : Read) → Member r (w.units.reads u) → IsRemoved w r → source.0 ≤ r.source.0
 
 -- The unit may ask, nothing that it read is gone, and the grain's locks say that.
-pub record IsAnswered (w : CoreState) (u : UnitNo) (g : GrainId) (mode : Mode) (said : Ask) : Type 0 where
+pub record IsAskAnswered (w : CoreState) (u : UnitNo) (g : GrainId) (mode : Mode) (said : Ask) : Type 0 where
   pub active : IsActive w u g
   pub unharmed : (r : Read) → Member r (w.units.reads u) → IsRemoved w r → ⊥
   pub lock : AnswersExactly (w.cells.holds g) u mode said
@@ -32,11 +32,11 @@ pub record IsAnswered (w : CoreState) (u : UnitNo) (g : GrainId) (mode : Mode) (
 abbrev pub AskExactly : CoreState → UnitNo → GrainId → Mode → AskAnswer → Type 0
 AskExactly w u g mode answer.NotActive = IsActive w u g → ⊥
 AskExactly w u g mode (answer.Doomed source) = IsActive w u g × IsOldestRemoved w u source
-AskExactly w u g mode answer.Held = IsAnswered w u g mode locks.Held
-AskExactly w u g mode (answer.MustDie holder) = IsAnswered w u g mode (locks.MustDie holder)
-AskExactly w u g mode (answer.MustWait holder) = IsAnswered w u g mode (locks.MustWait holder)
-AskExactly w u g mode answer.Absent = IsAnswered w u g mode locks.Free × (w.cells.here g ≡ false)
-AskExactly w u g mode answer.Free = IsAnswered w u g mode locks.Free × (w.cells.here g ≡ true)
+AskExactly w u g mode answer.Held = IsAskAnswered w u g mode locks.Held
+AskExactly w u g mode (answer.MustDie holder) = IsAskAnswered w u g mode (locks.MustDie holder)
+AskExactly w u g mode (answer.MustWait holder) = IsAskAnswered w u g mode (locks.MustWait holder)
+AskExactly w u g mode answer.Absent = IsAskAnswered w u g mode locks.Free × (w.cells.here g ≡ false)
+AskExactly w u g mode answer.Free = IsAskAnswered w u g mode locks.Free × (w.cells.here g ≡ true)
 
 -- no batch is in doubt, and the run isn't to stop
 abbrev pub IsGoing : CoreState → Type 0

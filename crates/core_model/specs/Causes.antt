@@ -8,7 +8,7 @@ use Rattle.core_model.specs.Tests.{is_gone, is_before, has_failed, members, outc
 use Rattle.core_model.specs.Dead.{IsDead}
 use Rattle.core_model.specs.Chains.{Wrote}
 use Rattle.core_model.specs.Changes.{with_decisions, decisions_of}
-use Rattle.core_model.specs.Events.{CoreEvent, Bad, Refuse, EndPlain, EndSnapshot, Decide, Sealed, NotSealed, Doubt, applies, step, run}
+use Rattle.core_model.specs.Events.{CoreEvent, Bad, Refuse, EndPlain, EndSnapshot, Decide, Sealed, NotSealed, Doubt, applies, step, run, Begin, Grant, Finish, Release, Take, Vote, Learn, Emitted, Halt, Want, Load}
 use Rattle.core_model.specs.Legal.{Run, begins}
 
 -- The unit wrote the grain, whose file failed, and it is the first such grain.
@@ -41,7 +41,7 @@ pub record IsRefusedFor (w : CoreState) (e : CoreEvent) (u on : UnitNo) : Type 0
   pub oldest : (r : Read) → Member r (w.units.reads u) → is_gone w r ≡ true → on.0 ≤ r.source.0
 
 -- The unit is refused that grain, and the other is the oldest who holds it in a conflicting mode, and older than the unit.
-pub record IsRefusedBy (w : CoreState) (e : CoreEvent) (u by : UnitNo) (g : GrainId) : Type 0 where
+pub record IsRefusedLock (w : CoreState) (e : CoreEvent) (u by : UnitNo) (g : GrainId) : Type 0 where
   pub mode : Mode
   pub refused : e ≡ Refuse u g mode
   pub rival : IsOldestRival (w.cells.holds g) u mode by
@@ -50,7 +50,24 @@ pub record IsRefusedBy (w : CoreState) (e : CoreEvent) (u by : UnitNo) (g : Grai
 -- the state in which the open batch is decided, where the event decides or closes it
 abbrev pub decided_state : CoreState → CoreEvent → Batch → CoreState
 decided_state w (Decide n) b = with_decisions w b (decisions_of w b)
-decided_state w _ b = w
+decided_state w (Bad line why) b = w
+decided_state w (Begin origin call plain) b = w
+decided_state w (Grant v g mode) b = w
+decided_state w (Refuse v g mode) b = w
+decided_state w (Finish v effect) b = w
+decided_state w (EndPlain v effect) b = w
+decided_state w (EndSnapshot v at outcome) b = w
+decided_state w (Release v g) b = w
+decided_state w Take b = w
+decided_state w (Vote n g kept) b = w
+decided_state w (Sealed n) b = w
+decided_state w (NotSealed n) b = w
+decided_state w (Doubt n) b = w
+decided_state w (Learn v g) b = w
+decided_state w Emitted b = w
+decided_state w Halt b = w
+decided_state w (Want v g) b = w
+decided_state w (Load g v state) b = w
 
 -- the event decides or ends the batch of that number
 abbrev pub Settles : CoreEvent → ℕ → Type 0
@@ -58,7 +75,21 @@ Settles (Decide m) n = m ≡ n
 Settles (Sealed m) n = m ≡ n
 Settles (NotSealed m) n = m ≡ n
 Settles (Doubt m) n = m ≡ n
-Settles _ n = ⊥
+Settles (Bad line why) n = ⊥
+Settles (Begin origin call plain) n = ⊥
+Settles (Grant v g mode) n = ⊥
+Settles (Refuse v g mode) n = ⊥
+Settles (Finish v effect) n = ⊥
+Settles (EndPlain v effect) n = ⊥
+Settles (EndSnapshot v at outcome) n = ⊥
+Settles (Release v g) n = ⊥
+Settles Take n = ⊥
+Settles (Vote m g kept) n = ⊥
+Settles (Learn v g) n = ⊥
+Settles Emitted n = ⊥
+Settles Halt n = ⊥
+Settles (Want v g) n = ⊥
+Settles (Load g v state) n = ⊥
 
 -- The unit is one of the open batch, which the event decides or ends, and this holds of it where the batch is decided.
 abbrev pub AtDecision : CoreState → CoreEvent → UnitNo → (CoreState → Batch → Type 0) → Type 0
@@ -71,12 +102,27 @@ abbrev pub EndsWith : CoreState → CoreEvent → UnitNo → Outcome → Type 0
 EndsWith w (EndPlain v effect) u result = (v ≡ u) × (effect.result ≡ result)
 EndsWith w (EndSnapshot v at outcome) u result = (v ≡ u) × (outcome ≡ result)
 EndsWith w (Sealed n) u result = (w.manager.result u ≡ result) × AtDecision w (Sealed n) u (λ v b. CanCommit v b u)
-EndsWith w _ u result = ⊥
+EndsWith w (Bad line why) u result = ⊥
+EndsWith w (Begin origin call plain) u result = ⊥
+EndsWith w (Grant v g mode) u result = ⊥
+EndsWith w (Refuse v g mode) u result = ⊥
+EndsWith w (Finish v effect) u result = ⊥
+EndsWith w (Release v g) u result = ⊥
+EndsWith w Take u result = ⊥
+EndsWith w (Vote n g kept) u result = ⊥
+EndsWith w (Decide n) u result = ⊥
+EndsWith w (NotSealed n) u result = ⊥
+EndsWith w (Doubt n) u result = ⊥
+EndsWith w (Learn v g) u result = ⊥
+EndsWith w Emitted u result = ⊥
+EndsWith w Halt u result = ⊥
+EndsWith w (Want v g) u result = ⊥
+EndsWith w (Load g v state) u result = ⊥
 
 -- why an event that leads from a state to the next settles a unit so
 abbrev pub HasCause : CoreState → CoreEvent → CoreState → UnitNo → Settled → Type 0
 HasCause w e next u (settled.Done result) = (outcome_of next u ≡ Some result) × EndsWith w e u result
-HasCause w e next u (settled.Lock by g) = IsRefusedBy w e u by g
+HasCause w e next u (settled.Lock by g) = IsRefusedLock w e u by g
 HasCause w e next u (settled.Vote g) = AtDecision w e u (λ v b. IsVotedDown v b u g)
 HasCause w e next u (settled.Dependency on) = IsRefusedFor w e u on ⊎ AtDecision w e u (λ v b. DependsOnDead v b u on)
 HasCause w e next u settled.Disk = ((n : ℕ) × (e ≡ NotSealed n)) × AtDecision w e u (λ v b. CanCommit v b u)
@@ -96,7 +142,12 @@ IsAbort (settled.Bad why) = ⊥
 -- a bad line has nobody's unit and the next number; every other entry has its unit's line
 abbrev pub HasLine : CoreState → Entry → Settled → Type 0
 HasLine w x (settled.Bad why) = (x.unit ≡ nobody) × (x.line ≡ w.units.lines + 1)
-HasLine w x _ = w.units.origin x.unit ≡ Line x.line
+HasLine w x (settled.Done result) = w.units.origin x.unit ≡ Line x.line
+HasLine w x (settled.Lock by g) = w.units.origin x.unit ≡ Line x.line
+HasLine w x (settled.Vote g) = w.units.origin x.unit ≡ Line x.line
+HasLine w x (settled.Dependency on) = w.units.origin x.unit ≡ Line x.line
+HasLine w x settled.Disk = w.units.origin x.unit ≡ Line x.line
+HasLine w x settled.InDoubt = w.units.origin x.unit ≡ Line x.line
 
 -- an event of the run settled the entry, with its cause
 pub record IsCaused (r : Run) (x : Entry) : Type 0 where

@@ -13,7 +13,7 @@ use Rattle.cell_model.specs.Cells.{with_reading, without_reading, stacked, learn
 use Rattle.core_model.specs.declared.questions.AskAnswer.{AskAnswer}
 use Rattle.core_model.specs.declared.questions.AskAnswer.TheVariants as answer
 use Rattle.core_model.specs.CoreState.{UnitNo, GrainId, nobody, same_unit, same_grain, Version, top, cut, Mode, Value, Call, Outcome, Origin, Entry, Settled, Read, Effect, Decision, put, put_grain, Running, Finished, Refused, Ended, Verdict, Chosen, Condemned, Committed, Aborted, Batch, CoreState}
-use Rattle.core_model.specs.Tests.{any, is_committed, is_aborted, is_bad, written, waiting, members, planned, prepared, is_idle, is_recent}
+use Rattle.core_model.specs.Tests.{any, is_committed, is_aborted, is_bad, state_written, waiting, members, planned, prepared, is_idle, is_recent}
 
 -- a line's unit has an entry for it, a child has none
 abbrev pub entry_for : Origin → UnitNo → Settled → List Entry
@@ -123,7 +123,11 @@ granted w u g mode =
 abbrev pub refusal : GrainId → AskAnswer → Option Settled
 refusal g (answer.MustDie holder) = Some (settled.Lock holder g)
 refusal g (answer.Doomed source) = Some (settled.Dependency source)
-refusal g _ = None
+refusal g answer.NotActive = None
+refusal g answer.Held = None
+refusal g (answer.MustWait holder) = None
+refusal g answer.Absent = None
+refusal g answer.Free = None
 
 -- the unit is aborted, and its line is settled
 abbrev pub refused : CoreState → UnitNo → Settled → CoreState
@@ -172,7 +176,7 @@ ended w u answers result at = record w {
 abbrev pub released : CoreState → UnitNo → GrainId → CoreState
 released w u g = record w {
   cells = record w.cells {
-    stack = put_grain w.cells.stack g (stacked (w.cells.readings g) (w.cells.stack g) u (written g (w.manager.writes u)));
+    stack = put_grain w.cells.stack g (stacked (w.cells.readings g) (w.cells.stack g) u (state_written g (w.manager.writes u)));
     holds = put_grain w.cells.holds g (dropped (w.cells.holds g) u);
     readings = put_grain w.cells.readings g (without_reading (w.cells.readings g) u);
   };
@@ -204,7 +208,7 @@ voted w b g kept = with_batch w (Some (record b { votes = b.votes ++ (g, kept) �
 
 -- the decisions of a batch
 abbrev pub decisions_of : CoreState → Batch → List Decision
-decisions_of w b = decisions.decided (λ u. is_bad (w.manager.verdict u)) (map (prepared w b) (members w b))
+decisions_of w b = decisions.all_decided (λ u. is_bad (w.manager.verdict u)) (map (prepared w b) (members w b))
 
 -- the verdict that a decision makes
 abbrev pub verdict_of : Decision → Verdict

@@ -1,9 +1,9 @@
 -- The core invariant: nine facts that hold after every legal run.
 use Rattle.std.specs.Prelude.{◌≡◌, ◌⊎◌, ◌≤◌, ◌<◌, ◌+◌, ℕ, List, [], ◌∷◌, Bool, true, false, Option, Some, None, length, get_or}
 use Rattle.cell_model.specs.Locks.{is_update}
-use Rattle.cell_model.specs.Sources.{IsAscending}
+use Rattle.cell_model.specs.Sources.{SourcesAscend}
 use Rattle.core_model.specs.CoreState.{UnitNo, GrainId, nobody, Member, Value, Running, Finished, Ended, Chosen, Committed, Aborted, Read, Effect, Version, Hold, Batch, CoreState}
-use Rattle.core_model.specs.Tests.{is_good, is_final, written}
+use Rattle.core_model.specs.Tests.{is_good, is_final, state_written}
 use Rattle.core_model.specs.Dead.{IsDead}
 use Rattle.core_model.specs.Chains.{Chain, Wrote, IsBottom, IsLink}
 use Rattle.core_model.specs.Answers.{effect_of}
@@ -15,14 +15,14 @@ size_of None = 0
 size_of (Some b) = b.size
 
 -- the finished units stand in the finish order, each at its place
-pub record IsOrdered (w : CoreState) : Type 0 where
+pub record HasOrderedPlaces (w : CoreState) : Type 0 where
   pub listed : (i : ℕ) → i < length w.manager.order → (w.units.phase (get_or w.manager.order i nobody) ≡ Finished) × (w.manager.place (get_or w.manager.order i nobody) ≡ i + 1)
   pub placed : (u : UnitNo) → w.units.phase u ≡ Finished → (i : ℕ) × (i < length w.manager.order) × (w.manager.place u ≡ i + 1) × (get_or w.manager.order i nobody ≡ u)
 
 -- The units of closed batches are a prefix of the finish order, and an open batch of 1 to 64 units follows directly.
 -- Who stands in the prefix is decided for good, but for those to commit of the batch in doubt at its end; nobody else is.
 pub record ClosedBatchesArePrefix (w : CoreState) : Type 0 where
-  pub order : IsOrdered w
+  pub order : HasOrderedPlaces w
   pub within : w.manager.closed + size_of w.manager.batch ≤ length w.manager.order
   pub size : (b : Batch) → w.manager.batch ≡ Some b → (0 < b.size) × (b.size ≤ 64)
   pub decided : (u : UnitNo) → w.units.phase u ≡ Finished → w.manager.place u ≤ batch_begin w.manager.doubt w.manager.closed → is_final (w.manager.verdict u) ≡ true
@@ -39,7 +39,7 @@ pub record ExclusiveHolderIsAlone (w : CoreState) : Type 0 where
 abbrev pub SourcesAreTruthful : (GrainId → List Value) → CoreState → Type 0
 SourcesAreTruthful opening w = (u : UnitNo) (r : Read) → Member r (w.units.reads u) →
     ((r.source ≡ nobody) × (r.state ≡ opening r.grain))
-    ⊎ ((w.units.phase r.source ≡ Finished) × (written r.grain (w.manager.writes r.source) ≡ Some r.state) × (w.units.phase u ≡ Finished → w.manager.place r.source < w.manager.place u))
+    ⊎ ((w.units.phase r.source ≡ Finished) × (state_written r.grain (w.manager.writes r.source) ≡ Some r.state) × (w.units.phase u ≡ Finished → w.manager.place r.source < w.manager.place u))
 
 -- Each finished writer of a grain after the source of a read there, and before the reader where it has finished, is dead.
 abbrev pub NoLiveWriterBetween : CoreState → Type 0
@@ -50,7 +50,7 @@ NoLiveWriterBetween w = (u : UnitNo) (r : Read) (x : UnitNo) → Member r (w.uni
 -- A unit's dependencies are the sources that weren't known committed at their grant, oldest first. Those of a finished
 -- unit stand before it in the finish order.
 pub record DependenciesComeEarlier (w : CoreState) : Type 0 where
-  pub ascending : (u : UnitNo) → IsAscending (w.units.deps u)
+  pub ascending : (u : UnitNo) → SourcesAscend (w.units.deps u)
   pub sources : (u d : UnitNo) → Member d (w.units.deps u) → (r : Read) × Member r (w.units.reads u) × (r.source ≡ d) × (d ≡ nobody → ⊥)
   pub others : (u : UnitNo) (r : Read) → Member r (w.units.reads u) → (r.source ≡ nobody) ⊎ ((w.manager.verdict r.source ≡ Committed) ⊎ Member r.source (w.units.deps u))
   pub earlier : (u d : UnitNo) → w.units.phase u ≡ Finished → Member d (w.units.deps u) → (w.units.phase d ≡ Finished) × (w.manager.place d < w.manager.place u)

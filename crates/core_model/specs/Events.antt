@@ -13,13 +13,18 @@ use Rattle.core_model.specs.declared.questions.AskAnswer.{AskAnswer}
 use Rattle.core_model.specs.declared.questions.AskAnswer.TheVariants as answer
 use Rattle.core_model.specs.Equality.{same_origin, same_call, same_reads, same_outcome}
 use Rattle.core_model.specs.CoreState.{UnitNo, GrainId, nobody, same_unit, same_grain, Version, top, Value, Origin, Outcome, Effect, Unborn, Open, Batch, Units, Cells, Manager, CoreState}
-use Rattle.core_model.specs.Tests.{any, all, is_running, is_over, is_final, written, is_decided, answered_by, ask, is_active, free_prefix, waiting, is_planned, is_vote_on, is_voted, is_wanted, is_empty}
+use Rattle.core_model.specs.Tests.{any, all, is_running, is_over, is_final, state_written, is_decided, answered_by, ask, is_active, free_prefix, waiting, is_planned, is_vote_on, is_voted, is_wanted, is_empty}
 use Rattle.core_model.specs.Changes.{spoiled_line, new_unit, begun, cleaned, granted, refusal, refused_by, finished, ended, released, taken, voted, decisions_of, decided, on_batch, on_decided, sealed, spoiled, in_doubt, learned, loaded, swept}
 
 -- the lock can be had
 abbrev pub is_free_answer : AskAnswer → Bool
 is_free_answer answer.Free = true
-is_free_answer _ = false
+is_free_answer answer.NotActive = false
+is_free_answer (answer.Doomed source) = false
+is_free_answer answer.Held = false
+is_free_answer (answer.MustDie holder) = false
+is_free_answer (answer.MustWait holder) = false
+is_free_answer answer.Absent = false
 
 -- the next line, or the next child of a running unit whose children are decided
 abbrev pub can_begin : CoreState → Origin → Bool
@@ -74,7 +79,7 @@ is_judged number (Some b) = (b.number == number) && is_some b.decisions
 -- the unit wrote the grain, is decided, and the grain hasn't learnt it
 abbrev pub can_learn : CoreState → UnitNo → GrainId → Bool
 can_learn w u g =
-    is_some (written g (w.manager.writes u)) && (is_final (w.manager.verdict u) && not (w.cells.learnt u g))
+    is_some (state_written g (w.manager.writes u)) && (is_final (w.manager.verdict u) && not (w.cells.learnt u g))
 
 -- the unit runs, has no lock of the grain and doesn't wait for it yet
 abbrev pub can_want : CoreState → UnitNo → GrainId → Bool
@@ -108,7 +113,23 @@ can w (Load g u state) = not (w.cells.here g) && is_wanted w.units.wants g
 abbrev pub is_after_doubt : CoreEvent → Bool
 is_after_doubt (Release u g) = true
 is_after_doubt Emitted = true
-is_after_doubt _ = false
+is_after_doubt (Bad line why) = false
+is_after_doubt (Begin origin call plain) = false
+is_after_doubt (Grant v g mode) = false
+is_after_doubt (Refuse v g mode) = false
+is_after_doubt (Finish v effect) = false
+is_after_doubt (EndPlain v effect) = false
+is_after_doubt (EndSnapshot v at outcome) = false
+is_after_doubt Take = false
+is_after_doubt (Vote n g kept) = false
+is_after_doubt (Decide n) = false
+is_after_doubt (Sealed n) = false
+is_after_doubt (NotSealed n) = false
+is_after_doubt (Doubt n) = false
+is_after_doubt (Learn v g) = false
+is_after_doubt Halt = false
+is_after_doubt (Want v g) = false
+is_after_doubt (Load g v state) = false
 
 -- after a stop the answer of the open batch comes too
 abbrev pub is_after_halt : CoreEvent → Bool
@@ -226,7 +247,24 @@ not_granted answer.Free = reply.Unapplied
 -- the reply to an event that doesn't apply
 abbrev pub reply_without : CoreState → CoreEvent → CoreReply
 reply_without w (Grant u g mode) = if is_allowed w (Grant u g mode) then not_granted (ask w u g mode) else reply.Unapplied
-reply_without w _ = reply.Unapplied
+reply_without w (Bad line why) = reply.Unapplied
+reply_without w (Begin origin call plain) = reply.Unapplied
+reply_without w (Refuse v g mode) = reply.Unapplied
+reply_without w (Finish v effect) = reply.Unapplied
+reply_without w (EndPlain v effect) = reply.Unapplied
+reply_without w (EndSnapshot v at outcome) = reply.Unapplied
+reply_without w (Release v g) = reply.Unapplied
+reply_without w Take = reply.Unapplied
+reply_without w (Vote n g kept) = reply.Unapplied
+reply_without w (Decide n) = reply.Unapplied
+reply_without w (Sealed n) = reply.Unapplied
+reply_without w (NotSealed n) = reply.Unapplied
+reply_without w (Doubt n) = reply.Unapplied
+reply_without w (Learn v g) = reply.Unapplied
+reply_without w Emitted = reply.Unapplied
+reply_without w Halt = reply.Unapplied
+reply_without w (Want v g) = reply.Unapplied
+reply_without w (Load g v state) = reply.Unapplied
 
 -- what a grant replies
 abbrev pub read_reply : Version → CoreReply
@@ -243,7 +281,21 @@ reply_with w (Begin origin call plain) = reply.Began (new_unit w)
 reply_with w (Grant u g mode) = read_reply (top (cleaned w g))
 reply_with w Take = reply.Taken (w.manager.batches + 1)
 reply_with w (Decide n) = decided_reply w w.manager.batch
-reply_with w _ = reply.Done
+reply_with w (Bad line why) = reply.Done
+reply_with w (Refuse v g mode) = reply.Done
+reply_with w (Finish v effect) = reply.Done
+reply_with w (EndPlain v effect) = reply.Done
+reply_with w (EndSnapshot v at outcome) = reply.Done
+reply_with w (Release v g) = reply.Done
+reply_with w (Vote n g kept) = reply.Done
+reply_with w (Sealed n) = reply.Done
+reply_with w (NotSealed n) = reply.Done
+reply_with w (Doubt n) = reply.Done
+reply_with w (Learn v g) = reply.Done
+reply_with w Emitted = reply.Done
+reply_with w Halt = reply.Done
+reply_with w (Want v g) = reply.Done
+reply_with w (Load g v state) = reply.Done
 
 -- the reply to an event
 abbrev pub reply_to : CoreState → CoreEvent → CoreReply

@@ -3,7 +3,7 @@ use Rattle.std.specs.Prelude.{◌≡◌, ◌≤◌, ◌<◌, ◌+◌, length, tr
 use Rattle.cell_model.specs.Locks.{is_update}
 use Rattle.core_model.specs.CoreState.{UnitNo, GrainId, Member, Unborn, Finished, Hold, Reading, Read, Batch, CoreState}
 use Rattle.core_model.specs.Chains.{Wrote}
-use Rattle.core_model.specs.Consistent.{IsOrdered, ExclusiveHolderIsAlone, size_of}
+use Rattle.core_model.specs.Consistent.{HasOrderedPlaces, ExclusiveHolderIsAlone, size_of}
 use Rattle.core_model.specs.Holders.{DifferInUnit}
 use Rattle.core_model.specs.Told.{OnlyTheBatchIsJudged}
 
@@ -13,7 +13,7 @@ use Rattle.core_model.specs.Told.{OnlyTheBatchIsJudged}
 -- unit has at most one lock and one reading of a grain, has read it at most once, and has read what it wrote. Units from the
 -- next number on haven't begun.
 pub record HoldsWithoutLoads (w : CoreState) : Type 0 where
-  pub ordered : IsOrdered w
+  pub ordered : HasOrderedPlaces w
   pub within : w.manager.closed + size_of w.manager.batch ≤ length w.manager.order
   pub size : (b : Batch) → w.manager.batch ≡ Some b → (0 < b.size) × (b.size ≤ 64)
   pub judged : w.manager.doubt ≡ None → OnlyTheBatchIsJudged w

@@ -11,7 +11,12 @@ NeverAborts plays = (e : Effect) → plays e ≡ true → e.result ≡ outcome.A
 -- a bad line has nobody's unit; every other entry has one of the run's
 abbrev pub HasUnitOf : ℕ → CoreState → UnitNo → Settled → Type 0
 HasUnitOf base w u (settled.Bad why) = u ≡ nobody
-HasUnitOf base w u _ = (base ≤ u.0) × (u.0 < w.units.next)
+HasUnitOf base w u (settled.Done result) = (base ≤ u.0) × (u.0 < w.units.next)
+HasUnitOf base w u (settled.Lock by g) = (base ≤ u.0) × (u.0 < w.units.next)
+HasUnitOf base w u (settled.Vote g) = (base ≤ u.0) × (u.0 < w.units.next)
+HasUnitOf base w u (settled.Dependency on) = (base ≤ u.0) × (u.0 < w.units.next)
+HasUnitOf base w u settled.Disk = (base ≤ u.0) × (u.0 < w.units.next)
+HasUnitOf base w u settled.InDoubt = (base ≤ u.0) × (u.0 < w.units.next)
 
 -- what a unit's entry may say: no abort as a result, grains of the program's types, an older holder, and a source that has begun
 abbrev pub MaySettle : CoreState → UnitNo → Settled → Type 0

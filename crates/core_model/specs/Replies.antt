@@ -11,7 +11,11 @@ says_no (reply.NotGranted ask) = true
 says_no (reply.Doomed source) = true
 says_no reply.NotActive = true
 says_no reply.NotLoaded = true
-says_no _ = false
+says_no reply.Done = false
+says_no (reply.Began unit) = false
+says_no (reply.Granted state source) = false
+says_no (reply.Taken batch) = false
+says_no (reply.Decided commits) = false
 
 -- the second list begins with the first
 abbrev pub BeginsWith : {A : Type 0} → List A → List A → Type 0

@@ -2,7 +2,7 @@
 use Rattle.std.specs.Prelude.{◌≡◌, ◌⊎◌, ℕ, nat_lt, Bool, true, false, ◌&&◌, not, if◌then◌else◌, List, [], ◌∷◌, map, filter, find, length, flat_map, Option, Some, None, is_some, slice_get}
 use Rattle.std.specs.List.{list_any as any}
 use Rattle.core_model.specs.CoreState.{UnitNo, GrainId, Value, Version, Effect, Entry, Batch, CoreState}
-use Rattle.core_model.specs.Tests.{is_good, written, members, has_bad_source, is_vote_on}
+use Rattle.core_model.specs.Tests.{is_good, state_written, members, has_bad_source, is_vote_on}
 use Rattle.core_model.specs.Effects.{effect_of}
 use Rattle.core_model.specs.Learning.{next_learn}
 use Rattle.core_model.specs.Events.{CoreEvent, Take, Vote, Decide, Sealed, NotSealed, Doubt, Learn, Emitted, applies}
@@ -74,7 +74,7 @@ version_of u (Some state) = record { unit = u; state = state } ∷ []
 
 -- the grain's version that goes to its file, none where the unit read from one that is aborted, or to abort
 abbrev pub version_to_write : CoreState → GrainId → UnitNo → List Version
-version_to_write w g u = if has_bad_source w u then [] else version_of u (written g (w.manager.writes u))
+version_to_write w g u = if has_bad_source w u then [] else version_of u (state_written g (w.manager.writes u))
 
 -- the grain's versions of the open batch, in batch order
 abbrev pub versions_to_write : CoreState → Option Batch → GrainId → List Version

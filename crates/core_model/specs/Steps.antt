@@ -1,7 +1,7 @@
 -- What the settler is shown, and when its step's event applies.
 use Rattle.std.specs.Prelude.{◌≡◌, ◌↔◌, List, [], ◌∷◌, true, false, ◌||◌, not, Some, ⊤}
 use Rattle.core_model.specs.CoreState.{UnitNo, GrainId, Member, Version, Outcome, Batch, CoreState}
-use Rattle.core_model.specs.Tests.{members, has_bad_source, is_before, is_planned, written}
+use Rattle.core_model.specs.Tests.{members, has_bad_source, is_before, is_planned, state_written}
 use Rattle.core_model.specs.Chains.{Wrote}
 use Rattle.core_model.specs.Events.{CoreEvent, applies, is_after_halt}
 use Rattle.core_model.specs.Settler.{Makes, settler_step, versions_to_write}
@@ -30,7 +30,7 @@ pub record IsPlan (w : CoreState) (b : Batch) : Type 0 where
 
 -- The versions that are shown for a grain are what the units of the batch wrote there that are its work.
 pub record ShowsVersions (w : CoreState) (b : Batch) (g : GrainId) : Type 0 where
-  pub only : (x : Version) → Member x (versions_to_write w (Some b) g) → Member x.unit (members w b) × (has_bad_source w x.unit ≡ false) × (written g (w.manager.writes x.unit) ≡ Some x.state)
+  pub only : (x : Version) → Member x (versions_to_write w (Some b) g) → Member x.unit (members w b) × (has_bad_source w x.unit ≡ false) × (state_written g (w.manager.writes x.unit) ≡ Some x.state)
   pub all : (u : UnitNo) → Member u (members w b) → has_bad_source w u ≡ false → Wrote w.manager.writes u g → (x : Version) × Member x (versions_to_write w (Some b) g) × (x.unit ≡ u)
 
 -- the answer on whether a unit is decided is yes exactly where its outcome is shown

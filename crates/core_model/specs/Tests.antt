@@ -10,51 +10,68 @@ use Rattle.cell_model.specs.Locks as locks
 use Rattle.core_model.specs.declared.questions.AskAnswer.{AskAnswer}
 use Rattle.core_model.specs.declared.questions.AskAnswer.TheVariants as answer
 use Rattle.core_model.specs.Equality.{same_outcome}
-use Rattle.core_model.specs.CoreState.{UnitNo, GrainId, same_unit, same_grain, top, Mode, Value, Outcome, Read, Write, Prepared, Phase, Unborn, Running, Finished, Refused, Ended, Verdict, Chosen, Condemned, Committed, Aborted, Batch, CoreState}
+use Rattle.core_model.specs.CoreState.{UnitNo, GrainId, same_unit, same_grain, top, Mode, Value, Outcome, Read, Write, Prepared, Phase, Unborn, Running, Finished, Refused, Ended, Verdict, Chosen, Condemned, Committed, Aborted, Batch, CoreState, Open}
 
 -- between its begin and its end
 abbrev pub is_running : Phase → Bool
 is_running Running = true
-is_running _ = false
+is_running Unborn = false
+is_running Finished = false
+is_running Refused = false
+is_running Ended = false
 
 -- the unit has ended, in one way or another
 abbrev pub is_over : Phase → Bool
 is_over Unborn = false
 is_over Running = false
-is_over _ = true
+is_over Finished = true
+is_over Refused = true
+is_over Ended = true
 
 -- aborted, or to abort
 abbrev pub is_bad : Verdict → Bool
 is_bad Condemned = true
 is_bad Aborted = true
-is_bad _ = false
+is_bad Open = false
+is_bad Chosen = false
+is_bad Committed = false
 
 -- committed, or to commit
 abbrev pub is_good : Verdict → Bool
 is_good Chosen = true
 is_good Committed = true
-is_good _ = false
+is_good Open = false
+is_good Condemned = false
+is_good Aborted = false
 
 -- decided for good
 abbrev pub is_final : Verdict → Bool
 is_final Committed = true
 is_final Aborted = true
-is_final _ = false
+is_final Open = false
+is_final Chosen = false
+is_final Condemned = false
 
 -- decided to commit, for good
 abbrev pub is_committed : Verdict → Bool
 is_committed Committed = true
-is_committed _ = false
+is_committed Open = false
+is_committed Chosen = false
+is_committed Condemned = false
+is_committed Aborted = false
 
 -- decided to abort, for good
 abbrev pub is_aborted : Verdict → Bool
 is_aborted Aborted = true
-is_aborted _ = false
+is_aborted Open = false
+is_aborted Chosen = false
+is_aborted Condemned = false
+is_aborted Committed = false
 
 -- the state that these writes leave in the grain
-abbrev pub written : GrainId → List Write → Option (List Value)
-written g [] = None
-written g (x ∷ xs) = if same_grain x.0 g then Some x.1 else written g xs
+abbrev pub state_written : GrainId → List Write → Option (List Value)
+state_written g [] = None
+state_written g (x ∷ xs) = if same_grain x.0 g then Some x.1 else state_written g xs
 
 -- one grain comes before the other: by type, then key
 abbrev pub is_before : GrainId → GrainId → Bool
@@ -74,9 +91,13 @@ first_grain (g ∷ gs) = first_of_two g (first_grain gs)
 abbrev pub outcome_in : Phase → Verdict → Outcome → Option Outcome
 outcome_in Refused verdict result = Some outcome.Aborted
 outcome_in Ended verdict result = Some result
+outcome_in Unborn verdict result = None
+outcome_in Running verdict result = None
 outcome_in Finished Committed result = Some result
 outcome_in Finished Aborted result = Some outcome.Aborted
-outcome_in _ _ _ = None
+outcome_in Finished Open result = None
+outcome_in Finished Chosen result = None
+outcome_in Finished Condemned result = None
 
 -- the outcome of a unit in a state
 abbrev pub outcome_of : CoreState → UnitNo → Option Outcome

@@ -4,7 +4,7 @@ use Rattle.base_types.specs.declared.calls.Origin.TheVariants.{Child}
 use Rattle.base_types.specs.declared.entries.Settled.TheVariants as settled
 use Rattle.core_model.specs.CoreState.{UnitNo, same_unit, Member, Outcome, Unborn, Finished, Ended, Verdict, Open, Entry, Batch, Decision, CoreState}
 use Rattle.core_model.specs.Tests.{any, is_decided, is_final, members, outcome_of}
-use Rattle.core_model.specs.Lines.{HasBegun}
+use Rattle.core_model.specs.Lines.{HasBegunFor}
 
 -- each child of the unit is decided
 abbrev pub ChildrenAreDecided : CoreState → UnitNo → Type 0
@@ -28,4 +28,4 @@ pub record OnlyTheBatchIsJudged (w : CoreState) : Type 0 where
 
 -- a line's unit is decided exactly where it has its entry
 abbrev pub LinesAreTold : CoreState → Type 0
-LinesAreTold w = (u : UnitNo) (n : ℕ) → HasBegun w u n → is_decided w u ≡ any (λ (x : Entry). same_unit x.unit u) w.manager.settled
+LinesAreTold w = (u : UnitNo) (n : ℕ) → HasBegunFor w u n → is_decided w u ≡ any (λ (x : Entry). same_unit x.unit u) w.manager.settled

@@ -5,7 +5,7 @@ ghost use Rattle.base_types.specs.declared.entries.Entry.{Entry};
 ghost use Rattle.core_model.specs.declared.events.CoreEvent.{CoreEvent};
 ghost use Rattle.core_model.specs.declared.effects.Effect.{Effect};
 ghost use Rattle.core_model.specs.Legal.{Run, IsLegal, begins, ends};
-ghost use Rattle.core_model.specs.Serial.{AllLoadsTrue, AllPlay, IsSerial, committed, chosen};
+ghost use Rattle.core_model.specs.Serial.{AllLoadsTrue, AllPlay, IsSerialOrder, committed, chosen};
 ghost use Rattle.core_model.specs.Consistent.{IsConsistent, PlainRunsArePlays};
 ghost use Rattle.core_model.specs.CoreState.{Member};
 ghost use Rattle.core_model.specs.Causes.{IsCaused, GoneIsRemoved};
@@ -31,8 +31,8 @@ ghost use Rattle.core_model.specs.Laws.{IsLongestFreePrefix, NoLockIsHeldUntilCo
 /// Whatever events come, in whatever order, the committed units in the order in which they finished are serial
 /// from the opening store. They stay so with the units to commit of the batch that is open or in doubt after them.
 pub fn committed_are_serial()
-    ensures committed { (plays : Effect → Bool) (r : Run) → IsLegal plays r → IsSerial plays r.opening (committed (ends r)) }
-    ensures chosen { (plays : Effect → Bool) (r : Run) → IsLegal plays r → IsSerial plays r.opening (committed (ends r) ++ chosen (ends r)) }
+    ensures committed { (plays : Effect → Bool) (r : Run) → IsLegal plays r → IsSerialOrder plays r.opening (committed (ends r)) }
+    ensures chosen { (plays : Effect → Bool) (r : Run) → IsLegal plays r → IsSerialOrder plays r.opening (committed (ends r) ++ chosen (ends r)) }
 {}
 
 /// The core invariant: nine facts hold after every legal run. The effects of plain runs are plays too.

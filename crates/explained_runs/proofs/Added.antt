@@ -81,7 +81,7 @@ of-verdicts opening w t log k good sure finished are = record {
 pub record AreSerialOf (types : ProgramTree) (states : States) (w : CoreState) (log : List Commit) : Type 0 where
   pub us : List UnitNo
   pub are : AreOf w us log
-  pub serial : model.IsSerial (is_play types) states (map (effect_of w) us)
+  pub serial : model.IsSerialOrder (is_play types) states (map (effect_of w) us)
 
 -- what a legal run adds has such
 pub added-of : (types : ProgramTree) (r : Run) (log : List Commit) → IsLegal (is_play types) r → AreAdded (ends r) log → AreSerialOf types r.opening (ends r) log
@@ -184,7 +184,7 @@ stands-after w (u ∷ us) (l ∷ log) are s c d (inr a) (inr b) lt =
 
 -- the unit of a record read the states that the records before it left
 pub reads-stand : (types : ProgramTree) (w : CoreState) (store states : States) (us : List UnitNo) (log front back : List Commit) (d : Commit) → ((g : GrainId) → store g ≡ states g) →
-    model.IsSerial (is_play types) store (map (effect_of w) us) → AreRecordsOf (map (effect_of w) us) log → log ≡ front ++ (d ∷ back) →
+    model.IsSerialOrder (is_play types) store (map (effect_of w) us) → AreRecordsOf (map (effect_of w) us) log → log ≡ front ++ (d ∷ back) →
     (r : Read) → Member r (w.units.reads d.logged.unit) → r.state ≡ states_after states front r.grain
 reads-stand types w store states [] [] front back d same serial are split r m = absurd (nothing front split)
   where

@@ -20,7 +20,7 @@ use Rattle.promise_spec.specs.Outputs.{IsProper, Grew}
 use Rattle.promise_spec.specs.Courses.{Observed, Course, order, moments, seen_at_entry, core_end}
 use Rattle.promise_spec.specs.Crashes.{IsAside, LeavesAlone}
 use Rattle.promise_spec.specs.Batches.{EndsABatch}
-use Rattle.promise_spec.specs.Exits.{EndsWith, IsNowhere, AreOf, doubtful}
+use Rattle.promise_spec.specs.Exits.{HasLogAtExit, IsNowhere, AreOf, doubtful}
 use Rattle.promise_spec.specs.Journals.{Settlement, KeepsJournal, AllSay, AllLog, CutAt, IsSealing, commits_of, entries_of}
 use Rattle.promise_spec.specs.Promise.{IsSoundFolder, Promises}
 use Rattle.promise_spec.specs.Replies.{HasNoRecord}
@@ -36,13 +36,13 @@ use Rattle.promise_spec.specs.Words.{Manner}
 
 -- ---- the opening
 
-module _ (p : Program) (r : Observed) (c : Course) (mid : World) (b : IsBehind p r c mid) where
+module _ (p : Program) (r : Observed) (c : Course) (mid : World) (b : IsBehind live_slot p r c mid) where
   -- a program for which the folder is sound is the one that it reads as
-  same_program : (q : Program) → IsChecked q → IsSoundFolder q r.old → ReadsMayStay r.old → (q ≡ p) × IsLog (shape_in q) (seen_at_entry r) c.opening
+  same_program : (q : Program) → IsChecked q → IsSoundFolder q r.old → ReadsMayStay r.old → (q ≡ p) × IsLog live_slot (shape_in q) (seen_at_entry r) c.opening
   same_program q checked sound stay =
-      let s : IsSound q (seen_at_entry r) = sound.sound (seen_at_entry r) stay (silo_reads (seen_at_entry r) p c.opening b.reads) in
+      let s : IsSound live_slot q (seen_at_entry r) = sound.sound (seen_at_entry r) stay (silo_reads (seen_at_entry r) p c.opening b.reads) in
       let both = reads_is q p s.log c.opening (sym (sound_is_read q (seen_at_entry r) checked s) ∙ b.reads) in
-      (both.0, subst (IsLog (shape_in q) (seen_at_entry r)) both.1 s.is)
+      (both.0, subst (IsLog live_slot (shape_in q) (seen_at_entry r)) both.1 s.is)
 
   -- the early moments are those of the opening
   early_is : b.untouched.moments.more ≡ c.early
@@ -57,7 +57,7 @@ module _ (p : Program) (r : Observed) (c : Course) (mid : World) (b : IsBehind p
   stays_sound image left = (b.untouched.now.images image left, settled_only (seen_at_entry r manager) (image manager) (subst (λ (f : FileState). MayLeave f (image manager)) b.settled (left manager)))
 
   -- over a folder that is sound for the program that it reads as
-  pub opens : IsSoundFolder p r.old → ReadsMayStay r.old → ReadsMayStay mid → IsLog (shape_in p) (seen_at_entry r) c.opening → Opens p r c
+  pub opens : IsSoundFolder p r.old → ReadsMayStay r.old → ReadsMayStay mid → IsLog live_slot (shape_in p) (seen_at_entry r) c.opening → Opens p r c
   opens sound stay stay_mid read =
       let all : AllLog p c.opening mid.disk = settled_logs p r.old mid.disk c.opening sound stay stays_sound read in
       record {
@@ -75,7 +75,7 @@ module _ (p : Program) (r : Observed) (c : Course) (mid : World) (b : IsBehind p
   pub opens_sound : (q : Program) → IsChecked q → IsSoundFolder q r.old → ReadsMayStay r.old → ReadsMayStay mid → Opens p r c
   opens_sound q checked sound stay stay_mid =
       let t = same_program q checked sound stay in
-      opens (subst (λ (x : Program). IsSoundFolder x r.old) t.0 sound) stay stay_mid (subst (λ (x : Program). IsLog (shape_in x) (seen_at_entry r) c.opening) t.0 t.1)
+      opens (subst (λ (x : Program). IsSoundFolder x r.old) t.0 sound) stay stay_mid (subst (λ (x : Program). IsLog live_slot (shape_in x) (seen_at_entry r) c.opening) t.0 t.1)
 
   -- each image behind the opening has the opening log
   opened_at : Opens p r c → AllLog p c.opening mid.disk
@@ -154,7 +154,7 @@ module _ (p : Program) (r : Observed) (c : Course) (mid : World) (b : IsBehind p
 
   module _ (o : Opens p r c) (said unsaid later : List Settlement) (cut : CutAt p c.opening mid said unsaid later c.rest r.new) (entries : c.entries ≡ entries_of said)
       (proper : AllByRecursion (IsProper (shape_in p)) (entries_of said)) (carries : Carries p r c mid ((said ++ unsaid) ++ later))
-      (last : Image) (left : IsImage r.new.disk last) (has : IsLog (shape_in p) last (order c)) where
+      (last : Image) (left : IsImage r.new.disk last) (has : IsLog live_slot (shape_in p) last (order c)) where
     order_is : order c ≡ c.opening ++ commits_of ((said ++ unsaid) ++ later)
     order_is = ap (λ (l : List Commit). c.opening ++ l) carries.commits
 
@@ -173,15 +173,15 @@ module _ (p : Program) (r : Observed) (c : Course) (mid : World) (b : IsBehind p
     }
 
     -- an image with all that is in the journal has the whole order
-    whole_order : (image : Image) → IsLog (shape_in p) image (c.opening ++ commits_of ((said ++ unsaid) ++ later)) → EndsWith p c (core_end p c) image
-    whole_order image is = record { log = order c; is = subst (IsLog (shape_in p) image) (sym order_is) is; which = inl refl }
+    whole_order : (image : Image) → IsLog live_slot (shape_in p) image (c.opening ++ commits_of ((said ++ unsaid) ++ later)) → HasLogAtExit p c (core_end p c) image
+    whole_order image is = record { log = order c; is = subst (IsLog live_slot (shape_in p) image) (sym order_is) is; which = inl refl }
 
     -- a unit that no image has is in no record
     nowhere : (e : Entry) → IsNowhere p r e.unit → HasNoRecord c e.unit
     nowhere e none l there = none last (order c) l left has (in_append l c.opening c.added (inr there))
 
     -- and what its images hold, where those that lack the last batch are explained
-    lasts : ((image : Image) → IsLog (shape_in p) image (c.opening ++ commits_of (said ++ unsaid)) → EndsWith p c (core_end p c) image) → Lasts p r c
+    lasts : ((image : Image) → IsLog live_slot (shape_in p) image (c.opening ++ commits_of (said ++ unsaid)) → HasLogAtExit p c (core_end p c) image) → Lasts p r c
     lasts short = record {
       opens = o;
       journals = journals;
@@ -199,18 +199,18 @@ module _ (p : Program) (r : Observed) (c : Course) (mid : World) (b : IsBehind p
       lasts o said unsaid [] cut entries proper (subst (Carries p r c mid) (sym (append-nil (said ++ unsaid))) carries) (λ file. (r.new.disk file).seen) stay (all (λ file. (r.new.disk file).seen) (short (λ file. (r.new.disk file).seen) stay))
       (λ image is. record { log = order c; is = all image is; which = inl refl })
     where
-      short : (image : Image) → IsImage r.new.disk image → IsLog (shape_in p) image (c.opening ++ commits_of (said ++ unsaid))
+      short : (image : Image) → IsImage r.new.disk image → IsLog live_slot (shape_in p) image (c.opening ++ commits_of (said ++ unsaid))
       short image left = elim (cut.log image left) [
         | inl was ↦ was
-        | inr is ↦ subst (λ (l : List Settlement). IsLog (shape_in p) image (c.opening ++ commits_of l)) (append-nil (said ++ unsaid)) is
+        | inr is ↦ subst (λ (l : List Settlement). IsLog live_slot (shape_in p) image (c.opening ++ commits_of l)) (append-nil (said ++ unsaid)) is
       ]
 
-      all : (image : Image) → IsLog (shape_in p) image (c.opening ++ commits_of (said ++ unsaid)) → IsLog (shape_in p) image (order c)
-      all image is = subst (λ (l : List Commit). IsLog (shape_in p) image (c.opening ++ l)) (sym carries.commits) is
+      all : (image : Image) → IsLog live_slot (shape_in p) image (c.opening ++ commits_of (said ++ unsaid)) → IsLog live_slot (shape_in p) image (order c)
+      all image is = subst (λ (l : List Commit). IsLog live_slot (shape_in p) image (c.opening ++ l)) (sym carries.commits) is
 
   -- a batch is in doubt, and an image has it
   pub doubt_lasts : (said unsaid : List Settlement) (batch : Settlement) (last : Image) (begins : ℕ) → Opens p r c → CutAt p c.opening mid said unsaid (batch ∷ []) c.rest r.new → c.entries ≡ entries_of said
-      → AllByRecursion (IsProper (shape_in p)) (entries_of said) → Carries p r c mid ((said ++ unsaid) ++ batch ∷ []) → IsImage r.new.disk last → IsLog (shape_in p) last (order c)
+      → AllByRecursion (IsProper (shape_in p)) (entries_of said) → Carries p r c mid ((said ++ unsaid) ++ batch ∷ []) → IsImage r.new.disk last → IsLog live_slot (shape_in p) last (order c)
       → (core_end p c).manager.doubt ≡ Some begins → AreOf (doubtful (core_end p c)) (commits_of (batch ∷ [])) → Lasts p r c
   doubt_lasts said unsaid batch last begins o cut entries proper carries left has doubt units =
       lasts o said unsaid (batch ∷ []) cut entries proper carries last left has
@@ -229,7 +229,7 @@ module _ (p : Program) (r : Observed) (c : Course) (mid : World) (b : IsBehind p
 -- ---- the promise
 
 -- what a run answers, and what lasts where its folder was opened so, is the whole promise
-pub carried_promised : (m : Manner) (p : Program) (r : Observed) (c : Course) (mid : World) → Answers p r c → r.manner ≡ m → IsChecked p → IsBehind p r c mid → ReadsMayStay r.old → ReadsMayStay mid
+pub carried_promised : (m : Manner) (p : Program) (r : Observed) (c : Course) (mid : World) → Answers p r c → r.manner ≡ m → IsChecked p → IsBehind live_slot p r c mid → ReadsMayStay r.old → ReadsMayStay mid
     → (Opens p r c → Lasts p r c) → Promises m r
 carried_promised m p r c mid answers is checked behind stay stay_mid lasts =
     answered_promised p r c answers m c.opening is checked behind.reads (λ q checked_too sound. lasts (opens_sound p r c mid behind q checked_too sound stay stay_mid))
@@ -237,7 +237,7 @@ carried_promised m p r c mid answers is checked behind stay stay_mid lasts =
 -- ---- batches at the moments of a step
 
 -- another log of the image is the same, and ends so too
-same_ends : (p : Program) (w : core.CoreState) (opening log other : List Commit) (image : Image) → EndsABatch w opening log → IsLog (shape_in p) image log → IsLog (shape_in p) image other → EndsABatch w opening other
+same_ends : (p : Program) (w : core.CoreState) (opening log other : List Commit) (image : Image) → EndsABatch w opening log → IsLog live_slot (shape_in p) image log → IsLog live_slot (shape_in p) image other → EndsABatch w opening other
 same_ends p w opening log other image ends is is_too = subst (EndsABatch w opening) (one_log (shape_in p) image log other is is_too) ends
 
 -- where each image has one log

@@ -1,4 +1,5 @@
 -- A run has opened its folder, sound or not, by what it answers.
+use Rattle.promise_spec.specs.Logs.{live_slot}
 use Rattle.std.proofs.Common.{◌≡◌, inl, inr, ℕ, ◌≤◌, List, [], ◌∷◌, ◌++◌, length, refl, sym, ap, subst, ◌∙◌}
 use Rattle.std.proofs.lemmas.List.{append-nil}
 use Rattle.base_types.specs.declared.entries.Entry.{Entry}
@@ -67,7 +68,7 @@ module _ (p : Program) (r : Observed) (c : Course) (a : Answers p r c) where
       ∙ append-nil r.old.output
 
   -- so it has opened its folder
-  pub answered_opened : (log : List Commit) → opened_as (seen_at_entry r) ≡ Reads p log → HasOpened r
+  pub answered_opened : (log : List Commit) → opened_as live_slot (seen_at_entry r) ≡ Reads p log → HasOpened live_slot r
   answered_opened log reads = record {
     openable = record { program = p; log = log; reads = reads };
     carried = a.ends.carried;
@@ -91,7 +92,7 @@ module _ (p : Program) (r : Observed) (c : Course) (a : Answers p r c) where
       one_program (o.some program_file) p q checked checked_too (o.folder.sound o.some left silo).program (sound.sound o.some left silo).program
 
   -- so it keeps the whole promise
-  pub answered_promised : (m : Manner) (log : List Commit) → r.manner ≡ m → IsChecked p → opened_as (seen_at_entry r) ≡ Reads p log
+  pub answered_promised : (m : Manner) (log : List Commit) → r.manner ≡ m → IsChecked p → opened_as live_slot (seen_at_entry r) ≡ Reads p log
       → ((q : Program) → IsChecked q → IsSoundFolder q r.old → Lasts p r c) → Promises m r
   answered_promised m log is checked reads lasts = record {
     manner = is;

@@ -23,7 +23,7 @@ use Rattle.core_model.specs.Changes.{new_unit, swept, swept_by}
 use Rattle.core_model.specs.Events.{applies, can, does, step, run, is_allowed}
 use Rattle.core_model.specs.Legal.{Run, IsLegal, begins, ends}
 use Rattle.core_model.specs.Laws.{extended}
-use Rattle.core_model.specs.Tests.{is_over, written}
+use Rattle.core_model.specs.Tests.{is_over, state_written}
 use Rattle.core_model.specs.CoreState.{UnitNo, GrainId, Value, Write, Member, same_grain, put, Units, Batch, CoreState}
 use Rattle.core_model.proofs.Caused.{caused-ends}
 use Rattle.core_model.proofs.Consistency.{depends-ends}
@@ -83,9 +83,9 @@ module _ (shape : Shape) where
   ]
 
   -- a grain that was written is one of the writes
-  wrote-in : (g : GrainId) (ws : List Write) (v : List Value) → written g ws ≡ Some v → AllByRecursion (λ (w : Write). IsGrainIn shape w.0) ws → IsGrainIn shape g
+  wrote-in : (g : GrainId) (ws : List Write) (v : List Value) → state_written g ws ≡ Some v → AllByRecursion (λ (w : Write). IsGrainIn shape w.0) ws → IsGrainIn shape g
   wrote-in g [] v is all = (let z : None ≡ Some v = is in absurd (cc z))
-  wrote-in g (w ∷ ws) v is all = cond_both (same_grain w.0 g) (Some w.1) (written g ws) (λ (o : Option (List Value)). o ≡ Some v → IsGrainIn shape g)
+  wrote-in g (w ∷ ws) v is all = cond_both (same_grain w.0 g) (Some w.1) (state_written g ws) (λ (o : Option (List Value)). o ≡ Some v → IsGrainIn shape g)
       (λ e q. subst (IsGrainIn shape) (same_grain-true w.0 g e) all.0)
       (λ e q. wrote-in g ws v q all.1)
       is
@@ -99,7 +99,7 @@ module _ (shape : Shape) where
   fits-change w e w' (refuse u g mode why running q) d s = (other-phase w.units.phase w.manager.result u Refused never-refused s.0, s.1)
   fits-change w e w' (finish u effect running plain of_call reads alone) d s = (
     new-result w.units.phase w.manager.result u Finished effect.result d.0 s.0,
-    λ x g m. put-from w.manager.writes u effect.writes (λ (ws : List Write). written g ws ≡ Some m.0) (IsGrainIn shape g) x (λ q is. wrote-in g effect.writes m.0 is d.1) (λ q is. s.1 x g (m.0, is)) m.1,
+    λ x g m. put-from w.manager.writes u effect.writes (λ (ws : List Write). state_written g ws ≡ Some m.0) (IsGrainIn shape g) x (λ q is. wrote-in g effect.writes m.0 is d.1) (λ q is. s.1 x g (m.0, is)) m.1,
   )
   fits-change w e w' (end_plain u effect running plain of_call bare) d s = (new-result w.units.phase w.manager.result u Ended effect.result d.0 s.0, s.1)
   fits-change w e w' (end_snapshot u at outcome running plain kids answer) d s = (new-result w.units.phase w.manager.result u Ended outcome d s.0, s.1)

@@ -40,30 +40,30 @@ abbrev IsBelow : Found → Found → Type 0
 IsBelow one other = IsTrue (is_below one.0 other.0)
 
 -- what stands below all that is written isn't written
-unwritten : (x : Found) (ws : List Found) → All (IsBelow x) ws → core.written x.0 ws ≡ None
+unwritten : (x : Found) (ws : List Found) → All (IsBelow x) ws → core.state_written x.0 ws ≡ None
 unwritten x [] below = refl
 unwritten x (w ∷ ws) below =
     elim (cases_Bool (same_grain w.0 x.0)) [
       | inl e ↦ absurd (irreflexive x.0 (subst (λ g. IsTrue (is_below x.0 g)) (same_grain-true w.0 x.0 e) (All-head (IsBelow x) w ws below)))
-      | inr e ↦ ap (λ b. if b then Some w.1 else core.written x.0 ws) e ∙ unwritten x ws (All-tail (IsBelow x) w ws below)
+      | inr e ↦ ap (λ b. if b then Some w.1 else core.state_written x.0 ws) e ∙ unwritten x ws (All-tail (IsBelow x) w ws below)
     ]
 
 -- after ascending writes the core and the log have the same states
-same_after : (store states : States) (ws : List Found) → AllPairs IsBelow ws → ((g : GrainId) → store g ≡ states g) → (g : GrainId) → unwrap_or (core.written g ws) (store g) ≡ fold put_state states ws g
+same_after : (store states : States) (ws : List Found) → AllPairs IsBelow ws → ((g : GrainId) → store g ≡ states g) → (g : GrainId) → unwrap_or (core.state_written g ws) (store g) ≡ fold put_state states ws g
 same_after store states [] pairs same g = same g
 same_after store states (w ∷ ws) pairs same g =
     let next : States = put_state states w in
-    let rest : unwrap_or (core.written g ws) (next g) ≡ fold put_state next ws g = same_after next next ws (pairs_rest IsBelow w ws pairs) (λ h. refl) g in
+    let rest : unwrap_or (core.state_written g ws) (next g) ≡ fold put_state next ws g = same_after next next ws (pairs_rest IsBelow w ws pairs) (λ h. refl) g in
     elim (cases_Bool (same_grain w.0 g)) [
       | inl e ↦
           let here : w.0 ≡ g = same_grain-true w.0 g e in
-          let none : core.written g ws ≡ None = subst (λ h. core.written h ws ≡ None) here (unwritten w ws (pairs_first IsBelow w ws pairs)) in
-          ap (λ b. unwrap_or (if b then Some w.1 else core.written g ws) (store g)) e
+          let none : core.state_written g ws ≡ None = subst (λ h. core.state_written h ws ≡ None) here (unwritten w ws (pairs_first IsBelow w ws pairs)) in
+          ap (λ b. unwrap_or (if b then Some w.1 else core.state_written g ws) (store g)) e
           ∙ sym (ap (λ b. if b then w.1 else states g) e)
           ∙ ap (λ o. unwrap_or o (next g)) (sym none) ∙ rest
       | inr e ↦
-          ap (λ b. unwrap_or (if b then Some w.1 else core.written g ws) (store g)) e
-          ∙ ap (unwrap_or (core.written g ws)) (same g ∙ sym (ap (λ b. if b then w.1 else states g) e))
+          ap (λ b. unwrap_or (if b then Some w.1 else core.state_written g ws) (store g)) e
+          ∙ ap (unwrap_or (core.state_written g ws)) (same g ∙ sym (ap (λ b. if b then w.1 else states g) e))
           ∙ rest
     ]
 
@@ -105,7 +105,7 @@ next-states types store states e l is of_unit same g =
 
 -- the records of serial effects are serial
 pub serial_records : (types : ProgramTree) (store states : States) (es : List Effect) (log : List Commit) → ((g : GrainId) → store g ≡ states g)
-    → model.IsSerial (is_play types) store es → AreRecordsOf es log → IsSerial types states log
+    → model.IsSerialOrder (is_play types) store es → AreRecordsOf es log → IsSerial types states log
 serial_records types store states [] [] same serial are = tt
 serial_records types store states [] (l ∷ log) same serial are = absurd are
 serial_records types store states (e ∷ es) [] same serial are = absurd are
@@ -128,8 +128,8 @@ explained_serial p r c is =
     elim is.records [
       | inl all ↦
           serial_records p.types (opening_standing p c).states (opening_standing p c).states (model.committed (core_end p c)) c.added (λ g. refl)
-          (subst (λ w. model.IsSerial (is_play p.types) (opening_standing p c).states (model.committed w)) same (serial-ends (is_play p.types) run lawful)) all
+          (subst (λ w. model.IsSerialOrder (is_play p.types) (opening_standing p c).states (model.committed w)) same (serial-ends (is_play p.types) run lawful)) all
       | inr more ↦
           serial_records p.types (opening_standing p c).states (opening_standing p c).states (model.committed (core_end p c) ++ model.chosen (core_end p c)) c.added (λ g. refl)
-          (subst (λ w. model.IsSerial (is_play p.types) (opening_standing p c).states (model.committed w ++ model.chosen w)) same (serial-chosen-ends (is_play p.types) run lawful)) more.records
+          (subst (λ w. model.IsSerialOrder (is_play p.types) (opening_standing p c).states (model.committed w ++ model.chosen w)) same (serial-chosen-ends (is_play p.types) run lawful)) more.records
     ]

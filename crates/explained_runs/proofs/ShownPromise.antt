@@ -1,4 +1,5 @@
 -- What a run shows is enough for what is promised of it over any folder.
+use Rattle.promise_spec.specs.Logs.{live_slot}
 use Rattle.std.proofs.Common.{◌≡◌, inr, subst}
 use Rattle.silo_spec.specs.Silos.{program_file, HasProgram}
 use Rattle.promise_spec.specs.Programs.{Program, IsChecked}
@@ -20,7 +21,7 @@ module _ (p : Program) (r : Observed) (c : Course) (checked : IsChecked p) (s : 
       one_program (s.opens.some program_file) p q checked checked_too (s.opens.folder.sound s.opens.some left silo).program (sound.sound s.opens.some left silo).program
 
   -- the files read as the program and the log that it opened
-  reads : HasProgram p.text (seen_at_entry r program_file) → opened_as (seen_at_entry r) ≡ Reads p c.opening
+  reads : HasProgram p.text (seen_at_entry r program_file) → opened_as live_slot (seen_at_entry r) ≡ Reads p c.opening
   reads has = log_is_read (seen_at_entry r) p c.opening checked has s.opens.read
 
   pub promised : (m : Manner) → r.manner ≡ m → HasProgram p.text (seen_at_entry r program_file) → Promises m r

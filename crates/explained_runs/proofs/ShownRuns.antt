@@ -69,8 +69,8 @@ at_entry p r c o image is = elim (last-in (moment_of r.old) c.early) [
 -- the opening log is serial from a new silo, and numbered
 opening_sound : (p : Program) (r : Observed) (c : Course) → Opens p r c → IsSerial p.types (new_silo p.types).states c.opening × AreNumbered (new_silo p.types).next c.opening
 opening_sound p r c o =
-    let log : IsLog (shape_in p) o.some c.opening = o.opened o.some o.possible in
-    let s : IsSound p o.some = o.folder.sound o.some (at_entry p r c o o.some o.possible) log.silo in
+    let log : IsLog live_slot (shape_in p) o.some c.opening = o.opened o.some o.possible in
+    let s : IsSound live_slot p o.some = o.folder.sound o.some (at_entry p r c o o.some o.possible) log.silo in
     let same : s.log ≡ c.opening = one_log (shape_in p) o.some s.log c.opening s.is log in
     (subst (IsSerial p.types (new_silo p.types).states) same s.serial, subst (AreNumbered (new_silo p.types).next) same s.numbered)
 
@@ -118,7 +118,7 @@ module _ (p : Program) (r : Observed) (c : Course) (s : Shows p r c) where
     opened = λ image possible. record { entry = at_entry p r c o image possible; log = o.opened image possible };
     longest =
         subst (IsLongest p (moments r c)) (sym (order_is p r c j))
-        (journaled.longest p c.opening r.old.output j.journal (moments r c) j.last j.left (subst (IsLog (shape_in p) j.last) (order_is p r c j) j.longest)
+        (journaled.longest p c.opening r.old.output j.journal (moments r c) j.last j.left (subst (IsLog live_slot (shape_in p) j.last) (order_is p r c j) j.longest)
         (λ m there image left. (j.kept m there image left).0));
     serial = explained_serial p r c is;
   }
@@ -161,7 +161,7 @@ module _ (p : Program) (r : Observed) (c : Course) (s : Shows p r c) where
       journaled.holds p r c j.journal m image j.backs k.0 k.1
 
   -- where images have different logs, one lacks the batch in doubt
-  doubtful_batch : (one other : Image) (a b : List Commit) → IsImage r.new.disk one → IsImage r.new.disk other → IsLog (shape_in p) one a → IsLog (shape_in p) other b → a ≢ b
+  doubtful_batch : (one other : Image) (a b : List Commit) → IsImage r.new.disk one → IsImage r.new.disk other → IsLog live_slot (shape_in p) one a → IsLog live_slot (shape_in p) other b → a ≢ b
       → (begins : ℕ) × ((core_end p c).manager.doubt ≡ Some begins)
   doubtful_batch one other a b left left_too is_a is_b differ =
       let x = s.leaves.logs one left in

@@ -28,10 +28,10 @@ use Rattle.script_meaning.proofs.Plays.{next_is_missing_lem}
 use Rattle.promise_spec.specs.Serial.{depth_of}
 use Rattle.promise_spec.specs.Lines.{IsLineCall}
 use Rattle.promise_spec.specs.Cores.{HasBegun}
-use Rattle.promise_spec.specs.Gotten.{Got, GotChild, got_by, wanted_by, wanted_lock}
+use Rattle.promise_spec.specs.Gotten.{Got, GotChild, got_by, wanted_by, wanted_lock, kids_got}
 use Rattle.promise_spec.specs.UnitRule.{Basis, IsDue}
 use Rattle.promise_spec.proofs.Lists.{some_is}
-use Rattle.explained_runs.specs.Handed.{AreGiven, AreNamed, want_of, reads_got, kids_got, found, Traced}
+use Rattle.explained_runs.specs.Handed.{AreGiven, AreNamed, want_of, reads_got, found, Traced}
 use Rattle.explained_runs.proofs.Handed.{Extends, reads_got-append, kids_got-append, wants, given-reads, given-outcomes, outcome-at, as-many, named-later, named-push, named-trail}
 
 -- ---- what is kept

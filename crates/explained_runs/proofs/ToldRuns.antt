@@ -18,9 +18,9 @@ use Rattle.core_model.proofs.Children.{Kin, kin-step}
 use Rattle.core_model.proofs.Growth.{Grows, grows-same, grows-change}
 use Rattle.core_model.proofs.Decoded.{Change, bad, begin, lock, raise, refuse, finish, end_plain, end_snapshot, release, take_batch, vote, decide_some, decide_none, seal_batch, spoil_batch, doubt_batch, learn, emit, halt_run, want, load, decode}
 use Rattle.script_tree.specs.Programs.{ProgramTree}
-use Rattle.promise_spec.specs.Gotten.{Got, GotLock, GotRaise, got_lock, got_by, got_from, wanted_by, wanted_lock}
+use Rattle.promise_spec.specs.Gotten.{Got, GotLock, GotRaise, got_lock, got_by, got_from, wanted_by, wanted_lock, kids_got}
 use Rattle.promise_spec.specs.UnitRule.{Basis, IsDue, KeepsUnitRule}
-use Rattle.explained_runs.specs.Handed.{want_of, reads_got, kids_got, found, Traced}
+use Rattle.explained_runs.specs.Handed.{want_of, reads_got, found, Traced}
 use Rattle.explained_runs.proofs.Told.{Known, Told, IsSteady, steady-same, steady-phase, known-steady, traced-steady, quiet, first-lock, then-raise, map-push, traced-got, told-begun}
 
 -- a first lock

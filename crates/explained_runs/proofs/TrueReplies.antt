@@ -288,7 +288,7 @@ answers_by_order types lines opening log w added known are numbered u end born i
 
 -- a unit that was told an outcome has begun for its entry's line
 begun-for : (types : ProgramTree) (lines : List (List ℕ)) (opening : GrainId → List Value) (base : ℕ) (w : CoreState) → Known types lines opening base w → (e : Entry) → Member e w.manager.settled
-    → (w.units.phase e.unit ≡ Unborn → ⊥) → core.HasBegun w e.unit e.line
+    → (w.units.phase e.unit ≡ Unborn → ⊥) → core.HasBegunFor w e.unit e.line
 begun-for types lines opening base w known e m born = elim (known.once.entry e m).2 [
   | inl o ↦ absurd (born (ap w.units.phase o.0 ∙ known.kept.0.outside))
   | inr o ↦ o.0
@@ -299,7 +299,7 @@ plain-reply : (p : Program) (r : Observed) (c : Course) → Known p.types (lines
     → (e : Entry) → Member e (core_end p c).manager.settled → (result : Outcome) → (core_end p c).units.phase e.unit ≡ Ended → (core_end p c).manager.result e.unit ≡ result → IsPlainReply p r c e result
 plain-reply p r c known are numbered e m result ended is =
     let born : (core_end p c).units.phase e.unit ≡ Unborn → ⊥ = λ z. (let y : Unborn ≡ Ended = sym z ∙ ended in absurd cc) in
-    let begun : core.HasBegun (core_end p c) e.unit e.line = begun-for p.types (lines r) (opening_standing p c).states (opening_standing p c).next (core_end p c) known e m born in
+    let begun : core.HasBegunFor (core_end p c) e.unit e.line = begun-for p.types (lines r) (opening_standing p c).states (opening_standing p c).next (core_end p c) known e m born in
     let line = known.rule.3 e.unit e.line begun in
     let plain = known.rule.5 e.unit ended in
     let play : IsPlayOf p.types (plain_effect (core_end p c) e.unit) = is_play-true p.types (plain_effect (core_end p c) e.unit) (known.plays e.unit ended plain.1) in
@@ -323,7 +323,7 @@ logged-reply : (p : Program) (r : Observed) (c : Course) → Known p.types (line
     → IsLoggedReply c e result
 logged-reply p r c known are e m result done sure is =
     let born : (core_end p c).units.phase e.unit ≡ Unborn → ⊥ = λ z. (let y : Unborn ≡ Finished = sym z ∙ done in absurd cc) in
-    let begun : core.HasBegun (core_end p c) e.unit e.line = begun-for p.types (lines r) (opening_standing p c).states (opening_standing p c).next (core_end p c) known e m born in
+    let begun : core.HasBegunFor (core_end p c) e.unit e.line = begun-for p.types (lines r) (opening_standing p c).states (opening_standing p c).next (core_end p c) known e m born in
     let t = has_record (opening_standing p c).states (core_end p c) c.added known.kept are e.unit done sure in
     record {
       commit = t.0;
@@ -372,12 +372,12 @@ replies_true p r c is numbered front e m =
 
 -- ---- and their order
 
-stand-front : (w : CoreState) (xs ys : List Entry) → core.StandInOrder w (xs ++ ys) → core.StandInOrder w xs
+stand-front : (w : CoreState) (xs ys : List Entry) → core.SettleInOrder w (xs ++ ys) → core.SettleInOrder w xs
 stand-front w [] ys s = tt
 stand-front w (x ∷ xs) ys s = ((λ y m. s.0 y (Member-left y xs ys m)), stand-front w xs ys s.1)
 
 -- the unit of an earlier entry has the earlier place
-places-of : (w : CoreState) (xs : List Entry) (i j : ℕ) (d e : Entry) → core.StandInOrder w xs → slice_get xs i ≡ Some d → slice_get xs j ≡ Some e → i < j → w.units.phase d.unit ≡ Finished → w.units.phase e.unit ≡ Finished
+places-of : (w : CoreState) (xs : List Entry) (i j : ℕ) (d e : Entry) → core.SettleInOrder w xs → slice_get xs i ≡ Some d → slice_get xs j ≡ Some e → i < j → w.units.phase d.unit ≡ Finished → w.units.phase e.unit ≡ Finished
     → w.manager.place d.unit < w.manager.place e.unit
 places-of w [] i j d e s there later lt f g = absurd (none_at i d there)
 places-of w (x ∷ xs) i zero d e s there later lt f g = absurd (omega (arith, lt))
@@ -421,6 +421,6 @@ replies_ordered p r c is front i j m n d e a b at_i at_j at_m at_n of_d of_e lt 
     let other : e.unit ≡ y.0 = sym of_e.unit ∙ y.2.unit in
     let done : (u : UnitNo) (i : ℕ) → slice_get us i ≡ Some u → w.units.phase u ≡ Finished = λ u i q.
     order-finished opening w k.kept u (filter-member (λ z. are.test (w.manager.verdict z)) w.manager.order u (member_at i u us q)).0 in
-    let places = places-of w c.entries i j d e (stand-front w c.entries front.0 (subst (core.StandInOrder w) front.1 k.once.order)) at_i at_j lt
+    let places = places-of w c.entries i j d e (stand-front w c.entries front.0 (subst (core.SettleInOrder w) front.1 k.once.order)) at_i at_j lt
     (ap w.units.phase one ∙ done x.0 m x.1) (ap w.units.phase other ∙ done y.0 n y.1) in
     index-of w.manager.place us m n x.0 y.0 rises x.1 y.1 (subst (λ z. w.manager.place x.0 < w.manager.place z) other (subst (λ z. w.manager.place z < w.manager.place e.unit) one places))

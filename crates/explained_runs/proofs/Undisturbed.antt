@@ -5,7 +5,7 @@ use Rattle.std.proofs.lemmas.Bool.{and_parts, and_right, cond_both, cases_Bool, 
 use Rattle.base_types.specs.declared.entries.Entry.{Entry}
 use Rattle.base_types.specs.declared.entries.Settled.TheVariants as settled
 use Rattle.cell_model.specs.declared.outcomes.Decision.TheVariants as decision
-use Rattle.cell_model.specs.Decisions.{is_commit, decision, decided, and_itself}
+use Rattle.cell_model.specs.Decisions.{is_commit, decision, all_decided, and_itself}
 use Rattle.cell_model.proofs.Decisions.{commits-exactly}
 use Rattle.cell_model.proofs.Units.{same_unit-false, same_grain-is, cases_unit, Member-append, any-none, filter-member, oldest-some}
 use Rattle.host_trait.specs.declared.channels.Channel.TheVariants.{File}
@@ -103,7 +103,7 @@ no-failure : (votes : List (GrainId × Bool)) (writes : List Write) → ((v : Gr
 no-failure votes writes kept = ap first_grain (none-kept (has_failed votes) (map (λ (x : Write). x.0) writes) (λ g. none-failed votes g kept))
 
 -- where no file failed and no dependency is dead, all commit
-all-commit : (dead : UnitNo → Bool) (ps : List Prepared) → ((p : Prepared) → Member p ps → (p.failed ≡ None) × ((d : UnitNo) → Member d p.deps → dead d ≡ false)) → AllCommit (decided dead ps)
+all-commit : (dead : UnitNo → Bool) (ps : List Prepared) → ((p : Prepared) → Member p ps → (p.failed ≡ None) × ((d : UnitNo) → Member d p.deps → dead d ≡ false)) → AllCommit (all_decided dead ps)
 all-commit dead [] fine d m = absurd m
 all-commit dead (p ∷ ps) fine d (inl q) = q ∙ (commits-exactly dead p).1 (fine p (inl refl))
 all-commit dead (p ∷ ps) fine d (inr m) =

@@ -13,7 +13,7 @@ use Rattle.core_model.specs.declared.phases.Phase.TheVariants.{Unborn, Running, 
 use Rattle.core_model.specs.CoreState.{UnitNo, Call, Origin, put, CoreState}
 use Rattle.core_model.specs.Changes.{begun, new_unit, lines_with, swept, swept_by}
 use Rattle.core_model.specs.Events.{applies, can, does, step, run, is_allowed}
-use Rattle.core_model.specs.Lines.{HasBegun}
+use Rattle.core_model.specs.Lines.{HasBegunFor}
 use Rattle.core_model.specs.Legal.{Run, begins}
 use Rattle.core_model.proofs.Puts.{put-from, put-is, put-other}
 use Rattle.core_model.proofs.Decoded.{Change, bad, begin, lock, raise, refuse, finish, end_plain, end_snapshot, release, take_batch, vote, decide_some, decide_none, seal_batch, spoil_batch, doubt_batch, learn, emit, halt_run, want, load, decode}
@@ -21,7 +21,7 @@ use Rattle.script_tree.specs.Programs.{ProgramTree}
 use Rattle.script_meaning.specs.Play.{IsTransaction}
 use Rattle.promise_spec.specs.Cores.{applied_from, state_before}
 use Rattle.promise_spec.specs.Gotten.{Got, got_from}
-use Rattle.promise_spec.specs.Lines.{Reads, IsLineCall, IsBadLine}
+use Rattle.promise_spec.specs.Lines.{ReadsLineAs, IsLineCall, IsBadLine}
 use Rattle.promise_spec.specs.UnitRule.{Basis, IsDue, KeepsUnitRule}
 use Rattle.explained_runs.specs.Legality.{applied_run}
 
@@ -71,12 +71,12 @@ ByRule types lines base w =
     (base ≤ w.units.next)
     × (w.units.lines ≤ length lines)
     × ((u : UnitNo) → (w.units.phase u ≡ Unborn → ⊥) → base ≤ u.0)
-    × ((u : UnitNo) (n : ℕ) → HasBegun w u n → BeginsLine types lines n (w.units.call u) (w.units.plain u))
+    × ((u : UnitNo) (n : ℕ) → HasBegunFor w u n → BeginsLine types lines n (w.units.call u) (w.units.plain u))
     × ((u p : UnitNo) (i d : ℕ) → (w.units.phase u ≡ Unborn → ⊥) → w.units.origin u ≡ Child p i d → w.units.plain u ≡ false)
     × ((u : UnitNo) → w.units.phase u ≡ Ended → (w.units.plain u ≡ true) × (w.units.seen_at u ≡ None))
 
 -- a number that is read is one of a line
-within-lines : (types : ProgramTree) (lines : List (List ℕ)) (n : ℕ) (request : Result Call BadRequest) → Reads types lines n request → n ≤ length lines
+within-lines : (types : ProgramTree) (lines : List (List ℕ)) (n : ℕ) (request : Result Call BadRequest) → ReadsLineAs types lines n request → n ≤ length lines
 within-lines types lines n request r = (let t = slice_get_within lines r.index r.text r.there in omega (arith, t, r.number))
 
 begins-as : (types : ProgramTree) (lines : List (List ℕ)) (n m : ℕ) (call other : Call) (plain too : Bool) → n ≡ m → call ≡ other → plain ≡ too → BeginsLine types lines n call plain → BeginsLine types lines m other too

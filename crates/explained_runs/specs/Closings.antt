@@ -1,11 +1,11 @@
 -- What the loop of a run carries to its end, from which `Lasts` follows.
-use Rattle.std.specs.Prelude.{◌≡◌, ◌≢◌, List, ◌++◌}
+use Rattle.std.specs.Prelude.{◌≡◌, ◌≢◌, ℕ, List, ◌++◌}
 use Rattle.host_trait.specs.Disk.{MayLeave, settled}
 use Rattle.host_trait.specs.declared.channels.FileId.{FileId}
+use Rattle.host_trait.specs.declared.channels.FileId.TheVariants.{Manager}
 use Rattle.host_trait.specs.World as host
 use Rattle.host_trait.specs.World.{Moment, Image, IsImage, Passes, moment_of, last_of}
 use Rattle.core_model.specs.CoreState.{CoreState}
-use Rattle.silo_spec.specs.Silos.{manager}
 use Rattle.silo_spec.specs.Moments.{IsUntouched}
 use Rattle.promise_spec.specs.Programs.{Program, shape_in}
 use Rattle.promise_spec.specs.Records.{Commit}
@@ -22,20 +22,20 @@ use Rattle.promise_spec.specs.Journals.{Settlement, commits_of, Backs}
 abbrev pub ReadsMayStay : host.World → Type 0
 ReadsMayStay w = (file : FileId) → MayLeave (w.disk file) (w.disk file).seen
 
--- The world behind the opening: the folder read as this program and log, no image was added, nothing is pending in the
--- manager file, and the early moments end here.
-pub record IsBehind (p : Program) (r : Observed) (c : Course) (mid : host.World) : Type 0 where
-  pub reads : opened_as (seen_at_entry r) ≡ Reads p c.opening
+-- The world behind the opening, where the live files are of this slot: the folder read as this program and log, no image
+-- was added, nothing is pending in the manager file, and the early moments end here.
+pub record IsBehind (live : ℕ) (p : Program) (r : Observed) (c : Course) (mid : host.World) : Type 0 where
+  pub reads : opened_as live (seen_at_entry r) ≡ Reads p c.opening
   pub untouched : IsUntouched r.old mid
-  pub settled : mid.disk manager ≡ settled (seen_at_entry r manager)
-  pub others : (file : FileId) → file ≢ manager → mid.disk file ≡ r.old.disk file
+  pub settled : mid.disk (Manager live) ≡ settled (seen_at_entry r (Manager live))
+  pub others : (file : FileId) → file ≢ Manager live → mid.disk file ≡ r.old.disk file
   pub early : mid.past ≡ r.old.past ++ c.early
   pub last : last_of (moment_of r.old) c.early ≡ moment_of mid
   pub late : r.new.past ≡ mid.past ++ c.late
 
 -- the log of each image of the moment ends where a batch does, as the core has closed them
 abbrev pub AllEnd : Program → CoreState → List Commit → Moment → Type 0
-AllEnd p w opening m = (image : Image) (log : List Commit) → IsImage m.disk image → IsLog (shape_in p) image log → EndsABatch w opening log
+AllEnd p w opening m = (image : Image) (log : List Commit) → IsImage m.disk image → IsLog live_slot (shape_in p) image log → EndsABatch w opening log
 
 -- what is carried beside the journal itself: at each moment since, and now, whole batches, and other files and the header as
 -- they were

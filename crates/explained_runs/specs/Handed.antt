@@ -10,7 +10,7 @@ use Rattle.script_tree.specs.Programs.{ProgramTree}
 use Rattle.script_meaning.specs.Play.{Found, Want, WantLock, WantRaise, WantUnit, next}
 use Rattle.script_meaning.specs.Trails.{Given, GivenLock, GivenRaise, GivenOutcome, locks_of, answers_of}
 use Rattle.promise_spec.specs.Serial.{depth_of}
-use Rattle.promise_spec.specs.Gotten.{Got, GotLock, GotRaise, GotChild}
+use Rattle.promise_spec.specs.Gotten.{Got, GotLock, GotRaise, GotChild, kids_got}
 
 -- what one of them was given for: a child's outcome is known
 abbrev pub IsGiven : (UnitNo → Option Outcome) → Got → Given → Type 0
@@ -37,13 +37,6 @@ reads_got [] = []
 reads_got (GotLock g mode state ∷ rest) = (g, state) ∷ reads_got rest
 reads_got (GotRaise g ∷ rest) = reads_got rest
 reads_got (GotChild call depth child ∷ rest) = reads_got rest
-
--- the children
-abbrev pub kids_got : List Got → List UnitNo
-kids_got [] = []
-kids_got (GotLock g mode state ∷ rest) = kids_got rest
-kids_got (GotRaise g ∷ rest) = kids_got rest
-kids_got (GotChild call depth child ∷ rest) = child ∷ kids_got rest
 
 -- a read's grain and state
 abbrev pub found : Read → Found

@@ -19,7 +19,7 @@ use Rattle.promise_spec.specs.Courses.{Observed, Course, order, moments, lines, 
 use Rattle.promise_spec.specs.Crashes.{LeavesAlone}
 use Rattle.promise_spec.specs.Batches.{EndsABatch}
 use Rattle.promise_spec.specs.Replies.{HasNoRecord}
-use Rattle.promise_spec.specs.Exits.{EndsWith, IsNowhere, HasDoubtfulBlock}
+use Rattle.promise_spec.specs.Exits.{HasLogAtExit, IsNowhere, HasDoubtfulBlock}
 use Rattle.promise_spec.specs.Explained.{AreAdded, AreSettled, IsDoubtful}
 use Rattle.promise_spec.specs.Journals.{Settlement, commits_of, entries_of, KeepsJournal, AllLog, Backs}
 use Rattle.promise_spec.specs.Promise.{HasReadAll, IsDone, IsSoundFolder}
@@ -28,7 +28,7 @@ use Rattle.promise_spec.specs.Promise.{HasReadAll, IsDone, IsSoundFolder}
 -- sync has it; there is one. Until then nothing was written, and each image was one of those at entry.
 pub record Opens (p : Program) (r : Observed) (c : Course) : Type 0 where
   pub folder : IsSoundFolder p r.old
-  pub read : IsLog (shape_in p) (seen_at_entry r) c.opening
+  pub read : IsLog live_slot (shape_in p) (seen_at_entry r) c.opening
   pub opened : AllLog p c.opening (last_of (moment_of r.old) c.early).disk
   pub some : Image
   pub possible : IsImage (last_of (moment_of r.old) c.early).disk some
@@ -49,11 +49,11 @@ pub record Journals (p : Program) (r : Observed) (c : Course) : Type 0 where
   pub commits : c.added ≡ commits_of journal
   pub backs : Backs journal c.added
   pub kept : (m : Moment) → Member m (moments r c) → SaysIn p r c journal m
-  pub batches : (image : Image) (log : List Commit) → IsImageOf (moments r c) image → IsLog (shape_in p) image log →
+  pub batches : (image : Image) (log : List Commit) → IsImageOf (moments r c) image → IsLog live_slot (shape_in p) image log →
       EndsABatch (core_end p c) c.opening log
   pub last : Image
   pub left : IsImageOf (moments r c) last
-  pub longest : IsLog (shape_in p) last (order c)
+  pub longest : IsLog live_slot (shape_in p) last (order c)
   pub alone : (m : Moment) → Member m (moments r c) → LeavesAlone live_slot r m
 
 -- The records are those of the core's committed units. The events keep the unit rule, and on one thread the turn rule.
@@ -70,7 +70,7 @@ pub record Explains (p : Program) (r : Observed) (c : Course) : Type 0 where
 -- The log at the exit: each image has the whole order, or lacks the records of the batch in doubt. A unit that is told to
 -- be in doubt and that no image has is in no record, and the block of a batch in doubt stands behind its gate.
 pub record Leaves (p : Program) (r : Observed) (c : Course) : Type 0 where
-  pub logs : (image : Image) → IsImage r.new.disk image → EndsWith p c (core_end p c) image
+  pub logs : (image : Image) → IsImage r.new.disk image → HasLogAtExit p c (core_end p c) image
   pub nowhere : (e : Entry) → Member e c.entries → e.what ≡ InDoubt → IsNowhere p r e.unit → HasNoRecord c e.unit
   pub block : HasDoubt (core_run p c) → HasDoubtfulBlock live_slot r c (core_end p c)
 

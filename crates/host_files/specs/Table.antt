@@ -47,8 +47,8 @@ abbrev pub is_lost : BTreeMap FileId Named → FileId → Bool
 is_lost files file = is_lost_entry (get file_cmp files file)
 
 -- each file that is ready has its own path in this folder
-abbrev pub AreNamed : List ℕ → BTreeMap FileId Named → Type 0
-AreNamed folder files = (file : FileId) (path : List ℕ) → path_in files file ≡ Some path → path ≡ path_of folder file
+abbrev pub HaveOwnPaths : List ℕ → BTreeMap FileId Named → Type 0
+HaveOwnPaths folder files = (file : FileId) (path : List ℕ) → path_in files file ≡ Some path → path ≡ path_of folder file
 
 -- whether a file is ready from the start
 abbrev pub is_always : FileId → Bool

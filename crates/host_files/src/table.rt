@@ -5,7 +5,7 @@ ghost use Rattle.host_trait.specs.Faults.{Rose, Counted};
 ghost use Rattle.host_trait.specs.declared.channels.FileId.{FileId};
 ghost use Rattle.host_trait.specs.declared.channels.Channel.TheVariants.{File};
 ghost use Rattle.host_files.specs.Names.{path_of};
-ghost use Rattle.host_files.specs.Table.{faults_in, is_lost, is_named, counts_of, AreNamed, AreAlwaysNamed, SamePaths, StayLost};
+ghost use Rattle.host_files.specs.Table.{faults_in, is_lost, is_named, counts_of, HaveOwnPaths, AreAlwaysNamed, SamePaths, StayLost};
 
 use crate::names::file_path;
 use host_trait::{Failed, FileId};
@@ -36,9 +36,9 @@ fn enter(
     files: &mut BTreeMap<FileId, Named>,
     file: FileId,
 ) -> Result<(), AllocError>
-    requires { AreNamed folder.now files.old }
+    requires { HaveOwnPaths folder.now files.old }
     ensures named { OnOk result (IsTrue (is_named files.new file)) }
-    ensures paths { AreNamed folder.now files.new }
+    ensures paths { HaveOwnPaths folder.now files.new }
     ensures stays { StaysReady (is_named files.old) (is_named files.new) }
     ensures faults { (other : FileId) → faults_in files.new other ≡ faults_in files.old other }
     ensures lost { (other : FileId) → is_lost files.new other ≡ is_lost files.old other }
@@ -95,7 +95,7 @@ fn lose(files: &mut BTreeMap<FileId, Named>, file: FileId)
 
 // The program and manager files of both slots.
 fn first_files(alloc: Global, folder: &str) -> Result<BTreeMap<FileId, Named>, AllocError>
-    ensures paths { IfOk result (λ files. AreNamed folder.now files) }
+    ensures paths { IfOk result (λ files. HaveOwnPaths folder.now files) }
     ensures always { IfOk result AreAlwaysNamed }
     ensures faults { IfOk result (λ files. (file : FileId) → faults_in files file ≡ 0) }
 {
@@ -113,7 +113,7 @@ pub struct Table {
     alloc: Global,
     folder: String,
     files: BTreeMap<FileId, Named>,
-    ghost paths: { AreNamed (string_bytes folder) files },
+    ghost paths: { HaveOwnPaths (string_bytes folder) files },
     ghost always: { AreAlwaysNamed files },
 }
 

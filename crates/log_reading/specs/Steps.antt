@@ -13,6 +13,10 @@ use Rattle.commit_log.specs.declared.records.CommitRecord.{CommitRecord}
 use Rattle.commit_log.specs.Fields.{body_in}
 use Rattle.log_reading.specs.Blocks.{no_more, records_behind}
 
+-- the slot of the live files, in every command
+abbrev pub live_slot : ℕ
+live_slot = 0
+
 -- the file of the log
 abbrev pub manager : FileId
 manager = Manager 0

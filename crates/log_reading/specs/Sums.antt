@@ -1,4 +1,5 @@
 -- What is kept of the records and versions that are read.
+use Rattle.log_reading.specs.Steps.{live_slot}
 use Rattle.std.specs.Prelude.{◌≡◌, ℕ, ◌+◌, ◌<◌, ◌^◌, max, Bool, IsTrue, if◌then◌else◌, List, [], ◌∷◌, ◌++◌, length, fold, Option, Some, None, Ok}
 use Rattle.std.specs.List.{AllByRecursion}
 use Rattle.base_types.specs.declared.calls.GrainId.{GrainId}
@@ -36,7 +37,7 @@ pub record IsReadAs (tells : Bool) (shape : Shape) (file : List ℕ) (l : ReadLo
 abbrev pub state_after : Shape → Image → Option (List Value) → List Named → GrainId → Option (List Value)
 state_after shape image state [] grain = state
 state_after shape image state (n ∷ named) grain =
-    state_after shape image (if same_grain n.written.grain grain then Some (state_of (version_named shape image n)) else state) named grain
+    state_after shape image (if same_grain n.written.grain grain then Some (state_of (version_named live_slot shape image n)) else state) named grain
 
 -- the greater of an end and one that may be missing
 abbrev pub later_end : Option ℕ → ℕ → Option ℕ
@@ -55,5 +56,5 @@ pub record StopsAt (shape : Shape) (image : Image) (named : List Named) (file : 
   pub here : Named
   pub back : List Named
   pub are : named ≡ front ++ (here ∷ back)
-  pub whole : first_missing shape image front ≡ None
+  pub whole : first_missing live_slot shape image front ≡ None
   pub is : file ≡ Grain 0 here.written.grain

@@ -10,7 +10,7 @@ ghost use Rattle.host_trait.specs.declared.channels.FileId.TheVariants.{Grain};
 ghost use Rattle.host_trait.specs.declared.channels.Channel.TheVariants.{File};
 ghost use Rattle.log_reading.specs.declared.faults.FolderFault.{FolderFault};
 ghost use Rattle.log_reading.specs.Counts.{ReadFaulted};
-ghost use Rattle.log_reading.specs.Steps.{seen_in};
+ghost use Rattle.log_reading.specs.Steps.{seen_in, live_slot};
 ghost use Rattle.host_trait.specs.Files.{same_grain};
 ghost use Rattle.log_reading.specs.Versions.{version_named, first_missing};
 ghost use Rattle.log_reading.specs.Sums.{state_after, end_after, later_end, StopsAt};
@@ -29,10 +29,10 @@ pub fn named_version<H: Host>(
     shape: &Shape,
     named: Named,
 ) -> Result<Version, FolderFault>
-    ensures found { IfOk result (λ version. IsTrue H.tells → version_named shape.now (seen_in (H.world host.old).disk) named ≡ Ok version) }
+    ensures found { IfOk result (λ version. IsTrue H.tells → version_named live_slot shape.now (seen_in (H.world host.old).disk) named ≡ Ok version) }
     ensures near { OnOk result (named.written.place.offset + named.written.place.len < 2 ^ 63) }
     ensures damaged { (file : FileId) (place : ℕ) → IsErrOf result (FolderFault.Damaged file place) → IsTrue H.tells
-        → version_named shape.now (seen_in (H.world host.old).disk) named ≡ Err place }
+        → version_named live_slot shape.now (seen_in (H.world host.old).disk) named ≡ Err place }
     ensures file { (file : FileId) (place : ℕ) → IsErrOf result (FolderFault.Damaged file place) → file ≡ Grain 0 named.written.grain }
     ensures failed { (file : FileId) → IsErrOf result (FolderFault.Failed file) → file ≡ Grain 0 named.written.grain }
     ensures asked { IsTrue H.tells → OnlyAsked (H.world host.old) (H.world host.new) }
@@ -90,11 +90,11 @@ pub fn read_versions<H: Host>(
     store: &mut Store,
     ends: &mut Ends,
 ) -> Result<(), FolderFault>
-    ensures found { OnOk result (IsTrue H.tells → first_missing shape.now (seen_in (H.world host.old).disk) named.now ≡ None) }
+    ensures found { OnOk result (IsTrue H.tells → first_missing live_slot shape.now (seen_in (H.world host.old).disk) named.now ≡ None) }
     ensures states { OnOk result (IsTrue H.tells → (grain : GrainId) → state_in store.new grain ≡ state_after shape.now (seen_in (H.world host.old).disk) (state_in store.old grain) named.now grain) }
     ensures ends { OnOk result ((grain : GrainId) → end_in ends.new grain ≡ end_after (end_in ends.old grain) named.now grain) }
     ensures damaged { (file : FileId) (place : ℕ) → IsErrOf result (FolderFault.Damaged file place) → IsTrue H.tells
-        → first_missing shape.now (seen_in (H.world host.old).disk) named.now ≡ Some (file, place) }
+        → first_missing live_slot shape.now (seen_in (H.world host.old).disk) named.now ≡ Some (file, place) }
     ensures failed { (file : FileId) → IsErrOf result (FolderFault.Failed file) → IsTrue H.tells
         → StopsAt shape.now (seen_in (H.world host.old).disk) named.now file }
     ensures asked { IsTrue H.tells → OnlyAsked (H.world host.old) (H.world host.new) }

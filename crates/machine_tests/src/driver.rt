@@ -1,7 +1,7 @@
 ghost use Rattle.std.specs.Prelude.{◌≡◌, true, IfOk};
 ghost use Rattle.script_tree.specs.Programs.{ProgramTree};
 ghost use Rattle.script_meaning.specs.Play.{asks};
-ghost use Rattle.script_machine.specs.Machines.{Answers, has_begun, pause_for, rest};
+ghost use Rattle.script_machine.specs.Machines.{AnswersRequest, has_begun, pause_for, rest};
 
 use crate::printing::{Deeds, add_call, add_grain, line_of, list_of, outcome_text};
 use crate::settings::Setting;
@@ -82,7 +82,7 @@ impl Driver<'_> {
         mode: Mode,
     ) -> Result<Input, Fail>
         requires { has_begun machine.now ≡ true }
-        ensures { IfOk result (λ input. (types : ProgramTree) → Pause.NeedGrain grain mode ≡ pause_for (asks (rest types machine.now)) → Answers (rest types machine.now) input) }
+        ensures { IfOk result (λ input. (types : ProgramTree) → Pause.NeedGrain grain mode ≡ pause_for (asks (rest types machine.now)) → AnswersRequest (rest types machine.now) input) }
     {
         let raise = machine.is_raise();
         self.note_lock(alloc, grain, mode, raise)?;
@@ -96,7 +96,7 @@ impl Driver<'_> {
     // What a machine is given that has paused.
     fn answer(&mut self, alloc: Global, machine: &Machine, pause: Pause) -> Result<Input, Fail>
         requires { has_begun machine.now ≡ true }
-        ensures { IfOk result (λ input. (types : ProgramTree) → pause ≡ pause_for (asks (rest types machine.now)) → Answers (rest types machine.now) input) }
+        ensures { IfOk result (λ input. (types : ProgramTree) → pause ≡ pause_for (asks (rest types machine.now)) → AnswersRequest (rest types machine.now) input) }
     {
         match pause {
             Pause::NeedGrain { grain, mode } => self.lock(alloc, machine, grain, mode),

@@ -117,13 +117,13 @@ module _ (r : Observed) (opened : Moment) (sealing : List Moment) (run : IsDepos
   abbrev KeepsAt : Moment → Image → Type 0
   KeepsAt m image = (k : KeepsJournal account_program [] r.old.output journal m image) × IsPrefix (entries_of k.said) (first_entry ∷ [])
 
-  unsaid_at : (m : Moment) (image : Image) → m.output ≡ r.old.output → IsLog (shape_in account_program) image [] → KeepsAt m image
+  unsaid_at : (m : Moment) (image : Image) → m.output ≡ r.old.output → IsLog live_slot (shape_in account_program) image [] → KeepsAt m image
   unsaid_at m image quiet log = (
     record { said = []; unsaid = []; later = journal; rest = []; split = refl; log = log; output = record { output = quiet ∙ sym (append-nil r.old.output); unended = tt; proper = tt } },
     (first_entry ∷ [], refl),
   )
 
-  sealed_at : (m : Moment) (image : Image) → m.output ≡ r.old.output → IsLog (shape_in account_program) image (first_commit ∷ []) → KeepsAt m image
+  sealed_at : (m : Moment) (image : Image) → m.output ≡ r.old.output → IsLog live_slot (shape_in account_program) image (first_commit ∷ []) → KeepsAt m image
   sealed_at m image quiet log = (
     record { said = []; unsaid = journal; later = []; rest = []; split = refl; log = log; output = record { output = quiet ∙ sym (append-nil r.old.output); unended = tt; proper = tt } },
     (first_entry ∷ [], refl),
@@ -132,7 +132,7 @@ module _ (r : Observed) (opened : Moment) (sealing : List Moment) (run : IsDepos
   grew : Grew (shape_in account_program) r.old.output r.new.output (first_entry ∷ []) []
   grew = record { output = run.output ∙ ap (λ (l : List ℕ). r.old.output ++ l) (sym (append-nil (reply_lines (shape_in account_program) (first_entry ∷ [])))); unended = tt; proper = (proper, tt) }
 
-  said_at : (image : Image) → IsLog (shape_in account_program) image (first_commit ∷ []) → KeepsAt (moment_of r.new) image
+  said_at : (image : Image) → IsLog live_slot (shape_in account_program) image (first_commit ∷ []) → KeepsAt (moment_of r.new) image
   said_at image log = (record { said = journal; unsaid = []; later = []; rest = []; split = refl; log = log; output = grew }, ([], refl))
 
   abbrev Known : Moment → Type 0
@@ -209,7 +209,7 @@ module _ (r : Observed) (opened : Moment) (sealing : List Moment) (run : IsDepos
   unfolding put put_grain
   one_batch = record { batches = 1; more = first_commit ∷ []; split = refl; records = (record { unit = refl; origin = refl; call = refl; answers = refl; result = refl; writes = refl }, tt) }
 
-  whole_batches : (image : Image) (log : List Commit) → MayHaveDeposit image → IsLog (shape_in account_program) image log → EndsABatch (core_end account_program course) [] log
+  whole_batches : (image : Image) (log : List Commit) → MayHaveDeposit image → IsLog live_slot (shape_in account_program) image log → EndsABatch (core_end account_program course) [] log
   whole_batches image log (inl none) is =
       subst (EndsABatch (core_end account_program course) []) (one_log (shape_in account_program) image [] log none.0 is) (no_batch (core_end account_program course) [])
   whole_batches image log (inr has) is =

@@ -38,7 +38,7 @@ use Rattle.promise_spec.specs.Orders.{IsOrdered}
 use Rattle.promise_spec.specs.Replies.{AreReplies, IsTrueOf, HasNoRecord}
 use Rattle.promise_spec.specs.Crashes.{HasOutcome, LeavesAlone, SurvivesCrashes, HoldsReplies}
 use Rattle.promise_spec.specs.Batches.{EndsABatch}
-use Rattle.promise_spec.specs.Exits.{IsLeft, IsDoubt, EndsWith, IsNowhere, doubtful}
+use Rattle.promise_spec.specs.Exits.{IsLeft, IsDoubt, HasLogAtExit, IsNowhere, doubtful}
 use Rattle.promise_spec.specs.Explained.{ComeOfEvents, AreAdded, AreSettled, IsExplained}
 use Rattle.promise_spec.specs.Journals.{Settlement, KeepsJournal, Backs, commits_of, entries_of}
 use Rattle.promise_spec.specs.Promise.{IsSoundFolder, HasEnded, Keeps}
@@ -266,7 +266,7 @@ module _ (r : Observed) (opened : Moment) (told doubting : List Moment) (run : I
   unfolding put put_grain
   one_batch = record { batches = 1; more = first_commit ∷ []; split = refl; records = (record { unit = refl; origin = refl; call = refl; answers = refl; result = refl; writes = refl }, tt) }
 
-  whole_batches : (image : Image) (log : List Commit) → MayHaveDeposit image → IsLog (shape_in account_program) image log → EndsABatch (core_end account_program course) [] log
+  whole_batches : (image : Image) (log : List Commit) → MayHaveDeposit image → IsLog live_slot (shape_in account_program) image log → EndsABatch (core_end account_program course) [] log
   whole_batches image log (inl none) is =
       subst (EndsABatch (core_end account_program course) []) (one_log (shape_in account_program) image [] log none.0 is) (no_batch (core_end account_program course) [])
   whole_batches image log (inr has) is =
@@ -291,7 +291,7 @@ module _ (r : Observed) (opened : Moment) (told doubting : List Moment) (run : I
   unfolding put put_grain
   doubt_is = refl
 
-  ends_with : (image : Image) → HasNone image ⊎ HasDeposit image → EndsWith account_program course (core_end account_program course) image
+  ends_with : (image : Image) → HasNone image ⊎ HasDeposit image → HasLogAtExit account_program course (core_end account_program course) image
   ends_with image (inl none) = record { log = []; is = none.0; which = inr (record { begins = 0; doubt = doubt_is; last = first_commit ∷ []; split = refl; units = sym doubtful_is }) }
   ends_with image (inr has) = record { log = first_commit ∷ []; is = has.0; which = inl refl }
 

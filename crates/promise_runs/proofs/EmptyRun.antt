@@ -32,8 +32,8 @@ module _ (p : Program) (r : Observed) (opening : List Commit) (run : IsEmptyRun 
     ]
   ]
 
-  whole : (image : Image) → IsImage r.new.disk image → IsLog (shape_in p) image (opening ++ [])
-  whole image is = subst (λ (l : List Commit). IsLog (shape_in p) image l) (sym (append-nil opening)) (run.logs image is)
+  whole : (image : Image) → IsImage r.new.disk image → IsLog live_slot (shape_in p) image (opening ++ [])
+  whole image is = subst (λ (l : List Commit). IsLog live_slot (shape_in p) image l) (sym (append-nil opening)) (run.logs image is)
 
   same_output : (m : Moment) → Member m (moments r (empty_course r opening)) → m.output ≡ r.old.output
   same_output m there = elim there [

@@ -102,7 +102,7 @@ both_blocks = record { blocks = record { small = (lit< tt, tt); at = refl; withi
 
 -- the image's log is both records
 abbrev HasBoth : Image → Type 0
-HasBoth image = IsLog (shape_in account_program) image both_commits
+HasBoth image = IsLog live_slot (shape_in account_program) image both_commits
 
 -- it has both or none
 abbrev MayHaveBoth : Image → Type 0
@@ -213,7 +213,7 @@ alone =
     at_each (LeavesAlone live_slot batched) opened batching (moment_of batch_after) (at_new batched refl [] (settled [])).alone (all_less IsOnWay (LeavesAlone live_slot batched) batching way_alone on_way)
     (alone_of batched refl (reply_text ++ second_text) (settled (manager_of both_block 1)) (settled both_versions) (sealed_front both_block 1))
 
-whole_batches : (image : Image) (log : List Commit) → MayHaveBoth image → IsLog (shape_in account_program) image log → EndsABatch (core_end account_program batch_course) [] log
+whole_batches : (image : Image) (log : List Commit) → MayHaveBoth image → IsLog live_slot (shape_in account_program) image log → EndsABatch (core_end account_program batch_course) [] log
 whole_batches image log (inl none) is = subst (EndsABatch (core_end account_program batch_course) []) (one_log (shape_in account_program) image [] log none.0 is) (no_batch (core_end account_program batch_course) [])
 whole_batches image log (inr has) is = subst (EndsABatch (core_end account_program batch_course) []) (one_log (shape_in account_program) image both_commits log has is) both_end
 

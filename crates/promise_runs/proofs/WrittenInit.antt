@@ -18,11 +18,11 @@ use Rattle.promise_spec.specs.Logs.{magic}
 use Rattle.promise_spec.specs.Words.{Command, Init, Run, Show, History, Audit, Load, Say}
 use Rattle.promise_spec.specs.Courses.{Observed}
 use Rattle.promise_spec.specs.Promise.{IsSoundFolder}
-use Rattle.promise_spec.specs.Commands.{IsProgramText, WasSilo, MakesSilo, Lasts}
+use Rattle.promise_spec.specs.Commands.{IsProgramText, WasSilo, MakesSilo, ManagerLasts}
 use Rattle.promise_spec.specs.Calls.{Obeys, Serves}
 use Rattle.promise_spec.proofs.Words.{one_command}
 use Rattle.promise_runs.specs.Examples.{account_text, accounts, account_program, program_bytes, account_1}
-use Rattle.promise_runs.specs.HostCalls.{Step, IsStep, Lead, Write, Sync, FailedSync, IsHosted}
+use Rattle.promise_runs.specs.HostCalls.{HostStep, IsStep, Lead, Write, Sync, FailedSync, IsHosted}
 use Rattle.promise_runs.specs.WrittenRun.{new_manager, new_disk, moment}
 use Rattle.promise_runs.specs.WrittenInit.{init_words, head_disk, header_bytes, length_field, length_pending, text_pending, closing_gate, header_pending, opening_gate, empty_disk, made_disk, opening_disk, unsynced, filling, init_before, init_after, made, init_at, opening_steps, made_steps, again_before, again_after, made_again, again_steps, cut_text, cut_before, cut_after, unmade, unmade_steps, halted_after, halted, halted_steps, other_words, unused}
 use Rattle.promise_runs.specs.WrittenDoubt.{one_fault}
@@ -274,7 +274,7 @@ abbrev past : ℕ → List Moment
 past many = take many (unsynced ∷ filling)
 
 -- the steps up to the open gate, and one more
-steps_then : (last : Step) → IsStep last.call (init_at [] opening_disk 3 8) last.after → Lead (init_at account_text empty_disk 0 0) (opening_steps ++ last ∷ []) last.after
+steps_then : (last : HostStep) → IsStep last.call (init_at [] opening_disk 3 8) last.after → Lead (init_at account_text empty_disk 0 0) (opening_steps ++ last ∷ []) last.after
 steps_then last is = (
   pulled [] empty_disk 0 (past 0) (λ channel. 0) account_text (λ none. cc none),
   (
@@ -332,7 +332,7 @@ again_beside : IsBeside again_before (moment [] made_disk)
 again_beside = record { output = refl; others = λ f no_log no_program. refl }
 
 -- nothing is pending in the manager file
-again_lasts : Lasts made_again
+again_lasts : ManagerLasts made_again
 again_lasts image left = settled_image made_disk manager new_manager (image manager) refl (left manager)
 
 pub again_makes : MakesSilo made_again

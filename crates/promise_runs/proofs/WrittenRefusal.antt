@@ -1,4 +1,5 @@
 -- The refusal that is written out keeps the promise.
+use Rattle.promise_spec.specs.Logs.{live_slot}
 use Rattle.std.proofs.Common.{◌≡◌, inl, ℕ, [], ◌∷◌, take, Result, refl, ap}
 use Rattle.host_trait.specs.Disk.{settled}
 use Rattle.silo_spec.specs.Silos.{manager}
@@ -17,8 +18,8 @@ use Rattle.promise_runs.proofs.NewSilo.{file_is_read}
 use Rattle.promise_runs.proofs.HostSteps.{synced_log}
 
 -- the folder reads as damaged there
-pub reads : opened_as (seen_at_entry refused) ≡ DamagedAt manager 16
-reads = ap (λ (r : Result Program ℕ). with_program (seen_at_entry refused) r) file_is_read
+pub reads : opened_as live_slot (seen_at_entry refused) ≡ DamagedAt manager 16
+reads = ap (λ (r : Result Program ℕ). with_program live_slot (seen_at_entry refused) r) file_is_read
 
 -- at each moment all is as at entry
 untouched : IsUntouched torn_before torn_after

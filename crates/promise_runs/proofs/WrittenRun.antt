@@ -14,7 +14,7 @@ use Rattle.explained_runs.proofs.ShownPromise.{promised}
 use Rattle.promise_runs.specs.Examples.{accounts, account_program, deposit_call, first_entry, grain_bytes, block_bytes, manager_bytes}
 use Rattle.promise_runs.specs.DepositRuns.{IsDepositRun, deposit_course}
 use Rattle.promise_runs.specs.HostCalls.{IsHosted}
-use Rattle.promise_runs.specs.WrittenRun.{new_manager, new_disk, version_pending, block_pending, gate_pending, version_disk, voted_disk, block_disk, staged_disk, sealed_disk, request_line, reply_text, moment, opened, sealing, world_before, written, written_steps}
+use Rattle.promise_runs.specs.WrittenRun.{new_manager, new_disk, version_pending, block_pending, gate_pending, version_disk, voted_disk, block_disk, staged_disk, sealed_disk, request_line, reply_text, moment, opened, sealing, world_before, written_run, written_steps}
 use Rattle.promise_runs.proofs.FirstDeposit.{reply}
 use Rattle.promise_runs.proofs.NewSilo.{new_images, sealed_images, seen_possible, new_folder, sound_world, program_spelled, line_asks}
 use Rattle.promise_runs.proofs.SealingDisks.{at_new, at_block, at_staged, at_sealing, at_sealed, if_none, if_has}
@@ -22,14 +22,14 @@ use Rattle.promise_runs.proofs.HostSteps.{pulled, ended, wrote_grain, wrote_log,
 use Rattle.promise_runs.proofs.DepositRun.{kept, shown}
 use Rattle.promise_runs.proofs.AccountText.{account_is_checked}
 
-asks : IsLineCall accounts (lines written) 1 deposit_call
+asks : IsLineCall accounts (lines written_run) 1 deposit_call
 unfolding serde_json_on_literals
 asks = record { index = 0; text = request_line; number = refl; there = refl; reads = line_asks request_line 5 refl refl refl }
 
 replies_are : reply_text ≡ reply_lines (shape_in account_program) (first_entry ∷ [])
 replies_are = ap (λ (l : List ℕ). l ++ []) (sym reply)
 
-pub is_deposit_run : IsDepositRun written opened sealing
+pub is_deposit_run : IsDepositRun written_run opened sealing
 is_deposit_run = record {
   ending = refl;
   single = (refl, refl, refl);
@@ -45,17 +45,17 @@ is_deposit_run = record {
   output = replies_are;
   entry = λ image left. (left, new_images image left);
   sealed = (
-    if_none written [] (moment [] version_disk) (at_new written refl [] version_pending),
+    if_none written_run [] (moment [] version_disk) (at_new written_run refl [] version_pending),
     (
-      if_none written [] (moment [] voted_disk) (at_new written refl [] (settled grain_bytes)),
+      if_none written_run [] (moment [] voted_disk) (at_new written_run refl [] (settled grain_bytes)),
       (
-        if_none written [] (moment [] block_disk) (at_block written refl [] block_bytes (settled grain_bytes)),
-        (if_none written [] (moment [] staged_disk) (at_staged written refl [] block_bytes (settled grain_bytes)), (at_sealing written refl [], (if_has written [] (moment [] sealed_disk) (at_sealed written refl []), tt))),
+        if_none written_run [] (moment [] block_disk) (at_block written_run refl [] block_bytes (settled grain_bytes)),
+        (if_none written_run [] (moment [] staged_disk) (at_staged written_run refl [] block_bytes (settled grain_bytes)), (at_sealing written_run refl [], (if_has written_run [] (moment [] sealed_disk) (at_sealed written_run refl []), tt))),
       ),
     ),
   );
   logged = sealed_images;
-  alone = ((at_new written refl [] (settled [])).alone, (at_sealed written refl reply_text).alone);
+  alone = ((at_new written_run refl [] (settled [])).alone, (at_sealed written_run refl reply_text).alone);
   some = λ file. (sealed_disk file).seen;
   possible = seen_possible (manager_bytes 1) grain_bytes;
   faults = λ channel. refl;
@@ -64,15 +64,15 @@ is_deposit_run = record {
 pub sound_at_entry : IsSoundFolder account_program world_before
 sound_at_entry = sound_world world_before (λ image left. left)
 
-pub written_keeps : Keeps account_program written (deposit_course opened sealing written)
-written_keeps = kept written opened sealing is_deposit_run
+pub written_keeps : Keeps account_program written_run (deposit_course opened sealing written_run)
+written_keeps = kept written_run opened sealing is_deposit_run
 
 -- it shows what has to be shown
-pub written_shows : Shows account_program written (deposit_course opened sealing written)
-written_shows = shown written opened sealing is_deposit_run sound_at_entry new_folder (seen_possible new_manager [])
+pub written_shows : Shows account_program written_run (deposit_course opened sealing written_run)
+written_shows = shown written_run opened sealing is_deposit_run sound_at_entry new_folder (seen_possible new_manager [])
 
-pub written_promises : Promises plain_manner written
-written_promises = promised account_program written (deposit_course opened sealing written) account_is_checked written_shows plain_manner refl program_spelled
+pub written_promises : Promises plain_manner written_run
+written_promises = promised account_program written_run (deposit_course opened sealing written_run) account_is_checked written_shows plain_manner refl program_spelled
 
 -- ---- the host's calls
 
@@ -89,7 +89,7 @@ gate_wrote = record { pends = record { base = refl; ranges = refl; longest = ref
 abbrev past : ℕ → List Moment
 past many = opened ∷ take many sealing
 
-pub is_hosted : IsHosted written written_steps
+pub is_hosted : IsHosted written_run written_steps
 is_hosted = (
   synced_log [] (settled new_manager) (settled []) 0 [] world_before.input,
   (

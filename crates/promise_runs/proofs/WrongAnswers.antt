@@ -19,11 +19,11 @@ use Rattle.script_tree.specs.Programs.{ProgramTree}
 use Rattle.silo_spec.specs.Silos.{manager, program_file, IsSilo, HasProgram}
 use Rattle.promise_spec.specs.Programs.{Program, ProgramFault, IsChecked, shape_in, unless_fault, checked_in, program_in}
 use Rattle.promise_spec.specs.Records.{Commit}
-use Rattle.promise_spec.specs.Logs.{magic, IsLog}
+use Rattle.promise_spec.specs.Logs.{magic, IsLog, live_slot}
 use Rattle.promise_spec.specs.Images.{IsSound}
 use Rattle.promise_spec.specs.Openings.{Reading, NoSilo, DamagedAt, Reads, opened_as}
 use Rattle.promise_spec.specs.Outputs.{reply_lines}
-use Rattle.promise_spec.specs.Words.{Given, Command, Init, Run, Show, History, Audit, Load, Manner}
+use Rattle.promise_spec.specs.Words.{GivenOption, Command, Init, Run, Show, History, Audit, Load, Manner}
 use Rattle.promise_spec.specs.Endings as ending
 use Rattle.promise_spec.specs.Courses.{Observed, seen_at_entry}
 use Rattle.promise_spec.specs.Refusals.{IsHead, IsNamedIn, IsReadFor, IsRefusedBy, MustBeRead, IsUnopened}
@@ -46,7 +46,7 @@ not_none reading p log a b = let e : Reads p log ≡ NoSilo = sym a ∙ b in abs
 -- ---- refusals
 
 pub not_opened : (r : Observed) → IsUnopened r → r.ending ≡ ending.Done → ⊥
-not_opened r unopened is = subst (IsRefusedBy (seen_at_entry r) (opened_as (seen_at_entry r))) is unopened.refused
+not_opened r unopened is = subst (IsRefusedBy (seen_at_entry r) (opened_as live_slot (seen_at_entry r))) is unopened.refused
 
 pub read_unopened : (r : Observed) → IsUnopened r → r.old.input ≢ [] → r.new.input ≡ [] → ⊥
 read_unopened r unopened some all = some (sym unopened.unread ∙ all)
@@ -76,47 +76,47 @@ said_some shape (x ∷ entries) e there same =
     absurd (subst (λ (l : List ℕ). Member 10 l) (sym same) (in_append 10 all [] (inl inside)))
 
 module _ (m : Manner) (r : Observed) where
-  pub another_place : (f : FileId) (place : ℕ) → Promises m r → r.ending ≡ ending.Damaged f place → opened_as (seen_at_entry r) ≢ DamagedAt f place → ⊥
+  pub another_place : (f : FileId) (place : ℕ) → Promises m r → r.ending ≡ ending.Damaged f place → opened_as live_slot (seen_at_entry r) ≢ DamagedAt f place → ⊥
   another_place f place keeps is other = elim keeps.answers [
-    | inl unopened ↦ other (subst (IsRefusedBy (seen_at_entry r) (opened_as (seen_at_entry r))) is unopened.refused)
+    | inl unopened ↦ other (subst (IsRefusedBy (seen_at_entry r) (opened_as live_slot (seen_at_entry r))) is unopened.refused)
     | inr opened ↦ subst ending.IsCarried is opened.carried
   ]
 
-  pub sound_damaged : (p : Program) (f : FileId) (place : ℕ) → Promises m r → IsChecked p → IsSound p (seen_at_entry r) → r.ending ≡ ending.Damaged f place → ⊥
+  pub sound_damaged : (p : Program) (f : FileId) (place : ℕ) → Promises m r → IsChecked p → IsSound live_slot p (seen_at_entry r) → r.ending ≡ ending.Damaged f place → ⊥
   sound_damaged p f place keeps checked sound is =
-      another_place f place keeps is (not_two (opened_as (seen_at_entry r)) p sound.log f place (sound_is_read p (seen_at_entry r) checked sound))
+      another_place f place keeps is (not_two (opened_as live_slot (seen_at_entry r)) p sound.log f place (sound_is_read p (seen_at_entry r) checked sound))
 
   pub silo_called_none : Promises m r → IsSilo magic (seen_at_entry r manager) → r.ending ≡ ending.NotASilo → ⊥
   silo_called_none keeps silo is = elim keeps.answers [
-    | inl unopened ↦ (no_silo_is_read (seen_at_entry r)).0 (subst (IsRefusedBy (seen_at_entry r) (opened_as (seen_at_entry r))) is unopened.refused) silo
+    | inl unopened ↦ (no_silo_is_read (seen_at_entry r)).0 (subst (IsRefusedBy (seen_at_entry r) (opened_as live_slot (seen_at_entry r))) is unopened.refused) silo
     | inr opened ↦ subst ending.IsCarried is opened.carried
   ]
 
   pub none_opened : Promises m r → (IsSilo magic (seen_at_entry r manager) → ⊥) → r.ending ≡ ending.Done → ⊥
   none_opened keeps none is = elim keeps.answers [
     | inl unopened ↦ not_opened r unopened is
-    | inr opened ↦ not_none (opened_as (seen_at_entry r)) opened.openable.program opened.openable.log opened.openable.reads ((no_silo_is_read (seen_at_entry r)).1 none)
+    | inr opened ↦ not_none (opened_as live_slot (seen_at_entry r)) opened.openable.program opened.openable.log opened.openable.reads ((no_silo_is_read (seen_at_entry r)).1 none)
   ]
 
-  pub damaged_carried : (f : FileId) (place : ℕ) → Promises m r → opened_as (seen_at_entry r) ≡ DamagedAt f place → r.new.input ≢ r.old.input → ⊥
+  pub damaged_carried : (f : FileId) (place : ℕ) → Promises m r → opened_as live_slot (seen_at_entry r) ≡ DamagedAt f place → r.new.input ≢ r.old.input → ⊥
   damaged_carried f place keeps damaged pulled = elim keeps.answers [
     | inl unopened ↦ pulled unopened.unread
-    | inr opened ↦ not_two (opened_as (seen_at_entry r)) opened.openable.program opened.openable.log f place opened.openable.reads damaged
+    | inr opened ↦ not_two (opened_as live_slot (seen_at_entry r)) opened.openable.program opened.openable.log f place opened.openable.reads damaged
   ]
 
   pub no_bad_use : Promises m r → r.ending ≡ ending.BadUse → ⊥
   no_bad_use keeps is = elim keeps.answers [
-    | inl unopened ↦ subst (IsRefusedBy (seen_at_entry r) (opened_as (seen_at_entry r))) is unopened.refused
+    | inl unopened ↦ subst (IsRefusedBy (seen_at_entry r) (opened_as live_slot (seen_at_entry r))) is unopened.refused
     | inr opened ↦ subst ending.IsCarried is opened.carried
   ]
 
   pub grain_blamed : (slot : ℕ) (grain : GrainId) → Promises m r → (IsSilo magic (seen_at_entry r manager) → ⊥) → r.ending ≡ ending.DiskFault (file.Grain slot grain) → ⊥
   grain_blamed slot grain keeps none is = elim keeps.answers [
     | inl unopened ↦
-        let must : MustBeRead (seen_at_entry r) (opened_as (seen_at_entry r)) (file.Grain slot grain) = subst (IsRefusedBy (seen_at_entry r) (opened_as (seen_at_entry r))) is unopened.refused in
+        let must : MustBeRead (seen_at_entry r) (opened_as live_slot (seen_at_entry r)) (file.Grain slot grain) = subst (IsRefusedBy (seen_at_entry r) (opened_as live_slot (seen_at_entry r))) is unopened.refused in
         let same : file.Grain slot grain ≡ manager = subst (λ (reading : Reading). MustBeRead (seen_at_entry r) reading (file.Grain slot grain)) ((no_silo_is_read (seen_at_entry r)).1 none) must in
         absurd (cc same)
-    | inr opened ↦ not_none (opened_as (seen_at_entry r)) opened.openable.program opened.openable.log opened.openable.reads ((no_silo_is_read (seen_at_entry r)).1 none)
+    | inr opened ↦ not_none (opened_as live_slot (seen_at_entry r)) opened.openable.program opened.openable.log opened.openable.reads ((no_silo_is_read (seen_at_entry r)).1 none)
   ]
 
   -- where a grain's file is blamed a record names the grain
@@ -133,7 +133,7 @@ module _ (m : Manner) (r : Observed) where
   pub unnamed_blamed : (slot : ℕ) (grain : GrainId) → Promises m r → (IsNamedIn (seen_at_entry r) grain → ⊥) → r.ending ≡ ending.DiskFault (file.Grain slot grain) → ⊥
   unnamed_blamed slot grain keeps unnamed is = elim keeps.answers [
     | inl unopened ↦
-        unnamed (named_of_reading (seen_at_entry r) (opened_as (seen_at_entry r)) slot grain (subst (IsRefusedBy (seen_at_entry r) (opened_as (seen_at_entry r))) is unopened.refused))
+        unnamed (named_of_reading (seen_at_entry r) (opened_as live_slot (seen_at_entry r)) slot grain (subst (IsRefusedBy (seen_at_entry r) (opened_as live_slot (seen_at_entry r))) is unopened.refused))
     | inr opened ↦ not_manager slot grain (opened.file (file.Grain slot grain) is)
   ]
 
@@ -148,12 +148,12 @@ module _ (m : Manner) (r : Observed) where
         absurd (cc wrong)
   ]
 
-  pub blamed_behind : (last grain : GrainId) (place slot : ℕ) → Promises m r → opened_as (seen_at_entry r) ≡ DamagedAt (file.Grain 0 last) place → is_before last grain ≡ true → r.ending ≡ ending.DiskFault (file.Grain slot grain) → ⊥
+  pub blamed_behind : (last grain : GrainId) (place slot : ℕ) → Promises m r → opened_as live_slot (seen_at_entry r) ≡ DamagedAt (file.Grain 0 last) place → is_before last grain ≡ true → r.ending ≡ ending.DiskFault (file.Grain slot grain) → ⊥
   blamed_behind last grain place slot keeps damaged later is = elim keeps.answers [
     | inl unopened ↦
-        let must : MustBeRead (seen_at_entry r) (opened_as (seen_at_entry r)) (file.Grain slot grain) = subst (IsRefusedBy (seen_at_entry r) (opened_as (seen_at_entry r))) is unopened.refused in
+        let must : MustBeRead (seen_at_entry r) (opened_as live_slot (seen_at_entry r)) (file.Grain slot grain) = subst (IsRefusedBy (seen_at_entry r) (opened_as live_slot (seen_at_entry r))) is unopened.refused in
         not_behind last grain place slot later (subst (λ (reading : Reading). MustBeRead (seen_at_entry r) reading (file.Grain slot grain)) damaged must)
-    | inr opened ↦ not_two (opened_as (seen_at_entry r)) opened.openable.program opened.openable.log (file.Grain 0 last) place opened.openable.reads damaged
+    | inr opened ↦ not_two (opened_as live_slot (seen_at_entry r)) opened.openable.program opened.openable.log (file.Grain 0 last) place opened.openable.reads damaged
   ]
 
   pub done_unread : Promises m r → r.ending ≡ ending.Done → r.new.input ≢ [] → ⊥
@@ -191,7 +191,7 @@ same_text : (text : Program → List Commit → List ℕ) (p q : Program) (a b :
 same_text text p q a b e f = λ i. text (e i) (f i)
 
 pub another_text : (text : Program → List Commit → List ℕ) (r : Observed) (p : Program) (log : List Commit) → Reports text r → r.ending ≡ ending.Done
-    → IsChecked p → HasProgram p.text (seen_at_entry r program_file) → IsLog (shape_in p) (seen_at_entry r) log → r.new.output ≢ r.old.output ++ text p log → ⊥
+    → IsChecked p → HasProgram p.text (seen_at_entry r program_file) → IsLog live_slot (shape_in p) (seen_at_entry r) log → r.new.output ≢ r.old.output ++ text p log → ⊥
 another_text text r p log (inl unopened) done checked program is differ = not_opened r unopened done
 another_text text r p log (inr reported) done checked program is differ =
     let e = reads_is reported.program p reported.log log (sym reported.reads ∙ log_is_read (seen_at_entry r) p log checked program is) in
@@ -246,7 +246,7 @@ module _ (r : Observed) (makes : MakesSilo r) where
 -- ---- words
 
 unopened_bad : (r : Observed) → IsUnopened r → r.ending ≡ ending.BadUse → ⊥
-unopened_bad r unopened is = subst (IsRefusedBy (seen_at_entry r) (opened_as (seen_at_entry r))) is unopened.refused
+unopened_bad r unopened is = subst (IsRefusedBy (seen_at_entry r) (opened_as live_slot (seen_at_entry r))) is unopened.refused
 
 reported_bad : (text : Program → List Commit → List ℕ) (r : Observed) → IsReported text r → r.ending ≡ ending.BadUse → ⊥
 reported_bad text r reported is = elim reported.ending [
@@ -280,7 +280,7 @@ never_bad_use History r reports is = unreported history_text r reports is
 never_bad_use Audit r audits is = unaudited r audits is
 never_bad_use (Load n seed m) r loads is = unloaded n seed m r loads is
 
-module _ (built : Command → Bool) (takes : Given → Bool) (words : List (List ℕ)) (r : Observed) (serves : Serves built takes words r) where
+module _ (built : Command → Bool) (takes : GivenOption → Bool) (words : List (List ℕ)) (r : Observed) (serves : Serves built takes words r) where
   pub other_answer : ((c : Command) → Understands built takes words c → ⊥) → r.ending ≢ ending.BadUse → r.ending ≢ ending.Memory → ⊥
   other_answer none other some = elim (serves.refuses none).ending [ inl bad ↦ other bad | inr want ↦ some want ]
 
@@ -292,7 +292,7 @@ module _ (built : Command → Bool) (takes : Given → Bool) (words : List (List
 
 -- ---- over any host
 
-module _ (built : Command → Bool) (takes : Given → Bool) (words : List (List ℕ)) (e : ending.Ending) (old new : Channel → ℕ) where
+module _ (built : Command → Bool) (takes : GivenOption → Bool) (words : List (List ℕ)) (e : ending.Ending) (old new : Channel → ℕ) where
   pub understood_bad : (c : Command) → AnswersAs built takes words e old new → Understands built takes words c → e ≡ ending.BadUse → ⊥
   understood_bad c answers says is = answers.said c says is
 

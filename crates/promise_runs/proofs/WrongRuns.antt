@@ -22,7 +22,7 @@ use Rattle.commit_log.specs.Spelling.{spelling_of_record, spelling_of_body}
 use Rattle.core_model.specs.declared.effects.Effect.{Effect}
 use Rattle.core_model.specs.declared.events.CoreEvent.{CoreEvent}
 use Rattle.core_model.specs.declared.events.CoreEvent.TheVariants as event
-use Rattle.core_model.specs.Causes.{HasCause, IsCaused, IsRefusedBy}
+use Rattle.core_model.specs.Causes.{HasCause, IsCaused, IsRefusedLock}
 use Rattle.core_model.specs.Events.{applies, run, step}
 use Rattle.core_model.specs.Legal.{begins, ends}
 use Rattle.core_model.specs.Lines.{DifferInLine}
@@ -44,7 +44,7 @@ use Rattle.promise_spec.specs.Records.{Commit, Standing, States, after_writes, A
 use Rattle.promise_spec.specs.Serial.{IsSerial, played}
 use Rattle.promise_spec.specs.Logs.{live_slot, magic, IsLog, IsPrefix, body_of}
 use Rattle.promise_spec.specs.Moments.{IsImageOf}
-use Rattle.promise_spec.specs.Lines.{Reads, IsLineCall}
+use Rattle.promise_spec.specs.Lines.{ReadsLineAs, IsLineCall}
 use Rattle.promise_spec.specs.Outputs.{reply_lines}
 use Rattle.promise_spec.specs.Cores.{AppliesAt, state_before, core_from}
 use Rattle.promise_spec.specs.Causes.{HasDoubt, IsAlive, NoneRose, syncs_of}
@@ -68,7 +68,7 @@ ok_is : (x y : Result Call BadRequest) (a b : Call) → x ≡ Ok a → y ≡ Ok 
 ok_is x y a b is_a is_b same = cc
 
 -- a line reads in one way
-same_request : (types : ProgramTree) (lines : List (List ℕ)) (n : ℕ) (a b : Result Call BadRequest) → Reads types lines n a → Reads types lines n b → a ≡ b
+same_request : (types : ProgramTree) (lines : List (List ℕ)) (n : ℕ) (a b : Result Call BadRequest) → ReadsLineAs types lines n a → ReadsLineAs types lines n b → a ≡ b
 same_request types lines n a b x y =
     let index : x.index ≡ y.index = (let i : n ≡ x.index + 1 = x.number in let j : n ≡ y.index + 1 = y.number in omega arith) in
     let text : x.text ≡ y.text = some_is x.text y.text (sym x.there ∙ ap (slice_get lines) index ∙ y.there) in
@@ -109,7 +109,7 @@ many (batch ∷ batches) records sizes long same =
     let same_count : length (map (λ (c : Commit). c.logged) batch) ≡ length records = sym one ∙ ap (λ (l : List ℕ). from_le_bytes w32 (take 4 l)) body ∙ other in
     omega (arith, same_count, size, few, long)
 
-pub too_many : (shape : Shape) (image : Image) (records : List CommitRecord) (gate : ℕ) (log : List Commit) → length records ≡ 65 → LogsUpTo (spelling_of_body records ∷ []) gate (image manager) → IsLog shape image log → ⊥
+pub too_many : (shape : Shape) (image : Image) (records : List CommitRecord) (gate : ℕ) (log : List Commit) → length records ≡ 65 → LogsUpTo (spelling_of_body records ∷ []) gate (image manager) → IsLog live_slot shape image log → ⊥
 too_many shape image records gate log long blocks_are is =
     many is.batches records is.sizes long (blocks.one_log (map body_of is.batches) (spelling_of_body records ∷ []) is.gate gate (image manager) is.blocks blocks_are).0
 
@@ -120,23 +120,23 @@ nothing_added types standing (x ∷ added) (inl none) l there = absurd none
 nothing_added types standing (x ∷ added) (inr follow) l there = absurd (cc follow.doubt)
 
 module _ (p : Program) (r : Observed) (c : Course) where
-  pub read_at_entry : (log : List Commit) → Keeps p r c → IsLog (shape_in p) (seen_at_entry r) log → c.opening ≡ log
+  pub read_at_entry : (log : List Commit) → Keeps p r c → IsLog live_slot (shape_in p) (seen_at_entry r) log → c.opening ≡ log
   read_at_entry log keeps is = one_log (shape_in p) (seen_at_entry r) c.opening log keeps.headline.ordered.read is
 
-  pub opening_is : (image : Image) (log : List Commit) → Keeps p r c → IsImage (last_of (moment_of r.old) c.early).disk image → IsLog (shape_in p) image log → c.opening ≡ log
+  pub opening_is : (image : Image) (log : List Commit) → Keeps p r c → IsImage (last_of (moment_of r.old) c.early).disk image → IsLog live_slot (shape_in p) image log → c.opening ≡ log
   opening_is image log keeps left is = one_log (shape_in p) image c.opening log (keeps.headline.ordered.opened image left).log is
 
-  pub shorter : (image : Image) (log : List Commit) → Keeps p r c → IsImageOf (moments r c) image → IsLog (shape_in p) image log → (IsPrefix c.opening log → ⊥) → ⊥
+  pub shorter : (image : Image) (log : List Commit) → Keeps p r c → IsImageOf (moments r c) image → IsLog live_slot (shape_in p) image log → (IsPrefix c.opening log → ⊥) → ⊥
   shorter image log keeps left is lost =
       let k = keeps.headline.crashes.keeps image left in
       lost (subst (λ (l : List Commit). IsPrefix c.opening l) (one_log (shape_in p) image k.log log k.is is) k.longer)
 
-  pub part_of_batch : (image : Image) (more : List Commit) (n : ℕ) → Keeps p r c → IsImageOf (moments r c) image → IsLog (shape_in p) image (c.opening ++ more)
+  pub part_of_batch : (image : Image) (more : List Commit) (n : ℕ) → Keeps p r c → IsImageOf (moments r c) image → IsLog live_slot (shape_in p) image (c.opening ++ more)
       → length (kept_by (core_end p c) n) < length more → length more < length (kept_by (core_end p c) (n + 1)) → ⊥
   part_of_batch image more n keeps left is above below =
       not_between (core_end p c) c.opening more n (keeps.records.whole image (c.opening ++ more) left is) above below
 
-  pub one_of_two : (image : Image) (l : Commit) → Keeps p r c → IsImageOf (moments r c) image → IsLog (shape_in p) image (c.opening ++ (l ∷ [])) → 2 ≤ length (kept_by (core_end p c) 1) → ⊥
+  pub one_of_two : (image : Image) (l : Commit) → Keeps p r c → IsImageOf (moments r c) image → IsLog live_slot (shape_in p) image (c.opening ++ (l ∷ [])) → 2 ≤ length (kept_by (core_end p c) 1) → ⊥
   one_of_two image l keeps left is two =
       let none : length (kept_by (core_end p c) 0) ≡ 0 = refl in
       let below : length (l ∷ []) < length (kept_by (core_end p c) (0 + 1)) = omega (arith, two) in
@@ -160,7 +160,7 @@ module _ (p : Program) (r : Observed) (c : Course) where
   pub changed_header : (m : Moment) (image : Image) → Keeps p r c → Member m (moments r c) → IsImage m.disk image → take 15 (image manager) ≢ take 15 (seen_at_entry r manager) → ⊥
   changed_header m image keeps there left differ = differ ((keeps.headline.crashes.alone m there).header image left)
 
-  pub early_reply : (m : Moment) (image : Image) (more : List ℕ) → Keeps p r c → Member m (moments r c) → IsImage m.disk image → IsLog (shape_in p) image c.opening → m.output ≡ r.old.output ++ more → Member 10 more
+  pub early_reply : (m : Moment) (image : Image) (more : List ℕ) → Keeps p r c → Member m (moments r c) → IsImage m.disk image → IsLog live_slot (shape_in p) image c.opening → m.output ≡ r.old.output ++ more → Member 10 more
       → ((e : Entry) → Member e c.entries → (l : Commit) × Member l c.added × Acknowledges e l × (Member l c.opening → ⊥)) → ⊥
   early_reply m image more keeps there left is grew feed backed =
       let h = keeps.headline.holds m image there left in
@@ -191,7 +191,7 @@ module _ (p : Program) (r : Observed) (c : Course) where
   pub locked_and_logged : (e : Entry) (l : Commit) (by : UnitNo) (grain : GrainId) → Keeps p r c → Member e c.entries → e.what ≡ settled.Lock by grain → Member l c.added → l.logged.unit ≡ e.unit → ⊥
   locked_and_logged e l by grain keeps there is added same = subst (λ (w : Settled). IsTrueOf p r c e w) is (keeps.headline.replies.true_each e there) l added same
 
-  in_order : (image : Image) (log : List Commit) (l : Commit) → Keeps p r c → IsImage r.new.disk image → IsLog (shape_in p) image log → Member l log → Member l (order c)
+  in_order : (image : Image) (log : List Commit) (l : Commit) → Keeps p r c → IsImage r.new.disk image → IsLog live_slot (shape_in p) image log → Member l log → Member l (order c)
   in_order image log l keeps left is there =
       let k = keeps.exit.logs image left in
       let here : Member l k.log = subst (λ (x : List Commit). Member l x) (one_log (shape_in p) image log k.log is k.is) there in
@@ -200,7 +200,7 @@ module _ (p : Program) (r : Observed) (c : Course) where
         | inr lacks ↦ subst (λ (x : List Commit). Member l x) (sym lacks.split) (in_append l k.log lacks.last (inl here))
       ]
 
-  pub refused_in_doubt : (e : Entry) (l : Commit) (image : Image) (log : List Commit) → Keeps p r c → Member e c.entries → e.what ≡ settled.Disk → IsImage r.new.disk image → IsLog (shape_in p) image log → Member l log
+  pub refused_in_doubt : (e : Entry) (l : Commit) (image : Image) (log : List Commit) → Keeps p r c → Member e c.entries → e.what ≡ settled.Disk → IsImage r.new.disk image → IsLog live_slot (shape_in p) image log → Member l log
       → (Member l c.opening → ⊥) → l.logged.unit ≡ e.unit → ⊥
   refused_in_doubt e l image log keeps there is left log_is in_log not_old same =
       let none : HasNoRecord c e.unit = subst (λ (w : Settled). IsTrueOf p r c e w) is (keeps.headline.replies.true_each e there) in
@@ -263,7 +263,7 @@ module _ (p : Program) (r : Observed) (c : Course) where
   no_refusal e by grain keeps there is never =
       let k = settled_too e keeps there in
       let w = run (begins (core_run p c)) k.before in
-      let refused : IsRefusedBy w k.event e.unit by grain = subst (λ (x : Settled). HasCause w k.event (step w k.event) e.unit x) is k.cause in
+      let refused : IsRefusedLock w k.event e.unit by grain = subst (λ (x : Settled). HasCause w k.event (step w k.event) e.unit x) is k.cause in
       let front : take (length k.before) c.events ≡ k.before = ap (take (length k.before)) k.split ∙ take-append_seam k.before (k.event ∷ k.later) in
       let there_at : slice_get c.events (length k.before) ≡ Some (event.Refuse e.unit grain refused.mode) =
       ap (λ (x : List CoreEvent). slice_get x (length k.before)) k.split ∙ get_seam k.before k.event k.later ∙ ap Some refused.refused in

@@ -16,11 +16,11 @@ use Rattle.promise_runs.specs.Examples.{accounts, account_program, first_commit,
 
 -- the image is one of the program, and has an empty log, or the deposit's record
 abbrev pub HasNone : Image → Type 0
-HasNone image = IsLog (shape_in account_program) image [] × HasProgram account_program.text (image program_file)
+HasNone image = IsLog live_slot (shape_in account_program) image [] × HasProgram account_program.text (image program_file)
 
 abbrev pub HasDeposit : Image → Type 0
 HasDeposit image =
-    IsLog (shape_in account_program) image (first_commit ∷ []) × HasProgram account_program.text (image program_file)
+    IsLog live_slot (shape_in account_program) image (first_commit ∷ []) × HasProgram account_program.text (image program_file)
 
 -- a moment between: what is written by then is this, each image is such a one, and other files and the header are as they
 -- were
@@ -45,7 +45,7 @@ pub record IsDepositRun (r : Observed) (opened : Moment) (sealing : List Moment)
   pub given : lines r ≡ lines_of r.old.input
   pub asks : IsLineCall accounts (lines r) 1 deposit_call
   pub left : r.new.input ≡ []
-  pub read : IsLog (shape_in account_program) (seen_at_entry r) []
+  pub read : IsLog live_slot (shape_in account_program) (seen_at_entry r) []
   pub past : r.new.past ≡ r.old.past ++ (opened ∷ (sealing ++ moment_of r.new ∷ []))
   pub quiet : opened.output ≡ r.old.output
   pub output : r.new.output ≡ r.old.output ++ reply_lines (shape_in account_program) (first_entry ∷ [])

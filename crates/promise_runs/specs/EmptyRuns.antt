@@ -21,11 +21,11 @@ pub record IsEmptyRun (p : Program) (r : Observed) (opening : List Commit) : Typ
   pub left : r.new.input ≡ []
   pub output : r.new.output ≡ r.old.output
   pub syncs : r.new.syncs ≡ r.old.syncs + 1
-  pub read : IsLog (shape_in p) (seen_at_entry r) opening
+  pub read : IsLog live_slot (shape_in p) (seen_at_entry r) opening
   pub synced : r.new.past ≡ r.old.past ++ moment_of r.new ∷ []
   pub entry : (image : Image) → IsImage r.new.disk image → IsImage r.old.disk image
-  pub logs : (image : Image) → IsImage r.new.disk image → IsLog (shape_in p) image opening
-  pub sound : (image : Image) → IsImage r.new.disk image → IsSoundIfSilo p image
+  pub logs : (image : Image) → IsImage r.new.disk image → IsLog live_slot (shape_in p) image opening
+  pub sound : (image : Image) → IsImage r.new.disk image → IsSoundIfSilo live_slot p image
   pub alone : LeavesAlone live_slot r (moment_of r.new)
   pub some : Image
   pub possible : IsImage r.new.disk some

@@ -24,22 +24,22 @@ pub record WroteWithin (file : FileId) (at n : ℕ) (old new : World) : Type 0 w
   pub written : Written file at n old new
 
 -- what the host's contract says of what it holds before and after such a call
-abbrev pub Says : HostCall → World → World → Type 0
-Says (Pull n into) old new = Pulled n into old new
-Says (Emit bytes) old new = IsEmitted bytes old new
-Says (Write file at bytes) old new = WroteWithin file at (length bytes) old new × Overwrote at bytes (old.disk file) (new.disk file)
-Says (FailedWrite file at n) old new = WroteWithin file at n old new
-Says (Sync file) old new = Synced file true old new × (new.syncs ≡ old.syncs + 1)
-Says (FailedSync file) old new = Synced file false old new
+abbrev pub CallSays : HostCall → World → World → Type 0
+CallSays (Pull n into) old new = Pulled n into old new
+CallSays (Emit bytes) old new = IsEmitted bytes old new
+CallSays (Write file at bytes) old new = WroteWithin file at (length bytes) old new × Overwrote at bytes (old.disk file) (new.disk file)
+CallSays (FailedWrite file at n) old new = WroteWithin file at n old new
+CallSays (Sync file) old new = Synced file true old new × (new.syncs ≡ old.syncs + 1)
+CallSays (FailedSync file) old new = Synced file false old new
 
 -- and of its counts: a call that fails raises that of its file, and no other count changes
-abbrev pub Counts : HostCall → (Channel → ℕ) → (Channel → ℕ) → Type 0
-Counts (Pull n into) old new = NoneFailed old new
-Counts (Emit bytes) old new = NoneFailed old new
-Counts (Write file at bytes) old new = NoneFailed old new
-Counts (FailedWrite file at n) old new = FailedOn (File file) old new
-Counts (Sync file) old new = NoneFailed old new
-Counts (FailedSync file) old new = FailedOn (File file) old new
+abbrev pub CallCounts : HostCall → (Channel → ℕ) → (Channel → ℕ) → Type 0
+CallCounts (Pull n into) old new = NoneFailed old new
+CallCounts (Emit bytes) old new = NoneFailed old new
+CallCounts (Write file at bytes) old new = NoneFailed old new
+CallCounts (FailedWrite file at n) old new = FailedOn (File file) old new
+CallCounts (Sync file) old new = NoneFailed old new
+CallCounts (FailedSync file) old new = FailedOn (File file) old new
 
 -- what a host holds, and its counts
 pub record Held : Type 0 where
@@ -47,22 +47,22 @@ pub record Held : Type 0 where
   pub faults : Channel → ℕ
 
 -- a call, and what is held after it
-pub record Step : Type 0 where
+pub record HostStep : Type 0 where
   pub call : HostCall
   pub after : Held
 
 -- the call may lead from the one to the other
 pub record IsStep (call : HostCall) (old new : Held) : Type 0 where
-  pub says : Says call old.world new.world
-  pub counts : Counts call old.faults new.faults
+  pub says : CallSays call old.world new.world
+  pub counts : CallCounts call old.faults new.faults
 
 -- the steps lead, one after another, from what is held before to what is held after
-abbrev pub Lead : Held → List Step → Held → Type 0
+abbrev pub Lead : Held → List HostStep → Held → Type 0
 Lead old [] new = old ≡ new
 Lead old (step ∷ steps) new = IsStep step.call old step.after × Lead step.after steps new
 
 -- A host's calls lead from what the run was given to what it left. Calls that only ask, or that make a file ready, change
 -- nothing and aren't listed.
-abbrev pub IsHosted : Observed → List Step → Type 0
+abbrev pub IsHosted : Observed → List HostStep → Type 0
 IsHosted r steps =
     Lead (record { world = r.old; faults = r.faults_before }) steps (record { world = r.new; faults = r.faults_after })

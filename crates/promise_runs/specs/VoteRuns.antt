@@ -26,7 +26,7 @@ pub record IsVoteRun (r : Observed) (opened : Moment) (failing told : List Momen
   pub given : lines r ≡ lines_of r.old.input
   pub asks : AskBoth (lines r)
   pub left : r.new.input ≡ []
-  pub read : IsLog (shape_in account_program) (seen_at_entry r) []
+  pub read : IsLog live_slot (shape_in account_program) (seen_at_entry r) []
   pub past : r.new.past ≡ r.old.past ++ (opened ∷ (failing ++ told ++ moment_of r.new ∷ []))
   pub quiet : opened.output ≡ r.old.output
   pub output : r.new.output ≡ r.old.output ++ reply_lines (shape_in account_program) vote_entries

@@ -16,7 +16,7 @@ use Rattle.promise_spec.specs.Endings.{Done}
 use Rattle.promise_spec.specs.Records.{Commit}
 use Rattle.promise_spec.specs.Courses.{Observed, Course}
 use Rattle.promise_runs.specs.Examples.{account_1, unit_no, deposited, begin_deposit, first_commit, next_commit, first_entry, grain_bytes, manager_of}
-use Rattle.promise_runs.specs.HostCalls.{Held, Step, Pull, Emit, Write, Sync}
+use Rattle.promise_runs.specs.HostCalls.{Held, HostStep, Pull, Emit, Write, Sync}
 use Rattle.promise_runs.specs.WrittenRun.{new_manager, disk_of, new_disk, pending_block, pending_gate, request_line, reply_text, moment, opened}
 use Rattle.promise_runs.specs.WrittenDoubt.{second_line, pair_before}
 use Rattle.promise_runs.specs.WrittenVote.{reading_manner}
@@ -137,7 +137,7 @@ batch_at input output disk syncs many = record {
 
 -- The opening's sync; the input, of 80 bytes, and its end; both versions by one write, the block and the gate, each with
 -- its sync; and the replies.
-abbrev pub batched_steps : List Step
+abbrev pub batched_steps : List HostStep
 batched_steps =
     record { call = Sync manager; after = batch_at pair_before.input [] new_disk 1 0 }
     ∷ record { call = Pull 80 pair_before.input; after = batch_at [] [] new_disk 1 0 }

@@ -10,7 +10,7 @@ use Rattle.promise_spec.specs.Words.{Manner}
 use Rattle.promise_spec.specs.Endings.{DiskFault}
 use Rattle.promise_spec.specs.Courses.{Observed}
 use Rattle.promise_runs.specs.Examples.{account_1, grain_bytes, block_bytes}
-use Rattle.promise_runs.specs.HostCalls.{Held, Step, Pull, Emit, Write, Sync, FailedSync}
+use Rattle.promise_runs.specs.HostCalls.{Held, HostStep, Pull, Emit, Write, Sync, FailedSync}
 use Rattle.promise_runs.specs.WrittenRun.{new_disk, version_disk, voted_disk, block_disk, staged_disk, sealing_disk, request_line, moment, opened}
 
 -- two lines may be in flight, and of what can take a turn it is the first, then twice the second
@@ -96,7 +96,7 @@ pair_at disk syncs many faults = record {
 
 -- The opening's sync; the input, of 80 bytes, and its end; the second line's reply; the version and the block, each with
 -- its sync; the gate, whose sync fails; and the first line's reply.
-abbrev pub doubted_steps : List Step
+abbrev pub doubted_steps : List HostStep
 doubted_steps =
     record { call = Sync manager; after = pair_opened pair_before.input }
     ∷ record { call = Pull 80 pair_before.input; after = pair_opened [] }

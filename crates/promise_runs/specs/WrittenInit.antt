@@ -12,7 +12,7 @@ use Rattle.promise_spec.specs.Words.{plain_manner}
 use Rattle.promise_spec.specs.Endings.{Done, BadUse, DiskFault, AlreadyASilo, BadProgram}
 use Rattle.promise_spec.specs.Courses.{Observed}
 use Rattle.promise_runs.specs.Examples.{account_text, program_bytes}
-use Rattle.promise_runs.specs.HostCalls.{Held, Step, Pull, Write, Sync, FailedSync}
+use Rattle.promise_runs.specs.HostCalls.{Held, HostStep, Pull, Write, Sync, FailedSync}
 use Rattle.promise_runs.specs.WrittenRun.{new_manager, moment}
 use Rattle.promise_runs.specs.WrittenDoubt.{one_fault}
 
@@ -111,7 +111,7 @@ init_at input disk syncs many = record {
 
 -- The input, of 179 bytes, and its end; the closed header gate with its sync; the program file's length and text, with their
 -- sync; what stands behind the gate, with its sync; and the open gate.
-abbrev pub opening_steps : List Step
+abbrev pub opening_steps : List HostStep
 opening_steps =
     record { call = Pull 179 account_text; after = init_at [] empty_disk 0 0 }
     ∷ record { call = Pull 0 account_text; after = init_at [] empty_disk 0 0 }
@@ -125,7 +125,7 @@ opening_steps =
     ∷ record { call = Write manager 0 (1 ∷ []); after = init_at [] opening_disk 3 8 } ∷ []
 
 -- and the last sync
-abbrev pub made_steps : List Step
+abbrev pub made_steps : List HostStep
 made_steps = opening_steps ++ record { call = Sync manager; after = record { world = init_after; faults = λ channel. 0 } } ∷ []
 
 -- ---- over the folder that this left
@@ -155,7 +155,7 @@ abbrev pub again_read : Held
 again_read = record { world = record again_before { input = [] }; faults = λ channel. 0 }
 
 -- the input and its end, and the sync
-abbrev pub again_steps : List Step
+abbrev pub again_steps : List HostStep
 again_steps =
     record { call = Pull 179 account_text; after = again_read } ∷ record { call = Pull 0 account_text; after = again_read }
     ∷ record { call = Sync manager; after = record { world = again_after; faults = λ channel. 0 } } ∷ []
@@ -190,7 +190,7 @@ unmade = record {
 }
 
 -- the input, of 8 bytes, and its end
-abbrev pub unmade_steps : List Step
+abbrev pub unmade_steps : List HostStep
 unmade_steps =
     record { call = Pull 8 cut_text; after = record { world = cut_after; faults = λ channel. 0 } }
     ∷ record { call = Pull 0 cut_text; after = record { world = cut_after; faults = λ channel. 0 } } ∷ []
@@ -214,7 +214,7 @@ halted = record {
 }
 
 -- the steps are the same up to the last sync
-abbrev pub halted_steps : List Step
+abbrev pub halted_steps : List HostStep
 halted_steps = opening_steps ++ record { call = FailedSync manager; after = record { world = halted_after; faults = one_fault } } ∷ []
 
 -- ---- words that say nothing

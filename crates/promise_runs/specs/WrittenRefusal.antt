@@ -7,7 +7,7 @@ use Rattle.promise_spec.specs.Words.{plain_manner}
 use Rattle.promise_spec.specs.Endings.{Damaged}
 use Rattle.promise_spec.specs.Courses.{Observed}
 use Rattle.promise_runs.specs.Examples.{grain_bytes, manager_bytes}
-use Rattle.promise_runs.specs.HostCalls.{Step, Sync}
+use Rattle.promise_runs.specs.HostCalls.{HostStep, Sync}
 use Rattle.promise_runs.specs.WrittenRun.{disk_of, request_line, moment}
 
 -- the disk: the gate is open, and the last nine of the manager file's 89 bytes aren't there
@@ -35,5 +35,5 @@ refused = record {
 }
 
 -- the host's one call that isn't only asking
-abbrev pub refused_steps : List Step
+abbrev pub refused_steps : List HostStep
 refused_steps = record { call = Sync manager; after = record { world = torn_after; faults = λ channel. 0 } } ∷ []

@@ -10,7 +10,7 @@ use Rattle.promise_spec.specs.Words.{plain_manner}
 use Rattle.promise_spec.specs.Endings.{Done}
 use Rattle.promise_spec.specs.Courses.{Observed}
 use Rattle.promise_runs.specs.Examples.{account_1, program_bytes, grain_bytes, block_bytes, manager_of, manager_bytes}
-use Rattle.promise_runs.specs.HostCalls.{Held, Step, Pull, Emit, Write, Sync}
+use Rattle.promise_runs.specs.HostCalls.{Held, HostStep, Pull, Emit, Write, Sync}
 
 -- the manager file of a new silo: its 16 bytes
 abbrev pub new_manager : List ℕ
@@ -113,8 +113,8 @@ world_after = record {
 }
 
 -- the run: it answers the line, ends as done, and no call fails
-abbrev pub written : Observed
-written = record {
+abbrev pub written_run : Observed
+written_run = record {
   manner = plain_manner;
   asked = request_line ∷ [];
   old = world_before;
@@ -136,7 +136,7 @@ held_at input disk syncs many = record {
 
 -- The opening's sync; the input, of 40 bytes, and its end; the version, the block and the gate, each with its sync; and
 -- the reply.
-abbrev pub written_steps : List Step
+abbrev pub written_steps : List HostStep
 written_steps =
     record { call = Sync manager; after = held_at world_before.input new_disk 1 0 }
     ∷ record { call = Pull 40 world_before.input; after = held_at [] new_disk 1 0 }

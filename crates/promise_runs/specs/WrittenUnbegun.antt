@@ -7,7 +7,7 @@ use Rattle.silo_spec.specs.Silos.{manager}
 use Rattle.promise_spec.specs.Endings.{DiskFault}
 use Rattle.promise_spec.specs.Courses.{Observed, Course}
 use Rattle.promise_runs.specs.Examples.{account_1, grain_bytes, block_bytes, conflict_entries, conflict_events}
-use Rattle.promise_runs.specs.HostCalls.{Held, Step, Pull, Emit, Write, FailedWrite, Sync}
+use Rattle.promise_runs.specs.HostCalls.{Held, HostStep, Pull, Emit, Write, FailedWrite, Sync}
 use Rattle.promise_runs.specs.WrittenRun.{new_disk, version_disk, voted_disk, block_disk, staged_disk, request_line, moment, opened}
 use Rattle.promise_runs.specs.WrittenDoubt.{pair_manner, second_line, locked_text, doubt_text, told, pair_before, one_fault, pair_opened, pair_at}
 
@@ -64,7 +64,7 @@ gate_failed = record {
 
 -- The opening's sync; the input, of 80 bytes, and its end; the second line's reply; the version and the block, each with
 -- its sync; the gate, whose write fails; and the first line's reply.
-abbrev pub unbegun_steps : List Step
+abbrev pub unbegun_steps : List HostStep
 unbegun_steps =
     record { call = Sync manager; after = pair_opened pair_before.input }
     ∷ record { call = Pull 80 pair_before.input; after = pair_opened [] }

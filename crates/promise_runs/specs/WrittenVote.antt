@@ -12,7 +12,7 @@ use Rattle.promise_spec.specs.Words.{Manner}
 use Rattle.promise_spec.specs.Endings.{Done}
 use Rattle.promise_spec.specs.Courses.{Observed}
 use Rattle.promise_runs.specs.Examples.{account_1, grain_bytes}
-use Rattle.promise_runs.specs.HostCalls.{Held, Step, Pull, Emit, FailedWrite, Sync}
+use Rattle.promise_runs.specs.HostCalls.{Held, HostStep, Pull, Emit, FailedWrite, Sync}
 use Rattle.promise_runs.specs.WrittenRun.{new_manager, disk_of, new_disk, request_line, moment, opened}
 
 -- two lines may be in flight, and the first of what can take a turn takes it
@@ -103,7 +103,7 @@ reading_told = record {
 }
 
 -- The opening's sync; the input, of 76 bytes, and its end; the write of the version, which fails; and both replies.
-abbrev pub voted_steps : List Step
+abbrev pub voted_steps : List HostStep
 voted_steps =
     record { call = Sync manager; after = reading_at reading_before.input new_disk 0 (λ channel. 0) }
     ∷ record { call = Pull 76 reading_before.input; after = reading_at [] new_disk 0 (λ channel. 0) }

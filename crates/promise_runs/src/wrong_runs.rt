@@ -30,7 +30,7 @@ ghost use Rattle.silo_spec.specs.Silos.{manager, program_file, IsSilo, HasProgra
 ghost use Rattle.promise_spec.specs.Programs.{Program, ProgramFault, IsChecked, shape_in, program_in};
 ghost use Rattle.promise_spec.specs.Images.{IsSound};
 ghost use Rattle.promise_spec.specs.Openings.{DamagedAt, opened_as};
-ghost use Rattle.promise_spec.specs.Words.{Given, Command, Manner};
+ghost use Rattle.promise_spec.specs.Words.{GivenOption, Command, Manner};
 ghost use Rattle.promise_spec.specs.Refusals.{IsUnopened, IsNamedIn};
 ghost use Rattle.promise_spec.specs.Records.{Commit, States, AreRecordsOf};
 ghost use Rattle.promise_spec.specs.Serial.{played};
@@ -55,16 +55,16 @@ ghost use Rattle.promise_spec.specs.Loads.{KeepsLoad, summary_text};
 /// that opens or closes a gate of a batch left in doubt before the log is synced.
 pub fn the_opening_log_is_the_disks()
     ensures entry { (p : Program) (r : Observed) (c : Course) (log : List Commit) → Keeps p r c
-        → IsLog (shape_in p) (seen_at_entry r) log → c.opening ≡ log }
+        → IsLog live_slot (shape_in p) (seen_at_entry r) log → c.opening ≡ log }
     ensures synced { (p : Program) (r : Observed) (c : Course) (image : Image) (log : List Commit) → Keeps p r c
-        → IsImage (last_of (moment_of r.old) c.early).disk image → IsLog (shape_in p) image log → c.opening ≡ log }
+        → IsImage (last_of (moment_of r.old) c.early).disk image → IsLog live_slot (shape_in p) image log → c.opening ≡ log }
 {}
 
 /// No run keeps the promise that at some moment may leave a log without all that it opened with, as where an earlier gate is
 /// closed for a moment, or that leaves a folder that is no silo.
 pub fn logs_are_not_lost()
     ensures shorter { (p : Program) (r : Observed) (c : Course) (image : Image) (log : List Commit) → Keeps p r c
-        → IsImageOf (moments r c) image → IsLog (shape_in p) image log → (IsPrefix c.opening log → ⊥) → ⊥ }
+        → IsImageOf (moments r c) image → IsLog live_slot (shape_in p) image log → (IsPrefix c.opening log → ⊥) → ⊥ }
     ensures closed { (p : Program) (r : Observed) (c : Course) (image : Image) → Keeps p r c
         → IsImage r.new.disk image → (IsSilo magic (image manager) → ⊥) → ⊥ }
 {}
@@ -74,10 +74,10 @@ pub fn logs_are_not_lost()
 /// where the first batch has two.
 pub fn batches_are_whole()
     ensures part { (p : Program) (r : Observed) (c : Course) (image : Image) (more : List Commit) (n : ℕ) → Keeps p r c
-        → IsImageOf (moments r c) image → IsLog (shape_in p) image (c.opening ++ more)
+        → IsImageOf (moments r c) image → IsLog live_slot (shape_in p) image (c.opening ++ more)
         → length (kept_by (core_end p c) n) < length more → length more < length (kept_by (core_end p c) (n + 1)) → ⊥ }
     ensures one { (p : Program) (r : Observed) (c : Course) (image : Image) (l : Commit) → Keeps p r c
-        → IsImageOf (moments r c) image → IsLog (shape_in p) image (c.opening ++ (l ∷ []))
+        → IsImageOf (moments r c) image → IsLog live_slot (shape_in p) image (c.opening ++ (l ∷ []))
         → 2 ≤ length (kept_by (core_end p c) 1) → ⊥ }
 {}
 
@@ -106,7 +106,7 @@ pub fn other_files_stay()
 /// No run keeps the promise that writes a reply before its record is in every image.
 pub fn replies_come_after_records()
     ensures { (p : Program) (r : Observed) (c : Course) (m : Moment) (image : Image) (more : List ℕ) → Keeps p r c
-        → Member m (moments r c) → IsImage m.disk image → IsLog (shape_in p) image c.opening
+        → Member m (moments r c) → IsImage m.disk image → IsLog live_slot (shape_in p) image c.opening
         → m.output ≡ r.old.output ++ more → Member 10 more
         → ((e : Entry) → Member e c.entries → (l : Commit) × Member l c.added × Acknowledges e l × (Member l c.opening → ⊥)) → ⊥ }
 {}
@@ -136,7 +136,7 @@ pub fn aborted_units_have_no_record()
     ensures lock { (p : Program) (r : Observed) (c : Course) (e : Entry) (l : Commit) (by : UnitNo) (grain : GrainId) → Keeps p r c
         → Member e c.entries → e.what ≡ settled.Lock by grain → Member l c.added → l.logged.unit ≡ e.unit → ⊥ }
     ensures doubt { (p : Program) (r : Observed) (c : Course) (e : Entry) (l : Commit) (image : Image) (log : List Commit) → Keeps p r c
-        → Member e c.entries → e.what ≡ settled.Disk → IsImage r.new.disk image → IsLog (shape_in p) image log → Member l log
+        → Member e c.entries → e.what ≡ settled.Disk → IsImage r.new.disk image → IsLog live_slot (shape_in p) image log → Member l log
         → (Member l c.opening → ⊥) → l.logged.unit ≡ e.unit → ⊥ }
 {}
 
@@ -198,12 +198,12 @@ pub fn endings_are_true()
 /// the input shows that it read; or that writes something and ends as none does of which a line has begun.
 pub fn refusals_are_true()
     ensures place { (m : Manner) (r : Observed) (f : FileId) (place : ℕ) → Promises m r → r.ending ≡ ending.Damaged f place
-        → opened_as (seen_at_entry r) ≢ DamagedAt f place → ⊥ }
-    ensures sound { (m : Manner) (r : Observed) (p : Program) (f : FileId) (place : ℕ) → Promises m r → IsChecked p → IsSound p (seen_at_entry r)
+        → opened_as live_slot (seen_at_entry r) ≢ DamagedAt f place → ⊥ }
+    ensures sound { (m : Manner) (r : Observed) (p : Program) (f : FileId) (place : ℕ) → Promises m r → IsChecked p → IsSound live_slot p (seen_at_entry r)
         → r.ending ≡ ending.Damaged f place → ⊥ }
     ensures silo { (m : Manner) (r : Observed) → Promises m r → IsSilo magic (seen_at_entry r manager) → r.ending ≡ ending.NotASilo → ⊥ }
     ensures opened { (m : Manner) (r : Observed) → Promises m r → (IsSilo magic (seen_at_entry r manager) → ⊥) → r.ending ≡ ending.Done → ⊥ }
-    ensures carried { (m : Manner) (r : Observed) (f : FileId) (place : ℕ) → Promises m r → opened_as (seen_at_entry r) ≡ DamagedAt f place
+    ensures carried { (m : Manner) (r : Observed) (f : FileId) (place : ℕ) → Promises m r → opened_as live_slot (seen_at_entry r) ≡ DamagedAt f place
         → r.new.input ≢ r.old.input → ⊥ }
     ensures bad_use { (m : Manner) (r : Observed) → Promises m r → r.ending ≡ ending.BadUse → ⊥ }
     ensures blamed { (m : Manner) (r : Observed) (slot : ℕ) (grain : GrainId) → Promises m r → (IsSilo magic (seen_at_entry r manager) → ⊥)
@@ -211,7 +211,7 @@ pub fn refusals_are_true()
     ensures unnamed { (m : Manner) (r : Observed) (slot : ℕ) (grain : GrainId) → Promises m r → (IsNamedIn (seen_at_entry r) grain → ⊥)
         → r.ending ≡ ending.DiskFault (file.Grain slot grain) → ⊥ }
     ensures behind { (m : Manner) (r : Observed) (last grain : GrainId) (place slot : ℕ) → Promises m r
-        → opened_as (seen_at_entry r) ≡ DamagedAt (file.Grain 0 last) place → is_before last grain ≡ true
+        → opened_as live_slot (seen_at_entry r) ≡ DamagedAt (file.Grain 0 last) place → is_before last grain ≡ true
         → r.ending ≡ ending.DiskFault (file.Grain slot grain) → ⊥ }
     ensures unread { (m : Manner) (r : Observed) → Promises m r → r.ending ≡ ending.Done → r.new.input ≢ [] → ⊥ }
     ensures unanswered { (m : Manner) (r : Observed) → Promises m r → r.ending ≡ ending.Done → 1 ≤ length (lines_of r.old.input)
@@ -224,11 +224,11 @@ pub fn refusals_are_true()
 /// No call keeps what the program promises that answers words that say nothing otherwise than as bad use, but for want of
 /// memory, or that changes the host then; or that answers bad use to words that say a command.
 pub fn words_are_answered()
-    ensures other { (built : Command → Bool) (takes : Given → Bool) (words : List (List ℕ)) (r : Observed) → Serves built takes words r
+    ensures other { (built : Command → Bool) (takes : GivenOption → Bool) (words : List (List ℕ)) (r : Observed) → Serves built takes words r
         → ((c : Command) → Understands built takes words c → ⊥) → r.ending ≢ ending.BadUse → r.ending ≢ ending.Memory → ⊥ }
-    ensures changed { (built : Command → Bool) (takes : Given → Bool) (words : List (List ℕ)) (r : Observed) → Serves built takes words r
+    ensures changed { (built : Command → Bool) (takes : GivenOption → Bool) (words : List (List ℕ)) (r : Observed) → Serves built takes words r
         → ((c : Command) → Understands built takes words c → ⊥) → r.new ≢ r.old → ⊥ }
-    ensures said { (built : Command → Bool) (takes : Given → Bool) (words : List (List ℕ)) (r : Observed) (c : Command) → Serves built takes words r
+    ensures said { (built : Command → Bool) (takes : GivenOption → Bool) (words : List (List ℕ)) (r : Observed) (c : Command) → Serves built takes words r
         → Understands built takes words c → r.ending ≡ ending.BadUse → ⊥ }
 {}
 
@@ -237,22 +237,22 @@ pub fn words_are_answered()
 /// below its last value, is what it was; that is done though a call on the input or the output failed, or that has made a silo, or
 /// reported one, though any call failed; or that names one fault though a call on another channel failed, where it carries no lines.
 pub fn bad_use_is_said_by_words()
-    ensures said { (built : Command → Bool) (takes : Given → Bool) (words : List (List ℕ)) (e : ending.Ending) (old new : Channel → ℕ) (c : Command)
+    ensures said { (built : Command → Bool) (takes : GivenOption → Bool) (words : List (List ℕ)) (e : ending.Ending) (old new : Channel → ℕ) (c : Command)
         → AnswersAs built takes words e old new → Understands built takes words c → e ≡ ending.BadUse → ⊥ }
-    ensures other { (built : Command → Bool) (takes : Given → Bool) (words : List (List ℕ)) (e : ending.Ending) (old new : Channel → ℕ)
+    ensures other { (built : Command → Bool) (takes : GivenOption → Bool) (words : List (List ℕ)) (e : ending.Ending) (old new : Channel → ℕ)
         → AnswersAs built takes words e old new → ((c : Command) → Understands built takes words c → ⊥) → e ≢ ending.BadUse → e ≢ ending.Memory → ⊥ }
-    ensures used { (built : Command → Bool) (takes : Given → Bool) (words : List (List ℕ)) (e : ending.Ending) (old new : Channel → ℕ) (channel : Channel)
+    ensures used { (built : Command → Bool) (takes : GivenOption → Bool) (words : List (List ℕ)) (e : ending.Ending) (old new : Channel → ℕ) (channel : Channel)
         → AnswersAs built takes words e old new → ((c : Command) → Understands built takes words c → ⊥) → new channel ≢ old channel → ⊥ }
-    ensures fault { (built : Command → Bool) (takes : Given → Bool) (words : List (List ℕ)) (e : ending.Ending) (old new : Channel → ℕ) (f : FileId)
+    ensures fault { (built : Command → Bool) (takes : GivenOption → Bool) (words : List (List ℕ)) (e : ending.Ending) (old new : Channel → ℕ) (f : FileId)
         → AnswersAs built takes words e old new → e ≡ ending.DiskFault f → old (File f) < 2 ^ 64 - 1 → new (File f) ≡ old (File f) → ⊥ }
-    ensures input { (built : Command → Bool) (takes : Given → Bool) (words : List (List ℕ)) (e : ending.Ending) (old new : Channel → ℕ)
+    ensures input { (built : Command → Bool) (takes : GivenOption → Bool) (words : List (List ℕ)) (e : ending.Ending) (old new : Channel → ℕ)
         → AnswersAs built takes words e old new → e ≡ ending.Done → new Input ≢ old Input → ⊥ }
-    ensures output { (built : Command → Bool) (takes : Given → Bool) (words : List (List ℕ)) (e : ending.Ending) (old new : Channel → ℕ)
+    ensures output { (built : Command → Bool) (takes : GivenOption → Bool) (words : List (List ℕ)) (e : ending.Ending) (old new : Channel → ℕ)
         → AnswersAs built takes words e old new → e ≡ ending.Done → new Output ≢ old Output → ⊥ }
-    ensures made { (built : Command → Bool) (takes : Given → Bool) (words : List (List ℕ)) (e : ending.Ending) (old new : Channel → ℕ) (c : Command) (channel : Channel)
+    ensures made { (built : Command → Bool) (takes : GivenOption → Bool) (words : List (List ℕ)) (e : ending.Ending) (old new : Channel → ℕ) (c : Command) (channel : Channel)
         → AnswersAs built takes words e old new → Understands built takes words c → ((f : ending.Ending) → GoesOn c f → ⊥) → e ≡ ending.Done
         → new channel ≢ old channel → ⊥ }
-    ensures named { (built : Command → Bool) (takes : Given → Bool) (words : List (List ℕ)) (e : ending.Ending) (old new : Channel → ℕ) (c : Command) (f : FileId) (channel : Channel)
+    ensures named { (built : Command → Bool) (takes : GivenOption → Bool) (words : List (List ℕ)) (e : ending.Ending) (old new : Channel → ℕ) (c : Command) (f : FileId) (channel : Channel)
         → AnswersAs built takes words e old new → Understands built takes words c → ((g : ending.Ending) → GoesOn c g → ⊥) → e ≡ ending.DiskFault f
         → channel ≢ File f → new channel ≢ old channel → ⊥ }
 {}
@@ -274,7 +274,7 @@ pub fn lines_begin_after_the_input()
 /// before, or prints while a crash may take back what it tells.
 pub fn reports_tell_the_folder()
     ensures text { (text : Program → List Commit → List ℕ) (r : Observed) (p : Program) (log : List Commit) → Reports text r → r.ending ≡ ending.Done
-        → IsChecked p → HasProgram p.text (seen_at_entry r program_file) → IsLog (shape_in p) (seen_at_entry r) log
+        → IsChecked p → HasProgram p.text (seen_at_entry r program_file) → IsLog live_slot (shape_in p) (seen_at_entry r) log
         → r.new.output ≢ r.old.output ++ text p log → ⊥ }
     ensures changed { (text : Program → List Commit → List ℕ) (r : Observed) (image : Image) → Reports text r
         → IsImage r.new.disk image → (IsImage r.old.disk image → ⊥) → ⊥ }
@@ -311,11 +311,11 @@ pub fn loads_tell_their_summary()
     ensures fault { (p : Program) (n seed : ℕ) (r : Observed) (c : Course) → KeepsLoad p n seed r c → HasDoubt (core_run p c)
         → r.ending ≡ ending.WriteFault → ⊥ }
     ensures soon { (p : Program) (n seed : ℕ) (r : Observed) (c : Course) (m : Moment) (image : Image) → KeepsLoad p n seed r c
-        → Member m (moments r c) → IsImage m.disk image → (IsLog (shape_in p) image (order c) → ⊥) → m.output ≢ r.old.output → ⊥ }
+        → Member m (moments r c) → IsImage m.disk image → (IsLog live_slot (shape_in p) image (order c) → ⊥) → m.output ≢ r.old.output → ⊥ }
 {}
 
 /// A manager file with a block of 65 records has no log.
 pub fn batches_are_small()
     ensures { (shape : Shape) (image : Image) (records : List CommitRecord) (gate : ℕ) (log : List Commit) → length records ≡ 65
-        → LogsUpTo (spelling_of_body records ∷ []) gate (image manager) → IsLog shape image log → ⊥ }
+        → LogsUpTo (spelling_of_body records ∷ []) gate (image manager) → IsLog live_slot shape image log → ⊥ }
 {}

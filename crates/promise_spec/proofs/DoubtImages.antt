@@ -9,7 +9,7 @@ use Rattle.gate_block.specs.Log.{LogsUpTo}
 use Rattle.gate_block.proofs.Logs as blocks
 use Rattle.silo_spec.specs.Silos.{manager}
 use Rattle.promise_spec.specs.Records.{Commit}
-use Rattle.promise_spec.specs.Logs.{body_of, IsLog}
+use Rattle.promise_spec.specs.Logs.{body_of, IsLog, live_slot}
 use Rattle.promise_spec.proofs.Lists.{both_parts}
 use Rattle.promise_spec.proofs.SettledLogs.{Fits, fits_of, sizes_same}
 
@@ -27,8 +27,8 @@ module _ (shape : Shape) (disk : Disk) (batches : List (List Commit)) (batch : L
   -- the image with those bytes in the manager file has the batch
   pub image_in_doubt : AllByRecursion (λ (b : List Commit). length b ≤ 64) batches → length batch ≤ 64 → AllByRecursion (Fits shape) batch → MayLeave (disk manager) c → LogsUpTo (map body_of (batches ++ batch ∷ [])) gate c
       → (rest : Image) → IsImage disk rest
-      → ((image : Image) → IsImage disk image → IsLog shape image (flat_map (λ (b : List Commit). b) batches) ⊎ IsLog shape image (flat_map (λ (b : List Commit). b) batches ++ batch))
-      → (image : Image) × (IsImage disk image × IsLog shape image (flat_map (λ (b : List Commit). b) batches ++ batch))
+      → ((image : Image) → IsImage disk image → IsLog live_slot shape image (flat_map (λ (b : List Commit). b) batches) ⊎ IsLog live_slot shape image (flat_map (λ (b : List Commit). b) batches ++ batch))
+      → (image : Image) × (IsImage disk image × IsLog live_slot shape image (flat_map (λ (b : List Commit). b) batches ++ batch))
   image_in_doubt few small fits may logs rest left each = (with_bytes rest manager c, (possible, by (each (with_bytes rest manager c) possible)))
     where
       before : List Commit
@@ -40,8 +40,8 @@ module _ (shape : Shape) (disk : Disk) (batches : List (List Commit)) (batch : L
       moved : LogsUpTo (map body_of (batches ++ batch ∷ [])) gate (with_bytes rest manager c manager)
       moved = subst (LogsUpTo (map body_of (batches ++ batch ∷ [])) gate) (sym (with_bytes-there rest manager c)) logs
 
-      by : IsLog shape (with_bytes rest manager c) (flat_map (λ (b : List Commit). b) batches) ⊎ IsLog shape (with_bytes rest manager c) (flat_map (λ (b : List Commit). b) batches ++ batch)
-          → IsLog shape (with_bytes rest manager c) (flat_map (λ (b : List Commit). b) batches ++ batch)
+      by : IsLog live_slot shape (with_bytes rest manager c) (flat_map (λ (b : List Commit). b) batches) ⊎ IsLog live_slot shape (with_bytes rest manager c) (flat_map (λ (b : List Commit). b) batches ++ batch)
+          → IsLog live_slot shape (with_bytes rest manager c) (flat_map (λ (b : List Commit). b) batches ++ batch)
       by (inr has) = has
       by (inl was) =
           let first : List Commit = flat_map (λ (b : List Commit). b) batches in
@@ -52,4 +52,4 @@ module _ (shape : Shape) (disk : Disk) (batches : List (List Commit)) (batch : L
           let sizes = sizes_same shape was.batches (batches ++ batch ∷ []) was.sizes (both_parts (λ (b : List Commit). length b ≤ 64) batches (batch ∷ []) few (small, tt)) all all_too bodies in
           let long : length first ≡ length first + length batch = ap length was.commits ∙ sizes ∙ ap length (flat_push batches batch) ∙ length-append first batch in
           let none : batch ≡ [] = nothing_more batch (omega (arith, long)) in
-          subst (λ (l : List Commit). IsLog shape (with_bytes rest manager c) (first ++ l)) (sym none) (subst (IsLog shape (with_bytes rest manager c)) (sym (append-nil first)) was)
+          subst (λ (l : List Commit). IsLog live_slot shape (with_bytes rest manager c) (first ++ l)) (sym none) (subst (IsLog live_slot shape (with_bytes rest manager c)) (sym (append-nil first)) was)

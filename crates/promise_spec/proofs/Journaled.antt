@@ -8,7 +8,7 @@ use Rattle.silo_spec.specs.Silos.{program_file, HasProgram}
 use Rattle.promise_spec.specs.Programs.{Program, shape_in}
 use Rattle.promise_spec.specs.Records.{Commit, States, after_writes, new_silo}
 use Rattle.promise_spec.specs.Serial.{IsSerial}
-use Rattle.promise_spec.specs.Logs.{IsLog, IsPrefix}
+use Rattle.promise_spec.specs.Logs.{IsLog, IsPrefix, live_slot}
 use Rattle.promise_spec.specs.Images.{AreChained, AreNumbered, IsSoundIfSilo}
 use Rattle.promise_spec.specs.Moments.{IsImageOf, IsLongest}
 use Rattle.promise_spec.specs.Courses.{Observed, Course}
@@ -25,7 +25,7 @@ longer opening a c p = (commits_of p.0, ap (λ (l : List Settlement). opening ++
 
 module _ (p : Program) (opening : List Commit) (before : List ℕ) (journal : List Settlement) where
   -- images of two moments are a chain
-  pub chained : (m n : Moment) (a b : Image) → KeepsJournal p opening before journal m a → KeepsJournal p opening before journal n b → AreChained p a b
+  pub chained : (m n : Moment) (a b : Image) → KeepsJournal p opening before journal m a → KeepsJournal p opening before journal n b → AreChained live_slot p a b
   chained m n a b ka kb silo =
       let order = fronts (ka.said ++ ka.unsaid) (kb.said ++ kb.unsaid) ka.later kb.later (sym ka.split ∙ kb.split) in (
         opening ++ commits_of (ka.said ++ ka.unsaid),
@@ -41,7 +41,7 @@ module _ (p : Program) (opening : List Commit) (before : List ℕ) (journal : Li
       )
 
   -- the order is the opening log with the journal's records, where some image has it
-  pub longest : (moments : List Moment) (image : Image) → IsImageOf moments image → IsLog (shape_in p) image (opening ++ commits_of journal)
+  pub longest : (moments : List Moment) (image : Image) → IsImageOf moments image → IsLog live_slot (shape_in p) image (opening ++ commits_of journal)
       → ((m : Moment) → Member m moments → AllKeep p opening before journal m) → IsLongest p moments (opening ++ commits_of journal)
   longest moments image left log all = record {
     image = image;
@@ -102,7 +102,7 @@ numbered_front first (c ∷ a) b numbered = (numbered.0, numbered.1, (parts_of _
 
 -- where the order is serial, each image of each moment is sound
 pub sound : (p : Program) (opening : List Commit) (before : List ℕ) (journal : List Settlement) (m : Moment) (image : Image) → KeepsJournal p opening before journal m image → HasProgram p.text (image program_file)
-    → IsSerial p.types (new_silo p.types).states (opening ++ commits_of journal) → AreNumbered 1 (opening ++ commits_of journal) → IsSoundIfSilo p image
+    → IsSerial p.types (new_silo p.types).states (opening ++ commits_of journal) → AreNumbered 1 (opening ++ commits_of journal) → IsSoundIfSilo live_slot p image
 unfolding longer
 sound p opening before journal m image k program serial numbered silo =
     let front : List Commit = opening ++ commits_of (k.said ++ k.unsaid) in

@@ -1,4 +1,5 @@
 -- A run that keeps its six clauses has opened the folder, as is promised over any folder.
+use Rattle.promise_spec.specs.Logs.{live_slot}
 use Rattle.std.proofs.Common.{◌≡◌, inl, inr, ℕ, ◌≤◌, List, [], ◌∷◌, ◌++◌, length, refl, sym, ap, subst, ◌∙◌}
 use Rattle.std.proofs.lemmas.List.{append-nil}
 use Rattle.base_types.specs.declared.entries.Entry.{Entry}
@@ -60,7 +61,7 @@ module _ (p : Program) (r : Observed) (c : Course) (keeps : Keeps p r c) where
       ∙ ap (λ (rest : List ℕ). r.old.output ++ rest) whole
       ∙ append-nil r.old.output
 
-  pub has_opened : (log : List Commit) → opened_as (seen_at_entry r) ≡ Reads p log → HasOpened r
+  pub has_opened : (log : List Commit) → opened_as live_slot (seen_at_entry r) ≡ Reads p log → HasOpened live_slot r
   has_opened log reads = record {
     openable = record { program = p; log = log; reads = reads };
     carried = keeps.ended.carried;

@@ -17,7 +17,7 @@ use Rattle.commit_log.proofs.Fields.{records_reads}
 use Rattle.silo_spec.specs.Silos.{manager, IsSilo}
 use Rattle.promise_spec.specs.Programs.{Program, shape_in}
 use Rattle.promise_spec.specs.Records.{Commit}
-use Rattle.promise_spec.specs.Logs.{magic, IsKept, body_of, IsLog, IsPrefix}
+use Rattle.promise_spec.specs.Logs.{magic, IsKept, body_of, IsLog, IsPrefix, live_slot}
 use Rattle.promise_spec.specs.Images.{AreChained}
 use Rattle.promise_spec.specs.Journals.{AllLog}
 use Rattle.promise_spec.specs.Promise.{IsSoundFolder}
@@ -29,7 +29,7 @@ abbrev pub Fits : Shape → Commit → Type 0
 Fits shape c = IsRecordIn Logged shape c.logged
 
 -- the records of a log fit, whatever image keeps them
-pub fits_of : (shape : Shape) (image : Image) (cs : List Commit) → AllByRecursion (IsKept shape image) cs → AllByRecursion (Fits shape) cs
+pub fits_of : (shape : Shape) (image : Image) (cs : List Commit) → AllByRecursion (IsKept live_slot shape image) cs → AllByRecursion (Fits shape) cs
 fits_of shape image [] all = tt
 fits_of shape image (c ∷ cs) all = (all.0.fits, fits_of shape image cs all.1)
 
@@ -65,7 +65,7 @@ sizes_same shape (x ∷ xs) (y ∷ ys) few few_too a b e =
     length-append x (flat_map (λ batch. batch) xs) ∙ (λ i. here i + more i) ∙ sym (length-append y (flat_map (λ batch. batch) ys))
 
 -- images with one manager file have logs of one length
-pub length_same : (shape : Shape) (one other : Image) (a b : List Commit) → one manager ≡ other manager → IsLog shape one a → IsLog shape other b → length a ≡ length b
+pub length_same : (shape : Shape) (one other : Image) (a b : List Commit) → one manager ≡ other manager → IsLog live_slot shape one a → IsLog live_slot shape other b → length a ≡ length b
 length_same shape one other a b same x y =
     let moved : LogsUpTo (map body_of y.batches) y.gate (one manager) = subst (λ (f : List ℕ). LogsUpTo (map body_of y.batches) y.gate f) (sym same) y.blocks in
     let bodies : map body_of x.batches ≡ map body_of y.batches = (blocks.one_log (map body_of x.batches) (map body_of y.batches) x.gate y.gate (one manager) x.blocks moved).0 in
@@ -84,7 +84,7 @@ front_is a b front same = go front.0 front.1
         absurd (omega (arith, long, same))
 
 -- chained images with one manager file have one log
-pub chained_same : (p : Program) (one other : Image) (log : List Commit) → AreChained p one other → one manager ≡ other manager → IsLog (shape_in p) one log → IsLog (shape_in p) other log
+pub chained_same : (p : Program) (one other : Image) (log : List Commit) → AreChained live_slot p one other → one manager ≡ other manager → IsLog live_slot (shape_in p) one log → IsLog live_slot (shape_in p) other log
 chained_same p one other log chain same is =
     let silo : IsSilo magic (other manager) = subst (IsSilo magic) same is.silo in
     let a = chain is.silo in
@@ -95,11 +95,11 @@ chained_same p one other log chain same is =
       | inl f ↦ front_is a.0 b.0 f sizes
       | inr f ↦ sym (front_is b.0 a.0 f (sym sizes))
     ] in
-    subst (IsLog (shape_in p) other) (sym (first ∙ all)) b.1
+    subst (IsLog live_slot (shape_in p) other) (sym (first ∙ all)) b.1
 
 -- The files as they read have this log; each image of the disk is one of the folder's, with the manager file as it reads.
 pub settled_logs : (p : Program) (w : World) (disk : Disk) (log : List Commit) → IsSoundFolder p w → ((file : FileId) → MayLeave (w.disk file) (w.disk file).seen)
-    → ((image : Image) → IsImage disk image → IsImage w.disk image × (image manager ≡ (w.disk manager).seen)) → IsLog (shape_in p) (λ file. (w.disk file).seen) log → AllLog p log disk
+    → ((image : Image) → IsImage disk image → IsImage w.disk image × (image manager ≡ (w.disk manager).seen)) → IsLog live_slot (shape_in p) (λ file. (w.disk file).seen) log → AllLog p log disk
 settled_logs p w disk log sound seen stays is image left =
     let t = stays image left in
     chained_same p (λ file. (w.disk file).seen) image log (sound.chain (λ file. (w.disk file).seen) image seen t.0) (sym t.1) is

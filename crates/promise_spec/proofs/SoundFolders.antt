@@ -14,7 +14,7 @@ use Rattle.silo_spec.specs.Moments.{IsAsAtEntry, IsUntouched}
 use Rattle.silo_spec.specs.Making.{Makes, IsEarly, FromFirstSync, IsNewAt}
 use Rattle.promise_spec.specs.Programs.{Program, IsChecked, shape_in}
 use Rattle.promise_spec.specs.Records.{Commit}
-use Rattle.promise_spec.specs.Logs.{magic, body_of, IsLog}
+use Rattle.promise_spec.specs.Logs.{magic, body_of, IsLog, live_slot}
 use Rattle.promise_spec.specs.Images.{IsSound}
 use Rattle.promise_spec.specs.Moments.{IsImageOf}
 use Rattle.promise_spec.specs.Endings as ending
@@ -85,7 +85,7 @@ bad_use_keeps p r bad sound = subst (IsSoundFolder p) (sym bad.unused) sound
 -- ---- new silos
 
 -- a new silo has the empty log
-new_log : (p : Program) (image : Image) → IsNewSilo magic p.text image → IsLog (shape_in p) image []
+new_log : (p : Program) (image : Image) → IsNewSilo magic p.text image → IsLog live_slot (shape_in p) image []
 new_log p image new = record {
   silo = new.silo;
   batches = [];
@@ -104,7 +104,7 @@ new_log p image new = record {
     shut open_gate = omega (arith, byte, open_gate)
 
 -- a new silo is sound, with an empty log
-new_sound : (p : Program) (image : Image) → IsNewSilo magic p.text image → IsSound p image
+new_sound : (p : Program) (image : Image) → IsNewSilo magic p.text image → IsSound live_slot p image
 new_sound p image new = record { log = []; is = new_log p image new; program = new.program; serial = tt; numbered = tt }
 
 -- images that are new silos of this program, or none, are a sound folder of it

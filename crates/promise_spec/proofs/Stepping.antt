@@ -16,7 +16,7 @@ use Rattle.request_wire.proofs.Cuts.{slice_split-cons, keeps_first}
 use Rattle.request_wire.proofs.OneLine.{reply_line-first}
 use Rattle.promise_spec.specs.Programs.{Program, shape_in}
 use Rattle.promise_spec.specs.Records.{Commit}
-use Rattle.promise_spec.specs.Logs.{IsLog, IsPrefix}
+use Rattle.promise_spec.specs.Logs.{IsLog, IsPrefix, live_slot}
 use Rattle.promise_spec.specs.Outputs.{IsProper, reply_lines}
 use Rattle.promise_spec.specs.Journals.{Settlement, KeepsJournal, AllSay, AllLog, JournalAt, DoubtAt, CutAt, IsSealing, Seals, Doubts, commits_of, entries_of}
 use Rattle.promise_spec.proofs.Lists.{head_of, parts_of}
@@ -122,7 +122,7 @@ module _ (p : Program) (opening : List Commit) where
   -- an image that has what is settled
   here : (before : List ℕ) (said unsaid later : List Settlement) (rest : List ℕ) (m : Moment) (image : Image)
       → m.output ≡ before ++ (reply_lines (shape_in p) (entries_of said) ++ rest) → NoFeed rest → AllByRecursion (IsProper (shape_in p)) (entries_of said)
-      → IsLog (shape_in p) image (opening ++ commits_of (said ++ unsaid)) → Says before said ((said ++ unsaid) ++ later) m image
+      → IsLog live_slot (shape_in p) image (opening ++ commits_of (said ++ unsaid)) → Says before said ((said ++ unsaid) ++ later) m image
   here before said unsaid later rest m image output unended proper log = (
     record { said = said; unsaid = unsaid; later = later; rest = rest; split = refl; log = log; output = record { output = output; unended = unended; proper = proper } },
     ([], sym (append-nil said)),
@@ -167,7 +167,7 @@ module _ (p : Program) (opening : List Commit) where
     pub begins_at : (now : World) → now.output ≡ old.output → now.past ≡ old.past → AllLog p opening now.disk → JournalAt p opening old [] [] now
     begins_at now output past log = record {
       output = output ∙ sym (append-nil old.output);
-      log = λ image left. subst (IsLog (shape_in p) image) (sym (append-nil opening)) (log image left);
+      log = λ image left. subst (IsLog live_slot (shape_in p) image) (sym (append-nil opening)) (log image left);
       moments = record { more = []; past = past ∙ sym (append-nil old.past); each = tt };
     }
 
@@ -191,7 +191,7 @@ module _ (p : Program) (opening : List Commit) where
           | inr has ↦
               subst (λ (l : List Settlement). Says old.output said l m image) (append-nil (said ++ (unsaid ++ batch)))
               (here old.output said (unsaid ++ batch) [] [] m image (whole said m mid output s.output) tt proper
-              (subst (IsLog (shape_in p) image) (joined_logs opening (said ++ unsaid) batch ∙ ap (λ (l : List Settlement). opening ++ commits_of l) (sym ends)) has))
+              (subst (IsLog live_slot (shape_in p) image) (joined_logs opening (said ++ unsaid) batch ∙ ap (λ (l : List Settlement). opening ++ commits_of l) (sym ends)) has))
         ]
 
         further : (m : Moment) → AllSay p opening old.output said (said ++ unsaid) m → AllSay p opening old.output said (said ++ (unsaid ++ batch)) m
@@ -202,7 +202,7 @@ module _ (p : Program) (opening : List Commit) where
             → Seals p (opening ++ commits_of (said ++ unsaid)) batch mid new → JournalAt p opening old said (unsaid ++ batch) new
         seals_on mid new proper at s = record {
           output = s.output ∙ at.output;
-          log = λ image left. subst (IsLog (shape_in p) image) (joined_logs opening (said ++ unsaid) batch ∙ ap (λ (l : List Settlement). opening ++ commits_of l) (sym ends)) (s.log image left);
+          log = λ image left. subst (IsLog live_slot (shape_in p) image) (joined_logs opening (said ++ unsaid) batch ∙ ap (λ (l : List Settlement). opening ++ commits_of l) (sym ends)) (s.log image left);
           moments = both _
               (weaker (AllSay p opening old.output said (said ++ unsaid)) (AllSay p opening old.output said (said ++ (unsaid ++ batch))) (λ m all. further m all) at.moments)
               (weaker (IsSealing p (opening ++ commits_of (said ++ unsaid)) batch mid) (AllSay p opening old.output said (said ++ (unsaid ++ batch))) (λ m is. sealing mid m proper at.output is) s.moments);
@@ -212,7 +212,7 @@ module _ (p : Program) (opening : List Commit) where
         pub settles_on : (now : World) → commits_of batch ≡ [] → JournalAt p opening old said unsaid now → JournalAt p opening old said (unsaid ++ batch) now
         settles_on now none at = record {
           output = at.output;
-          log = λ image left. subst (IsLog (shape_in p) image) (sym (same_log opening (said ++ unsaid) batch none) ∙ ap (λ (l : List Settlement). opening ++ commits_of l) (sym ends)) (at.log image left);
+          log = λ image left. subst (IsLog live_slot (shape_in p) image) (sym (same_log opening (said ++ unsaid) batch none) ∙ ap (λ (l : List Settlement). opening ++ commits_of l) (sym ends)) (at.log image left);
           moments = weaker (AllSay p opening old.output said (said ++ unsaid)) (AllSay p opening old.output said (said ++ (unsaid ++ batch))) (λ m all. further m all) at.moments;
         }
 
@@ -317,13 +317,13 @@ module _ (p : Program) (opening : List Commit) where
     module _ (said unsaid : List Settlement) (batch : Settlement) (proper : AllByRecursion (IsProper (shape_in p)) (entries_of said)) where
       -- an image that has the journal, or it with the batch
       either_says : (rest : List ℕ) (m : Moment) (image : Image) → m.output ≡ old.output ++ (reply_lines (shape_in p) (entries_of said) ++ rest) → NoFeed rest
-          → IsLog (shape_in p) image (opening ++ commits_of (said ++ unsaid)) ⊎ IsLog (shape_in p) image (opening ++ commits_of ((said ++ unsaid) ++ batch ∷ []))
+          → IsLog live_slot (shape_in p) image (opening ++ commits_of (said ++ unsaid)) ⊎ IsLog live_slot (shape_in p) image (opening ++ commits_of ((said ++ unsaid) ++ batch ∷ []))
           → Says old.output said ((said ++ unsaid) ++ batch ∷ []) m image
       either_says rest m image output unended (inl was) = here old.output said unsaid (batch ∷ []) rest m image output unended proper was
       either_says rest m image output unended (inr has) =
           subst (λ (l : List Settlement). Says old.output said l m image) (append-nil (said ++ (unsaid ++ batch ∷ [])) ∙ sym (append_assoc said unsaid (batch ∷ [])))
           (here old.output said (unsaid ++ batch ∷ []) [] rest m image output unended proper
-          (subst (λ (l : List Settlement). IsLog (shape_in p) image (opening ++ commits_of l)) (append_assoc said unsaid (batch ∷ [])) has))
+          (subst (λ (l : List Settlement). IsLog live_slot (shape_in p) image (opening ++ commits_of l)) (append_assoc said unsaid (batch ∷ [])) has))
 
       -- the moment that is now
       pub doubt_says : (now : World) → DoubtAt p opening old said unsaid batch now → AllSay p opening old.output said ((said ++ unsaid) ++ batch ∷ []) (moment_of now)
@@ -350,10 +350,10 @@ module _ (p : Program) (opening : List Commit) where
         longer_logs : (opening ++ commits_of (said ++ unsaid)) ++ commits_of (batch ∷ []) ≡ opening ++ commits_of ((said ++ (unsaid ++ names)) ++ batch ∷ [])
         longer_logs = ap (λ (l : List Commit). l ++ commits_of (batch ∷ [])) logs ∙ joined_logs opening (said ++ (unsaid ++ names)) (batch ∷ [])
 
-        either : (image : Image) → IsLog (shape_in p) image (opening ++ commits_of (said ++ unsaid)) ⊎ IsLog (shape_in p) image ((opening ++ commits_of (said ++ unsaid)) ++ commits_of (batch ∷ []))
-            → IsLog (shape_in p) image (opening ++ commits_of (said ++ (unsaid ++ names))) ⊎ IsLog (shape_in p) image (opening ++ commits_of ((said ++ (unsaid ++ names)) ++ batch ∷ []))
-        either image (inl was) = inl (subst (IsLog (shape_in p) image) logs was)
-        either image (inr has) = inr (subst (IsLog (shape_in p) image) longer_logs has)
+        either : (image : Image) → IsLog live_slot (shape_in p) image (opening ++ commits_of (said ++ unsaid)) ⊎ IsLog live_slot (shape_in p) image ((opening ++ commits_of (said ++ unsaid)) ++ commits_of (batch ∷ []))
+            → IsLog live_slot (shape_in p) image (opening ++ commits_of (said ++ (unsaid ++ names))) ⊎ IsLog live_slot (shape_in p) image (opening ++ commits_of ((said ++ (unsaid ++ names)) ++ batch ∷ []))
+        either image (inl was) = inl (subst (IsLog live_slot (shape_in p) image) logs was)
+        either image (inr has) = inr (subst (IsLog live_slot (shape_in p) image) longer_logs has)
 
         further : (m : Moment) → AllSay p opening old.output said (said ++ unsaid) m → AllSay p opening old.output said ((said ++ (unsaid ++ names)) ++ batch ∷ []) m
         further m all =
@@ -392,10 +392,10 @@ module _ (p : Program) (opening : List Commit) where
           }
         where
           either : (image : Image) → IsImage new.disk image
-              → IsLog (shape_in p) image (opening ++ commits_of ((said ++ moved) ++ unsaid)) ⊎ IsLog (shape_in p) image (opening ++ commits_of (((said ++ moved) ++ unsaid) ++ batch ∷ []))
+              → IsLog live_slot (shape_in p) image (opening ++ commits_of ((said ++ moved) ++ unsaid)) ⊎ IsLog live_slot (shape_in p) image (opening ++ commits_of (((said ++ moved) ++ unsaid) ++ batch ∷ []))
           either image left = elim (at.log image (subst (λ (d : Disk). IsImage d image) emitted.disk left)) [
-            | inl was ↦ inl (subst (λ (l : List Settlement). IsLog (shape_in p) image (opening ++ commits_of l)) (moves said moved unsaid e one_entry proper) was)
-            | inr has ↦ inr (subst (λ (l : List Settlement). IsLog (shape_in p) image (opening ++ commits_of l)) doubt_moves has)
+            | inl was ↦ inl (subst (λ (l : List Settlement). IsLog live_slot (shape_in p) image (opening ++ commits_of l)) (moves said moved unsaid e one_entry proper) was)
+            | inr has ↦ inr (subst (λ (l : List Settlement). IsLog live_slot (shape_in p) image (opening ++ commits_of l)) doubt_moves has)
           ]
 
       -- or cut
@@ -414,7 +414,7 @@ module _ (p : Program) (opening : List Commit) where
           }
         where
           either : (image : Image) → IsImage new.disk image
-              → IsLog (shape_in p) image (opening ++ commits_of (said ++ (moved ++ unsaid))) ⊎ IsLog (shape_in p) image (opening ++ commits_of ((said ++ (moved ++ unsaid)) ++ batch ∷ []))
+              → IsLog live_slot (shape_in p) image (opening ++ commits_of (said ++ (moved ++ unsaid))) ⊎ IsLog live_slot (shape_in p) image (opening ++ commits_of ((said ++ (moved ++ unsaid)) ++ batch ∷ []))
           either image left = at.log image (subst (λ (d : Disk). IsImage d image) emitted.disk left)
 
       -- an emit that failed wrote the line whole, or a part of it
@@ -433,7 +433,7 @@ module _ (p : Program) (opening : List Commit) where
       | inr has ↦
           subst (λ (l : List Settlement). Says old.output said l (moment_of now) image) (append-nil (said ++ (unsaid ++ later)) ∙ sym (append_assoc said unsaid later))
           (here old.output said (unsaid ++ later) [] rest (moment_of now) image at.output at.unended proper
-          (subst (λ (l : List Settlement). IsLog (shape_in p) image (opening ++ commits_of l)) (append_assoc said unsaid later) has))
+          (subst (λ (l : List Settlement). IsLog live_slot (shape_in p) image (opening ++ commits_of l)) (append_assoc said unsaid later) has))
     ]
 
     -- whole lines are a cut without a rest
@@ -459,7 +459,7 @@ asked_seals p before mid new asked all = record {
       })
       asked.moments;
   output = asked.output;
-  log = λ image left. subst (IsLog (shape_in p) image) (sym (append-nil before)) (all image (subst (λ (d : Disk). IsImage d image) asked.disk left));
+  log = λ image left. subst (IsLog live_slot (shape_in p) image) (sym (append-nil before)) (all image (subst (λ (d : Disk). IsImage d image) asked.disk left));
 }
 
 -- what was written of a cut line is a first part of it

@@ -7,7 +7,7 @@ use Rattle.std.specs.Str.Parse.{AllDigits, digits_value}
 use Rattle.std.proofs.lemmas.Bool.Decides.{nat_tests}
 use Rattle.std.proofs.lemmas.Fmt.{decimal_is_IsNumeral}
 use Rattle.std.proofs.lemmas.Str.Parse.{digit_from_value}
-use Rattle.promise_spec.specs.Words.{Choice, Width, Turns, Workers, Form, Apart, Joined, Given, Manner, Command, Init, Run, Show, History, Audit, Load, Say, SpellsRun, SpellsLoad, name_of, value_text, list_text, words_in, words_of_all, manner_of, IsWithin, IsNoTurns, AreOptions}
+use Rattle.promise_spec.specs.Words.{Choice, Width, Turns, Workers, Form, Apart, Joined, GivenOption, Manner, Command, Init, Run, Show, History, Audit, Load, Say, SpellsRun, SpellsLoad, name_of, value_text, list_text, words_in, words_of_all, manner_of, IsWithin, IsNoTurns, AreOptions}
 use Rattle.promise_spec.proofs.Lists.{tail_of, parts_of}
 
 -- ---- what a word says
@@ -46,11 +46,11 @@ choice_by letter value =
     if letter == 105 then Width (digits_value 10 value)
     else (if letter == 117 then Turns (map (digits_value 10) (pieces value)) else Workers (digits_value 10 value))
 
-abbrev given_by : Form → List ℕ → List ℕ → Given
+abbrev given_by : Form → List ℕ → List ℕ → GivenOption
 given_by form name value = record { what = choice_by (get_or name 3 0) value; form = form }
 
 -- the options among the words, where a name may be waiting for its value
-abbrev options_in : Option (List ℕ) → List (List ℕ) → List Given
+abbrev options_in : Option (List ℕ) → List (List ℕ) → List GivenOption
 options_in waiting [] = []
 options_in None (word ∷ words) =
     if is_option word then (if has_sign word then given_by Joined (before_sign word) (after_sign word) ∷ options_in None words else options_in (Some word) words)
@@ -151,21 +151,21 @@ number_words (Turns picks) Joined value a = refl
 number_words (Workers n) Apart value a = refl
 number_words (Workers n) Joined value a = refl
 
-abbrev AreWithin : List Given → Type 0
-AreWithin options = AllByRecursion (λ (g : Given). IsWithin g.what) options
+abbrev AreWithin : List GivenOption → Type 0
+AreWithin options = AllByRecursion (λ (g : GivenOption). IsWithin g.what) options
 
 -- the words of options before others
-words_first : (g : Given) (options : List Given) (a : List (List ℕ)) → words_of_all (g ∷ options) ++ a ≡ words_in g.form (name_of g.what) (value_text g.what) ++ (words_of_all options ++ a)
+words_first : (g : GivenOption) (options : List GivenOption) (a : List (List ℕ)) → words_of_all (g ∷ options) ++ a ≡ words_in g.form (name_of g.what) (value_text g.what) ++ (words_of_all options ++ a)
 words_first g options a = append_assoc (words_in g.form (name_of g.what) (value_text g.what)) (words_of_all options) a
 
-options_back : (options : List Given) (a : List (List ℕ)) → AreWithin options → options_in None (words_of_all options ++ a) ≡ options ++ options_in None a
+options_back : (options : List GivenOption) (a : List (List ℕ)) → AreWithin options → options_in None (words_of_all options ++ a) ≡ options ++ options_in None a
 options_back [] a within = refl
 options_back (g ∷ options) a within =
-    let here : given_by g.form (name_of g.what) (value_text g.what) ≡ g = ap (λ (what : Choice). let h : Given = record { what = what; form = g.form } in h) (choice_back g.what within.0) in
+    let here : given_by g.form (name_of g.what) (value_text g.what) ≡ g = ap (λ (what : Choice). let h : GivenOption = record { what = what; form = g.form } in h) (choice_back g.what within.0) in
     let more : options_in None (words_of_all options ++ a) ≡ options ++ options_in None a = options_back options a within.1 in
     ap (options_in None) (words_first g options a) ∙ option_words g.what g.form (value_text g.what) (words_of_all options ++ a) ∙ (λ i. here i ∷ more i)
 
-numbers_back : (options : List Given) (a : List (List ℕ)) → numbers_in None (words_of_all options ++ a) ≡ numbers_in None a
+numbers_back : (options : List GivenOption) (a : List (List ℕ)) → numbers_in None (words_of_all options ++ a) ≡ numbers_in None a
 numbers_back [] a = refl
 numbers_back (g ∷ options) a =
     ap (numbers_in None) (words_first g options a) ∙ number_words g.what g.form (value_text g.what) (words_of_all options ++ a) ∙ numbers_back options a
@@ -178,32 +178,32 @@ numbers_at : (n : ℕ) (a : List (List ℕ)) → n < 2 ^ 64 → numbers_in None 
 numbers_at n a small = rw (no_option (decimal n) (digits_in n small)) (ap (λ (m : ℕ). m ∷ numbers_in None a) (number_back n small))
 
 -- options alone
-options_alone : (options : List Given) → AreWithin options → options_in None (words_of_all options) ≡ options
+options_alone : (options : List GivenOption) → AreWithin options → options_in None (words_of_all options) ≡ options
 options_alone options within =
     ap (options_in None) (sym (append-nil (words_of_all options))) ∙ options_back options [] within ∙ append-nil options
 
-numbers_alone : (options : List Given) → numbers_in None (words_of_all options) ≡ []
+numbers_alone : (options : List GivenOption) → numbers_in None (words_of_all options) ≡ []
 numbers_alone options = ap (numbers_in None) (sym (append-nil (words_of_all options))) ∙ numbers_back options []
 
 -- ---- commands are read back
 
 -- the words of a load behind its first
-abbrev load_words : List Given → ℕ → List Given → ℕ → List Given → List (List ℕ)
+abbrev load_words : List GivenOption → ℕ → List GivenOption → ℕ → List GivenOption → List (List ℕ)
 load_words before n between seed behind = words_of_all before ++ (decimal n ∷ (words_of_all between ++ (decimal seed ∷ words_of_all behind)))
 
-load_options : (before between behind : List Given) (n seed : ℕ) → n < 2 ^ 64 → seed < 2 ^ 64 → AreWithin (before ++ (between ++ behind))
+load_options : (before between behind : List GivenOption) (n seed : ℕ) → n < 2 ^ 64 → seed < 2 ^ 64 → AreWithin (before ++ (between ++ behind))
     → options_in None (load_words before n between seed behind) ≡ before ++ (between ++ behind)
 load_options before between behind n seed small_n small_seed within =
-    let all = parts_of (λ (g : Given). IsWithin g.what) before (between ++ behind) within in
-    let later = parts_of (λ (g : Given). IsWithin g.what) between behind all.1 in
+    let all = parts_of (λ (g : GivenOption). IsWithin g.what) before (between ++ behind) within in
+    let later = parts_of (λ (g : GivenOption). IsWithin g.what) between behind all.1 in
     let third : options_in None (decimal seed ∷ words_of_all behind) ≡ behind = options_past seed (words_of_all behind) small_seed ∙ options_alone behind later.1 in
     let second : options_in None (words_of_all between ++ (decimal seed ∷ words_of_all behind)) ≡ between ++ behind =
-    options_back between (decimal seed ∷ words_of_all behind) later.0 ∙ ap (λ (l : List Given). between ++ l) third in
+    options_back between (decimal seed ∷ words_of_all behind) later.0 ∙ ap (λ (l : List GivenOption). between ++ l) third in
     let first : options_in None (decimal n ∷ (words_of_all between ++ (decimal seed ∷ words_of_all behind))) ≡ between ++ behind =
     options_past n (words_of_all between ++ (decimal seed ∷ words_of_all behind)) small_n ∙ second in
-    options_back before (decimal n ∷ (words_of_all between ++ (decimal seed ∷ words_of_all behind))) all.0 ∙ ap (λ (l : List Given). before ++ l) first
+    options_back before (decimal n ∷ (words_of_all between ++ (decimal seed ∷ words_of_all behind))) all.0 ∙ ap (λ (l : List GivenOption). before ++ l) first
 
-load_numbers : (before between behind : List Given) (n seed : ℕ) → n < 2 ^ 64 → seed < 2 ^ 64 → numbers_in None (load_words before n between seed behind) ≡ n ∷ seed ∷ []
+load_numbers : (before between behind : List GivenOption) (n seed : ℕ) → n < 2 ^ 64 → seed < 2 ^ 64 → numbers_in None (load_words before n between seed behind) ≡ n ∷ seed ∷ []
 load_numbers before between behind n seed small_n small_seed =
     let third : numbers_in None (decimal seed ∷ words_of_all behind) ≡ seed ∷ [] = numbers_at seed (words_of_all behind) small_seed ∙ ap (λ (l : List ℕ). seed ∷ l) (numbers_alone behind) in
     let second : numbers_in None (words_of_all between ++ (decimal seed ∷ words_of_all behind)) ≡ seed ∷ [] =
@@ -213,10 +213,10 @@ load_numbers before between behind n seed small_n small_seed =
     ∙ ap (λ (l : List ℕ). n ∷ l) second
 
 -- a command from what is read
-abbrev load_from : List ℕ → List Given → Command
+abbrev load_from : List ℕ → List GivenOption → Command
 load_from numbers options = Load (get_or numbers 0 0) (get_or numbers 1 0) (manner_of options)
 
-module _ (takes : Given → Bool) (words : List (List ℕ)) where
+module _ (takes : GivenOption → Bool) (words : List (List ℕ)) where
   run_back : (m : Manner) → SpellsRun takes words m → command_in words ≡ Run m
   run_back m k = ap command_in k.words_are ∙ ap Run (ap manner_of (options_alone k.options k.are.within) ∙ sym k.manner)
 
@@ -239,7 +239,7 @@ module _ (takes : Given → Bool) (words : List (List ℕ)) where
 -- ---- words that say nothing
 
 -- the words of a run say the options that are read in them, and nothing where these may not stand, or are other words
-pub no_run : (rest : List (List ℕ)) (takes : Given → Bool) → (AreOptions takes (options_in None rest) → rest ≡ words_of_all (options_in None rest) → ⊥)
+pub no_run : (rest : List (List ℕ)) (takes : GivenOption → Bool) → (AreOptions takes (options_in None rest) → rest ≡ words_of_all (options_in None rest) → ⊥)
     → (c : Command) → Say takes (codes "run" ∷ rest) c → ⊥
 no_run rest takes refused Init k = absurd (cc (command_back takes (codes "run" ∷ rest) Init k))
 no_run rest takes refused (Run m) k =
@@ -252,9 +252,9 @@ no_run rest takes refused Audit k = absurd (cc (command_back takes (codes "run" 
 no_run rest takes refused (Load n seed m) k = absurd (cc (command_back takes (codes "run" ∷ rest) (Load n seed m) k))
 
 -- the words of a load say the two numbers and the options that are read in them, and nothing where these may not stand
-pub no_load : (rest : List (List ℕ)) (takes : Given → Bool)
+pub no_load : (rest : List (List ℕ)) (takes : GivenOption → Bool)
     → ((n seed : ℕ) → numbers_in None rest ≡ n ∷ seed ∷ [] → (1 ≤ n) × (n ≤ 100000) → seed < 2 ^ 64
-    → AreOptions takes (options_in None rest) → AllByRecursion (λ (g : Given). IsNoTurns g.what) (options_in None rest) → ⊥)
+    → AreOptions takes (options_in None rest) → AllByRecursion (λ (g : GivenOption). IsNoTurns g.what) (options_in None rest) → ⊥)
     → (c : Command) → Say takes (codes "load" ∷ rest) c → ⊥
 no_load rest takes refused Init k = absurd (cc (command_back takes (codes "load" ∷ rest) Init k))
 no_load rest takes refused (Run m) k = absurd (cc (command_back takes (codes "load" ∷ rest) (Run m) k))
@@ -269,8 +269,8 @@ no_load rest takes refused (Load n seed m) k =
     let options : options_in None said ≡ k.before ++ (k.between ++ k.behind) = load_options k.before k.between k.behind n seed small k.small k.are.within in
     let read : k.before ++ (k.between ++ k.behind) ≡ options_in None rest = sym (ap (options_in None) words ∙ options) in
     refused n seed (ap (numbers_in None) words ∙ numbers) k.many k.small
-    (subst (AreOptions takes) read k.are) (subst (λ (l : List Given). AllByRecursion (λ (g : Given). IsNoTurns g.what) l) read k.no_turns)
+    (subst (AreOptions takes) read k.are) (subst (λ (l : List GivenOption). AllByRecursion (λ (g : GivenOption). IsNoTurns g.what) l) read k.no_turns)
 
 -- words say at most one command
-pub one_command : (takes : Given → Bool) (words : List (List ℕ)) (c d : Command) → Say takes words c → Say takes words d → c ≡ d
+pub one_command : (takes : GivenOption → Bool) (words : List (List ℕ)) (c d : Command) → Say takes words c → Say takes words d → c ≡ d
 one_command takes words c d said_c said_d = sym (command_back takes words c said_c) ∙ command_back takes words d said_d

@@ -3,7 +3,7 @@ use Rattle.std.specs.Prelude.{◌≡◌, ◌≢◌, ◌⊎◌, ℕ, Bool, true, 
 use Rattle.host_trait.specs.declared.channels.Channel.{Channel}
 use Rattle.host_trait.specs.declared.channels.Channel.TheVariants.{Input, Output}
 use Rattle.host_trait.specs.Faults.{NoneFailed}
-use Rattle.promise_spec.specs.Words.{Given, Command, Init, Run, Show, History, Audit, Load, Say}
+use Rattle.promise_spec.specs.Words.{GivenOption, Command, Init, Run, Show, History, Audit, Load, Say}
 use Rattle.promise_spec.specs.Endings.{Ending, BadUse, Memory, ReadFault, WriteFault, HasRisen, HasFailedAs, IsBegun}
 use Rattle.promise_spec.specs.Courses.{Observed}
 use Rattle.promise_spec.specs.Promise.{Promises}
@@ -27,12 +27,12 @@ pub record IsBadUse (r : Observed) : Type 0 where
   pub calm : NoneFailed r.faults_before r.faults_after
 
 -- the words say a command that is built, with options that are built
-abbrev pub Understands : (Command → Bool) → (Given → Bool) → List (List ℕ) → Command → Type 0
+abbrev pub Understands : (Command → Bool) → (GivenOption → Bool) → List (List ℕ) → Command → Type 0
 Understands built takes words c = Say takes words c × (built c ≡ true)
 
 -- What the program promises, of which these commands and options are built: words that say one of them are obeyed, and all
 -- others are bad use.
-pub record Serves (built : Command → Bool) (takes : Given → Bool) (words : List (List ℕ)) (r : Observed) : Type 0 where
+pub record Serves (built : Command → Bool) (takes : GivenOption → Bool) (words : List (List ℕ)) (r : Observed) : Type 0 where
   pub obeys : (c : Command) → Understands built takes words c → Obeys c r
   pub refuses : ((c : Command) → Understands built takes words c → ⊥) → IsBadUse r
 
@@ -48,7 +48,7 @@ GoesOn (Load n seed m) e = IsBegun e
 -- What holds over any host, one that tells nothing of what it holds too: the words alone say what is bad use, but for want of
 -- memory, and a fault is shown by its count. No failed call is passed over: one on the input or the output ends the call so, or
 -- memory is wanting then; and where the command doesn't go on behind a file's fault, exactly the call that the ending names failed.
-pub record AnswersAs (built : Command → Bool) (takes : Given → Bool) (words : List (List ℕ)) (e : Ending) (old new : Channel → ℕ) : Type 0 where
+pub record AnswersAs (built : Command → Bool) (takes : GivenOption → Bool) (words : List (List ℕ)) (e : Ending) (old new : Channel → ℕ) : Type 0 where
   pub said : (c : Command) → Understands built takes words c → e ≢ BadUse
   pub other : ((c : Command) → Understands built takes words c → ⊥) → ((e ≡ BadUse) ⊎ (e ≡ Memory)) × NoneFailed old new
   pub risen : HasRisen e old new

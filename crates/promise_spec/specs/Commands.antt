@@ -9,7 +9,7 @@ use Rattle.script_tree.specs.Programs.{ProgramTree}
 use Rattle.promise_spec.specs.Programs.{Program, ProgramFault, text_limit, program_in}
 use Rattle.promise_spec.specs.Records.{Commit, log_start}
 use Rattle.promise_spec.specs.Serial.{IsSerial, Replays}
-use Rattle.promise_spec.specs.Logs.{magic, IsPrefix}
+use Rattle.promise_spec.specs.Logs.{magic, IsPrefix, live_slot}
 use Rattle.promise_spec.specs.Openings.{Reads, opened_as}
 use Rattle.promise_spec.specs.Endings.{Ending, Done, BadUse, Memory, ReadFault, WriteFault, DiskFault, NotASilo, AlreadyASilo, Damaged, BadProgram, InputTooLong, HasRisen}
 use Rattle.promise_spec.specs.Family.{states_after}
@@ -39,8 +39,8 @@ abbrev pub HasFault : Observed → ProgramFault → Type 0
 HasFault r fault = (r.new.input ≡ []) × (length r.old.input ≤ text_limit) × (program_in r.old.input ≡ Err fault)
 
 -- what the manager file reads lasts
-abbrev pub Lasts : Observed → Type 0
-Lasts r = (image : Image) → IsImage r.new.disk image → image manager ≡ seen_at_entry r manager
+abbrev pub ManagerLasts : Observed → Type 0
+ManagerLasts r = (image : Image) → IsImage r.new.disk image → image manager ≡ seen_at_entry r manager
 
 -- How `init` ends. The input comes before the program in it, and that before the folder; want of memory is free, and
 -- comes before the folder.
@@ -52,7 +52,7 @@ MakesAs ReadFault r = IsUntouched r.old r.new
 MakesAs WriteFault r = ⊥
 MakesAs (DiskFault file) r = IsProgramText r × IsHead file × StaysSilo r file
 MakesAs NotASilo r = ⊥
-MakesAs AlreadyASilo r = IsProgramText r × WasSilo r × IsUntouched r.old r.new × Lasts r
+MakesAs AlreadyASilo r = IsProgramText r × WasSilo r × IsUntouched r.old r.new × ManagerLasts r
 MakesAs (Damaged file place) r = ⊥
 MakesAs (BadProgram fault) r = HasFault r fault × IsUntouched r.old r.new
 MakesAs (InputTooLong line) r = (line ≡ 0) × (text_limit < length r.old.input) × IsUntouched r.old r.new
@@ -104,7 +104,7 @@ LeavesAsBefore old m = (image : Image) → IsImage m.disk image →
 pub record IsReported (text : Program → List Commit → List ℕ) (r : Observed) : Type 0 where
   pub program : Program
   pub log : List Commit
-  pub reads : opened_as (seen_at_entry r) ≡ Reads program log
+  pub reads : opened_as live_slot (seen_at_entry r) ≡ Reads program log
   pub prints : Prints (text program log) r
   pub unread : r.new.input ≡ r.old.input
   pub moments : Passes (LeavesAsBefore r.old) r.old.past r.new.past

@@ -8,7 +8,7 @@ use Rattle.core_model.specs.declared.events.CoreEvent.{CoreEvent}
 use Rattle.core_model.specs.Legal as legal
 use Rattle.promise_spec.specs.Records.{Commit, Standing, standing_of}
 use Rattle.promise_spec.specs.Programs.{Program}
-use Rattle.promise_spec.specs.Moments.{counted}
+use Rattle.promise_spec.specs.Moments.{counted_moments}
 use Rattle.promise_spec.specs.Cores.{core_from}
 use Rattle.promise_spec.specs.UnitRule.{Basis}
 use Rattle.promise_spec.specs.Endings.{Ending}
@@ -43,7 +43,7 @@ order c = c.opening ++ c.added
 
 -- the moments that count for crashes
 abbrev pub moments : Observed → Course → List Moment
-moments r c = counted r.old c.early c.late r.new
+moments r c = counted_moments r.old c.early c.late r.new
 
 -- the files as they read at entry
 abbrev pub seen_at_entry : Observed → Image

@@ -36,9 +36,9 @@ pub record LacksDoubtful (c : Course) (w : CoreState) (log : List Commit) : Type
   pub units : AreOf (doubtful w) last
 
 -- the image has the whole order as its log, or the order without the records of the batch in doubt
-pub record EndsWith (p : Program) (c : Course) (w : CoreState) (image : Image) : Type 0 where
+pub record HasLogAtExit (p : Program) (c : Course) (w : CoreState) (image : Image) : Type 0 where
   pub log : List Commit
-  pub is : IsLog (shape_in p) image log
+  pub is : IsLog live_slot (shape_in p) image log
   pub which : (log ≡ order c) ⊎ LacksDoubtful c w log
 
 -- Where images have different logs the live manager file's count of faults rose, the ending is one of three, and each
@@ -51,7 +51,7 @@ pub record IsDoubt (live : ℕ) (r : Observed) (c : Course) (w : CoreState) : Ty
 -- no image at the exit has a record of the unit
 abbrev pub IsNowhere : Program → Observed → UnitNo → Type 0
 IsNowhere p r u =
-    (image : Image) (log : List Commit) (l : Commit) → IsImage r.new.disk image → IsLog (shape_in p) image log →
+    (image : Image) (log : List Commit) (l : Commit) → IsImage r.new.disk image → IsLog live_slot (shape_in p) image log →
     Member l log → l.logged.unit ≢ u
 
 -- the whole block of a batch stands behind a gate of the live manager file, which is open or not
@@ -80,8 +80,8 @@ pub record HasDoubtfulBlock (live : ℕ) (r : Observed) (c : Course) (w : CoreSt
 
 -- The log at the exit, where lines are in doubt too.
 pub record IsLeft (p : Program) (r : Observed) (c : Course) : Type 0 where
-  pub logs : (image : Image) → IsImage r.new.disk image → EndsWith p c (core_end p c) image
+  pub logs : (image : Image) → IsImage r.new.disk image → HasLogAtExit p c (core_end p c) image
   pub doubt : (one other : Image) (a b : List Commit) → IsImage r.new.disk one → IsImage r.new.disk other →
-      IsLog (shape_in p) one a → IsLog (shape_in p) other b → a ≢ b → IsDoubt live_slot r c (core_end p c)
+      IsLog live_slot (shape_in p) one a → IsLog live_slot (shape_in p) other b → a ≢ b → IsDoubt live_slot r c (core_end p c)
   pub nowhere : (e : Entry) → Member e c.entries → e.what ≡ InDoubt → IsNowhere p r e.unit → HasNoRecord c e.unit
   pub block : HasDoubt (core_run p c) → HasDoubtfulBlock live_slot r c (core_end p c)

@@ -36,7 +36,7 @@ AreAdded w added = AreRecordsOf (committed w) added ⊎ FollowInDoubt w added
 -- each image's log is the opening log and whole batches behind it.
 pub record ComeOfEvents (p : Program) (r : Observed) (c : Course) : Type 0 where
   pub family : IsFamily p.types (lines r) (core_end p c) (opening_standing p c).states (order c) c.added
-  pub whole : (image : Image) (log : List Commit) → IsImageOf (moments r c) image → IsLog (shape_in p) image log →
+  pub whole : (image : Image) (log : List Commit) → IsImageOf (moments r c) image → IsLog live_slot (shape_in p) image log →
       EndsABatch (core_end p c) c.opening log
 
 -- all that is settled has been written, or the run ended with a batch in doubt

@@ -21,6 +21,13 @@ pub data Got : Type 0 where
   GotRaise : GrainId → Got
   GotChild : Call → ℕ → UnitNo → Got
 
+-- the children among what a unit got
+abbrev pub kids_got : List Got → List UnitNo
+kids_got [] = []
+kids_got (GotLock g mode state ∷ rest) = kids_got rest
+kids_got (GotRaise g ∷ rest) = kids_got rest
+kids_got (GotChild call depth child ∷ rest) = child ∷ kids_got rest
+
 -- what a grant gives
 abbrev pub got_lock : CoreState → UnitNo → GrainId → Mode → Got
 got_lock w u g mode = if holds_lock u (w.cells.holds g) then GotRaise g else GotLock g mode (top (cleaned w g)).state

@@ -4,7 +4,8 @@ use Rattle.std.specs.List.{AllByRecursion}
 use Rattle.base_types.specs.declared.calls.Origin.{Origin}
 use Rattle.base_types.specs.declared.calls.Origin.TheVariants.{Line, Child}
 use Rattle.host_trait.specs.World.{Image}
-use Rattle.silo_spec.specs.Silos.{manager, program_file, IsSilo, HasProgram}
+use Rattle.host_trait.specs.declared.channels.FileId.TheVariants.{Manager, Program as ProgramFile}
+use Rattle.silo_spec.specs.Silos.{IsSilo, HasProgram}
 use Rattle.promise_spec.specs.Programs.{Program, shape_in}
 use Rattle.promise_spec.specs.Records.{Commit, log_start}
 use Rattle.promise_spec.specs.Serial.{IsSerial}
@@ -24,18 +25,18 @@ AreNumbered first (c ∷ later) =
 
 -- The image is a silo of this program. All that it names is in the format and whole, its records are what the
 -- one-thread store gives from where every log begins, and their units are numbered.
-pub record IsSound (p : Program) (image : Image) : Type 0 where
+pub record IsSound (live : ℕ) (p : Program) (image : Image) : Type 0 where
   pub log : List Commit
-  pub is : IsLog (shape_in p) image log
-  pub program : HasProgram p.text (image program_file)
+  pub is : IsLog live (shape_in p) image log
+  pub program : HasProgram p.text (image (ProgramFile live))
   pub serial : IsSerial p.types (log_start p.types).states log
   pub numbered : AreNumbered (log_start p.types).next log
 
 -- an image that is a silo is sound
-abbrev pub IsSoundIfSilo : Program → Image → Type 0
-IsSoundIfSilo p image = IsSilo magic (image manager) → IsSound p image
+abbrev pub IsSoundIfSilo : ℕ → Program → Image → Type 0
+IsSoundIfSilo live p image = IsSilo magic (image (Manager live)) → IsSound live p image
 
 -- Of the logs of the two, one is a prefix of the other, with equal states. An image that is no silo counts as before
 -- every log.
-abbrev pub AreChained : Program → Image → Image → Type 0
-AreChained p one other = HasLog (shape_in p) one (λ a. HasLog (shape_in p) other (λ b. IsPrefix a b ⊎ IsPrefix b a))
+abbrev pub AreChained : ℕ → Program → Image → Image → Type 0
+AreChained live p one other = HasLog live (shape_in p) one (λ a. HasLog live (shape_in p) other (λ b. IsPrefix a b ⊎ IsPrefix b a))

@@ -7,7 +7,7 @@ use Rattle.request_wire.specs.Request.{call_of}
 use Rattle.script_tree.specs.Programs.{ProgramTree}
 
 -- there is a line of this number, counted from 1, and it reads so
-pub record Reads (types : ProgramTree) (lines : List (List ℕ)) (n : ℕ) (request : Result Call BadRequest) : Type 0 where
+pub record ReadsLineAs (types : ProgramTree) (lines : List (List ℕ)) (n : ℕ) (request : Result Call BadRequest) : Type 0 where
   pub index : ℕ
   pub text : List ℕ
   pub number : n ≡ index + 1
@@ -16,8 +16,8 @@ pub record Reads (types : ProgramTree) (lines : List (List ℕ)) (n : ℕ) (requ
 
 -- line n asks for this call
 abbrev pub IsLineCall : ProgramTree → List (List ℕ) → ℕ → Call → Type 0
-IsLineCall types lines n call = Reads types lines n (Ok call)
+IsLineCall types lines n call = ReadsLineAs types lines n (Ok call)
 
 -- line n is bad, since it fails this test
 abbrev pub IsBadLine : ProgramTree → List (List ℕ) → ℕ → BadRequest → Type 0
-IsBadLine types lines n why = Reads types lines n (Err why)
+IsBadLine types lines n why = ReadsLineAs types lines n (Err why)

@@ -18,7 +18,7 @@ use Rattle.silo_spec.specs.Making.{StaysBeside, IsNewAt, FromFirstSync, Makes}
 use Rattle.script_tree.specs.Programs.{ProgramTree}
 use Rattle.promise_spec.specs.Programs.{Program, IsChecked, shape_in}
 use Rattle.promise_spec.specs.Records.{States, standing_of}
-use Rattle.promise_spec.specs.Logs.{magic, IsLog}
+use Rattle.promise_spec.specs.Logs.{magic, IsLog, live_slot}
 use Rattle.promise_spec.specs.Lines.{IsLineCall}
 use Rattle.promise_spec.specs.Causes.{NoneRose, HasDoubt, syncs_of}
 use Rattle.promise_spec.specs.Endings as ending
@@ -31,7 +31,7 @@ use Rattle.promise_spec.specs.Promise.{IsAnswered, GoesThrough, HasNoChild, IsNo
 use Rattle.promise_spec.specs.Reports.{line_of}
 use Rattle.promise_spec.specs.Words.{Manner}
 use Rattle.promise_spec.specs.Refusals.{IsHead, IsUnopened}
-use Rattle.promise_spec.specs.Commands.{Prints, WasSilo, StaysSilo, Lasts}
+use Rattle.promise_spec.specs.Commands.{Prints, WasSilo, StaysSilo, ManagerLasts}
 
 -- ---- what is asked
 
@@ -172,7 +172,7 @@ pub record KeepsLoad (p : Program) (n seed : ℕ) (r : Observed) (c : Course) : 
   pub explained : IsExplained p r c
   pub output : Prints (summary_text p r c) r
   pub lasting : (m : Moment) (image : Image) → Member m (moments r c) → IsImage m.disk image → m.output ≢ r.old.output →
-      IsLog (shape_in p) image (order c)
+      IsLog live_slot (shape_in p) image (order c)
   pub silent : r.ending ≢ ending.Done → r.ending ≢ ending.WriteFault → r.new.output ≡ r.old.output
   pub ended : HasLoaded p r c
 
@@ -192,7 +192,7 @@ IsUnmadeBy ending.ReadFault r = ⊥
 IsUnmadeBy ending.WriteFault r = ⊥
 IsUnmadeBy (ending.DiskFault file) r = IsHead file × StaysSilo r file
 IsUnmadeBy ending.NotASilo r = ⊥
-IsUnmadeBy ending.AlreadyASilo r = WasSilo r × IsUntouched r.old r.new × Lasts r
+IsUnmadeBy ending.AlreadyASilo r = WasSilo r × IsUntouched r.old r.new × ManagerLasts r
 IsUnmadeBy (ending.Damaged file place) r = ⊥
 IsUnmadeBy (ending.BadProgram fault) r = ⊥
 IsUnmadeBy (ending.InputTooLong line) r = ⊥

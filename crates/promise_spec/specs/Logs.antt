@@ -3,66 +3,64 @@ use Rattle.std.specs.Prelude.{◌≡◌, ℕ, ◌^◌, ◌<◌, ◌≤◌, List,
 use Rattle.std.specs.List.{flat_map, AllByRecursion}
 use Rattle.base_types.specs.declared.calls.UnitNo.{UnitNo}
 use Rattle.base_types.specs.declared.calls.Value.{Value}
-use Rattle.host_trait.specs.declared.channels.FileId.TheVariants.{Grain}
+use Rattle.host_trait.specs.declared.channels.FileId.TheVariants.{Manager, Grain}
 use Rattle.host_trait.specs.World.{Image}
 use Rattle.gate_block.specs.Log.{LogsUpTo}
 use Rattle.base_types.specs.declared.shapes.Shape.{Shape}
+pub use Rattle.log_reading.specs.Steps.{live_slot}
 use Rattle.grain_log.specs.Places.{IsVersionAt}
 use Rattle.grain_log.specs.Reads.{fields_of}
 use Rattle.field_codec.specs.declared.units.Numbers.TheVariants.{Logged}
 use Rattle.commit_log.specs.declared.records.Written.{Written}
 use Rattle.commit_log.specs.Spelling.{spelling_of_body}
 use Rattle.commit_log.specs.Bodies.{IsRecordIn}
-use Rattle.silo_spec.specs.Silos.{manager, IsSilo}
+use Rattle.silo_spec.specs.Silos.{IsSilo}
 use Rattle.promise_spec.specs.Records.{Commit}
 
 -- the eight bytes after the header gate that name a silo
 abbrev pub magic : List ℕ
 magic = codes "OTXLOG01"
 
--- the slot of the live files, in every command
-abbrev pub live_slot : ℕ
-live_slot = 0
-
 -- the version of a unit stands whole at the place that its write names, below 2 to the 63, with this state, which has
 -- the fields of its type
-pub record Stands (shape : Shape) (image : Image) (unit : UnitNo) (w : Written) (state : List Value) : Type 0 where
+pub record Stands (live : ℕ) (shape : Shape) (image : Image) (unit : UnitNo) (w : Written) (state : List Value) : Type 0 where
   pub near : w.place.offset < 2 ^ 63
   pub fields : fields_of (slice_get shape.types w.grain.kind) ≡ Some (length state)
-  pub version : IsVersionAt (length state) w.place (image (Grain 0 w.grain)) (record { unit = unit; state = state })
+  pub version : IsVersionAt (length state) w.place (image (Grain live w.grain)) (record { unit = unit; state = state })
 
 -- each write of a unit has its state, and the version stands
-abbrev pub AllStand : Shape → Image → UnitNo → List Written → List (List Value) → Type 0
-AllStand shape image unit [] [] = ⊤
-AllStand shape image unit [] (state ∷ states) = ⊥
-AllStand shape image unit (w ∷ ws) [] = ⊥
-AllStand shape image unit (w ∷ ws) (state ∷ states) =
-    Stands shape image unit w state × AllStand shape image unit ws states
+abbrev pub AllStand : ℕ → Shape → Image → UnitNo → List Written → List (List Value) → Type 0
+AllStand live shape image unit [] [] = ⊤
+AllStand live shape image unit [] (state ∷ states) = ⊥
+AllStand live shape image unit (w ∷ ws) [] = ⊥
+AllStand live shape image unit (w ∷ ws) (state ∷ states) =
+    Stands live shape image unit w state × AllStand live shape image unit ws states
 
 -- The record is within the format's limits, its unit's number is above 0 and its own and its parent's are below 2 to the
 -- 63, its call and its grains are the program's, and its versions stand.
-pub record IsKept (shape : Shape) (image : Image) (c : Commit) : Type 0 where
+pub record IsKept (live : ℕ) (shape : Shape) (image : Image) (c : Commit) : Type 0 where
   pub fits : IsRecordIn Logged shape c.logged
-  pub whole : AllStand shape image c.logged.unit c.logged.writes c.states
+  pub whole : AllStand live shape image c.logged.unit c.logged.writes c.states
 
 -- the records of one batch as a block's body
 abbrev pub body_of : List Commit → List ℕ
 body_of batch = spelling_of_body (map (λ c. c.logged) batch)
 
--- The log of an image under a program's shape: a silo's manager file has, from byte 15 on, the open blocks of these
--- batches, up to a closed gate. A batch has at most 64 records. Each record is kept whole.
-pub record IsLog (shape : Shape) (image : Image) (log : List Commit) : Type 0 where
-  pub silo : IsSilo magic (image manager)
+-- The log of an image under a program's shape, where the live files are of this slot: a silo's manager file has, from
+-- byte 15 on, the open blocks of these batches, up to a closed gate. A batch has at most 64 records. Each record is kept
+-- whole.
+pub record IsLog (live : ℕ) (shape : Shape) (image : Image) (log : List Commit) : Type 0 where
+  pub silo : IsSilo magic (image (Manager live))
   pub batches : List (List Commit)
   pub gate : ℕ
-  pub blocks : LogsUpTo (map body_of batches) gate (image manager)
+  pub blocks : LogsUpTo (map body_of batches) gate (image (Manager live))
   pub sizes : AllByRecursion (λ batch. length batch ≤ 64) batches
   pub commits : log ≡ flat_map (λ batch. batch) batches
-  pub kept : AllByRecursion (IsKept shape image) log
+  pub kept : AllByRecursion (IsKept live shape image) log
 
 -- an image that is a silo has a log, of which this holds
-abbrev pub HasLog : Shape → Image → (List Commit → Type 0) → Type 0
-HasLog shape image Holds = IsSilo magic (image manager) → (log : List Commit) × IsLog shape image log × Holds log
+abbrev pub HasLog : ℕ → Shape → Image → (List Commit → Type 0) → Type 0
+HasLog live shape image Holds = IsSilo magic (image (Manager live)) → (log : List Commit) × IsLog live shape image log × Holds log
 
 -- one list is a first part of the other
 abbrev pub IsPrefix : {A : Type 0} → List A → List A → Type 0

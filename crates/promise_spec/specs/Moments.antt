@@ -4,7 +4,7 @@ use Rattle.host_trait.specs.World.{World, Moment, Image, IsImage, moment_of, las
 use Rattle.cell_model.specs.Units.{Member}
 use Rattle.promise_spec.specs.Programs.{Program, shape_in}
 use Rattle.promise_spec.specs.Records.{Commit}
-use Rattle.promise_spec.specs.Logs.{IsLog, HasLog, IsPrefix}
+use Rattle.promise_spec.specs.Logs.{IsLog, HasLog, IsPrefix, live_slot}
 
 -- a crash at one of these moments may leave this image
 pub record IsImageOf (moments : List Moment) (image : Image) : Type 0 where
@@ -14,12 +14,12 @@ pub record IsImageOf (moments : List Moment) (image : Image) : Type 0 where
 
 -- The moments that count for crashes: the one at which the opening's last sync returned, the later ones, and the
 -- exit. The early moments are those up to that sync's.
-abbrev pub counted : World → List Moment → List Moment → World → List Moment
-counted old early late new = last_of (moment_of old) early ∷ (late ++ moment_of new ∷ [])
+abbrev pub counted_moments : World → List Moment → List Moment → World → List Moment
+counted_moments old early late new = last_of (moment_of old) early ∷ (late ++ moment_of new ∷ [])
 
 -- the order of a run: the longest log that an image of these moments has
 pub record IsLongest (p : Program) (moments : List Moment) (order : List Commit) : Type 0 where
   pub image : Image
   pub left : IsImageOf moments image
-  pub log : IsLog (shape_in p) image order
-  pub longest : (other : Image) → IsImageOf moments other → HasLog (shape_in p) other (λ log. IsPrefix log order)
+  pub log : IsLog live_slot (shape_in p) image order
+  pub longest : (other : Image) → IsImageOf moments other → HasLog live_slot (shape_in p) other (λ log. IsPrefix log order)

@@ -4,7 +4,7 @@ use Rattle.base_types.specs.declared.shapes.Shape.{Shape}
 use Rattle.host_trait.specs.declared.channels.FileId.{FileId}
 use Rattle.host_trait.specs.World.{Image}
 use Rattle.commit_log.specs.declared.records.CommitRecord.{CommitRecord}
-use Rattle.silo_spec.specs.Silos.{manager, program_file}
+use Rattle.host_trait.specs.declared.channels.FileId.TheVariants.{Manager, Program as ProgramFile}
 use Rattle.promise_spec.specs.Programs.{Program, shape_in}
 use Rattle.promise_spec.specs.Records.{Commit}
 use Rattle.promise_spec.specs.Logs.{magic}
@@ -30,27 +30,27 @@ abbrev pub is_silo : List ℕ → Bool
 is_silo file = nat_le 16 (length file) && ((slice_index file 0 == 1) && bytes_eq (take 8 (drop 1 file)) magic)
 
 -- a record with the states at its places
-abbrev pub commit_of : Shape → Image → CommitRecord → Commit
-commit_of shape image r = record {
+abbrev pub commit_of : ℕ → Shape → Image → CommitRecord → Commit
+commit_of live shape image r = record {
   logged = r;
-  states = map (λ w. state_of (version_named shape image (record { unit = r.unit; written = w }))) r.writes;
+  states = map (λ w. state_of (version_named live shape image (record { unit = r.unit; written = w }))) r.writes;
 }
 
 -- ---- the folder
 
-abbrev pub with_versions : Program → Image → List CommitRecord → Option (FileId × ℕ) → Reading
-with_versions p image records None = Reads p (map (commit_of (shape_in p) image) records)
-with_versions p image records (Some missing) = DamagedAt missing.0 missing.1
+abbrev pub with_versions : ℕ → Program → Image → List CommitRecord → Option (FileId × ℕ) → Reading
+with_versions live p image records None = Reads p (map (commit_of live (shape_in p) image) records)
+with_versions live p image records (Some missing) = DamagedAt missing.0 missing.1
 
-abbrev pub with_log : Program → Image → Result (List CommitRecord) ℕ → Reading
-with_log p image (Ok records) = with_versions p image records (first_missing (shape_in p) image (by_grain (named_by records)))
-with_log p image (Err place) = DamagedAt manager place
+abbrev pub with_log : ℕ → Program → Image → Result (List CommitRecord) ℕ → Reading
+with_log live p image (Ok records) = with_versions live p image records (first_missing live (shape_in p) image (by_grain (named_by records)))
+with_log live p image (Err place) = DamagedAt (Manager live) place
 
-abbrev pub with_program : Image → Result Program ℕ → Reading
-with_program image (Ok p) = with_log p image (records_in_file (shape_in p) (image manager))
-with_program image (Err place) = DamagedAt program_file place
+abbrev pub with_program : ℕ → Image → Result Program ℕ → Reading
+with_program live image (Ok p) = with_log live p image (records_in_file (shape_in p) (image (Manager live)))
+with_program live image (Err place) = DamagedAt (ProgramFile live) place
 
--- What a folder reads as. The first damage counts: in the program file, then block by block in the manager file, then
--- version by version in the grains' files.
-abbrev pub opened_as : Image → Reading
-opened_as image = if is_silo (image manager) then with_program image (program_in_file (image program_file)) else NoSilo
+-- What a folder reads as, where the live files are of this slot. The first damage counts: in the program file, then block
+-- by block in the manager file, then version by version in the grains' files.
+abbrev pub opened_as : ℕ → Image → Reading
+opened_as live image = if is_silo (image (Manager live)) then with_program live image (program_in_file (image (ProgramFile live))) else NoSilo

@@ -1,4 +1,5 @@
 -- The whole promise of a run.
+use Rattle.promise_spec.specs.Logs.{live_slot}
 use Rattle.std.specs.Prelude.{◌≡◌, ◌⊎◌, ℕ, ◌+◌, ◌≤◌, false, [], length, ⊤}
 use Rattle.base_types.specs.declared.calls.Call.{Call}
 use Rattle.base_types.specs.declared.calls.Origin.TheVariants.{Child}
@@ -97,12 +98,12 @@ pub record Keeps (p : Program) (r : Observed) (c : Course) : Type 0 where
 
 -- the images at entry are a chain, and each that is a silo is sound
 pub record IsSoundFolder (p : Program) (w : World) : Type 0 where
-  pub chain : (one other : Image) → IsImage w.disk one → IsImage w.disk other → AreChained p one other
-  pub sound : (image : Image) → IsImage w.disk image → IsSoundIfSilo p image
+  pub chain : (one other : Image) → IsImage w.disk one → IsImage w.disk other → AreChained live_slot p one other
+  pub sound : (image : Image) → IsImage w.disk image → IsSoundIfSilo live_slot p image
 
 -- What `run` promises, carried in the manner of its words. Over any folder it doesn't open it and leaves all as it was,
 -- or it opens it. Over a sound folder it doesn't open it, or takes a course that keeps all six clauses.
 pub record Promises (m : Manner) (r : Observed) : Type 0 where
   pub manner : r.manner ≡ m
-  pub answers : IsUnopened r ⊎ HasOpened r
+  pub answers : IsUnopened r ⊎ HasOpened live_slot r
   pub over_sound : (p : Program) → IsChecked p → IsSoundFolder p r.old → IsUnopened r ⊎ ((c : Course) × Keeps p r c)

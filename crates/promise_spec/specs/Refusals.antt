@@ -1,4 +1,5 @@
 -- What a command answers that doesn't open the folder, and when it may open it.
+use Rattle.promise_spec.specs.Logs.{live_slot}
 use Rattle.std.specs.Prelude.{◌≡◌, ◌⊎◌, ℕ, ◌≤◌, false, List, [], length, map, Ok, ⊤}
 use Rattle.base_types.specs.declared.calls.GrainId.{GrainId}
 use Rattle.base_types.specs.declared.entries.Entry.{Entry}
@@ -33,14 +34,14 @@ pub record IsNamedIn (image : Image) (grain : GrainId) : Type 0 where
 
 -- the file is the manager file, the program's, or that of a grain that a record names
 abbrev pub IsReadFor : Image → FileId → Type 0
-IsReadFor image file = IsHead file ⊎ ((grain : GrainId) × (file ≡ Grain 0 grain) × IsNamedIn image grain)
+IsReadFor image file = IsHead file ⊎ ((grain : GrainId) × (file ≡ Grain live_slot grain) × IsNamedIn image grain)
 
 -- such files have to be read where the first damage is in this one: of the grains' files those of grains that aren't behind
 abbrev pub IsReadBefore : Image → FileId → FileId → Type 0
 IsReadBefore image (ProgramFile slot) file = IsHead file
 IsReadBefore image (Manager slot) file = IsHead file
 IsReadBefore image (Grain slot last) file =
-    IsHead file ⊎ ((grain : GrainId) × (file ≡ Grain 0 grain) × IsNamedIn image grain × (is_before last grain ≡ false))
+    IsHead file ⊎ ((grain : GrainId) × (file ≡ Grain live_slot grain) × IsNamedIn image grain × (is_before last grain ≡ false))
 
 -- the file has to be read to see that the folder reads so
 abbrev pub MustBeRead : Image → Reading → FileId → Type 0
@@ -68,14 +69,14 @@ IsRefusedBy image reading (InputTooLong line) = ⊥
 pub record IsUnopened (r : Observed) : Type 0 where
   pub untouched : IsUntouched r.old r.new
   pub unread : r.new.input ≡ r.old.input
-  pub refused : IsRefusedBy (seen_at_entry r) (opened_as (seen_at_entry r)) r.ending
+  pub refused : IsRefusedBy (seen_at_entry r) (opened_as live_slot (seen_at_entry r)) r.ending
   pub risen : HasRisen r.ending r.faults_before r.faults_after
 
--- the folder reads as a silo of this program with this log
-pub record IsOpenable (r : Observed) : Type 0 where
+-- the folder reads as a silo of this program with this log, where the live files are of this slot
+pub record IsOpenable (live : ℕ) (r : Observed) : Type 0 where
   pub program : Program
   pub log : List Commit
-  pub reads : opened_as (seen_at_entry r) ≡ Reads program log
+  pub reads : opened_as live (seen_at_entry r) ≡ Reads program log
 
 -- the input was read to its end, and what was written is one entry for each line
 pub record HasAnswered (p : Program) (r : Observed) : Type 0 where
@@ -89,11 +90,11 @@ pub record HasAnswered (p : Program) (r : Observed) : Type 0 where
 -- A run opened the folder, sound or not: it reads as a silo. A fault is shown by its count, and is one of the input, the
 -- output or the manager file; an input that is too long is so by its length; done means that the input was read to its end
 -- and each line answered; and nothing is written where no line may have begun.
-pub record HasOpened (r : Observed) : Type 0 where
-  pub openable : IsOpenable r
+pub record HasOpened (live : ℕ) (r : Observed) : Type 0 where
+  pub openable : IsOpenable live r
   pub carried : IsCarried r.ending
   pub risen : HasRisen r.ending r.faults_before r.faults_after
-  pub file : (f : FileId) → r.ending ≡ DiskFault f → f ≡ manager
+  pub file : (f : FileId) → r.ending ≡ DiskFault f → f ≡ Manager live
   pub long : HasLength r.ending (length r.old.input)
   pub done : r.ending ≡ Done → HasAnswered openable.program r
   pub unbegun : (IsBegun r.ending → ⊥) → r.new.output ≡ r.old.output

@@ -17,7 +17,7 @@ pub data Form : Type 0 where
   Joined : Form
 
 -- an option as it is given
-pub record Given : Type 0 where
+pub record GivenOption : Type 0 where
   pub what : Choice
   pub form : Form
 
@@ -44,11 +44,11 @@ abbrev pub words_in : Form → List ℕ → List ℕ → List (List ℕ)
 words_in Apart name value = name ∷ value ∷ []
 words_in Joined name value = (name ++ (61 ∷ value)) ∷ []
 
-abbrev pub words_of : Given → List (List ℕ)
+abbrev pub words_of : GivenOption → List (List ℕ)
 words_of g = words_in g.form (name_of g.what) (value_text g.what)
 
 -- the words of options one after another
-abbrev pub words_of_all : List Given → List (List ℕ)
+abbrev pub words_of_all : List GivenOption → List (List ℕ)
 words_of_all options = flat_map words_of options
 
 -- what values an option takes: a width from 1 to 64, from 1 to 4,096 picks below 2 to the 32, and from 1 to 16 workers
@@ -58,7 +58,7 @@ IsWithin (Turns picks) = (1 ≤ length picks) × (length picks ≤ 4096) × AllB
 IsWithin (Workers n) = (1 ≤ n) × (n ≤ 16)
 
 -- each option at most once
-abbrev pub DifferInName : List Given → Type 0
+abbrev pub DifferInName : List GivenOption → Type 0
 DifferInName [] = ⊤
 DifferInName (g ∷ options) = AllByRecursion (λ h. name_of h.what ≢ name_of g.what) options × DifferInName options
 
@@ -79,7 +79,7 @@ with_choice (Width n) m = record m { width = n }
 with_choice (Turns picks) m = record m { picks = picks }
 with_choice (Workers n) m = record m { threaded = true }
 
-abbrev pub manner_of : List Given → Manner
+abbrev pub manner_of : List GivenOption → Manner
 manner_of [] = plain_manner
 manner_of (g ∷ options) = with_choice g.what (manner_of options)
 
@@ -90,7 +90,7 @@ is_workers (Workers n) = true
 
 -- Options that may stand together: each is one that is taken, with a value that it takes, at most once, and workers
 -- stand beside no other.
-pub record AreOptions (takes : Given → Bool) (options : List Given) : Type 0 where
+pub record AreOptions (takes : GivenOption → Bool) (options : List GivenOption) : Type 0 where
   pub taken : list_all takes options ≡ true
   pub within : AllByRecursion (λ g. IsWithin g.what) options
   pub once : DifferInName options
@@ -99,8 +99,8 @@ pub record AreOptions (takes : Given → Bool) (options : List Given) : Type 0 w
 -- ---- commands
 
 -- the words are those of `run`, carried in this manner
-pub record SpellsRun (takes : Given → Bool) (words : List (List ℕ)) (m : Manner) : Type 0 where
-  pub options : List Given
+pub record SpellsRun (takes : GivenOption → Bool) (words : List (List ℕ)) (m : Manner) : Type 0 where
+  pub options : List GivenOption
   pub are : AreOptions takes options
   pub words_are : words ≡ codes "run" ∷ words_of_all options
   pub manner : m ≡ manner_of options
@@ -113,10 +113,10 @@ IsNoTurns (Workers n) = ⊤
 
 -- the words are those of `load` for so many transfers drawn from this seed; its options may stand before, between and
 -- behind the two numbers
-pub record SpellsLoad (takes : Given → Bool) (words : List (List ℕ)) (n seed : ℕ) (m : Manner) : Type 0 where
-  pub before : List Given
-  pub between : List Given
-  pub behind : List Given
+pub record SpellsLoad (takes : GivenOption → Bool) (words : List (List ℕ)) (n seed : ℕ) (m : Manner) : Type 0 where
+  pub before : List GivenOption
+  pub between : List GivenOption
+  pub behind : List GivenOption
   pub are : AreOptions takes (before ++ (between ++ behind))
   pub no_turns : AllByRecursion (λ g. IsNoTurns g.what) (before ++ (between ++ behind))
   pub many : (1 ≤ n) × (n ≤ 100000)
@@ -134,7 +134,7 @@ pub data Command : Type 0 where
   Load : ℕ → ℕ → Manner → Command
 
 -- The words say this command. Those that only read, and `init`, are one word.
-abbrev pub Say : (Given → Bool) → List (List ℕ) → Command → Type 0
+abbrev pub Say : (GivenOption → Bool) → List (List ℕ) → Command → Type 0
 Say takes words Init = words ≡ codes "init" ∷ []
 Say takes words (Run m) = SpellsRun takes words m
 Say takes words Show = words ≡ codes "show" ∷ []

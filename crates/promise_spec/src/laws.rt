@@ -10,10 +10,10 @@ ghost use Rattle.silo_spec.specs.Silos.{manager, program_file, IsSilo, HasProgra
 ghost use Rattle.promise_spec.specs.Programs.{Program, IsChecked, text_limit, shape_in, program_in};
 ghost use Rattle.promise_spec.specs.Records.{Commit, Standing, new_silo, after_writes, after_records};
 ghost use Rattle.promise_spec.specs.Serial.{IsSerial};
-ghost use Rattle.promise_spec.specs.Logs.{magic, IsLog, IsPrefix};
+ghost use Rattle.promise_spec.specs.Logs.{magic, IsLog, IsPrefix, live_slot};
 ghost use Rattle.promise_spec.specs.Images.{AreChained, AreNumbered, IsSound, IsSoundIfSilo};
 ghost use Rattle.promise_spec.specs.Openings.{NoSilo, Reads, opened_as};
-ghost use Rattle.promise_spec.specs.Words.{Given, Manner, plain_manner, Command, Run, Load, Say};
+ghost use Rattle.promise_spec.specs.Words.{GivenOption, Manner, plain_manner, Command, Run, Load, Say};
 ghost use Rattle.promise_spec.specs.Moments.{IsImageOf, IsLongest};
 ghost use Rattle.request_wire.specs.Reply.{reply_line};
 ghost use Rattle.promise_spec.specs.Outputs.{HavePlainNames, IsProper, Grew};
@@ -36,7 +36,7 @@ pub fn promises_keep_the_headline()
 /// An image has at most one log under a program's shape: the records and their states are the bytes'. So where a
 /// definition says that an image has a log, it is the log.
 pub fn one_log()
-    ensures { (shape : Shape) (image : Image) (a b : List Commit) → IsLog shape image a → IsLog shape image b → a ≡ b }
+    ensures { (shape : Shape) (image : Image) (a b : List Commit) → IsLog live_slot shape image a → IsLog live_slot shape image b → a ≡ b }
 {}
 
 /// The line of an entry determines the entry, where types are known by their names.
@@ -59,8 +59,8 @@ pub fn checked_programs_have_plain_names()
 
 /// Of whatever logs two chained images have, one is a first part of the other.
 pub fn chains_compare()
-    ensures { (p : Program) (one other : Image) (a b : List Commit) → AreChained p one other
-        → IsLog (shape_in p) one a → IsLog (shape_in p) other b → IsPrefix a b ⊎ IsPrefix b a }
+    ensures { (p : Program) (one other : Image) (a b : List Commit) → AreChained live_slot p one other
+        → IsLog live_slot (shape_in p) one a → IsLog live_slot (shape_in p) other b → IsPrefix a b ⊎ IsPrefix b a }
 {}
 
 /// What a log stands for is three folds over its records, each by itself: their count, the number after the greatest unit, and the
@@ -86,13 +86,13 @@ pub fn done_runs_count_syncs()
 /// journal's records, each image is sound where the order is serial, and each holds what was acknowledged by then.
 pub fn journals_survive()
     ensures chained { (p : Program) (opening : List Commit) (before : List ℕ) (journal : List Settlement) (m n : Moment) (a b : Image)
-        → KeepsJournal p opening before journal m a → KeepsJournal p opening before journal n b → AreChained p a b }
+        → KeepsJournal p opening before journal m a → KeepsJournal p opening before journal n b → AreChained live_slot p a b }
     ensures longest { (p : Program) (opening : List Commit) (before : List ℕ) (journal : List Settlement) (moments : List Moment) (image : Image)
-        → IsImageOf moments image → IsLog (shape_in p) image (opening ++ commits_of journal)
+        → IsImageOf moments image → IsLog live_slot (shape_in p) image (opening ++ commits_of journal)
         → ((m : Moment) → Member m moments → AllKeep p opening before journal m) → IsLongest p moments (opening ++ commits_of journal) }
     ensures sound { (p : Program) (opening : List Commit) (before : List ℕ) (journal : List Settlement) (m : Moment) (image : Image)
         → KeepsJournal p opening before journal m image → HasProgram p.text (image program_file)
-        → IsSerial p.types (new_silo p.types).states (opening ++ commits_of journal) → AreNumbered 1 (opening ++ commits_of journal) → IsSoundIfSilo p image }
+        → IsSerial p.types (new_silo p.types).states (opening ++ commits_of journal) → AreNumbered 1 (opening ++ commits_of journal) → IsSoundIfSilo live_slot p image }
     ensures holds { (p : Program) (r : Observed) (c : Course) (journal : List Settlement) (m : Moment) (image : Image) → Backs journal c.added
         → (k : KeepsJournal p c.opening r.old.output journal m image) → IsPrefix (entries_of k.said) c.entries → Holds p r c m image }
 {}
@@ -108,18 +108,18 @@ pub fn programs_are_read()
 /// reads as no silo exactly where it is none. So one that is sound for a checked program is opened with its log, and
 /// is neither called damaged nor no silo.
 pub fn folders_are_read()
-    ensures reads { (image : Image) (p : Program) (log : List Commit) → ((file : FileId) → AreBytes (image file)) → opened_as image ≡ Reads p log
-        → IsChecked p × HasProgram p.text (image program_file) × IsLog (shape_in p) image log }
+    ensures reads { (image : Image) (p : Program) (log : List Commit) → ((file : FileId) → AreBytes (image file)) → opened_as live_slot image ≡ Reads p log
+        → IsChecked p × HasProgram p.text (image program_file) × IsLog live_slot (shape_in p) image log }
     ensures read { (image : Image) (p : Program) (log : List Commit) → IsChecked p → HasProgram p.text (image program_file)
-        → IsLog (shape_in p) image log → opened_as image ≡ Reads p log }
-    ensures no_silo { (image : Image) → (opened_as image ≡ NoSilo) ↔ (IsSilo magic (image manager) → ⊥) }
-    ensures sound { (p : Program) (image : Image) → IsChecked p → (s : IsSound p image) → opened_as image ≡ Reads p s.log }
+        → IsLog live_slot (shape_in p) image log → opened_as live_slot image ≡ Reads p log }
+    ensures no_silo { (image : Image) → (opened_as live_slot image ≡ NoSilo) ↔ (IsSilo magic (image manager) → ⊥) }
+    ensures sound { (p : Program) (image : Image) → IsChecked p → (s : IsSound live_slot p image) → opened_as live_slot image ≡ Reads p s.log }
 {}
 
 /// The words of a command say one thing: one manner of a run, and one number of transfers, seed and manner of a load; and no
 /// words say two commands.
 pub fn words_say_one_command()
-    ensures { (takes : Given → Bool) (words : List (List ℕ)) (c d : Command) → Say takes words c → Say takes words d → c ≡ d }
+    ensures { (takes : GivenOption → Bool) (words : List (List ℕ)) (c d : Command) → Say takes words c → Say takes words d → c ≡ d }
 {}
 
 /// Words that say a command, and words that say none: an option or a number out of its bounds, without a value or with a
@@ -133,27 +133,27 @@ pub fn words_are_read()
         (Load 4 7 (record { threaded = true; width = 1; picks = [] })) }
     ensures load_between { Say (λ g. true) (codes "load" ∷ codes "4" ∷ codes "--width=2" ∷ codes "7" ∷ [])
         (Load 4 7 (record { threaded = false; width = 2; picks = [] })) }
-    ensures no_width { (takes : Given → Bool) (c : Command) → Say takes (codes "run" ∷ codes "--width" ∷ codes "0" ∷ []) c → ⊥ }
-    ensures too_wide { (takes : Given → Bool) (c : Command) → Say takes (codes "run" ∷ codes "--width" ∷ codes "65" ∷ []) c → ⊥ }
-    ensures leading_zero { (takes : Given → Bool) (c : Command) → Say takes (codes "run" ∷ codes "--width" ∷ codes "02" ∷ []) c → ⊥ }
-    ensures no_value { (takes : Given → Bool) (c : Command) → Say takes (codes "run" ∷ codes "--width" ∷ []) c → ⊥ }
-    ensures no_picks { (takes : Given → Bool) (c : Command) → Say takes (codes "run" ∷ codes "--turns" ∷ [] ∷ []) c → ⊥ }
-    ensures large_pick { (takes : Given → Bool) (c : Command) → Say takes (codes "run" ∷ codes "--turns" ∷ codes "0,4294967296" ∷ []) c → ⊥ }
-    ensures not_alone { (takes : Given → Bool) (c : Command)
+    ensures no_width { (takes : GivenOption → Bool) (c : Command) → Say takes (codes "run" ∷ codes "--width" ∷ codes "0" ∷ []) c → ⊥ }
+    ensures too_wide { (takes : GivenOption → Bool) (c : Command) → Say takes (codes "run" ∷ codes "--width" ∷ codes "65" ∷ []) c → ⊥ }
+    ensures leading_zero { (takes : GivenOption → Bool) (c : Command) → Say takes (codes "run" ∷ codes "--width" ∷ codes "02" ∷ []) c → ⊥ }
+    ensures no_value { (takes : GivenOption → Bool) (c : Command) → Say takes (codes "run" ∷ codes "--width" ∷ []) c → ⊥ }
+    ensures no_picks { (takes : GivenOption → Bool) (c : Command) → Say takes (codes "run" ∷ codes "--turns" ∷ [] ∷ []) c → ⊥ }
+    ensures large_pick { (takes : GivenOption → Bool) (c : Command) → Say takes (codes "run" ∷ codes "--turns" ∷ codes "0,4294967296" ∷ []) c → ⊥ }
+    ensures not_alone { (takes : GivenOption → Bool) (c : Command)
         → Say takes (codes "run" ∷ codes "--workers" ∷ codes "2" ∷ codes "--width" ∷ codes "1" ∷ []) c → ⊥ }
-    ensures twice { (takes : Given → Bool) (c : Command)
+    ensures twice { (takes : GivenOption → Bool) (c : Command)
         → Say takes (codes "run" ∷ codes "--width" ∷ codes "2" ∷ codes "--width" ∷ codes "2" ∷ []) c → ⊥ }
-    ensures extra { (takes : Given → Bool) (c : Command) → Say takes (codes "run" ∷ codes "extra" ∷ []) c → ⊥ }
+    ensures extra { (takes : GivenOption → Bool) (c : Command) → Say takes (codes "run" ∷ codes "extra" ∷ []) c → ⊥ }
     ensures not_taken { (c : Command) → Say (λ g. false) (codes "run" ∷ codes "--width" ∷ codes "2" ∷ []) c → ⊥ }
-    ensures load_of_none { (takes : Given → Bool) (c : Command) → Say takes (codes "load" ∷ codes "0" ∷ codes "7" ∷ []) c → ⊥ }
-    ensures load_of_many { (takes : Given → Bool) (c : Command) → Say takes (codes "load" ∷ codes "100001" ∷ codes "7" ∷ []) c → ⊥ }
-    ensures large_seed { (takes : Given → Bool) (c : Command)
+    ensures load_of_none { (takes : GivenOption → Bool) (c : Command) → Say takes (codes "load" ∷ codes "0" ∷ codes "7" ∷ []) c → ⊥ }
+    ensures load_of_many { (takes : GivenOption → Bool) (c : Command) → Say takes (codes "load" ∷ codes "100001" ∷ codes "7" ∷ []) c → ⊥ }
+    ensures large_seed { (takes : GivenOption → Bool) (c : Command)
         → Say takes (codes "load" ∷ codes "4" ∷ codes "18446744073709551616" ∷ []) c → ⊥ }
-    ensures third_number { (takes : Given → Bool) (c : Command) → Say takes (codes "load" ∷ codes "4" ∷ codes "7" ∷ codes "9" ∷ []) c → ⊥ }
-    ensures no_seed { (takes : Given → Bool) (c : Command) → Say takes (codes "load" ∷ codes "4" ∷ []) c → ⊥ }
-    ensures load_turns { (takes : Given → Bool) (c : Command)
+    ensures third_number { (takes : GivenOption → Bool) (c : Command) → Say takes (codes "load" ∷ codes "4" ∷ codes "7" ∷ codes "9" ∷ []) c → ⊥ }
+    ensures no_seed { (takes : GivenOption → Bool) (c : Command) → Say takes (codes "load" ∷ codes "4" ∷ []) c → ⊥ }
+    ensures load_turns { (takes : GivenOption → Bool) (c : Command)
         → Say takes (codes "load" ∷ codes "4" ∷ codes "7" ∷ codes "--turns" ∷ codes "0" ∷ []) c → ⊥ }
-    ensures no_words { (takes : Given → Bool) (c : Command) → Say takes [] c → ⊥ }
+    ensures no_words { (takes : GivenOption → Bool) (c : Command) → Say takes [] c → ⊥ }
 {}
 
 /// A load can be kept wherever a run can: one that carries its lines as a run that is done, and writes the summary in place of

@@ -10,7 +10,7 @@ ghost use Rattle.host_trait.specs.declared.channels.FileId.{FileId};
 ghost use Rattle.host_trait.specs.World.{World, Moment, Disk, Image, IsImage, Passes, Ticks, Emitted, IsEmitted, moment_of, Arrives};
 ghost use Rattle.host_trait.specs.Runs.{OnlyAsked};
 ghost use Rattle.silo_spec.specs.Silos.{manager};
-ghost use Rattle.promise_spec.specs.Logs.{body_of, IsLog, IsPrefix};
+ghost use Rattle.promise_spec.specs.Logs.{body_of, IsLog, IsPrefix, live_slot};
 ghost use Rattle.promise_spec.specs.Promise.{IsSoundFolder};
 ghost use Rattle.request_wire.specs.Reply.{reply_line};
 ghost use Rattle.promise_spec.specs.Programs.{Program, shape_in};
@@ -88,7 +88,7 @@ pub fn whole_journals_are_cut()
 pub fn settled_folders_have_one_log()
     ensures { (p : Program) (w : World) (disk : Disk) (log : List Commit) → IsSoundFolder p w → ((file : FileId) → MayLeave (w.disk file) (w.disk file).seen)
         → ((image : Image) → IsImage disk image → IsImage w.disk image × (image manager ≡ (w.disk manager).seen))
-        → IsLog (shape_in p) (λ file. (w.disk file).seen) log → AllLog p log disk }
+        → IsLog live_slot (shape_in p) (λ file. (w.disk file).seen) log → AllLog p log disk }
 {}
 
 /// The last moment of a call is what the host then shows, so it is after one call, after one run of calls and another, and where
@@ -115,7 +115,7 @@ pub fn doubts_have_an_image()
         → AllByRecursion (λ (b : List Commit). length b ≤ 64) batches → length batch ≤ 64
         → AllByRecursion (λ (l : Commit). IsRecordIn Logged shape l.logged) batch
         → MayLeave (disk manager) c → LogsUpTo (map body_of (batches ++ batch ∷ [])) gate c → (rest : Image) → IsImage disk rest
-        → ((image : Image) → IsImage disk image → IsLog shape image (flat_map (λ (b : List Commit). b) batches)
-        ⊎ IsLog shape image (flat_map (λ (b : List Commit). b) batches ++ batch))
-        → (image : Image) × (IsImage disk image × IsLog shape image (flat_map (λ (b : List Commit). b) batches ++ batch)) }
+        → ((image : Image) → IsImage disk image → IsLog live_slot shape image (flat_map (λ (b : List Commit). b) batches)
+        ⊎ IsLog live_slot shape image (flat_map (λ (b : List Commit). b) batches ++ batch))
+        → (image : Image) × (IsImage disk image × IsLog live_slot shape image (flat_map (λ (b : List Commit). b) batches ++ batch)) }
 {}

@@ -2,7 +2,7 @@
 use Rattle.std.proofs.Common.{◌≡◌, List, [], ◌∷◌, ◌++◌, refl, ap}
 use Rattle.std.specs.Prelude.{if◌then◌else◌}
 use Rattle.script_holding.specs.declared.held.Held.{Held}
-use Rattle.script_meaning.specs.Play.{Found, insert, written}
+use Rattle.script_meaning.specs.Play.{Found, insert, states_set}
 
 -- the held grains that were set, before these
 abbrev pub onto : List Held → List Found → List Found
@@ -10,7 +10,7 @@ onto [] writes = writes
 onto (first ∷ rest) writes = if first.written then insert (first.grain, first.state) (onto rest writes) else onto rest writes
 
 -- before none they are all
-pub onto_none : (held : List Held) → onto held [] ≡ written held
+pub onto_none : (held : List Held) → onto held [] ≡ states_set held
 onto_none [] = refl
 onto_none (first ∷ rest) = ap (λ (writes : List Found). if first.written then insert (first.grain, first.state) writes else writes) (onto_none rest)
 

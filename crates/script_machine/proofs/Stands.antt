@@ -10,7 +10,7 @@ use Rattle.script_tree.specs.declared.statements.Stmt.{Stmt}
 use Rattle.script_tree.specs.Exprs.{CallTree}
 use Rattle.script_tree.specs.Stmts.{Computed, Called, StmtTree, Bind, Rebind, SetField, Perform, Choose, Repeat, Give, FailWith, Try, BlockTree, NoMore, Then, stmt_tree, stmt_trees, block_tree}
 use Rattle.script_tree.specs.Programs.{ProgramTree}
-use Rattle.script_values.specs.Expressions.{Locals, put}
+use Rattle.script_values.specs.Expressions.{Locals, put_local}
 use Rattle.script_holding.specs.Holding.{Holding}
 use Rattle.base_types.specs.declared.calls.Value.TheVariants.{Text}
 use Rattle.base_types.specs.declared.calls.Outcome.TheVariants.{Fault}
@@ -162,11 +162,11 @@ no_call call e = absurd (cc)
 pub does_call : (types : ProgramTree) (deeper : Runner) (place : Site) (back : Back) (stmt : StmtTree) (call : CallTree) → call_in stmt ≡ Some call → (next : Next) (locals : Locals) (has : Holding) →
     does types deeper place back stmt next locals has
     ≡ calls types deeper place back call (λ value. received types deeper place back (Some stmt) next value locals) (λ text. caught types deeper place back (Some stmt) next text locals) locals has
-does_call types deeper place back (Bind name (Called one)) call e next locals has = ap (λ (x : CallTree). calls types deeper place back x (λ value. next (put name.text value locals)) stop locals has) (same_call one call e)
-does_call types deeper place back (Rebind name (Called one)) call e next locals has = ap (λ (x : CallTree). calls types deeper place back x (λ value. next (put name.text value locals)) stop locals has) (same_call one call e)
+does_call types deeper place back (Bind name (Called one)) call e next locals has = ap (λ (x : CallTree). calls types deeper place back x (λ value. next (put_local name.text value locals)) stop locals has) (same_call one call e)
+does_call types deeper place back (Rebind name (Called one)) call e next locals has = ap (λ (x : CallTree). calls types deeper place back x (λ value. next (put_local name.text value locals)) stop locals has) (same_call one call e)
 does_call types deeper place back (Perform one) call e next locals has = ap (λ (x : CallTree). calls types deeper place back x (λ value. next locals) stop locals has) (same_call one call e)
 does_call types deeper place back (Try at name one block other) call e next locals has =
-    ap (λ (x : CallTree). calls types deeper place back x (λ value. runs types deeper place back block next (put name.text value locals)) (λ text. runs types deeper place back other next (put name.text (Text text) locals)) locals has) (same_call one call e)
+    ap (λ (x : CallTree). calls types deeper place back x (λ value. runs types deeper place back block next (put_local name.text value locals)) (λ text. runs types deeper place back other next (put_local name.text (Text text) locals)) locals has) (same_call one call e)
 does_call types deeper place back (Bind name (Computed value)) call e next locals has = absurd (no_call call e)
 does_call types deeper place back (Rebind name (Computed value)) call e next locals has = absurd (no_call call e)
 does_call types deeper place back (SetField name value) call e next locals has = absurd (no_call call e)

@@ -4,7 +4,7 @@ use Rattle.base_types.specs.declared.calls.Value.{Value}
 use Rattle.base_types.specs.declared.calls.Value.TheVariants.{Text}
 use Rattle.script_tree.specs.Stmts.{StmtTree, BlockTree, ElseTree, Bind, Rebind, Choose, Repeat, Try, NoMore, Then, NoElse, Else}
 use Rattle.script_tree.specs.Programs.{ProgramTree}
-use Rattle.script_values.specs.Expressions.{put}
+use Rattle.script_values.specs.Expressions.{put_local}
 use Rattle.script_meaning.specs.Requests.{Back, stop}
 use Rattle.script_meaning.specs.Calls.{Site, Runner}
 use Rattle.script_meaning.specs.Statements.{Next, does, runs}
@@ -67,12 +67,12 @@ module _ (types : ProgramTree) (runner : Runner) (site : Site) (back : Back) whe
 
   -- what the call at this statement does with its value
   abbrev pub received : Option StmtTree → Next → Value → Next
-  received (Some (Bind name source)) next value = λ locals. next (put name.text value locals)
-  received (Some (Rebind name source)) next value = λ locals. next (put name.text value locals)
-  received (Some (Try at name call block other)) next value = λ locals. runs types runner site back block next (put name.text value locals)
+  received (Some (Bind name source)) next value = λ locals. next (put_local name.text value locals)
+  received (Some (Rebind name source)) next value = λ locals. next (put_local name.text value locals)
+  received (Some (Try at name call block other)) next value = λ locals. runs types runner site back block next (put_local name.text value locals)
   received stmt next value = next
 
   -- and with the fault of a unit of its own
   abbrev pub caught : Option StmtTree → Next → List ℕ → Next
-  caught (Some (Try at name call block other)) next text = λ locals. runs types runner site back other next (put name.text (Text text) locals)
+  caught (Some (Try at name call block other)) next text = λ locals. runs types runner site back other next (put_local name.text (Text text) locals)
   caught stmt next text = λ locals. stop text

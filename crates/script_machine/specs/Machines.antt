@@ -76,16 +76,16 @@ given_by (AskUnit call at go) (input.Unit outcome) = GivenOutcome call at outcom
 given_by left one = []
 
 -- the input answers what is asked for
-abbrev pub Answers : Requests → Input → Type 0
-Answers (AskLock grain mode go) (input.Grain state) = Unit {0}
-Answers (AskRaise grain left) input.Held = Unit {0}
-Answers (AskUnit call at go) (input.Unit outcome) = Unit {0}
-Answers left one = ⊥
+abbrev pub AnswersRequest : Requests → Input → Type 0
+AnswersRequest (AskLock grain mode go) (input.Grain state) = Unit {0}
+AnswersRequest (AskRaise grain left) input.Held = Unit {0}
+AnswersRequest (AskUnit call at go) (input.Unit outcome) = Unit {0}
+AnswersRequest left one = ⊥
 
 -- the first input fits always, another one where it answers what a machine past its start asks for
 abbrev pub Fits : ProgramTree → Machine → Input → Type 0
 Fits types machine input.First = Unit {0}
-Fits types machine one = (has_begun machine ≡ true) × Answers (rest types machine) one
+Fits types machine one = (has_begun machine ≡ true) × AnswersRequest (rest types machine) one
 
 -- the pause that asks for this
 abbrev pub pause_for : Want → Pause

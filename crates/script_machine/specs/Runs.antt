@@ -9,14 +9,14 @@ use Rattle.script_tree.specs.Stmts.{Called, StmtTree, Bind, Rebind, Perform, Try
 use Rattle.script_tree.specs.Programs.{ProgramTree}
 use Rattle.script_values.specs.declared.stops.Stop.{Stop}
 use Rattle.script_values.specs.declared.stops.Stop.TheVariants.{Fault, Memory}
-use Rattle.script_values.specs.Values.{Given}
+use Rattle.script_values.specs.Values.{ValueOrFault}
 use Rattle.script_values.specs.Expressions.{Surroundings, field_named}
 use Rattle.script_values.specs.Faults.{depth}
 use Rattle.script_holding.specs.Limits.{depth_limit}
 use Rattle.script_holding.specs.Holding.{Holding, change, raised, newly_held, with_held}
 use Rattle.script_meaning.specs.Requests.{Requests, End, AskLock, AskRaise, AskUnit, Back, Caught, stop, with_value}
 use Rattle.script_meaning.specs.Calls.{answered, settable, with_key}
-use Rattle.script_meaning.specs.Statements.{Next, does, runs, given, calls, around, chosen, sets}
+use Rattle.script_meaning.specs.Statements.{Next, does, runs, given, calls, around, by_truth, sets}
 use Rattle.script_machine.specs.declared.frames.Part.{Part}
 use Rattle.script_machine.specs.declared.frames.Frame.{Frame}
 use Rattle.script_machine.specs.declared.runs.Run.{Run}
@@ -91,9 +91,9 @@ Goes left types run (Ok flow) = left ≡ stays types run flow
 Goes left types run (Err why) = Left left run why
 
 -- the same wherever it goes on
-abbrev pub GoesOn : Requests → ProgramTree → Run → Result Onward Stop → Type 0
-GoesOn left types run (Ok onward) = left ≡ goes_to types run onward
-GoesOn left types run (Err why) = Left left run why
+abbrev pub GoesTo : Requests → ProgramTree → Run → Result Onward Stop → Type 0
+GoesTo left types run (Ok onward) = left ≡ goes_to types run onward
+GoesTo left types run (Err why) = Left left run why
 
 -- the open blocks of the topmost frame are those of this path, or one more
 abbrev pub Moves : Post → List OpenBlock → Run → Onward → Type 0
@@ -167,7 +167,7 @@ abbrev pub around_here : ProgramTree → Run → Surroundings
 around_here types run = around types (runner_of types run.top.post) (site_of types run.top.post) (back_of types run) run.top.locals.items run.has
 
 -- the value of an expression
-abbrev pub value_here : ProgramTree → Run → ExprTree → Given
+abbrev pub value_here : ProgramTree → Run → ExprTree → ValueOrFault
 value_here types run expression = given types (runner_of types run.top.post) (site_of types run.top.post) (back_of types run) expression run.top.locals.items run.has
 
 -- what this statement does in the topmost frame, once its step is taken
@@ -197,11 +197,11 @@ calls_here types run call onto refused =
     calls types (runner_of types run.top.post) (site_of types run.top.post) (back_of types run) call onto refused run.top.locals.items run.has
 
 -- what a condition chooses between
-abbrev pub chosen_by : Given → Holding → Requests → Requests → Requests
-chosen_by value has first second = with_value value has (λ found. chosen found has first second)
+abbrev pub chosen_by : ValueOrFault → Holding → Requests → Requests → Requests
+chosen_by value has first second = with_value value has (λ found. by_truth found has first second)
 
 -- the condition holds or not, or this is its fault
-abbrev pub GivesTruth : Result Bool Stop → Given → Type 0
+abbrev pub GivesTruth : Result Bool Stop → ValueOrFault → Type 0
 GivesTruth (Ok holds) value = (has : Holding) (first second : Requests) → chosen_by value has first second ≡ (if holds then first else second)
 GivesTruth (Err (Fault text)) value = (has : Holding) (first second : Requests) → chosen_by value has first second ≡ stop text has
 GivesTruth (Err Memory) value = Unit {0}

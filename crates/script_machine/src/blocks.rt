@@ -5,7 +5,7 @@ ghost use Rattle.script_tree.specs.Programs.{ProgramTree, program_tree};
 ghost use Rattle.script_machine.specs.declared.runs.Onward.{Onward};
 ghost use Rattle.script_machine.specs.Blocks.{from, statement_at};
 ghost use Rattle.script_machine.specs.Frames.{block_of, from_at};
-ghost use Rattle.script_machine.specs.Runs.{GoesOn, HasOpen, Moves, ShrinksOn, StandsAt, Tracks, goes_to, size, running, value_here, back_of, next_here, part_here, outer_here, GivesTruth, chosen_by};
+ghost use Rattle.script_machine.specs.Runs.{GoesTo, HasOpen, Moves, ShrinksOn, StandsAt, Tracks, goes_to, size, running, value_here, back_of, next_here, part_here, outer_here, GivesTruth, chosen_by};
 
 use crate::frames::{OpenBlock, Part};
 use crate::opened::Open;
@@ -57,7 +57,7 @@ impl Run {
         test: &Expr,
     ) -> Result<Onward, Stop>
         requires here { StandsAt (program_tree checked.now) self.old (stmt_tree stmt.now) }
-        ensures tree { GoesOn (chosen_by (value_here (program_tree checked.now) self.old (expr_tree test.now)) self.old.has (part_here (program_tree checked.now) self.old Part.First (stmt_tree stmt.now)) (part_here (program_tree checked.now) self.old Part.Second (stmt_tree stmt.now))) (program_tree checked.now) self.new result }
+        ensures tree { GoesTo (chosen_by (value_here (program_tree checked.now) self.old (expr_tree test.now)) self.old.has (part_here (program_tree checked.now) self.old Part.First (stmt_tree stmt.now)) (part_here (program_tree checked.now) self.old Part.Second (stmt_tree stmt.now))) (program_tree checked.now) self.new result }
         ensures moves { IfOk result (Moves self.old.top.post self.old.top.path.items self.new) }
         ensures less { IfOk result (ShrinksOn (size self.old + 4) self.new) }
     {
@@ -79,7 +79,7 @@ impl Run {
         test: &Expr,
     ) -> Result<Onward, Stop>
         requires here { StandsAt (program_tree checked.now) self.old (stmt_tree stmt.now) }
-        ensures tree { GoesOn (chosen_by (value_here (program_tree checked.now) self.old (expr_tree test.now)) self.old.has (part_here (program_tree checked.now) self.old Part.First (stmt_tree stmt.now)) (next_here (program_tree checked.now) self.old self.old.top.locals.items self.old.has)) (program_tree checked.now) self.new result }
+        ensures tree { GoesTo (chosen_by (value_here (program_tree checked.now) self.old (expr_tree test.now)) self.old.has (part_here (program_tree checked.now) self.old Part.First (stmt_tree stmt.now)) (next_here (program_tree checked.now) self.old self.old.top.locals.items self.old.has)) (program_tree checked.now) self.new result }
         ensures moves { IfOk result (Moves self.old.top.post self.old.top.path.items self.new) }
         ensures less { IfOk result (ShrinksOn (size self.old + 4) self.new) }
     {
@@ -95,7 +95,7 @@ impl Run {
     /// A loop begins, or a block of this statement has ended.
     pub fn again(&mut self, alloc: Global, checked: &Checked, stmt: &Stmt) -> Result<Onward, Stop>
         requires here { StandsAt (program_tree checked.now) self.old (stmt_tree stmt.now) }
-        ensures tree { GoesOn (outer_here (program_tree checked.now) self.old (Some (stmt_tree stmt.now)) (next_here (program_tree checked.now) self.old) self.old.top.locals.items self.old.has) (program_tree checked.now) self.new result }
+        ensures tree { GoesTo (outer_here (program_tree checked.now) self.old (Some (stmt_tree stmt.now)) (next_here (program_tree checked.now) self.old) self.old.top.locals.items self.old.has) (program_tree checked.now) self.new result }
         ensures moves { IfOk result (Moves self.old.top.post self.old.top.path.items self.new) }
         ensures less { IfOk result (ShrinksOn (size self.old + 1) self.new) }
     {
@@ -137,7 +137,7 @@ impl Run {
     ) -> Result<Onward, Stop>
         requires past { from self.old.top.at (block_of (program_tree checked.now) self.old.top) ≡ NoMore }
         requires blocks { HasOpen (program_tree checked.now) self.old blocks.old }
-        ensures tree { GoesOn (running (program_tree checked.now) self.old) (program_tree checked.now) self.new result }
+        ensures tree { GoesTo (running (program_tree checked.now) self.old) (program_tree checked.now) self.new result }
         ensures tracks { IfOk result (Tracks (program_tree checked.now) self.new blocks.new) }
         ensures less { IfOk result (ShrinksOn (size self.old) self.new) }
     {
@@ -159,7 +159,7 @@ impl Run {
         opened: OpenBlock,
     ) -> Result<Onward, Stop>
         requires block { block_tree (stmt_trees block.now) ≡ block_of (program_tree checked.now) self.old.top }
-        ensures tree { GoesOn (outer_here (program_tree checked.now) self.old (statement_at opened.at (block_of (program_tree checked.now) self.old.top)) (from_at (program_tree checked.now) self.old.top.post (back_of (program_tree checked.now) self.old) self.old.top.path.items (opened.at + 1)) self.old.top.locals.items self.old.has) (program_tree checked.now) self.new result }
+        ensures tree { GoesTo (outer_here (program_tree checked.now) self.old (statement_at opened.at (block_of (program_tree checked.now) self.old.top)) (from_at (program_tree checked.now) self.old.top.post (back_of (program_tree checked.now) self.old) self.old.top.path.items (opened.at + 1)) self.old.top.locals.items self.old.has) (program_tree checked.now) self.new result }
         ensures moves { IfOk result (Moves self.old.top.post self.old.top.path.items self.new) }
         ensures less { IfOk result (ShrinksOn (size self.old + 1) self.new) }
     {

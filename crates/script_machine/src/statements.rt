@@ -2,11 +2,11 @@ ghost use Rattle.std.specs.Prelude.{◌≡◌, ◌<◌, ◌+◌, ◌^◌, IfOk, 
 ghost use Rattle.script_tree.specs.Exprs.{expr_tree};
 ghost use Rattle.script_tree.specs.Stmts.{stmt_tree};
 ghost use Rattle.script_tree.specs.Programs.{program_tree};
-ghost use Rattle.script_values.specs.Expressions.{put};
+ghost use Rattle.script_values.specs.Expressions.{put_local};
 ghost use Rattle.script_meaning.specs.Requests.{with_value};
 ghost use Rattle.script_meaning.specs.Calls.{settable};
 ghost use Rattle.script_machine.specs.Frames.{fields_of};
-ghost use Rattle.script_machine.specs.Runs.{Goes, GoesOn, HasOpen, Moves, OpenUnless, Shrinks, ShrinksOn, StandsAt, Tracks, back_of, does_here, next_here, rest_of_run, running, sets_here, size, stays, value_here};
+ghost use Rattle.script_machine.specs.Runs.{Goes, GoesTo, HasOpen, Moves, OpenUnless, Shrinks, ShrinksOn, StandsAt, Tracks, back_of, does_here, next_here, rest_of_run, running, sets_here, size, stays, value_here};
 
 use crate::callees::fields_at;
 use crate::frames::Post;
@@ -39,7 +39,7 @@ impl Run {
         value: &Expr,
     ) -> Result<Onward, Stop>
         requires here { self.old.top.at < 2 ^ 63 }
-        ensures tree { GoesOn (with_value (value_here (program_tree checked.now) self.old (expr_tree value.now)) self.old.has (λ found. next_here (program_tree checked.now) self.old (put name.now found self.old.top.locals.items) self.old.has)) (program_tree checked.now) self.new result }
+        ensures tree { GoesTo (with_value (value_here (program_tree checked.now) self.old (expr_tree value.now)) self.old.has (λ found. next_here (program_tree checked.now) self.old (put_local name.now found self.old.top.locals.items) self.old.has)) (program_tree checked.now) self.new result }
         ensures moves { IfOk result (Moves self.old.top.post self.old.top.path.items self.new) }
         ensures less { IfOk result (ShrinksOn (size self.old + 4) self.new) }
     {
@@ -58,7 +58,7 @@ impl Run {
         value: &Expr,
     ) -> Result<Onward, Stop>
         requires here { self.old.top.at < 2 ^ 63 }
-        ensures tree { GoesOn (with_value (value_here (program_tree checked.now) self.old (expr_tree value.now)) self.old.has (sets_here (program_tree checked.now) self.old name.now)) (program_tree checked.now) self.new result }
+        ensures tree { GoesTo (with_value (value_here (program_tree checked.now) self.old (expr_tree value.now)) self.old.has (sets_here (program_tree checked.now) self.old name.now)) (program_tree checked.now) self.new result }
         ensures moves { IfOk result (Moves self.old.top.post self.old.top.path.items self.new) }
         ensures less { IfOk result (ShrinksOn (size self.old + 4) self.new) }
     {
@@ -83,7 +83,7 @@ impl Run {
     /// Carries out the statement at which the topmost frame stands, once its step is taken.
     fn carry_out(&mut self, alloc: Global, checked: &Checked, stmt: &Stmt) -> Result<Onward, Stop>
         requires here { StandsAt (program_tree checked.now) self.old (stmt_tree stmt.now) }
-        ensures tree { GoesOn (does_here (program_tree checked.now) self.old (stmt_tree stmt.now)) (program_tree checked.now) self.new result }
+        ensures tree { GoesTo (does_here (program_tree checked.now) self.old (stmt_tree stmt.now)) (program_tree checked.now) self.new result }
         ensures moves { IfOk result (Moves self.old.top.post self.old.top.path.items self.new) }
         ensures less { IfOk result (ShrinksOn (size self.old + 4) self.new) }
     {
@@ -109,7 +109,7 @@ impl Run {
     /// Begins the statement at which the topmost frame stands.
     fn begin(&mut self, alloc: Global, checked: &Checked, stmt: &Stmt) -> Result<Onward, Stop>
         requires here { StandsAt (program_tree checked.now) self.old (stmt_tree stmt.now) }
-        ensures tree { GoesOn (running (program_tree checked.now) self.old) (program_tree checked.now) self.new result }
+        ensures tree { GoesTo (running (program_tree checked.now) self.old) (program_tree checked.now) self.new result }
         ensures moves { IfOk result (Moves self.old.top.post self.old.top.path.items self.new) }
         ensures less { IfOk result (ShrinksOn (size self.old) self.new) }
     {
@@ -127,7 +127,7 @@ impl Run {
         blocks: &mut Open,
     ) -> Result<Onward, Stop>
         requires blocks { HasOpen (program_tree checked.now) self.old blocks.old }
-        ensures tree { GoesOn (running (program_tree checked.now) self.old) (program_tree checked.now) self.new result }
+        ensures tree { GoesTo (running (program_tree checked.now) self.old) (program_tree checked.now) self.new result }
         ensures tracks { IfOk result (Tracks (program_tree checked.now) self.new blocks.new) }
         ensures less { IfOk result (ShrinksOn (size self.old) self.new) }
     {

@@ -1,6 +1,6 @@
 ghost use Rattle.std.specs.Prelude.{◌≡◌, ◌≤◌, ◌<◌, ◌+◌, ◌++◌, ◌∷◌, [], List, length, take, drop, vec_capacity, vec_len};
 ghost use Rattle.base_types.specs.declared.calls.Value.{Value as GrainValue};
-ghost use Rattle.script_meaning.specs.Play.{insert, is_below, writes_of, written};
+ghost use Rattle.script_meaning.specs.Play.{insert, is_below, writes_of, states_set};
 
 use base_types::{GrainId, List, Outcome, State};
 use script_holding::{Held, Holding};
@@ -42,7 +42,7 @@ fn insert(writes: &mut Vec<(GrainId, State)>, grain: GrainId, state: State)
 fn ascending(mut held: Vec<Held>, mut writes: Vec<(GrainId, State)>) -> List<(GrainId, State)>
     requires none { writes.items ≡ [] }
     requires room { length held.items ≤ vec_capacity writes }
-    ensures { result ≡ written held.items }
+    ensures { result ≡ states_set held.items }
 {
     while let Some(one) = held.pop() {
         if one.written {

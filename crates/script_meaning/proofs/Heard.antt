@@ -12,7 +12,7 @@ use Rattle.base_types.specs.declared.calls.Mode.{Mode}
 use Rattle.base_types.specs.declared.calls.Outcome.{Outcome}
 use Rattle.base_types.specs.declared.calls.Outcome.TheVariants.{Aborted}
 use Rattle.base_types.specs.declared.calls.Value.{Value}
-use Rattle.script_values.specs.Values.{Given}
+use Rattle.script_values.specs.Values.{ValueOrFault}
 use Rattle.script_values.specs.Stops.{Stops}
 use Rattle.script_values.specs.declared.stops.Stop.{Stop}
 use Rattle.script_values.specs.declared.stops.Stop.TheVariants.{Fault, Memory}
@@ -23,17 +23,17 @@ use Rattle.script_holding.specs.Holding.{Holding, newly_held, with_held, one_ask
 use Rattle.script_meaning.specs.Requests.{Requests, End, AskLock, AskRaise, AskUnit, Back, Caught, stop}
 use Rattle.script_meaning.specs.Calls.{answered, locked, in_own_unit, in_range}
 use Rattle.script_meaning.specs.Play.{Asked, Found, Played, asking, serve, found_in, writes_of}
-use Rattle.script_meaning.specs.Playing.{types_in, continued, heard, Ends, Leads}
+use Rattle.script_meaning.specs.Playing.{types_in, continued, heard, EndsPlay, Leads}
 use Rattle.script_meaning.specs.declared.frames.World.{World}
 use Rattle.script_meaning.specs.declared.player.Progress.{Progress}
 use Rattle.script_meaning.specs.declared.player.Player.{Player}
 
 -- a fault of the language itself ends the unit
 pub ends_at : (world : World) (has : Holding) (progress : Progress) (why : Stop) (text : List ℕ) (before : Requests) →
-    ((given : Given) → given ≡ Err text → Stops why given) → before ≡ stop text has →
-    Ends world (record { has = has; progress = progress }) progress why before
+    ((given : ValueOrFault) → given ≡ Err text → Stops why given) → before ≡ stop text has →
+    EndsPlay world (record { has = has; progress = progress }) progress why before
 ends_at world has progress (Fault found) text before says is =
-    let at : Stops (Fault found) (let g : Given = Err text in g) = says (Err text) refl in
+    let at : Stops (Fault found) (let g : ValueOrFault = Err text in g) = says (Err text) refl in
     let same : found ≡ text = cc in
     ap (heard world progress) (ap (λ (t : List ℕ). stop t has) same ∙ sym is)
 ends_at world has progress Memory text before says is = tt
@@ -46,7 +46,7 @@ leads_on world player between old (Err (Fault text)) go middle before part so_fa
 leads_on world player between old (Err Memory) go middle before part so_far = tt
 
 pub ends_on : (world : World) (player : Player) (between old : Progress) (why : Stop) (middle before : Requests) →
-    Ends world player between why middle → heard world between middle ≡ heard world old before → Ends world player old why before
+    EndsPlay world player between why middle → heard world between middle ≡ heard world old before → EndsPlay world player old why before
 ends_on world player between old (Fault text) middle before part so_far = part ∙ so_far
 ends_on world player between old Memory middle before part so_far = tt
 

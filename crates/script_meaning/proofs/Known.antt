@@ -31,15 +31,15 @@ use Rattle.script_scopes.specs.Bodies.{IsExpression, IsCall, IsSource, IsStateme
 use Rattle.script_check.specs.Shapes.{fitted}
 use Rattle.script_check.specs.Programs.{field_names}
 use Rattle.script_check.specs.Accepted.{IsTransacted, IsMethod, IsProgram}
-use Rattle.script_values.specs.Expressions.{Locals, put, local_named, field_named, values_in}
+use Rattle.script_values.specs.Expressions.{Locals, put_local, local_named, field_named, values_in}
 use Rattle.script_values.specs.Faults.{budget, depth, units, refusal}
-use Rattle.script_values.specs.Values.{Given, is_true}
+use Rattle.script_values.specs.Values.{ValueOrFault, is_true}
 use Rattle.script_holding.specs.declared.held.Held.{Held}
 use Rattle.script_holding.specs.Limits.{depth_limit, unit_limit, grain_limit}
 use Rattle.script_holding.specs.Holding.{Holding, same_grain, held_at, working, state_at, mode_at, change, raised, with_field, newly_held, with_held, with_left, one_asked}
 use Rattle.script_meaning.specs.Requests.{Requests, End, AskLock, AskRaise, AskUnit, Back, Caught, stop, with_value, with_values}
 use Rattle.script_meaning.specs.Calls.{Site, Runner, Target, readable, settable, bound, answered, locked, joined, enters, to_target, to_type, numbered, method_of, type_from, with_key}
-use Rattle.script_meaning.specs.Statements.{Next, step, with_step, chosen, around, given, calls, sourced, sets, turns, does, runs, runs_else, deep}
+use Rattle.script_meaning.specs.Statements.{Next, step, with_step, by_truth, around, given, calls, sourced, sets, turns, does, runs, runs_else, deep}
 use Rattle.script_meaning.specs.Play.{as_first, first_frame, ends, at_start, unit, serve}
 use Rattle.script_meaning.specs.Laws.{HasEachField}
 use Rattle.script_meaning.specs.Texts.{StatementFails, BlockFails, ElseFails, IsCallOf}
@@ -166,7 +166,7 @@ module _ (types : ProgramTree) (program : IsProgram types) (Q : List ℕ → Typ
       with_step_said floor scope has.left next said locals covers has kept
 
   -- what follows an expression's value, or its fault
-  with_value_said : (floor : List GrainId) (found : Given) (has : Holding) (go : Value → Requests) → Kept floor has →
+  with_value_said : (floor : List GrainId) (found : ValueOrFault) (has : Holding) (go : Value → Requests) → Kept floor has →
       IsSaidOf Q own found → ((value : Value) → IsSaid (go value)) →
       IsSaid (with_value found has go)
   with_value_said floor (Err fault) has go kept given said = stop_said floor fault given has kept
@@ -195,7 +195,7 @@ module _ (types : ProgramTree) (program : IsProgram types) (Q : List ℕ → Typ
 
   -- what a condition chooses, or its fault
   chosen_said : (floor : List GrainId) (value : Value) (has : Holding) (first second : Requests) → Kept floor has →
-      IsSaid first → IsSaid second → IsSaid (chosen value has first second)
+      IsSaid first → IsSaid second → IsSaid (by_truth value has first second)
   chosen_said floor (Int number) has first second kept said said' = one_of_said (is_true number) first second said said'
   chosen_said floor (Text text) has first second kept said said' = stop_said floor _ own.kind has kept
 
@@ -533,10 +533,10 @@ module _ (types : ProgramTree) (program : IsProgram types) (Q : List ℕ → Typ
               λ locals covers. said locals (name_before scope name locals covers) in
               calls_said scope call right.0.0.1 _ _
               (λ value has kept. runs_said (with_name scope name) block right.0.1
-              (λ text f. says text (inl f)) next next_said (put name.text value locals)
+              (λ text f. says text (inl f)) next next_said (put_local name.text value locals)
               (put_covers_more scope name.text value locals covers) has kept)
               (λ fault known has kept. runs_said (with_name scope name) otherwise right.1
-              (λ text f. says text (inr f)) next next_said (put name.text (Text fault) locals)
+              (λ text f. says text (inr f)) next next_said (put_local name.text (Text fault) locals)
               (put_covers_more scope name.text (Text fault) locals covers) has kept)
               locals covers has kept
 

@@ -16,7 +16,7 @@ use Rattle.script_holding.specs.declared.held.Held.{Held}
 use Rattle.script_holding.specs.Limits.{unit_limit, grain_limit}
 use Rattle.script_holding.specs.Holding.{Holding, mode_at}
 use Rattle.script_meaning.specs.Requests.{Requests, End, AskLock, AskRaise, AskUnit}
-use Rattle.script_meaning.specs.Play.{Found, Asked, Played, grains_of, is_below, written, writes_of, serve, rest_of, asks, unit, initial_of, play_over, play, next}
+use Rattle.script_meaning.specs.Play.{Found, Asked, Played, grains_of, is_below, states_set, writes_of, serve, rest_of, asks, unit, initial_of, play_over, play, next}
 use Rattle.script_meaning.specs.Trails.{Given, answers_of, asked_of, locks_of, reads_of, exclusive_in, Has, IsWhole, IsShown, outcomes, states_of}
 use Rattle.script_meaning.specs.Laws.{PlayIsNext, NextIsPlay, PlayRestsOnReads, PlayIsAgain, EqualStoresPlayAlike, IsChild, HasEachField, IsOrderly, PlaysAreOrderly, PlainRunsLockNothing, IsMissing, NextIsMissing, TrailsGrow}
 use Rattle.script_meaning.specs.Calls.{Target, numbered}
@@ -32,7 +32,7 @@ use Rattle.script_meaning.proofs.Granted.{held_after, asked_after, AreGranted, G
 use Rattle.script_meaning.proofs.Written.{All-written, length-written, written_ascends}
 
 -- what holds of what was set, and of nothing, holds of what is written
-of_writes : (Q : List Found → Type 0) (result : Outcome) (has : Holding) → Q (written has.held) → Q [] →
+of_writes : (Q : List Found → Type 0) (result : Outcome) (has : Holding) → Q (states_set has.held) → Q [] →
     Q (writes_of result has)
 of_writes Q (Valued value) has set none = set
 of_writes Q (Fault text) has set none = none
@@ -118,7 +118,7 @@ module _ (types : ProgramTree) (depth : ℕ) (trail : List Given) (result : Outc
   few_writes : length (writes_of result has) ≤ grain_limit
   few_writes =
       let few : length has.held ≤ grain_limit = few_at_end in
-      let e : length (written has.held) ≤ length has.held = length-written has.held in
+      let e : length (states_set has.held) ≤ length has.held = length-written has.held in
       of_writes (λ found. length found ≤ grain_limit) result has (omega (arith, few, e)) (omega arith)
 
 -- a play is a run to its end
@@ -260,7 +260,7 @@ plain_runs_lock_nothing_lem types call depth states answers plain =
     plain_locks_nothing types false depth refl [] 0 trail goes_on.0 in
     let none : has.held ≡ [] = nothing_bare has.held (goes_on.1.holds ∙ nothing.1) in
     let writes : writes_of played.result has ≡ [] =
-    of_writes (λ found. found ≡ []) played.result has (ap written none) refl in
+    of_writes (λ found. found ≡ []) played.result has (ap states_set none) refl in
     (serve_reads run states answers ∙ nothing.0, serve_writes run states answers ∙ writes)
 
 -- what a sound run asks for is missing

@@ -19,59 +19,59 @@ use Rattle.script_tree.specs.Exprs.{ExprTree, Constant, Variable, TheKey, Prefix
 use Rattle.script_scopes.specs.Names.{Scope, Setting}
 use Rattle.script_scopes.specs.Bodies.{IsVariable, IsExpression}
 use Rattle.script_check.specs.Programs.{field_names}
-use Rattle.script_values.specs.Expressions.{Locals, Surroundings, put, local_named, field_from, field_named, known, field_value, or_field, named, and_so_on, or_so_on, between, value_in, one_more, values_in}
+use Rattle.script_values.specs.Expressions.{Locals, Surroundings, put_local, local_named, field_from, field_named, known, field_value, or_field, named, and_so_on, or_so_on, between, value_in, one_more, values_in}
 use Rattle.script_values.specs.Faults.{overflow, divide, kind, key, too_long, budget, depth, units, grains, refusal, aborted}
-use Rattle.script_values.specs.Values.{Given, then_value, with_number, fits, within, joined, is_true, prefixed, quotient, remainder, of_numbers, of_texts, of_kinds, combined}
+use Rattle.script_values.specs.Values.{ValueOrFault, then_value, with_number, fits, within, joined_text, is_true, prefixed, quotient, remainder, of_numbers, of_texts, of_kinds, combined}
 
 -- a local or parameter of each name in scope has a value
 abbrev pub Covers : Scope → Locals → Type 0
 Covers scope locals = (name : List ℕ) → Contains scope name → (value : Value) × (local_named name locals ≡ Some value)
 
 -- a name that gets a value has one, and each other keeps its own
-put_same : (name : List ℕ) (value : Value) (locals : Locals) → local_named name (put name value locals) ≡ Some value
+put_same : (name : List ℕ) (value : Value) (locals : Locals) → local_named name (put_local name value locals) ≡ Some value
 put_same name value [] = ap (λ (b : Bool). if b then Some value else None) ((bytes_eq-Decides name name).1 refl)
 put_same name value (first ∷ rest) =
     (elim (bytes_eq first.name name) as (λ b. bytes_eq first.name name ≡ b →
-    local_named name (if b then (record { name = first.name; value = value }) ∷ rest else first ∷ put name value
+    local_named name (if b then (record { name = first.name; value = value }) ∷ rest else first ∷ put_local name value
     rest) ≡ Some value) [
       | true ↦ λ e. ap (λ (b : Bool). if b then Some value else local_named name rest) e
-      | false ↦ λ e. ap (λ (b : Bool). if b then Some first.value else local_named name (put name value rest)) e
+      | false ↦ λ e. ap (λ (b : Bool). if b then Some first.value else local_named name (put_local name value rest)) e
           ∙ put_same name value rest
     ]) refl
 
 -- each other name keeps a value
 put_keeps : (name other : List ℕ) (value : Value) (locals : Locals) →
     (had : Value) × (local_named other locals ≡ Some had) →
-    (has : Value) × (local_named other (put name value locals) ≡ Some has)
+    (has : Value) × (local_named other (put_local name value locals) ≡ Some has)
 put_keeps name other value [] had = absurd (let e : local_named other [] ≡ Some had.0 = had.1 in cc)
 put_keeps name other value (first ∷ rest) had =
     elim (bytes_eq first.name name) as
     (λ b. (has : Value) × (local_named other
-    (if b then (record { name = first.name; value = value }) ∷ rest else first ∷ put name value rest) ≡ Some has)) [
+    (if b then (record { name = first.name; value = value }) ∷ rest else first ∷ put_local name value rest) ≡ Some has)) [
       | true ↦ (elim (bytes_eq first.name other) as
           (λ b. (if b then Some first.value else local_named other rest) ≡ Some had.0 →
           (has : Value) × ((if b then Some value else local_named other rest) ≡ Some has))
           [ true ↦ λ e. (value, refl) | false ↦ λ e. (had.0, e) ]) had.1
       | false ↦ (elim (bytes_eq first.name other) as
           (λ b. (if b then Some first.value else local_named other rest) ≡ Some had.0 →
-          (has : Value) × ((if b then Some first.value else local_named other (put name value rest)) ≡ Some has))
+          (has : Value) × ((if b then Some first.value else local_named other (put_local name value rest)) ≡ Some has))
           [ true ↦ λ e. (had.0, e) | false ↦ λ e. put_keeps name other value rest (had.0, e) ]) had.1
     ]
 
 -- names in scope keep values
 pub put_covers : (scope : Scope) (name : List ℕ) (value : Value) (locals : Locals) → Covers scope locals →
-    Covers scope (put name value locals)
+    Covers scope (put_local name value locals)
 put_covers scope name value locals covers other among = put_keeps name other value locals (covers other among)
 
 -- one name more has a value too
 pub put_covers_more : (scope : Scope) (name : List ℕ) (value : Value) (locals : Locals) → Covers scope locals →
-    Covers (scope ++ (name ∷ [])) (put name value locals)
+    Covers (scope ++ (name ∷ [])) (put_local name value locals)
 put_covers_more scope name value locals covers other among =
     elim (Contains-push_cases scope name other among) [
       | inl there ↦ put_covers scope name value locals covers other there
       | inr same ↦ (
         value,
-        ap (λ (n : List ℕ). local_named n (put name value locals)) (sym same)
+        ap (λ (n : List ℕ). local_named n (put_local name value locals)) (sym same)
             ∙ put_same name value locals,
       )
     ]
@@ -126,19 +126,19 @@ module _ (Q : List ℕ → Type 0) (own : Says Q) where
   IsSaidOf (Ok value) = Unit {0}
 
   -- what follows a value
-  then_value_said : (found : Given) (go : Value → Given) → IsSaidOf found → ((value : Value) → IsSaidOf (go value)) →
+  then_value_said : (found : ValueOrFault) (go : Value → ValueOrFault) → IsSaidOf found → ((value : Value) → IsSaidOf (go value)) →
       IsSaidOf (then_value found go)
   then_value_said (Err fault) go said later = said
   then_value_said (Ok value) go said later = later value
 
   -- what follows a number; a text is of the wrong kind
-  with_number_said : (value : Value) (go : ℤ → Given) → ((number : ℤ) → IsSaidOf (go number)) →
+  with_number_said : (value : Value) (go : ℤ → ValueOrFault) → ((number : ℤ) → IsSaidOf (go number)) →
       IsSaidOf (with_number value go)
   with_number_said (Int number) go said = said number
   with_number_said (Text text) go said = own.kind
 
   -- one of two
-  either_said : (test : Bool) (first second : Given) → IsSaidOf first → IsSaidOf second →
+  either_said : (test : Bool) (first second : ValueOrFault) → IsSaidOf first → IsSaidOf second →
       IsSaidOf (if test then first else second)
   either_said true first second said said' = said
   either_said false first second said said' = said'
@@ -148,7 +148,7 @@ module _ (Q : List ℕ → Type 0) (own : Says Q) where
   within_said number = either_said (fits number) (Ok (Int number)) (Err overflow) tt own.overflow
 
   -- a text, or one that is too long
-  joined_said : (text : List ℕ) → IsSaidOf (joined text)
+  joined_said : (text : List ℕ) → IsSaidOf (joined_text text)
   joined_said text = either_said (nat_le (length text) 256) (Ok (Text text)) (Err too_long) tt own.too_long
 
   -- an operator before a number
@@ -221,18 +221,18 @@ module _ (Q : List ℕ → Type 0) (own : Says Q) where
   combined_said op (Text left) (Int right) = of_kinds_said op
 
   -- the two operators whose left side may decide
-  and_so_on_said : (left : ℤ) (right : Given) → IsSaidOf right → IsSaidOf (and_so_on left right)
+  and_so_on_said : (left : ℤ) (right : ValueOrFault) → IsSaidOf right → IsSaidOf (and_so_on left right)
   and_so_on_said left right said =
       either_said (is_true left) (then_value right (combined And (Int left))) _
       (then_value_said right (combined And (Int left)) said (combined_said And (Int left))) tt
 
-  or_so_on_said : (left : ℤ) (right : Given) → IsSaidOf right → IsSaidOf (or_so_on left right)
+  or_so_on_said : (left : ℤ) (right : ValueOrFault) → IsSaidOf right → IsSaidOf (or_so_on left right)
   or_so_on_said left right said =
       either_said (is_true left) _ (then_value right (combined Or (Int left))) tt
       (then_value_said right (combined Or (Int left)) said (combined_said Or (Int left)))
 
   -- an operator between a value and what the right side gives
-  between_said : (op : BinaryOp) (left : Value) (right : Given) → IsSaidOf right → IsSaidOf (between op left right)
+  between_said : (op : BinaryOp) (left : Value) (right : ValueOrFault) → IsSaidOf right → IsSaidOf (between op left right)
   between_said Add left right said = then_value_said right (combined Add left) said (combined_said Add left)
   between_said Sub left right said = then_value_said right (combined Sub left) said (combined_said Sub left)
   between_said Mul left right said = then_value_said right (combined Mul left) said (combined_said Mul left)
@@ -250,7 +250,7 @@ module _ (Q : List ℕ → Type 0) (own : Says Q) where
       with_number_said left (λ number. or_so_on number right) (λ number. or_so_on_said number right said)
 
   -- a local that has a value, or a field that has one
-  or_field_said : (local : Option Value) (field : Given) → ((value : Value) × (local ≡ Some value)) ⊎ IsSaidOf field →
+  or_field_said : (local : Option Value) (field : ValueOrFault) → ((value : Value) × (local ≡ Some value)) ⊎ IsSaidOf field →
       IsSaidOf (or_field local field)
   or_field_said (Some value) field is = tt
   or_field_said None field (inl there) = absurd (let e : None ≡ Some there.0 = there.1 in cc)
@@ -303,7 +303,7 @@ module _ (Q : List ℕ → Type 0) (own : Says Q) where
         then_value_said (value_in around left) _ (value_in_said left is)
         (λ value. between_said op value (value_in around right) (value_in_said right is'))
 
-    one_more_said : (first : Given) (rest : Result (List Value) (List ℕ)) → IsSaidOf first → IsSaidOf rest →
+    one_more_said : (first : ValueOrFault) (rest : Result (List Value) (List ℕ)) → IsSaidOf first → IsSaidOf rest →
         IsSaidOf (one_more first rest)
     one_more_said (Err fault) rest said said' = said
     one_more_said (Ok value) (Err fault) said said' = said'

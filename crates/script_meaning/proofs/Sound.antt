@@ -32,22 +32,22 @@ use Rattle.script_scopes.specs.Bodies.{IsCall, IsSource, IsStatement, IsBlock, I
 use Rattle.script_check.specs.Programs.{field_names}
 use Rattle.script_check.specs.Accepted.{IsMethod, IsProgram}
 use Rattle.script_check.specs.Shapes.{value_of}
-use Rattle.script_values.specs.Expressions.{Locals, Surroundings, put, field_named, value_in, one_more, values_in}
+use Rattle.script_values.specs.Expressions.{Locals, Surroundings, put_local, field_named, value_in, one_more, values_in}
 use Rattle.script_values.specs.Faults.{key, units, grains, unknown}
-use Rattle.script_values.specs.Values.{Given, is_true}
+use Rattle.script_values.specs.Values.{ValueOrFault, is_true}
 use Rattle.script_holding.specs.declared.held.Held.{Held}
 use Rattle.script_holding.specs.Limits.{depth_limit, unit_limit, grain_limit}
 use Rattle.script_holding.specs.Holding.{Holding, mode_at, change, raised, with_field, newly_held, initial_fields, with_held, with_left, one_asked}
 use Rattle.script_meaning.specs.Requests.{Requests, End, AskLock, AskRaise, AskUnit, Back, Caught, stop, with_value, with_values}
 use Rattle.script_meaning.specs.Calls.{Site, Runner, Target, settable, bound, answered, locked, joined, enters, to_target, to_type, numbered, method_of, type_from, with_key}
-use Rattle.script_meaning.specs.Statements.{Next, step, with_step, chosen, around, given, calls, sourced, sets, turns, does, runs, runs_else, deep}
+use Rattle.script_meaning.specs.Statements.{Next, step, with_step, by_truth, around, given, calls, sourced, sets, turns, does, runs, runs_else, deep}
 use Rattle.script_meaning.specs.Play.{IsTransaction, as_first, first_frame, ends, at_start, unit}
 use Rattle.script_meaning.specs.Laws.{IsChild, HasArity, HasEachField}
 use Rattle.script_meaning.proofs.Lookups.{numbered_type, numbered_is, method_of_is, target_is_method, call_has_arity}
 use Rattle.script_meaning.proofs.Grains.{held_in, bare, mode_at-bare, mode_at-with_field, mode_at-more, mode_at-added, mode_at-raised, mode_at-raised_other, bare-raised, bare-with_field, All-change}
 
 -- the values of arguments are as many as the arguments
-one_more_length : (first : Given) (rest : Result (List Value) (List ℕ)) (values : List Value) (n : ℕ) →
+one_more_length : (first : ValueOrFault) (rest : Result (List Value) (List ℕ)) (values : List Value) (n : ℕ) →
     one_more first rest ≡ Ok values →
     ((others : List Value) → rest ≡ Ok others → length others ≡ n) → length values ≡ suc n
 one_more_length (Err fault) rest values n e count = absurd (cc)
@@ -176,7 +176,7 @@ module _ (types : ProgramTree) where
     step_sound floor next sound locals has kept = with_step_sound floor has.left next sound locals has kept
 
     -- what follows an expression's value
-    with_value_sound : (floor : List GrainId) (found : Given) (has : Holding) (go : Value → Requests) →
+    with_value_sound : (floor : List GrainId) (found : ValueOrFault) (has : Holding) (go : Value → Requests) →
         Kept floor has → ((value : Value) → SoundAt has (go value)) →
         SoundAt has (with_value found has go)
     with_value_sound floor (Err fault) has go kept sound = stop_sound floor fault has kept
@@ -208,7 +208,7 @@ module _ (types : ProgramTree) where
     -- what a condition chooses
     chosen_sound : (floor : List GrainId) (value : Value) (has : Holding) (first second : Requests) → Kept floor has →
         SoundAt has first → SoundAt has second →
-        SoundAt has (chosen value has first second)
+        SoundAt has (by_truth value has first second)
     chosen_sound floor (Int number) has first second kept sound sound' =
         one_of_sound has (is_true number) first second (λ e. sound) sound'
     chosen_sound floor (Text text) has first second kept sound sound' = stop_sound floor _ has kept
@@ -546,9 +546,9 @@ module _ (types : ProgramTree) where
           does_sound scope (Try at name call block otherwise) right next sound = λ locals has kept.
               calls_sound scope call (λ p. (right p).0.0.1) _ _
               (λ value has kept. runs_sound (with_name scope name) block (λ p. (right p).0.1) next sound
-              (put name.text value locals) has kept)
+              (put_local name.text value locals) has kept)
               (λ fault has kept. runs_sound (with_name scope name) otherwise (λ p. (right p).1) next sound
-              (put name.text (Text fault) locals) has kept) locals has kept
+              (put_local name.text (Text fault) locals) has kept) locals has kept
 
           runs_sound : (scope : Scope) (block : BlockTree) → (IsProgram types → IsBlock setting scope block) →
               (next : Next) → SoundNext floor next →

@@ -18,14 +18,14 @@ use Rattle.script_tree.specs.Options.{entered}
 use Rattle.script_tree.specs.Exprs.{ExprTree, CallTree}
 use Rattle.script_tree.specs.Stmts.{SourceTree, Computed, Called, StmtTree, BlockTree, ElseTree, Bind, Rebind, SetField, Perform, Choose, Repeat, Give, FailWith, Try, NoMore, Then, NoElse, Else}
 use Rattle.script_tree.specs.Programs.{MethodTree, ProgramTree}
-use Rattle.script_values.specs.Expressions.{Locals, put, field_named, values_in}
+use Rattle.script_values.specs.Expressions.{Locals, put_local, field_named, values_in}
 use Rattle.script_values.specs.Faults.{key, units, grains}
-use Rattle.script_values.specs.Values.{Given}
+use Rattle.script_values.specs.Values.{ValueOrFault}
 use Rattle.script_holding.specs.Limits.{unit_limit, grain_limit}
 use Rattle.script_holding.specs.Holding.{Holding, mode_at, change, raised, newly_held, with_held, with_left, one_asked}
 use Rattle.script_meaning.specs.Requests.{Requests, AskLock, AskRaise, AskUnit, Back, Caught, stop, with_value, with_values}
 use Rattle.script_meaning.specs.Calls.{Site, Runner, Target, settable, answered, locked, joined, enters, to_target, to_type, method_of, type_from, with_key}
-use Rattle.script_meaning.specs.Statements.{Next, step, with_step, chosen, around, given, calls, sourced, sets, turns, loops, does, runs, runs_else, deep}
+use Rattle.script_meaning.specs.Statements.{Next, step, with_step, by_truth, around, given, calls, sourced, sets, turns, loops, does, runs, runs_else, deep}
 
 -- two continuations are the same with at most this many steps left: after a statement, a value, a fault
 abbrev pub Agree : ℕ → Next → Next → Type 0
@@ -63,7 +63,7 @@ step_agrees : (most : ℕ) (one other : Next) → Agree most one other → Agree
 step_agrees most one other agree locals has le = with_step_agrees has.left most one other locals has le agree
 
 -- what follows values, keys and conditions
-with_value_agrees : (found : Given) (has : Holding) (one other : Value → Requests) →
+with_value_agrees : (found : ValueOrFault) (has : Holding) (one other : Value → Requests) →
     ((value : Value) → one value ≡ other value) →
     with_value found has one ≡ with_value found has other
 with_value_agrees (Err fault) has one other agree = refl
@@ -83,8 +83,8 @@ with_key_agrees (Text place) has one other agree = refl
 
 chosen_agrees : (value : Value) (has : Holding) (first first' second second' : Requests) → first ≡ first' →
     second ≡ second' →
-    chosen value has first second ≡ chosen value has first' second'
-chosen_agrees value has first first' second second' e f = λ i. chosen value has (e i) (f i)
+    by_truth value has first second ≡ by_truth value has first' second'
+chosen_agrees value has first first' second second' e f = λ i. by_truth value has (e i) (f i)
 
 -- what follows a child, a lock and a called method
 answered_agrees : (most : ℕ) (outcome : Outcome) (one other : Back) (caught caught' : Caught) →
@@ -242,8 +242,8 @@ module _ (types : ProgramTree) (runner : Runner) (steady : IsSteady runner) (sit
     does_agree most backs (FailWith text) one other agree = λ locals has le. refl
     does_agree most backs (Try at name call block otherwise) one other agree = λ locals has le.
         calls_agree most call _ _ _ _ (λ value.
-        runs_agree most backs block one other agree (put name.text value locals))
-        (λ fault. runs_agree most backs otherwise one other agree (put name.text (Text fault) locals)) locals has le
+        runs_agree most backs block one other agree (put_local name.text value locals))
+        (λ fault. runs_agree most backs otherwise one other agree (put_local name.text (Text fault) locals)) locals has le
 
     pub runs_agree : (most : ℕ) → AgreeBack most back back' → (block : BlockTree) (one other : Next) →
         Agree most one other →
@@ -270,7 +270,7 @@ module _ (types : ProgramTree) (runner : Runner) (site : Site) (back : Back) (te
   -- one turn of a loop after its step: the test, then the body and what is done again, or what follows
   abbrev pub turn : Next → Next
   turn again locals has = with_value (given types runner site back test locals has) has
-      (λ value. chosen value has (body again locals has) (next locals has))
+      (λ value. by_truth value has (body again locals has) (next locals has))
 
   -- one turn after its step looks at what is done again with fewer steps only
   turn_agrees : (left : ℕ) (one other : Next) → ((less : ℕ) → left ≡ suc less → Agree less one other) →
@@ -314,7 +314,7 @@ pub while_once : (types : ProgramTree) (n : ℕ) (site : Site) (back : Back) (te
     (next : Next) (locals : Locals) (has : Holding) →
     does types (deep types n) site back (Repeat test block) next locals has
     ≡ step (λ locals has. with_value (given types (deep types n) site back test locals has) has (λ value.
-    chosen value has (runs types (deep types n) site back block
+    by_truth value has (runs types (deep types n) site back block
     (does types (deep types n) site back (Repeat test block) next) locals has) (next locals has))) locals has
 while_once types n site back test block next locals has =
     loops_once types (deep types n) site back test (runs types (deep types n) site back block)

@@ -16,11 +16,11 @@ use Rattle.script_tree.specs.Stmts.{BlockTree, Repeat}
 use Rattle.script_tree.specs.Programs.{ProgramTree}
 use Rattle.script_values.specs.Expressions.{Locals, value_in, values_in}
 use Rattle.script_values.specs.Faults.{budget, depth, unknown}
-use Rattle.script_values.specs.Values.{Given}
+use Rattle.script_values.specs.Values.{ValueOrFault}
 use Rattle.script_holding.specs.Holding.{Holding, with_left}
 use Rattle.script_meaning.specs.Requests.{Requests, Back, Caught, stop, with_value, with_values}
 use Rattle.script_meaning.specs.Calls.{Site, Runner, Target, bound, joined, enters, numbered, to_type, type_from, with_key}
-use Rattle.script_meaning.specs.Statements.{Next, with_step, step, given, around, calls, chosen, does, runs, deep}
+use Rattle.script_meaning.specs.Statements.{Next, with_step, step, given, around, calls, by_truth, does, runs, deep}
 use Rattle.script_meaning.specs.Play.{at_start, as_first, ends, first_frame, unit}
 use Rattle.script_meaning.specs.Playing.{types_in, surrounds, plays_method, heard}
 use Rattle.script_meaning.specs.declared.frames.World.{World}
@@ -75,7 +75,7 @@ call_reached world progress types runner site back call onto caught locals has p
     let values = values_in (around types runner site back locals has) call.args in
     key_is (reach args)
     ∙ ap (λ (g : Result (List Value) (List ℕ)). heard world progress (with_values g has (λ args. with_key place has (reach args)))) (sym args_is)
-    ∙ ap (λ (g : Given). heard world progress (with_value g has (λ place. with_values values has (λ args. with_key place has (reach args))))) (sym place_is)
+    ∙ ap (λ (g : ValueOrFault). heard world progress (with_value g has (λ place. with_values values has (λ args. with_key place has (reach args))))) (sym place_is)
 
 -- what runs in a frame outside the transaction, and in one that joins
 pub enters_plain : (world : World) (depth : ℕ) (way : Entered) (context : Bool) (grain : GrainId) (target : Target) (args : List Value) (onto : Back) (caught : Caught) (has : Holding) →
@@ -110,14 +110,14 @@ past_deepest world at (Plain context) grain target args onto caught has past all
 pub turn_reached : (world : World) (progress : Progress) (n : ℕ) (site : Site) (back : Back) (test : ExprTree) (block : BlockTree) (next : Next)
     (locals found : Locals) (has after : Holding) → found ≡ locals → true ≡ nat_lt 0 has.left → after ≡ with_left (has.left - 1) has →
     let types = types_in world in
-    heard world progress (with_value (value_in (surrounds site found after) test) after (λ value. chosen value after
+    heard world progress (with_value (value_in (surrounds site found after) test) after (λ value. by_truth value after
     (runs types (deep types n) site back block (does types (deep types n) site back (Repeat test block) next) locals after) (next locals after)))
     ≡ heard world progress (does types (deep types n) site back (Repeat test block) next locals has)
 turn_reached world progress n site back test block next locals found has after same some is =
     let types = types_in world in
     let again = does types (deep types n) site back (Repeat test block) next in
-    let turn : Next = λ locals has. with_value (value_in (surrounds site locals has) test) has (λ value. chosen value has (runs types (deep types n) site back block again locals has) (next locals has)) in
-    ap (λ (l : Locals). heard world progress (with_value (value_in (surrounds site l after) test) after (λ value. chosen value after (runs types (deep types n) site back block again locals after) (next locals after)))) same
+    let turn : Next = λ locals has. with_value (value_in (surrounds site locals has) test) has (λ value. by_truth value has (runs types (deep types n) site back block again locals has) (next locals has)) in
+    ap (λ (l : Locals). heard world progress (with_value (value_in (surrounds site l after) test) after (λ value. by_truth value after (runs types (deep types n) site back block again locals after) (next locals after)))) same
     ∙ ap (heard world progress) (step_taken turn locals has after some is ∙ sym (while_once types n site back test block next locals has))
 
 -- and where no step is left for it
@@ -126,7 +126,7 @@ pub turn_refused : (types : ProgramTree) (n : ℕ) (site : Site) (back : Back) (
     does types (deep types n) site back (Repeat test block) next locals has ≡ stop budget after
 turn_refused types n site back test block next locals has after none is =
     let again = does types (deep types n) site back (Repeat test block) next in
-    let turn : Next = λ locals has. with_value (value_in (surrounds site locals has) test) has (λ value. chosen value has (runs types (deep types n) site back block again locals has) (next locals has)) in
+    let turn : Next = λ locals has. with_value (value_in (surrounds site locals has) test) has (λ value. by_truth value has (runs types (deep types n) site back block again locals has) (next locals has)) in
     while_once types n site back test block next locals has ∙ step_refused turn locals has after none is
 
 -- a unit's first frame, and the fault of a call that is outside the program

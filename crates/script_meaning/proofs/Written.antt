@@ -6,7 +6,7 @@ use Rattle.std.proofs.lemmas.List.Elements.{All-nil, All-cons, All-head, All-tai
 use Rattle.std.proofs.lemmas.List.Kept.{AllPairs-cons}
 use Rattle.base_types.specs.declared.calls.GrainId.{GrainId}
 use Rattle.script_holding.specs.declared.held.Held.{Held}
-use Rattle.script_meaning.specs.Play.{Found, is_below, insert, written}
+use Rattle.script_meaning.specs.Play.{Found, is_below, insert, states_set}
 use Rattle.script_meaning.proofs.Lists.{pairs_first, pairs_rest}
 
 -- the order of grains is an order, of which any two have one
@@ -31,14 +31,14 @@ module _ (P : Found → Type 0) where
 
   -- what holds of each held grain that was set holds of what is written
   pub All-written : (held : List Held) → All (λ one. IsTrue one.written → P (one.grain, one.state)) held →
-      All P (written held)
+      All P (states_set held)
   All-written [] all = All-nil P
   All-written (first ∷ rest) all =
       let Q : Held → Type 0 = λ one. IsTrue one.written → P (one.grain, one.state) in
-      let later : All P (written rest) = All-written rest (All-tail Q first rest all) in
+      let later : All P (states_set rest) = All-written rest (All-tail Q first rest all) in
       (elim first.written as (λ b. (IsTrue b → P (first.grain, first.state)) →
-      All P (if b then insert (first.grain, first.state) (written rest) else written rest)) [
-        | true ↦ λ holds. All-insert (first.grain, first.state) (written rest) (holds refl) later
+      All P (if b then insert (first.grain, first.state) (states_set rest) else states_set rest)) [
+        | true ↦ λ holds. All-insert (first.grain, first.state) (states_set rest) (holds refl) later
         | false ↦ λ holds.
             later
       ]) (All-head Q first rest all)
@@ -52,13 +52,13 @@ length-insert one (first ∷ rest) =
     [ true ↦ omega arith | false ↦ let e = length-insert one rest in omega (arith, e) ]
 
 -- no more is written than held
-pub length-written : (held : List Held) → length (written held) ≤ length held
+pub length-written : (held : List Held) → length (states_set held) ≤ length held
 length-written [] = omega arith
 length-written (first ∷ rest) =
-    let later : length (written rest) ≤ length rest = length-written rest in
+    let later : length (states_set rest) ≤ length rest = length-written rest in
     elim first.written as (λ b. length
-    (if b then insert (first.grain, first.state) (written rest) else written rest) ≤ length (first ∷ rest)) [
-      | true ↦ let e = length-insert (first.grain, first.state) (written rest) in
+    (if b then insert (first.grain, first.state) (states_set rest) else states_set rest) ≤ length (first ∷ rest)) [
+      | true ↦ let e = length-insert (first.grain, first.state) (states_set rest) in
           omega (arith, e, later)
       | false ↦ omega (arith, later)
     ]
@@ -88,15 +88,15 @@ insert_ascends one (first ∷ rest) pairs differ =
 
 -- what is written ascends, where no grain is held twice
 pub written_ascends : (held : List Held) → AllPairs (λ one other. one.grain ≢ other.grain) held →
-    AllPairs Below (written held)
+    AllPairs Below (states_set held)
 written_ascends [] pairs = λ i j d below within. absurd (omega (arith, within))
 written_ascends (first ∷ rest) pairs =
     let R : Held → Held → Type 0 = λ one other. one.grain ≢ other.grain in
-    let later : AllPairs Below (written rest) = written_ascends rest (pairs_rest R first rest pairs) in
-    let differ : All (λ other. first.grain ≢ other.0) (written rest) =
+    let later : AllPairs Below (states_set rest) = written_ascends rest (pairs_rest R first rest pairs) in
+    let differ : All (λ other. first.grain ≢ other.0) (states_set rest) =
     All-written (λ other. first.grain ≢ other.0) rest
     (All-weaker (R first) (λ (one : Held). IsTrue one.written → first.grain ≢ one.grain) (λ one d set. d) rest
     (pairs_first R first rest pairs)) in
     elim first.written as (λ b. AllPairs Below
-    (if b then insert (first.grain, first.state) (written rest) else written rest))
-    [ true ↦ insert_ascends (first.grain, first.state) (written rest) later differ | false ↦ later ]
+    (if b then insert (first.grain, first.state) (states_set rest) else states_set rest))
+    [ true ↦ insert_ascends (first.grain, first.state) (states_set rest) later differ | false ↦ later ]

@@ -17,7 +17,7 @@ use Rattle.script_holding.specs.Holding.{Holding}
 use Rattle.script_holding.specs.Limits.{depth_limit, unit_limit, grain_limit}
 use Rattle.script_meaning.specs.Requests.{Back, with_value}
 use Rattle.script_meaning.specs.Calls.{Site, Target, numbered}
-use Rattle.script_meaning.specs.Statements.{Next, step, chosen, given, does, runs, deep}
+use Rattle.script_meaning.specs.Statements.{Next, step, by_truth, given, does, runs, deep}
 use Rattle.script_meaning.specs.Play.{IsTransaction, Asked, Played, Lock, Want, WantLock, WantRaise, WantUnit, Over, grains_of, is_below, play_over, play, next}
 use Rattle.script_meaning.specs.Trails.{Given, wanted, locks_of, answers_of, reads_of, exclusive_in, Has, IsTrail, IsWhole, IsShown, outcomes, states_of}
 
@@ -149,5 +149,5 @@ LoopsGoOn = (types : ProgramTree) (n : ℕ) (site : Site) (back : Back) (test : 
     let loop : Next = does types (deep types n) site back (Repeat test block) next in
     let turn : Next = λ locals has.
     with_value (given types (deep types n) site back test locals has) has
-    (λ value. chosen value has (runs types (deep types n) site back block loop locals has) (next locals has)) in
+    (λ value. by_truth value has (runs types (deep types n) site back block loop locals has) (next locals has)) in
     (locals : Locals) (has : Holding) → loop locals has ≡ step turn locals has

@@ -82,13 +82,13 @@ insert one [] = one ∷ []
 insert one (first ∷ rest) = if is_below one.0 first.0 then one ∷ first ∷ rest else first ∷ insert one rest
 
 -- the held grains that were set, ascending, with their working states
-abbrev pub written : List Held → List Found
-written [] = []
-written (first ∷ rest) = if first.written then insert (first.grain, first.state) (written rest) else written rest
+abbrev pub states_set : List Held → List Found
+states_set [] = []
+states_set (first ∷ rest) = if first.written then insert (first.grain, first.state) (states_set rest) else states_set rest
 
 -- what a unit writes: nothing, unless it ended with a value
 abbrev pub writes_of : Outcome → Holding → List Found
-writes_of (Valued value) has = written has.held
+writes_of (Valued value) has = states_set has.held
 writes_of (Fault text) has = []
 writes_of Aborted has = []
 

@@ -66,14 +66,14 @@ answering (answer.Caught text) back caught has = caught text has
 
 -- the unit ends with this fault, which gives the same play as what was left to run before it; want of memory may
 -- come at any time
-abbrev pub Ends : World → Player → Progress → Stop → Requests → Type 0
-Ends world player old (Fault text) before = heard world player.progress (stop text player.has) ≡ heard world old before
-Ends world player old Memory before = Unit {0}
+abbrev pub EndsPlay : World → Player → Progress → Stop → Requests → Type 0
+EndsPlay world player old (Fault text) before = heard world player.progress (stop text player.has) ≡ heard world old before
+EndsPlay world player old Memory before = Unit {0}
 
 -- what an answer leads to gives the same play as what was left to run before it; or the unit ends
 abbrev pub Leads : {A : Type 0} → World → Player → Progress → Result A Stop → (A → Requests) → Requests → Type 0
 Leads world player old (Ok answer) go before = heard world player.progress (go answer) ≡ heard world old before
-Leads world player old (Err why) go before = Ends world player old why before
+Leads world player old (Err why) go before = EndsPlay world player old why before
 
 -- what the code's play gives
 abbrev pub played_of : code.Played → Played

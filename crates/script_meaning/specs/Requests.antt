@@ -6,7 +6,7 @@ use Rattle.base_types.specs.declared.calls.Mode.{Mode}
 use Rattle.base_types.specs.declared.calls.Outcome.{Outcome}
 use Rattle.base_types.specs.declared.calls.Outcome.TheVariants.{Fault}
 use Rattle.base_types.specs.declared.calls.Value.{Value}
-use Rattle.script_values.specs.Values.{Given}
+use Rattle.script_values.specs.Values.{ValueOrFault}
 use Rattle.script_holding.specs.Holding.{Holding}
 
 -- A run has ended, or it asks for something and goes on with what it is given: for a grain's lock, which comes
@@ -31,7 +31,7 @@ abbrev pub stop : Caught
 stop fault has = End (Fault fault) has
 
 -- what follows an expression's value; its fault ends the unit
-abbrev pub with_value : Given → Holding → (Value → Requests) → Requests
+abbrev pub with_value : ValueOrFault → Holding → (Value → Requests) → Requests
 with_value (Err fault) has go = stop fault has
 with_value (Ok value) has go = go value
 

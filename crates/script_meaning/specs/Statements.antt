@@ -7,8 +7,8 @@ use Rattle.script_tree.specs.Stmts.{SourceTree, Computed, Called, StmtTree, Bloc
 use Rattle.script_tree.specs.Programs.{ProgramTree}
 use Rattle.script_check.specs.Shapes.{fitted}
 use Rattle.script_values.specs.Faults.{kind, budget, unknown}
-use Rattle.script_values.specs.Values.{Given, is_true}
-use Rattle.script_values.specs.Expressions.{Locals, Surroundings, put, field_named, value_in, values_in}
+use Rattle.script_values.specs.Values.{ValueOrFault, is_true}
+use Rattle.script_values.specs.Expressions.{Locals, Surroundings, put_local, field_named, value_in, values_in}
 use Rattle.script_holding.specs.Holding.{Holding, state_at, change, with_field, with_held, with_left}
 use Rattle.script_meaning.specs.Requests.{Requests, Back, Caught, stop, with_value, with_values}
 use Rattle.script_meaning.specs.Calls.{Site, Runner, readable, settable, type_from, to_type, with_key}
@@ -26,16 +26,16 @@ abbrev pub step : Next → Next
 step next locals has = with_step has.left next locals has
 
 -- what a condition chooses: a number other than 0 is true, and a text is no condition
-abbrev pub chosen : Value → Holding → Requests → Requests → Requests
-chosen (Int number) has first second = if is_true number then first else second
-chosen (Text text) has first second = stop kind has
+abbrev pub by_truth : Value → Holding → Requests → Requests → Requests
+by_truth (Int number) has first second = if is_true number then first else second
+by_truth (Text text) has first second = stop kind has
 
 module _ (types : ProgramTree) (runner : Runner) (site : Site) (back : Back) where
   -- what an expression is evaluated in
   abbrev pub around : Locals → Holding → Surroundings
   around locals has = record { fields = readable site.kind site.fields; key = site.grain.key; state = state_at site.grain has.held; locals = locals }
 
-  abbrev pub given : ExprTree → Locals → Holding → Given
+  abbrev pub given : ExprTree → Locals → Holding → ValueOrFault
   given expression locals has = value_in (around locals has) expression
 
   -- a call: its place and its arguments are evaluated, then the place is tested
@@ -60,7 +60,7 @@ module _ (types : ProgramTree) (runner : Runner) (site : Site) (back : Back) whe
   abbrev pub turns : ℕ → ExprTree → (Next → Next) → Next → Next
   turns zero test body next = λ locals has. stop budget has
   turns (suc n) test body next =
-      step (λ locals has. with_value (given test locals has) has (λ value. chosen value has (body (turns n test body next) locals has) (next locals has)))
+      step (λ locals has. with_value (given test locals has) has (λ value. by_truth value has (body (turns n test body next) locals has) (next locals has)))
 
   -- a loop: each turn takes a step, so one turn more than there are steps left is enough
   abbrev pub loops : ExprTree → (Next → Next) → Next → Next
@@ -69,16 +69,16 @@ module _ (types : ProgramTree) (runner : Runner) (site : Site) (back : Back) whe
   abbrev mutual
     -- what a statement does once its step is taken, and then what follows it
     pub does : StmtTree → Next → Next
-    does (Bind name value) next = sourced value (λ found locals. next (put name.text found locals))
-    does (Rebind name value) next = sourced value (λ found locals. next (put name.text found locals))
+    does (Bind name value) next = sourced value (λ found locals. next (put_local name.text found locals))
+    does (Rebind name value) next = sourced value (λ found locals. next (put_local name.text found locals))
     does (SetField name value) next = λ locals has. with_value (given value locals has) has (λ found. sets (field_named name.text (settable site.kind site.fields)) found next locals has)
     does (Perform call) next = λ locals has. calls call (λ value. next locals) stop locals has
-    does (Choose test block other) next = λ locals has. with_value (given test locals has) has (λ value. chosen value has (runs block next locals has) (runs_else other next locals has))
+    does (Choose test block other) next = λ locals has. with_value (given test locals has) has (λ value. by_truth value has (runs block next locals has) (runs_else other next locals has))
     does (Repeat test block) next = loops test (runs block) next
     does (Give value) next = λ locals has. with_value (given value locals has) has (λ found. back found has)
     does (FailWith text) next = λ locals has. stop (fitted text) has
     does (Try at name call block other) next =
-        λ locals has. calls call (λ value. runs block next (put name.text value locals)) (λ fault. runs other next (put name.text (Text fault) locals)) locals has
+        λ locals has. calls call (λ value. runs block next (put_local name.text value locals)) (λ fault. runs other next (put_local name.text (Text fault) locals)) locals has
 
     -- what a block does: each statement takes a step
     pub runs : BlockTree → Next → Next

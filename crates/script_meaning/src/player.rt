@@ -10,7 +10,7 @@ ghost use Rattle.script_values.specs.Stops.{Gives};
 ghost use Rattle.script_holding.specs.Holding.{Holding as Has, mode_at};
 ghost use Rattle.script_meaning.specs.Requests.{Requests, Back, Caught, with_value};
 ghost use Rattle.script_meaning.specs.Calls.{Runner, locked, joined, in_own_unit, answered, with_key, readable, settable};
-ghost use Rattle.script_meaning.specs.Statements.{Next, chosen, does};
+ghost use Rattle.script_meaning.specs.Statements.{Next, by_truth, does};
 ghost use Rattle.script_meaning.specs.Play.{at_start};
 ghost use Rattle.script_meaning.specs.Playing.{site_of, surrounds, answering, Leads};
 ghost use Rattle.script_meaning.specs.declared.frames.World.{World as Worlds};
@@ -132,7 +132,7 @@ impl Player {
     fn truth_of(&self, alloc: Global, value: &Value) -> Result<bool, Stop>
         ensures { (world : Worlds) (first second : Requests) →
             Leads world self.now self.now.progress result (λ holds. if holds then first else second)
-            (chosen value.now self.now.has first second) }
+            (by_truth value.now self.now.has first second) }
     {
         match value {
             Value::Int(number) => Ok(is_true(*number)),
@@ -151,7 +151,7 @@ impl Player {
         ensures { (world : Worlds) (first second : Requests) →
             Leads world self.now self.now.progress result (λ holds. if holds then first else second)
             (with_value (value_in (surrounds (site_of site.now) locals.now self.now.has) (expr_tree test.now))
-            self.now.has (λ value. chosen value self.now.has first second)) }
+            self.now.has (λ value. by_truth value self.now.has first second)) }
     {
         let value = self.given(alloc, site, test, locals)?;
         self.truth_of(alloc, &value)

@@ -3,7 +3,7 @@ ghost use Rattle.base_types.specs.declared.calls.Value.{Value as Values};
 ghost use Rattle.script_tree.specs.Programs.{program_tree};
 ghost use Rattle.script_holding.specs.Holding.{Holding as Has};
 ghost use Rattle.script_meaning.specs.Requests.{Requests, End, stop};
-ghost use Rattle.script_meaning.specs.Play.{at_start, as_first, ends, unit, is_below, insert, written, writes_of, play};
+ghost use Rattle.script_meaning.specs.Play.{at_start, as_first, ends, unit, is_below, insert, states_set, writes_of, play};
 ghost use Rattle.script_meaning.specs.Playing.{types_in, answering, heard, Leads, played_of};
 ghost use Rattle.script_meaning.specs.declared.frames.World.{World as Worlds};
 ghost use Rattle.script_meaning.specs.declared.player.Player.{Player as Players};
@@ -66,7 +66,7 @@ fn place_of(list: &[(GrainId, State)], grain: GrainId) -> usize
 
 /// The held grains that were set, ascending, with their working states.
 fn written(alloc: Global, held: &[Held]) -> Result<Vec<(GrainId, State)>, AllocError>
-    ensures { IfOk result (λ writes. writes.items ≡ written held.now) }
+    ensures { IfOk result (λ writes. writes.items ≡ states_set held.now) }
 {
     let mut writes = Vec::new(alloc);
     let mut left = held.len();

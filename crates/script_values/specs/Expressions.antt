@@ -9,17 +9,17 @@ use Rattle.script_tree.specs.Exprs.{ExprTree, Constant, Variable, TheKey, Prefix
 use Rattle.script_check.specs.Shapes.{value_of}
 use Rattle.script_values.specs.declared.locals.Local.{Local}
 use Rattle.script_values.specs.Faults.{unknown}
-use Rattle.script_values.specs.Values.{Given, then_value, with_number, truth, is_true, prefixed, combined}
+use Rattle.script_values.specs.Values.{ValueOrFault, then_value, with_number, truth, is_true, prefixed, combined}
 
 -- the parameters and locals of a frame, each name once
 abbrev pub Locals : Type 0
 Locals = List Local
 
 -- a name gets a value, in its place or as a new one
-abbrev pub put : List ℕ → Value → Locals → Locals
-put name value [] = (record { name = name; value = value }) ∷ []
-put name value (first ∷ rest) =
-    if bytes_eq first.name name then (record { name = first.name; value = value }) ∷ rest else first ∷ put name value rest
+abbrev pub put_local : List ℕ → Value → Locals → Locals
+put_local name value [] = (record { name = name; value = value }) ∷ []
+put_local name value (first ∷ rest) =
+    if bytes_eq first.name name then (record { name = first.name; value = value }) ∷ rest else first ∷ put_local name value rest
 
 -- the value of a parameter or local
 abbrev pub local_named : List ℕ → Locals → Option Value
@@ -44,37 +44,37 @@ pub record Surroundings : Type 0 where
   pub locals : Locals
 
 -- a value that is there
-abbrev pub known : Option Value → Given
+abbrev pub known : Option Value → ValueOrFault
 known None = Err unknown
 known (Some value) = Ok value
 
 -- the value of the field of this number
-abbrev pub field_value : List Value → Option ℕ → Given
+abbrev pub field_value : List Value → Option ℕ → ValueOrFault
 field_value state None = Err unknown
 field_value state (Some i) = known (slice_get state i)
 
 -- what a name stands for: the parameter or local, else the field
-abbrev pub or_field : Option Value → Given → Given
+abbrev pub or_field : Option Value → ValueOrFault → ValueOrFault
 or_field (Some value) field = Ok value
 or_field None field = field
 
-abbrev pub named : Surroundings → List ℕ → Given
+abbrev pub named : Surroundings → List ℕ → ValueOrFault
 named around name = or_field (local_named name around.locals) (field_value around.state (field_named name around.fields))
 
 -- an operator between two operands, the right one of which is evaluated only where the left one doesn't decide
-abbrev pub and_so_on : ℤ → Given → Given
+abbrev pub and_so_on : ℤ → ValueOrFault → ValueOrFault
 and_so_on left right = if is_true left then then_value right (combined And (Int left)) else Ok (truth false)
 
-abbrev pub or_so_on : ℤ → Given → Given
+abbrev pub or_so_on : ℤ → ValueOrFault → ValueOrFault
 or_so_on left right = if is_true left then Ok (truth true) else then_value right (combined Or (Int left))
 
-abbrev pub between : BinaryOp → Value → Given → Given
+abbrev pub between : BinaryOp → Value → ValueOrFault → ValueOrFault
 between And left right = with_number left (λ number. and_so_on number right)
 between Or left right = with_number left (λ number. or_so_on number right)
 between op left right = then_value right (combined op left)
 
 -- the value of an expression
-abbrev pub value_in : Surroundings → ExprTree → Given
+abbrev pub value_in : Surroundings → ExprTree → ValueOrFault
 value_in around (Constant literal) = Ok (value_of literal)
 value_in around (Variable name) = named around name.text
 value_in around TheKey = Ok (Int (pos around.key))
@@ -82,7 +82,7 @@ value_in around (Prefixed op of) = then_value (value_in around of) (λ value. wi
 value_in around (Joined op left right) = then_value (value_in around left) (λ value. between op value (value_in around right))
 
 -- the values of arguments, from left to right
-abbrev pub one_more : Given → Result (List Value) (List ℕ) → Result (List Value) (List ℕ)
+abbrev pub one_more : ValueOrFault → Result (List Value) (List ℕ) → Result (List Value) (List ℕ)
 one_more (Err fault) rest = Err fault
 one_more (Ok value) (Err fault) = Err fault
 one_more (Ok value) (Ok values) = Ok (value ∷ values)

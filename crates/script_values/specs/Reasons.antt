@@ -5,7 +5,7 @@ use Rattle.script_tree.specs.declared.options.EntryRefusal.TheVariants as option
 use Rattle.script_values.specs.declared.reasons.Reason.{Reason}
 use Rattle.script_values.specs.declared.reasons.Reason.TheVariants.{Overflow, Divide, Kind, Key, Length, Budget, Depth, Units, Grains, NoTransaction, NotAllowed, Aborted, Unknown}
 use Rattle.script_values.specs.Faults.{overflow, divide, kind, key, too_long, budget, depth, units, grains, refusal, aborted, unknown}
-use Rattle.script_values.specs.Values.{Given}
+use Rattle.script_values.specs.Values.{ValueOrFault}
 
 -- the text of a fault
 abbrev pub reason_text : Reason → List ℕ
@@ -24,6 +24,6 @@ reason_text Aborted = aborted
 reason_text Unknown = unknown
 
 -- what a number gives, or a reason in its place
-abbrev pub number_given : Result ℤ Reason → Given
+abbrev pub number_given : Result ℤ Reason → ValueOrFault
 number_given (Ok number) = Ok (Int number)
 number_given (Err reason) = Err (reason_text reason)

@@ -5,7 +5,7 @@ use Rattle.base_types.specs.declared.calls.Value.TheVariants.{Int, Text}
 use Rattle.script_tree.specs.declared.expressions.BinaryOp.{BinaryOp}
 use Rattle.script_values.specs.declared.stops.Stop.{Stop}
 use Rattle.script_values.specs.declared.stops.Stop.TheVariants.{Fault, Memory}
-use Rattle.script_values.specs.Values.{Given, then_value, combined}
+use Rattle.script_values.specs.Values.{ValueOrFault, then_value, combined}
 use Rattle.script_values.specs.Expressions.{between}
 
 -- this fault is given, where it isn't want of memory, which may come in place of any answer
@@ -25,6 +25,6 @@ number_in (Text text) = None
 
 -- the left operand decides: whatever the right one gives, the operator gives this; or it leaves that to both
 abbrev pub Decides : Result (Option Value) Stop → BinaryOp → Value → Type 0
-Decides (Ok (Some value)) op left = (right : Given) → between op left right ≡ Ok value
-Decides (Ok None) op left = (right : Given) → between op left right ≡ then_value right (combined op left)
-Decides (Err stop) op left = (right : Given) → Stops stop (between op left right)
+Decides (Ok (Some value)) op left = (right : ValueOrFault) → between op left right ≡ Ok value
+Decides (Ok None) op left = (right : ValueOrFault) → between op left right ≡ then_value right (combined op left)
+Decides (Err stop) op left = (right : ValueOrFault) → Stops stop (between op left right)

@@ -1,6 +1,6 @@
 ghost use Rattle.std.specs.Prelude.{◌≡◌, OnOk, OnErr};
 ghost use Rattle.std.specs.Option.{option_copied};
-ghost use Rattle.script_values.specs.Expressions.{put, local_named};
+ghost use Rattle.script_values.specs.Expressions.{put_local, local_named};
 
 use base_types::Value;
 use script_scopes::is_same;
@@ -29,7 +29,7 @@ pub fn local_value<'a>(locals: &'a [Local], name: &Chars) -> Option<&'a Value>
 /// Gives the parameter or local of this name a value, or adds one of this name. Without memory all stay as
 /// they were.
 pub fn assign(locals: &mut Vec<Local>, name: &Chars, value: Value) -> Result<(), AllocError>
-    ensures ok { OnOk result (locals.new.items ≡ put name.now value locals.old.items) }
+    ensures ok { OnOk result (locals.new.items ≡ put_local name.now value locals.old.items) }
     ensures err { OnErr result (locals.new.items ≡ locals.old.items) }
 {
     for i in 0..locals.len() {

@@ -1,7 +1,7 @@
 ghost use Rattle.std.specs.Prelude.{◌≡◌, ◌++◌};
 ghost use Rattle.script_values.specs.Reasons.{number_given};
 ghost use Rattle.script_values.specs.Stops.{Gives, Decides, number_in};
-ghost use Rattle.script_values.specs.Values.{with_number, joined, truth, prefixed, of_texts, of_kinds, combined};
+ghost use Rattle.script_values.specs.Values.{with_number, joined_text, truth, prefixed, of_texts, of_kinds, combined};
 
 use crate::numbers::{is_true, of_numbers, prefixed, truth};
 use crate::reasons::Reason;
@@ -49,7 +49,7 @@ pub fn prefixed_value(alloc: Global, op: UnaryOp, value: &Value) -> Result<Value
 
 /// Two texts as one, the right one behind the left one.
 fn join(alloc: Global, left: &Text, right: &Text) -> Result<Value, Stop>
-    ensures { Gives result (joined (left.now ++ right.now)) }
+    ensures { Gives result (joined_text (left.now ++ right.now)) }
 {
     let mut text = String::from_str(alloc, left.as_str())?;
     text.push_str(right.as_str())?;

@@ -12,7 +12,7 @@ use Rattle.silo_nodes.specs.Packets.{any, GrainId, TxnId, Shift, NodeEntry, Prep
 use Rattle.silo_nodes.specs.Logs.{prepares, ends, is_prepared, is_done, moved, moved_by, balance}
 use Rattle.silo_nodes.specs.Node.{has_room, keeps_busy, is_busy, can_shift, can_prepare, log_prepare}
 use Rattle.silo_nodes.specs.Sound.{Sound}
-use Rattle.silo_nodes.specs.Cached.{Cell, Known, cell, cell_of, allows, all_allow, held_cell, held, entry_shifts, IsKnown, Follows, Node, opening_in, prepared_at, vote_at}
+use Rattle.silo_nodes.specs.Cached.{Cell, Known, cell, cell_of, allows, all_allow, held_cell, held, entry_shifts, IsKnown, FollowsLog, Node, opening_in, prepared_at, vote_at}
 use Rattle.silo_nodes.proofs.Lists.{same_txn-true, same_txn-is, same_txn-self, clash, any-last, any-grows, any-member, Member-last}
 use Rattle.silo_nodes.proofs.Waiting.{undecided-prepared}
 use Rattle.silo_nodes.proofs.Logs.{plus_none, shifts-stay, shifts-new, moved-more, done-entry, sound-prepared}
@@ -123,9 +123,9 @@ known-new log t s d p = (
 )
 
 pub follows-prepared : (opening : GrainId → Option ℤ) (log : List NodeEntry) (known known' : TxnId → Option Known) (waiting : List TxnId) (cells cells' : GrainId → Option Cell) (t : TxnId) (s : List Shift) →
-    Follows opening log known waiting cells → is_prepared log t ≡ false → is_apart s ≡ true → all_allow cells s ≡ true →
+    FollowsLog opening log known waiting cells → is_prepared log t ≡ false → is_apart s ≡ true → all_allow cells s ≡ true →
     ((u : TxnId) → known' u ≡ (if same_txn t u then Some (record { at = length log; done = false }) else known u)) → ((g : GrainId) → cells' g ≡ held s g (cells g)) →
-    Follows opening (log ++ Prepared t s ∷ []) known' (waiting ++ t ∷ []) cells'
+    FollowsLog opening (log ++ Prepared t s ∷ []) known' (waiting ++ t ∷ []) cells'
 follows-prepared opening log known known' waiting cells cells' t s k new apart can marks holds = record {
   waiting_is = ap (λ l. l ++ t ∷ []) k.waiting_is ∙ sym (undecided-prepared log t s d);
   sound = sound-prepared opening log t s k.sound d new apart (sym (allow-is opening log cells k.cells_are s) ∙ can);

@@ -10,7 +10,7 @@ use Rattle.std.proofs.lemmas.Bool.{cases_Bool, and_parts}
 use Rattle.base_types.specs.Stores.{grain_cmp}
 use mir.Syntax.{w64}
 use Rattle.silo_nodes.specs.Packets.{GrainId, Shift, same_grain, touches, is_apart}
-use Rattle.silo_nodes.specs.Cached.{Cell, settled_cell, HasRoom}
+use Rattle.silo_nodes.specs.Cached.{Cell, settled_cell, ShiftsFit}
 use Rattle.silo_nodes.proofs.Lists.{same_grain-true, same_grain-is, clash, not-true, any-member}
 
 both_equal : (a b : Ordering) → is_eq (ordering_then a b) ≡ true → (a ≡ Equal) × (b ≡ Equal)
@@ -52,8 +52,8 @@ one-missing m g d c none q = elim (cases_Bool (same_grain g q)) [
 ]
 
 -- the first of the shifts fits, and the rest after it
-pub room-rest : (x : Shift) (xs : List Shift) (c : Bool) (f f' : GrainId → Option Cell) → HasRoom (x ∷ xs) f →
-    ((g : GrainId) → f' g ≡ (if same_grain x.grain g then settled_cell c x.delta (f g) else f g)) → HasRoom xs f'
+pub room-rest : (x : Shift) (xs : List Shift) (c : Bool) (f f' : GrainId → Option Cell) → ShiftsFit (x ∷ xs) f →
+    ((g : GrainId) → f' g ≡ (if same_grain x.grain g then settled_cell c x.delta (f g) else f g)) → ShiftsFit xs f'
 room-rest x xs c f f' r h =
     let p = and_parts (not (touches x.grain xs)) (is_apart xs) r.apart in
     record {

@@ -7,7 +7,7 @@ use Rattle.silo_nodes.specs.Packets.{GrainId, TxnId, Shift, NodeEntry, Prepared,
 use Rattle.silo_nodes.specs.Logs.{prepares, ends, is_prepared, is_done, shifts_of, moved, moved_by, others}
 use Rattle.silo_nodes.specs.Node.{is_balance, keeps_busy, is_busy, log_decision}
 use Rattle.silo_nodes.specs.Sound.{Sound}
-use Rattle.silo_nodes.specs.Cached.{Cell, Known, cell, cell_of, settled_cell, settled, HasRoom, entry_shifts, IsKnown, Follows}
+use Rattle.silo_nodes.specs.Cached.{Cell, Known, cell, cell_of, settled_cell, settled, ShiftsFit, entry_shifts, IsKnown, FollowsLog}
 use Rattle.silo_nodes.specs.Orders.{ended}
 use Rattle.silo_nodes.proofs.Lists.{same_txn-true, same_txn-is, same_txn-self, same_grain-true, same_grain-is, clash, not-true, any-true, any-member, any-last, any-grows, any-shrinks, Member-left, Member-last, Member-one}
 use Rattle.silo_nodes.proofs.Waiting.{undecided-done}
@@ -30,7 +30,7 @@ balance-fits (negsuc n) e = cc
 
 -- the shifts of a prepared transaction have room
 pub has-room : (opening : GrainId → Option ℤ) (log : List NodeEntry) (f : GrainId → Option Cell) (t : TxnId) → Sound opening log → ((g : GrainId) → f g ≡ cell_of opening log g) →
-    is_prepared log t ≡ true → is_done log t ≡ false → HasRoom (shifts_of t log) f
+    is_prepared log t ≡ true → is_done log t ≡ false → ShiftsFit (shifts_of t log) f
 has-room opening log f t k h was fresh = record {
   apart = k.apart t (shifts_of t log) (shifts-member t log was);
   fits = λ x m. (let r = k.room t (shifts_of t log) x (shifts-member t log was) fresh m in
@@ -158,9 +158,9 @@ known-ended log t c was (Some o) k = (
 
 -- all of it follows a decision
 pub follows-done : (opening : GrainId → Option ℤ) (log : List NodeEntry) (known known' : TxnId → Option Known) (waiting : List TxnId) (cells cells' : GrainId → Option Cell) (t : TxnId) (c : Bool) →
-    Follows opening log known waiting cells → is_prepared log t ≡ true → is_done log t ≡ false →
+    FollowsLog opening log known waiting cells → is_prepared log t ≡ true → is_done log t ≡ false →
     ((u : TxnId) → known' u ≡ (if same_txn t u then ended (known u) else known u)) → ((g : GrainId) → cells' g ≡ settled c (shifts_of t log) g (cells g)) →
-    Follows opening (log ++ Done t c ∷ []) known' (others t waiting) cells'
+    FollowsLog opening (log ++ Done t c ∷ []) known' (others t waiting) cells'
 follows-done opening log known known' waiting cells cells' t c k was fresh marks settles = record {
   sound = sound-done opening log t c k.sound was fresh;
   waiting_is = ap (others t) k.waiting_is ∙ sym (undecided-done log t c);

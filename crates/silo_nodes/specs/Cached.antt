@@ -28,7 +28,7 @@ settled commit [] g o = o
 settled commit (x ∷ xs) g o = settled commit xs g (if same_grain x.grain g then settled_cell commit x.delta o else o)
 
 -- Each grain stands once among the shifts, and its balance after its shift fits a number.
-pub record HasRoom (shifts : List Shift) (cells : GrainId → Option Cell) : Type 0 where
+pub record ShiftsFit (shifts : List Shift) (cells : GrainId → Option Cell) : Type 0 where
   pub apart : is_apart shifts ≡ true
   pub fits : (x : Shift) → Member x shifts → IfSome (cells x.grain) (λ c. FitsSigned w64 (c.balance +ℤ x.delta))
 
@@ -55,7 +55,7 @@ pub record Node : Type 0 where
   pub log : List NodeEntry
 
 -- what is kept follows from the log
-pub record Follows (opening : GrainId → Option ℤ) (log : List NodeEntry) (known : TxnId → Option Known) (waiting : List TxnId) (cells : GrainId → Option Cell) : Type 0 where
+pub record FollowsLog (opening : GrainId → Option ℤ) (log : List NodeEntry) (known : TxnId → Option Known) (waiting : List TxnId) (cells : GrainId → Option Cell) : Type 0 where
   pub sound : Sound opening log
   pub waiting_is : waiting ≡ undecided log log
   pub known_is : (t : TxnId) → IsKnown log t (known t)

@@ -70,14 +70,14 @@ agreed t n [] = []
 agreed t n (p ∷ ps) = if same_txn p.txn t then record p { yes = with_yes n p.yes } ∷ ps else p ∷ agreed t n ps
 
 -- a pending transaction is decided
-abbrev pub decided : Coordination → TxnId → Bool → Coordination
-decided c t commit = record c { commits = if commit then c.commits ++ t ∷ [] else c.commits; pending = without t c.pending }
+abbrev pub with_decision : Coordination → TxnId → Bool → Coordination
+with_decision c t commit = record c { commits = if commit then c.commits ++ t ∷ [] else c.commits; pending = without t c.pending }
 
 -- after a vote: a no ends the transaction, the last yes commits it, any other is kept
 abbrev pub voted : Coordination → TxnId → ℕ → Bool → Option Pending → Coordination
 voted c t n vote None = c
-voted c t n false (Some p) = decided c t false
-voted c t n true (Some p) = if is_unanimous p.parts (n ∷ p.yes) then decided c t true else record c { pending = agreed t n c.pending }
+voted c t n false (Some p) = with_decision c t false
+voted c t n true (Some p) = if is_unanimous p.parts (n ∷ p.yes) then with_decision c t true else record c { pending = agreed t n c.pending }
 
 -- what a vote makes it send: the decision to all, or to who votes too late
 abbrev pub vote_replies : Coordination → TxnId → ℕ → Bool → Option Pending → List Packet

@@ -2,7 +2,7 @@ ghost use Rattle.std.specs.Prelude.{◌≡◌, ◌+ℤ◌, Some, OnOk, IfSome, F
 ghost use Rattle.std.specs.BTreeMap.{get};
 ghost use Rattle.base_types.specs.Stores.{grain_cmp};
 ghost use Rattle.silo_nodes.specs.Packets.{GrainId, same_grain};
-ghost use Rattle.silo_nodes.specs.Cached.{settled_cell, settled, HasRoom, allows, all_allow, held_cell, held, or_cell};
+ghost use Rattle.silo_nodes.specs.Cached.{settled_cell, settled, ShiftsFit, allows, all_allow, held_cell, held, or_cell};
 ghost use mir.Syntax.{w64};
 
 use crate::packets::Shift;
@@ -45,7 +45,7 @@ pub fn settle_one(cells: &mut BTreeMap<GrainId, Cell>, shift: Shift, commit: boo
 
 /// Settles all shifts of a decided transaction.
 pub fn settle(cells: &mut BTreeMap<GrainId, Cell>, shifts: &[Shift], commit: bool)
-    requires room { HasRoom shifts.now (get grain_cmp cells.old) }
+    requires room { ShiftsFit shifts.now (get grain_cmp cells.old) }
     ensures { (grain : GrainId) → get grain_cmp cells.new grain ≡ settled commit shifts.now grain (get grain_cmp cells.old grain) }
 {
     for shift in shifts {

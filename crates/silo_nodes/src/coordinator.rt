@@ -1,7 +1,7 @@
 ghost use Rattle.std.specs.Prelude.{◌≡◌, ◌≤◌, ◌<◌, ◌+◌, ◌++◌, ◌∷◌, ◌||◌, ◌==◌, [], filter, length, if◌then◌else◌, IfOk, OnOk, OnErr};
 ghost use Rattle.std.specs.List.{list_any};
 ghost use Rattle.std.specs.Option.{option_copied};
-ghost use Rattle.silo_nodes.specs.Coordinators.{idle, next_of, parts_from, prepare_each, decide_each, begun, find, is_commit, without, is_unanimous, with_yes, agreed, decided, voted, vote_replies, ask_replies, heard, replies, is_late, reminders, restarted};
+ghost use Rattle.silo_nodes.specs.Coordinators.{idle, next_of, parts_from, prepare_each, decide_each, begun, find, is_commit, without, is_unanimous, with_yes, agreed, with_decision, voted, vote_replies, ask_replies, heard, replies, is_late, reminders, restarted};
 
 use crate::packets::{Packet, Shift, TxnId};
 use crate::parts::{

@@ -1,4 +1,5 @@
 -- The steps of opening: one sync, and what was opened.
+use Rattle.promise_spec.specs.Logs.{live_slot}
 use Rattle.std.proofs.Common.{◌≡◌, inl, inr, ℕ, ◌+◌, ◌≤◌, true, Option, Some, None, List, [], map, length, Ok, Err, refl, sym, ◌∙◌, ap, subst, arith}
 use Rattle.std.specs.Prelude.{unwrap_or}
 use Rattle.base_types.specs.declared.calls.GrainId.{GrainId}
@@ -24,7 +25,7 @@ use Rattle.promise_spec.specs.Records.{Commit, States, new_silo}
 use Rattle.promise_spec.specs.Openings.{is_silo, program_in_file, commit_of}
 use Rattle.silo_opening.specs.declared.open.Opened.{Opened}
 use Rattle.silo_opening.specs.Steps.{SyncsOnce}
-use Rattle.silo_opening.specs.Opened.{Stays, IsOpened}
+use Rattle.silo_opening.specs.Opened.{Stays, IsOpenedFrom}
 use Rattle.silo_opening.proofs.Standing.{counts, count_is, next_is, states_are, logged_of}
 use Rattle.silo_opening.proofs.Assembly.{reads_log}
 use Rattle.silo_opening.proofs.Within.{ends_lie, end_lies}
@@ -52,7 +53,7 @@ none_more n = omega arith
 
 -- what was read, as an opened silo
 pub is_opened : (image : Image) (text : List ℕ) (o : Opened) → is_silo (image manager) ≡ true → program_in_file (image program_file) ≡ Ok (record { text = text; types = program_tree o.checked })
-    → HasContents (shape_in (record { text = text; types = program_tree o.checked })) image (record { count = o.count; next_unit = o.next_unit; gate_at = o.gate_at; store = o.store; ends = o.ends }) → IsOpened image o
+    → HasContents (shape_in (record { text = text; types = program_tree o.checked })) image (record { count = o.count; next_unit = o.next_unit; gate_at = o.gate_at; store = o.store; ends = o.ends }) → IsOpenedFrom image o
 is_opened image text o silo program h =
     let p : Program = record { text = text; types = program_tree o.checked } in
     let shape = shape_in p in
@@ -60,7 +61,7 @@ is_opened image text o silo program h =
     let logged = sym (logged_of shape image h.records) in
     record {
       text = text;
-      log = map (commit_of shape image) h.records;
+      log = map (commit_of live_slot shape image) h.records;
       reads = reads_log image p silo program h.records h.read h.whole;
       count = h.count ∙ sym (count_is shape image base h.records ∙ none_more (length h.records));
       next = h.next ∙ sym (next_is shape image base h.records);

@@ -1,4 +1,5 @@
 -- What a fault of reading the program file says of the folder.
+use Rattle.promise_spec.specs.Logs.{live_slot}
 use Rattle.std.proofs.Common.{◌≡◌, ℕ, true, Result, Err, refl}
 use Rattle.host_trait.specs.World.{Image}
 use Rattle.program_file.specs.declared.faults.ProgramFileFault.{ProgramFileFault}
@@ -14,7 +15,7 @@ failed e = Err e
 
 pub program_refused : {A : Type 0} (image : Image) → is_silo (image manager) ≡ true → (fault : ProgramFileFault)
     → ((place : ℕ) → failed {A = A} fault ≡ failed (ProgramFileFault.Damaged place) → program_in_file (image program_file) ≡ Err place)
-    → IsRefusedBy image (opened_as image) (ending_of (in_program_file fault))
+    → IsRefusedBy image (opened_as live_slot image) (ending_of (in_program_file fault))
 program_refused image is (ProgramFileFault.Damaged place) damaged = program_damaged image is place (damaged place refl)
 program_refused image is ProgramFileFault.Failed damaged = program_read image is
 program_refused image is ProgramFileFault.Memory damaged = tt

@@ -1,4 +1,5 @@
 -- The ends that are kept lie in their files.
+use Rattle.promise_spec.specs.Logs.{live_slot}
 use Rattle.std.proofs.Common.{◌≡◌, inl, inr, ℕ, ◌+◌, ◌-◌, ◌≤◌, ◌<◌, max, Bool, true, false, ltb, if◌then◌else◌, Option, Some, None, List, [], ◌∷◌, length, drop, take, Result, Ok, Err, refl, sym, ◌∙◌, ap, subst, arith, slice_get}
 use Rattle.std.proofs.lemmas.Bool.{ltb-false}
 use Rattle.std.proofs.lemmas.List.{length-take, length-drop}
@@ -38,7 +39,7 @@ within_by (Some fields) place file v e =
 
 module _ (shape : Shape) (image : Image) where
   -- the version that is named ends in its file
-  named_lies : (n : Named) (v : Version) → version_named shape image n ≡ Ok v → n.written.place.offset + n.written.place.len ≤ length (image (Grain 0 n.written.grain))
+  named_lies : (n : Named) (v : Version) → version_named live_slot shape image n ≡ Ok v → n.written.place.offset + n.written.place.len ≤ length (image (Grain 0 n.written.grain))
   named_lies n v e =
       let file = image (Grain 0 n.written.grain) in
       let place = n.written.place in
@@ -48,7 +49,7 @@ module _ (shape : Shape) (image : Image) where
       let short = within_by (fields_of (slice_get shape.types n.written.grain.kind)) place file v found.1 in
       omega (arith, eight, short, wide64.len n.unit.0, length-take 8 (drop place.offset file), length-drop place.offset file)
 
-  there_by : (g : GrainId) (r : Result Version ℕ) (later : Option (FileId × ℕ)) → missing_or g r later ≡ None → ((v : Version) × (r ≡ Ok v)) × (later ≡ None)
+  there_by : (g : GrainId) (r : Result Version ℕ) (later : Option (FileId × ℕ)) → missing_or live_slot g r later ≡ None → ((v : Version) × (r ≡ Ok v)) × (later ≡ None)
   there_by g (Ok v) later e = ((v, refl), e)
   there_by g (Err place) later e = absurd cc
 
@@ -61,10 +62,10 @@ module _ (shape : Shape) (image : Image) where
   one_lies size end e false here lies = lies
 
   -- so does each end that is kept of versions that are there
-  pub ends_lie : (named : List Named) → first_missing shape image named ≡ None → (g : GrainId) (e : Option ℕ) → LiesIn (length (image (Grain 0 g))) e → LiesIn (length (image (Grain 0 g))) (end_after e named g)
+  pub ends_lie : (named : List Named) → first_missing live_slot shape image named ≡ None → (g : GrainId) (e : Option ℕ) → LiesIn (length (image (Grain 0 g))) e → LiesIn (length (image (Grain 0 g))) (end_after e named g)
   ends_lie [] whole g e lies = lies
   ends_lie (n ∷ named) whole g e lies =
-      let t = there_by n.written.grain (version_named shape image n) (first_missing shape image named) whole in
+      let t = there_by n.written.grain (version_named live_slot shape image n) (first_missing live_slot shape image named) whole in
       let end = n.written.place.offset + n.written.place.len in
       let here : same_grain n.written.grain g ≡ true → end ≤ length (image (Grain 0 g)) = λ same.
       subst (λ (h : GrainId). end ≤ length (image (Grain 0 h))) (same_grain-true n.written.grain g same) (named_lies n t.0.0 t.0.1) in

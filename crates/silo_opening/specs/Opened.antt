@@ -12,7 +12,7 @@ use Rattle.program_file.specs.declared.faults.ProgramFileFault.{ProgramFileFault
 use Rattle.script_tree.specs.Programs.{program_tree}
 use Rattle.silo_spec.specs.Silos.{manager, program_file}
 use Rattle.promise_spec.specs.Records.{Commit, new_silo, standing_of}
-use Rattle.promise_spec.specs.Logs.{magic}
+use Rattle.promise_spec.specs.Logs.{magic, live_slot}
 use Rattle.promise_spec.specs.Openings.{Reads, opened_as}
 use Rattle.promise_spec.specs.Endings as ending
 use Rattle.silo_opening.specs.declared.faults.OpenFault.{OpenFault}
@@ -29,10 +29,10 @@ is_header file = (slice_index file 0 == 1) && bytes_eq (take 8 (drop 1 file)) ma
 -- The folder reads as a silo with this program and a log. The log's standing is kept: how many records there are, the number of
 -- the next unit, and each grain's state, which is its type's initial fields where it isn't kept. The ends are the greatest of
 -- the places that the log names in each grain's file, and lie in the file. The gate is that at which the log ends.
-pub record IsOpened (image : Image) (o : Opened) : Type 0 where
+pub record IsOpenedFrom (image : Image) (o : Opened) : Type 0 where
   pub text : List ℕ
   pub log : List Commit
-  pub reads : opened_as image ≡ Reads (record { text = text; types = program_tree o.checked }) log
+  pub reads : opened_as live_slot image ≡ Reads (record { text = text; types = program_tree o.checked }) log
   pub count : o.count ≡ (standing_of (program_tree o.checked) log).count
   pub next : o.next_unit.0 ≡ (standing_of (program_tree o.checked) log).next
   pub states : (grain : GrainId) → unwrap_or (state_in o.store grain) ((new_silo (program_tree o.checked)).states grain) ≡ (standing_of (program_tree o.checked) log).states grain

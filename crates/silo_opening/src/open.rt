@@ -1,3 +1,4 @@
+ghost use Rattle.promise_spec.specs.Logs.{live_slot};
 ghost use Rattle.std.specs.Prelude.{◌≡◌, ◌+◌, ◌^◌, ◌<◌, ◌≤◌, ℕ, List, Bool, true, false, nat_le, IsTrue, length, Ok, Err, OnOk, IfOk, IfErr, IsErrOf};
 ghost use Rattle.host_trait.specs.Disk.{settled};
 ghost use Rattle.host_trait.specs.Files.{StaysReady};
@@ -10,7 +11,7 @@ ghost use Rattle.promise_spec.specs.Openings.{is_silo, opened_as};
 ghost use Rattle.promise_spec.specs.Refusals.{IsRefusedBy};
 ghost use Rattle.silo_opening.specs.Steps.{SyncsOnce};
 ghost use Rattle.silo_opening.specs.Counts.{OpenFaulted};
-ghost use Rattle.silo_opening.specs.Opened.{Stays, is_header, in_program_file, in_folder, ending_of, IsOpened};
+ghost use Rattle.silo_opening.specs.Opened.{Stays, is_header, in_program_file, in_folder, ending_of, IsOpenedFrom};
 
 use crate::faults::OpenFault;
 use base_types::{Ends, Store, UnitNo};
@@ -132,7 +133,7 @@ fn folder_fault(fault: FolderFault) -> OpenFault
 /// the first damage in the order of reading. `DiskFault` where a call on that file failed, and `Memory` at any place.
 pub fn open_silo<H: Host>(alloc: Global, host: &mut H) -> Result<Opened, OpenFault>
     // The folder reads as a silo with a program and a log, and this is what they stand for.
-    ensures opened { IfOk result (λ o. IsTrue H.tells → IsOpened (seen_in (H.world host.old).disk) o) }
+    ensures opened { IfOk result (λ o. IsTrue H.tells → IsOpenedFrom (seen_in (H.world host.old).disk) o) }
     ensures settled { OnOk result (IsTrue H.tells
         → (H.world host.new).disk manager ≡ settled ((H.world host.old).disk manager).seen) }
     ensures bound { IfOk result (λ o. (o.gate_at < 2 ^ 63) × ((0 < o.next_unit.0) × (o.next_unit.0 ≤ 2 ^ 63))) }
@@ -143,7 +144,7 @@ pub fn open_silo<H: Host>(alloc: Global, host: &mut H) -> Result<Opened, OpenFau
 
     // A refusal is what the folder reads as, a fault of a file that has to be read, or want of memory.
     ensures refused { IfErr result (λ e. IsTrue H.tells
-        → IsRefusedBy (seen_in (H.world host.old).disk) (opened_as (seen_in (H.world host.old).disk)) (ending_of e)) }
+        → IsRefusedBy (seen_in (H.world host.old).disk) (opened_as live_slot (seen_in (H.world host.old).disk)) (ending_of e)) }
 
     // `DiskFault` is answered exactly where a call on the file failed: its count rose, and no other changed. With another answer
     // no count has changed.

@@ -22,8 +22,8 @@ use Rattle.core_model.specs.declared.effects.Effect.{Effect}
 use Rattle.base_types.specs.declared.entries.Settled.TheVariants.{Bad as Wrong}
 use Rattle.core_model.proofs.Puts.{put-is, put-other, put-same}
 use Rattle.core_model.proofs.Decoded.{Change, bad, begin, lock, raise, refuse, finish, end_plain, end_snapshot, release, take_batch, vote, decide_some, decide_none, seal_batch, spoil_batch, doubt_batch, learn, emit, halt_run, want, load, decode}
-use Rattle.promise_spec.specs.Gotten.{Got, GotLock, GotRaise, GotChild, got_lock, got_by, got_from, got_in}
-use Rattle.turn_rules.specs.Counted.{kids_got, IsCounted}
+use Rattle.promise_spec.specs.Gotten.{Got, GotLock, GotRaise, GotChild, got_lock, got_by, got_from, got_in, kids_got}
+use Rattle.turn_rules.specs.Counted.{IsCounted}
 
 -- the children of two lists
 kids_got-append : (xs ys : List Got) → kids_got (xs ++ ys) ≡ kids_got xs ++ kids_got ys

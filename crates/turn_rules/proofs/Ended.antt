@@ -30,11 +30,11 @@ use Rattle.core_model.proofs.Lined.{once-ends}
 use Rattle.core_model.proofs.Consistency.{consistent-ends}
 use Rattle.core_model.proofs.Batching.{free-holds, unfree-holds}
 use Rattle.script_tree.specs.Programs.{ProgramTree}
-use Rattle.promise_spec.specs.Gotten.{Got, wanted_by, got_in}
+use Rattle.promise_spec.specs.Gotten.{Got, wanted_by, got_in, kids_got}
 use Rattle.core_model.specs.Settler.{has_step, settler_step}
 use Rattle.promise_spec.specs.TurnRule.{OfSettler, can_move, can_begin, in_flight, is_line, is_settled, is_unhindered, units_of}
 use Rattle.turn_rules.specs.Going.{movers_in}
-use Rattle.turn_rules.specs.Counted.{kids_got, IsCounted, HasEntry}
+use Rattle.turn_rules.specs.Counted.{IsCounted, HasEntry}
 use Rattle.turn_rules.specs.Quiet.{IsQuiet, HasRun}
 use Rattle.turn_rules.proofs.Resting.{Rested, no-doubt-list, no-step, rested}
 use Rattle.turn_rules.proofs.Counted.{counted-ends}

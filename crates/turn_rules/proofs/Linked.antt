@@ -23,7 +23,7 @@ use Rattle.promise_spec.specs.Gotten.{Got, GotLock, GotRaise, GotChild, got_lock
 use Rattle.promise_spec.specs.UnitRule.{Basis, IsDue, IsPlayOf}
 use Rattle.turn_rules.specs.Going.{with_event, is_own}
 use Rattle.turn_rules.specs.Still.{IsStill}
-use Rattle.turn_rules.specs.Links.{asks_next, IsGiven, IsAwaiting, Holds, IsFreeing}
+use Rattle.turn_rules.specs.Links.{asks_next, HasTrail, IsAwaiting, HoldsLocks, IsFreeing}
 use Rattle.script_meaning.specs.Play as script
 use Rattle.turn_rules.proofs.Frame.{Extends, given-stays, got-stays, still-step, wants-as}
 use Rattle.turn_rules.proofs.Growth.{ends-more, got-event}
@@ -33,10 +33,10 @@ use Rattle.promise_spec.proofs.Lists.{some_is}
 -- ---- what may be put
 
 -- what it wants is what its script asks for
-pub wants : (types : ProgramTree) (r : Run) (u : UnitNo) (trail : List Given) → IsGiven r u trail → wanted_by types (ends r) u (got_in r u) ≡ Some (asks_next types r u trail)
+pub wants : (types : ProgramTree) (r : Run) (u : UnitNo) (trail : List Given) → HasTrail r u trail → wanted_by types (ends r) u (got_in r u) ≡ Some (asks_next types r u trail)
 wants types r u trail g = wants-as types (ends r) u (got_in r u) trail g.given
 
-module _ (s : Basis) (r : Run) (u : UnitNo) (trail : List Given) (given : IsGiven r u trail) where
+module _ (s : Basis) (r : Run) (u : UnitNo) (trail : List Given) (given : HasTrail r u trail) where
   -- the lock that is asked for
   pub due-lock : (g : GrainId) (mode : Mode) → asks_next s.types r u trail ≡ script.WantLock g mode → IsDue s (ends r) (got_in r) (Grant u g mode)
   due-lock g mode e = ap wanted_lock (wants s.types r u trail given ∙ ap Some e)
@@ -108,7 +108,7 @@ pub still-others : (opening : GrainId → List Value) (r : Run) (u : UnitNo) (e 
 still-others opening r u e k b o = subst (IsStill u (ends r)) (sym (ends-more r e)) (still-step opening u (ends r) e k b o)
 
 -- and what it was given
-pub given-others : (opening : GrainId → List Value) (r : Run) (u : UnitNo) (trail : List Given) (e : CoreEvent) → Kept opening (ends r) → is_own u e ≡ false → IsGiven r u trail → IsGiven (with_event r e) u trail
+pub given-others : (opening : GrainId → List Value) (r : Run) (u : UnitNo) (trail : List Given) (e : CoreEvent) → Kept opening (ends r) → is_own u e ≡ false → HasTrail r u trail → HasTrail (with_event r e) u trail
 given-others opening r u trail e k o g =
     let s = still-others opening r u e k (runs-born (ends r) u g.running) o in
     record {
@@ -130,7 +130,7 @@ awaiting-others opening r u child call depth trail e k o a =
 
 -- and its locks
 pub holds-others : (opening : GrainId → List Value) (r : Run) (u : UnitNo) (held : List GrainId) (e : CoreEvent) → Kept opening (ends r) → ((ends r).units.phase u ≡ Unborn → ⊥) → is_own u e ≡ false →
-    Holds r u held → Holds (with_event r e) u held
+    HoldsLocks r u held → HoldsLocks (with_event r e) u held
 holds-others opening r u held e k b o h g = still-locks u (ends r) (ends (with_event r e)) (still-others opening r u e k b o) g ∙ h g
 
 -- and those that are left to be released
@@ -171,7 +171,7 @@ given-last w got trail x one e last = by got trail e
     by (GotChild call d c ∷ got) trail e = kid call d c got trail (λ more. by got more) (outcome_of w c) e
 
 -- the child is decided: its outcome is given
-pub heard : (r : Run) (u child : UnitNo) (call : Call) (depth : ℕ) (trail : List Given) (o : Outcome) → IsAwaiting r u child call depth trail → outcome_of (ends r) child ≡ Some o → IsGiven r u (trail ++ (GivenOutcome call depth o ∷ []))
+pub heard : (r : Run) (u child : UnitNo) (call : Call) (depth : ℕ) (trail : List Given) (o : Outcome) → IsAwaiting r u child call depth trail → outcome_of (ends r) child ≡ Some o → HasTrail r u (trail ++ (GivenOutcome call depth o ∷ []))
 heard r u child call depth trail o a e = record {
   running = a.running;
   given = subst (λ (l : List Got). given_by (ends r) l ≡ Some (trail ++ (GivenOutcome call depth o ∷ []))) (sym a.got)
@@ -184,7 +184,7 @@ got-applied : (r : Run) (u : UnitNo) (e : CoreEvent) → applies (ends r) e ≡ 
 got-applied r u e a = got-event r e u ∙ ap (λ (t : Bool). got_in r u ++ (if t then got_by (ends r) u e else [])) a
 
 -- a child of its own began
-pub child-began : (r : Run) (u : UnitNo) (index depth : ℕ) (call : Call) (trail : List Given) (opening : GrainId → List Value) → Kept opening (ends r) → applies (ends r) (Begin (Child u index depth) call false) ≡ true → IsGiven r u trail →
+pub child-began : (r : Run) (u : UnitNo) (index depth : ℕ) (call : Call) (trail : List Given) (opening : GrainId → List Value) → Kept opening (ends r) → applies (ends r) (Begin (Child u index depth) call false) ≡ true → HasTrail r u trail →
     (ends (with_event r (Begin (Child u index depth) call false))).units.phase u ≡ Running → IsAwaiting (with_event r (Begin (Child u index depth) call false)) u (new_unit (ends r)) call depth trail
 child-began r u index depth call trail opening k a g still = record {
   running = still;
@@ -194,8 +194,8 @@ child-began r u index depth call trail opening k a g still = record {
 }
 
 -- a grain was locked for the first time
-pub locked-first : (r : Run) (u : UnitNo) (g : GrainId) (mode : Mode) (trail : List Given) (opening : GrainId → List Value) → Kept opening (ends r) → applies (ends r) (Grant u g mode) ≡ true → holds_lock u ((ends r).cells.holds g) ≡ false → IsGiven r u trail →
-    (ends (with_event r (Grant u g mode))).units.phase u ≡ Running → IsGiven (with_event r (Grant u g mode)) u (trail ++ (GivenLock g mode (top (cleaned (ends r) g)).state ∷ []))
+pub locked-first : (r : Run) (u : UnitNo) (g : GrainId) (mode : Mode) (trail : List Given) (opening : GrainId → List Value) → Kept opening (ends r) → applies (ends r) (Grant u g mode) ≡ true → holds_lock u ((ends r).cells.holds g) ≡ false → HasTrail r u trail →
+    (ends (with_event r (Grant u g mode))).units.phase u ≡ Running → HasTrail (with_event r (Grant u g mode)) u (trail ++ (GivenLock g mode (top (cleaned (ends r) g)).state ∷ []))
 locked-first r u g mode trail opening k a fresh given still = record {
   running = still;
   given = subst (λ (l : List Got). given_by (ends (with_event r (Grant u g mode))) l ≡ Some (trail ++ (GivenLock g mode (top (cleaned (ends r) g)).state ∷ [])))
@@ -210,8 +210,8 @@ locked-first r u g mode trail opening k a fresh given still = record {
     lock-first e = cond-false (holds_lock u ((ends r).cells.holds g)) (GotRaise g) (GotLock g mode (top (cleaned (ends r) g)).state) e
 
 -- a shared lock became exclusive
-pub locked-again : (r : Run) (u : UnitNo) (g : GrainId) (trail : List Given) (opening : GrainId → List Value) → Kept opening (ends r) → applies (ends r) (Grant u g Update) ≡ true → holds_lock u ((ends r).cells.holds g) ≡ true → IsGiven r u trail →
-    (ends (with_event r (Grant u g Update))).units.phase u ≡ Running → IsGiven (with_event r (Grant u g Update)) u (trail ++ (GivenRaise g ∷ []))
+pub locked-again : (r : Run) (u : UnitNo) (g : GrainId) (trail : List Given) (opening : GrainId → List Value) → Kept opening (ends r) → applies (ends r) (Grant u g Update) ≡ true → holds_lock u ((ends r).cells.holds g) ≡ true → HasTrail r u trail →
+    (ends (with_event r (Grant u g Update))).units.phase u ≡ Running → HasTrail (with_event r (Grant u g Update)) u (trail ++ (GivenRaise g ∷ []))
 locked-again r u g trail opening k a held given still = record {
   running = still;
   given = subst (λ (l : List Got). given_by (ends (with_event r (Grant u g Update))) l ≡ Some (trail ++ (GivenRaise g ∷ [])))

@@ -12,9 +12,8 @@ use Rattle.core_model.specs.Tests.{ask, ask_lock, ask_doom, doomed_by, is_active
 use Rattle.script_tree.specs.Programs.{ProgramTree}
 use Rattle.script_meaning.specs.Trails.{Given, GivenLock, GivenRaise, GivenOutcome, locks_of, answers_of}
 use Rattle.promise_spec.specs.Serial.{depth_of}
-use Rattle.promise_spec.specs.Gotten.{Got, GotLock, GotRaise, GotChild, and_given, given_by, wanted_by}
+use Rattle.promise_spec.specs.Gotten.{Got, GotLock, GotRaise, GotChild, and_given, given_by, wanted_by, kids_got}
 use Rattle.promise_spec.specs.TurnRule.{is_unhindered, is_wait}
-use Rattle.turn_rules.specs.Counted.{kids_got}
 use Rattle.cell_model.specs.Locks as locks
 use Rattle.core_model.specs.declared.questions.AskAnswer.TheVariants as answer
 use Rattle.script_meaning.specs.Play as script

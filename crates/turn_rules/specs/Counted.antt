@@ -4,22 +4,15 @@ use Rattle.base_types.specs.declared.entries.Entry.{Entry}
 use Rattle.base_types.specs.declared.calls.Origin.TheVariants.{Line}
 use Rattle.core_model.specs.CoreState.{UnitNo, Member, CoreState}
 use Rattle.promise_spec.specs.Cores.{HasBegun}
-use Rattle.promise_spec.specs.Gotten.{Got, GotLock, GotRaise, GotChild}
-
--- the children among what a unit got
-abbrev pub kids_got : List Got → List UnitNo
-kids_got [] = []
-kids_got (GotLock g mode state ∷ rest) = kids_got rest
-kids_got (GotRaise g ∷ rest) = kids_got rest
-kids_got (GotChild call depth child ∷ rest) = child ∷ kids_got rest
+use Rattle.promise_spec.specs.Gotten.{Got, kids_got}
 
 -- the line has an entry
 abbrev pub HasEntry : CoreState → ℕ → Type 0
 HasEntry w n = (x : Entry) × Member x w.manager.settled × (x.line ≡ n)
 
 -- the line has a unit
-abbrev pub HasUnit : CoreState → ℕ → Type 0
-HasUnit w n = (u : UnitNo) × HasBegun w u × (w.units.origin u ≡ Line n)
+abbrev pub HasBegunUnit : CoreState → ℕ → Type 0
+HasBegunUnit w n = (u : UnitNo) × HasBegun w u × (w.units.origin u ≡ Line n)
 
 -- Units are numbered from the base on without a gap, what a unit got has its children, and each line that was taken has
 -- its unit or its entry.
@@ -28,4 +21,4 @@ pub record IsCounted (base : ℕ) (w : CoreState) (got : UnitNo → List Got) : 
   pub numbered : (u : UnitNo) → HasBegun w u → base ≤ u.0
   pub born : (u : UnitNo) → base ≤ u.0 → u.0 < w.units.next → HasBegun w u
   pub kids : (u : UnitNo) → kids_got (got u) ≡ w.units.kids u
-  pub taken : (n : ℕ) → 1 ≤ n → n ≤ w.units.lines → HasUnit w n ⊎ HasEntry w n
+  pub taken : (n : ℕ) → 1 ≤ n → n ≤ w.units.lines → HasBegunUnit w n ⊎ HasEntry w n

@@ -18,7 +18,7 @@ abbrev pub asks_next : ProgramTree → Run → UnitNo → List Given → Want
 asks_next types r u trail = next types ((ends r).units.call u) (depth_of ((ends r).units.origin u)) (locks_of trail) (answers_of trail)
 
 -- the unit runs, and this is what it was given by now
-pub record IsGiven (r : Run) (u : UnitNo) (trail : List Given) : Type 0 where
+pub record HasTrail (r : Run) (u : UnitNo) (trail : List Given) : Type 0 where
   pub running : (ends r).units.phase u ≡ Running
   pub given : given_by (ends r) (got_in r u) ≡ Some trail
 
@@ -30,19 +30,19 @@ pub record IsAwaiting (r : Run) (u child : UnitNo) (call : Call) (depth : ℕ) (
   pub given : given_by (ends r) before ≡ Some trail
 
 -- no grain of the list comes before another one behind it
-abbrev pub IsAscending : List GrainId → Type 0
-IsAscending [] = ⊤
-IsAscending (g ∷ gs) = ((h : GrainId) → Member h gs → is_before h g ≡ false) × IsAscending gs
+abbrev pub GrainsAscend : List GrainId → Type 0
+GrainsAscend [] = ⊤
+GrainsAscend (g ∷ gs) = ((h : GrainId) → Member h gs → is_before h g ≡ false) × GrainsAscend gs
 
 -- the grains of the list are those of which the unit has a lock
-abbrev pub Holds : Run → UnitNo → List GrainId → Type 0
-Holds r u held = (g : GrainId) → holds_lock u ((ends r).cells.holds g) ≡ any (same_grain g) held
+abbrev pub HoldsLocks : Run → UnitNo → List GrainId → Type 0
+HoldsLocks r u held = (g : GrainId) → holds_lock u ((ends r).cells.holds g) ≡ any (same_grain g) held
 
 -- the unit is over, and these locks are left
 pub record IsFreeing (r : Run) (u : UnitNo) (held : List GrainId) : Type 0 where
   pub over : is_over ((ends r).units.phase u) ≡ true
-  pub locks : Holds r u held
-  pub ascending : IsAscending held
+  pub locks : HoldsLocks r u held
+  pub ascending : GrainsAscend held
 
 -- Events that may come led from one run to another.
 pub data Comes (may_come : CoreEvent → Bool) (r : Run) : Run → Type 0 where

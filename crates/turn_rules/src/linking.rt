@@ -13,20 +13,20 @@ ghost use Rattle.script_meaning.specs.Trails.{Given, GivenOutcome};
 ghost use Rattle.promise_spec.specs.Gotten.{got_in};
 ghost use Rattle.promise_spec.specs.UnitRule.{Basis, IsDue, IsPlayOf};
 ghost use Rattle.turn_rules.specs.Going.{with_event, is_own};
-ghost use Rattle.turn_rules.specs.Links.{asks_next, IsGiven, IsAwaiting, IsFreeing};
+ghost use Rattle.turn_rules.specs.Links.{asks_next, HasTrail, IsAwaiting, IsFreeing};
 
 /// Where a unit runs and this is what it was given, what its script asks for next is due: a lock, its refusal, a child, or
 /// its end with the whole effect of its call. Where it is over, the first of its locks in ascending order may go.
 pub fn what_is_asked_for_is_due()
-    ensures lock { (s : Basis) (r : Run) (u : UnitNo) (trail : List Given) (g : GrainId) (mode : Mode) → IsGiven r u trail
+    ensures lock { (s : Basis) (r : Run) (u : UnitNo) (trail : List Given) (g : GrainId) (mode : Mode) → HasTrail r u trail
         → asks_next s.types r u trail ≡ WantLock g mode
         → IsDue s (ends r) (got_in r) (Grant u g mode) × IsDue s (ends r) (got_in r) (Refuse u g mode) }
-    ensures raise { (s : Basis) (r : Run) (u : UnitNo) (trail : List Given) (g : GrainId) → IsGiven r u trail
+    ensures raise { (s : Basis) (r : Run) (u : UnitNo) (trail : List Given) (g : GrainId) → HasTrail r u trail
         → asks_next s.types r u trail ≡ WantRaise g
         → IsDue s (ends r) (got_in r) (Grant u g Update) × IsDue s (ends r) (got_in r) (Refuse u g Update) }
-    ensures child { (s : Basis) (r : Run) (u : UnitNo) (trail : List Given) (index depth : ℕ) (call : Call) → IsGiven r u trail
+    ensures child { (s : Basis) (r : Run) (u : UnitNo) (trail : List Given) (index depth : ℕ) (call : Call) → HasTrail r u trail
         → asks_next s.types r u trail ≡ WantUnit call depth → IsDue s (ends r) (got_in r) (Begin (Child u index depth) call false) }
-    ensures end { (s : Basis) (r : Run) (u : UnitNo) (trail : List Given) (e : Effect) → IsGiven r u trail
+    ensures end { (s : Basis) (r : Run) (u : UnitNo) (trail : List Given) (e : Effect) → HasTrail r u trail
         → asks_next s.types r u trail ≡ Over e.result → IsPlayOf s.types e
         → IsDue s (ends r) (got_in r) (Finish u e) × IsDue s (ends r) (got_in r) (EndPlain u e) }
     ensures release { (s : Basis) (r : Run) (u : UnitNo) (g : GrainId) (rest : List GrainId) → IsFreeing r u (g ∷ rest)
@@ -37,12 +37,12 @@ pub fn what_is_asked_for_is_due()
 /// left. Where the child is decided, its outcome was given too.
 pub fn links_stay()
     ensures given { (plays : Effect → Bool) (r : Run) (e : CoreEvent) (u : UnitNo) (trail : List Given) → IsLegal plays r → is_own u e ≡ false
-        → IsGiven r u trail → IsGiven (with_event r e) u trail }
+        → HasTrail r u trail → HasTrail (with_event r e) u trail }
     ensures awaiting { (plays : Effect → Bool) (r : Run) (e : CoreEvent) (u child : UnitNo) (call : Call) (depth : ℕ) (trail : List Given) → IsLegal plays r
         → is_own u e ≡ false → IsAwaiting r u child call depth trail → IsAwaiting (with_event r e) u child call depth trail }
     ensures freeing { (plays : Effect → Bool) (r : Run) (e : CoreEvent) (u : UnitNo) (held : List GrainId) → IsLegal plays r → is_own u e ≡ false
         → IsFreeing r u held → IsFreeing (with_event r e) u held }
     ensures heard { (r : Run) (u child : UnitNo) (call : Call) (depth : ℕ) (trail : List Given) (o : Outcome)
         → IsAwaiting r u child call depth trail → outcome_of (ends r) child ≡ Some o
-        → IsGiven r u (trail ++ (GivenOutcome call depth o ∷ [])) }
+        → HasTrail r u (trail ++ (GivenOutcome call depth o ∷ [])) }
 {}

@@ -8,7 +8,7 @@ use Rattle.silo_nodes.specs.Logs.{is_prepared, is_done, shifts_of, undecided}
 use Rattle.silo_nodes.specs.Node.{can_prepare, log_prepare, vote_on, log_decision}
 use Rattle.silo_nodes.specs.Cached.{Node}
 use Rattle.silo_nodes.specs.Participants.{learned, answers, questions}
-use Rattle.silo_nodes.specs.Coordinators.{parts_from, prepare_each, decide_each, find, is_commit, is_unanimous, decided, voted, vote_replies, ask_replies, is_late, reminders}
+use Rattle.silo_nodes.specs.Coordinators.{parts_from, prepare_each, decide_each, find, is_commit, is_unanimous, with_decision, voted, vote_replies, ask_replies, is_late, reminders}
 use Rattle.silo_nodes.proofs.Lists.{same_txn-true, same_txn-is, same_txn-self, clash, not-true, Member-append, Member-last, Member-get, any-true, any-member, all-true, filter-member, map-member}
 use Rattle.silo_nodes.proofs.Logs.{shifts-member}
 use Rattle.silo_nodes.proofs.Ascending.{ascending-apart}
@@ -99,7 +99,7 @@ kept-answered opening parts w t n i issued none = inv-send opening parts w (Deci
 
 -- the world after a decision of a pending transaction
 abbrev settled_so : World → TxnId → Bool → List Part → World
-settled_so w t commit qs = record w { coordinator = decided w.coordinator t commit; packets = w.packets ++ decide_each t commit qs }
+settled_so w t commit qs = record w { coordinator = with_decision w.coordinator t commit; packets = w.packets ++ decide_each t commit qs }
 
 kept-decided : (opening : ℕ → GrainId → Option ℤ) (parts : TxnId → List Part) (w : World) (p : Pending) (commit : Bool) → Inv opening parts w → Member p w.coordinator.pending →
     (commit ≡ true → (q : Part) → Member q p.parts → Says w q.node p.txn) → Inv opening parts (settled_so w p.txn commit p.parts)
@@ -151,7 +151,7 @@ kept-voted opening parts w t n true i h (Some p) e = go (is_unanimous p.parts (n
     s : Says w n p.txn
     s = subst (Says w n) (sym x.1) h
 
-    go : (u : Bool) → is_unanimous p.parts (n ∷ p.yes) ≡ u → Inv opening parts (record w { coordinator = if u then decided w.coordinator t true else (agreeing w t n).coordinator; packets = w.packets ++ (if u then decide_each t true p.parts else []) })
+    go : (u : Bool) → is_unanimous p.parts (n ∷ p.yes) ≡ u → Inv opening parts (record w { coordinator = if u then with_decision w.coordinator t true else (agreeing w t n).coordinator; packets = w.packets ++ (if u then decide_each t true p.parts else []) })
     go true u = subst (λ v. Inv opening parts (settled_so w v true p.parts)) x.1
         (kept-decided opening parts w p true i x.0 (λ f q m. said w n p.txn s p.yes (λ k v. i.pending_yes p k x.0 v) q (all-true (λ (q : Part). any (λ k. k == q.node) (n ∷ p.yes)) p.parts u q m)))
     go false u = kept-quiet opening parts (agreeing w t n) (inv-agreed opening parts w t n i h)

@@ -8,7 +8,7 @@ use Rattle.silo_nodes.specs.Packets.{all, Member}
 use Rattle.silo_nodes.specs.Cached.{Node}
 use Rattle.silo_nodes.specs.Participants.{IsApart, learned, answers, questions}
 use Rattle.silo_nodes.specs.Coordinators.{Coordination, parts_from, prepare_each, begun, find, heard, replies, restarted}
-use Rattle.two_silos.specs.World.{World, WorldEvent, Start, Deliver, Nudge, RestartCoordinator, IsReached, begin, step, run, within, does, told, started, can_start, is_part, send, delivered, delivered_to, receiver_of, next_txn, is_within, node_at, nobody, parts_in}
+use Rattle.two_silos.specs.World.{World, WorldEvent, Start, Deliver, Nudge, RestartCoordinator, IsReachedWorld, begin, step, run, within, does, told, started, can_start, is_part, send, delivered, delivered_to, receiver_of, next_txn, is_within, node_at, nobody, parts_in}
 use Rattle.two_silos.specs.Links.{has_room, sent_on, may_begin, Told, Handed, Begun}
 use Rattle.two_silos.proofs.Invariant.{Inv}
 use Rattle.two_silos.proofs.Small.{opening_of}
@@ -23,18 +23,18 @@ run-within : (es : List WorldEvent) (w : World) → is_within w ≡ true → is_
 run-within [] w h = h
 run-within (e ∷ es) w h = run-within es (step w e) (step-within w e h)
 
-pub reached-within : (w : World) → IsReached w → is_within w ≡ true
+pub reached-within : (w : World) → IsReachedWorld w → is_within w ≡ true
 reached-within w r = ap is_within r.is ∙ run-within r.events (begin r.openings) refl
 
 -- no packet has a number above the last one
-pub reached-packets : (w : World) → IsReached w → length w.packets ≤ 4294967296
+pub reached-packets : (w : World) → IsReachedWorld w → length w.packets ≤ 4294967296
 reached-packets w r =
     let p = and_parts (nat_le w.coordinator.epoch 4294967295) _ (reached-within w r) in
     let q = and_parts (nat_le w.coordinator.number 4294967295) _ p.1 in
     let few : nat_le (length w.packets) 4294967296 ≡ true = q.1 in
     grind (arith, few)
 
-pub reached-next : (w v : World) (e : WorldEvent) → IsReached w → v ≡ step w e → IsReached v
+pub reached-next : (w v : World) (e : WorldEvent) → IsReachedWorld w → v ≡ step w e → IsReachedWorld v
 reached-next w v e r is = record {
   openings = r.openings;
   balances = r.balances;
@@ -42,11 +42,11 @@ reached-next w v e r is = record {
   is = is ∙ ap (λ x. step x e) r.is ∙ sym (run-more r.events (e ∷ []) (begin r.openings));
 }
 
-pub reached-inv : (w : World) (r : IsReached w) → Inv (opening_of r.openings) (parts_in r.openings r.events) w
+pub reached-inv : (w : World) (r : IsReachedWorld w) → Inv (opening_of r.openings) (parts_in r.openings r.events) w
 reached-inv w r = subst (Inv (opening_of r.openings) (parts_in r.openings r.events)) (sym r.is) (kept r.openings r.events r.balances)
 
 -- each packet that was sent has different grains
-pub packet-apart : (w : World) → IsReached w → (k : Packet) → Member k w.packets → IsApart k
+pub packet-apart : (w : World) → IsReachedWorld w → (k : Packet) → Member k w.packets → IsApart k
 packet-apart w r k m = go k (reached-inv w r) m
   where
     go : (k : Packet) → Inv (opening_of r.openings) (parts_in r.openings r.events) w → Member k w.packets → IsApart k
@@ -202,9 +202,9 @@ past (x ∷ xs) zero e = cc
 past (x ∷ xs) (suc k) e = (let h = past xs k e in omega (arith, h))
 
 -- the world after a call that may fail
-pub after : {A E : Type 0} (r : Result A E) (w v : World) (e : WorldEvent) → IsReached w → OnOk r (v ≡ step w e) → OnErr r (v ≡ w) → IsReached v
+pub after : {A E : Type 0} (r : Result A E) (w v : World) (e : WorldEvent) → IsReachedWorld w → OnOk r (v ≡ step w e) → OnErr r (v ≡ w) → IsReachedWorld v
 after (Ok a) w v e r ok err = reached-next w v e r ok
-after (Err x) w v e r ok err = subst IsReached (sym err) r
+after (Err x) w v e r ok err = subst IsReachedWorld (sym err) r
 
 -- from what a call says to what it means
 pub on-ok : {A E : Type 0} (r : Result A E) (P Q : Type 0) → OnOk r P → (P → Q) → OnOk r Q

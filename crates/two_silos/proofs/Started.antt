@@ -4,7 +4,7 @@ use Rattle.std.specs.Prelude.{nat_lt, ◌&&◌, ◌++◌, slice_set, if◌then�
 use Rattle.std.proofs.lemmas.Bool.{cond_both}
 use Rattle.two_silos.specs.Nodes.{Ask, Decision, Packet, Part, Pending, Prepare, Shift, TxnId, Vote}
 use Rattle.silo_nodes.specs.Participants.{questions, learned, answers}
-use Rattle.silo_nodes.specs.Coordinators.{Coordination, parts_from, find, is_unanimous, voted, agreed, decided}
+use Rattle.silo_nodes.specs.Coordinators.{Coordination, parts_from, find, is_unanimous, voted, agreed, with_decision}
 use Rattle.two_silos.specs.World.{World, WorldEvent, Start, Deliver, NudgeCoordinator, Nudge, RestartCoordinator, Restart, node_at, put_txn, can_start, next_txn, started, handed, send, delivered, does, is_within, step, parts_with, parts_after}
 use Rattle.two_silos.proofs.Invariant.{Issued, txn-at, unissued}
 
@@ -29,7 +29,7 @@ vote-number c t n false None = (refl, refl)
 vote-number c t n true None = (refl, refl)
 vote-number c t n false (Some p) = (refl, refl)
 vote-number c t n true (Some p) =
-    cond_both (is_unanimous p.parts (n ∷ p.yes)) (decided c t true) (record c { pending = agreed t n c.pending }) (λ (d : Coordination). (d.epoch ≡ c.epoch) × (d.number ≡ c.number)) (λ e. (refl, refl)) (λ e. (refl, refl))
+    cond_both (is_unanimous p.parts (n ∷ p.yes)) (with_decision c t true) (record c { pending = agreed t n c.pending }) (λ (d : Coordination). (d.epoch ≡ c.epoch) × (d.number ≡ c.number)) (λ e. (refl, refl)) (λ e. (refl, refl))
 
 stays-handed : (w : World) (n : ℕ) (k : Packet) → Stays w (handed w n k)
 stays-handed w n k = cond_both (nat_lt n (length w.nodes)) (record w { nodes = slice_set w.nodes n (learned (node_at w.nodes n) k); packets = w.packets ++ answers (node_at w.nodes n) k }) w (Stays w) (λ e t h. h) (λ e t h. h)

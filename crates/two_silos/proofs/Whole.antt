@@ -6,7 +6,7 @@ use Rattle.two_silos.specs.Nodes.{Decision, Done, GrainId, NodeEntry, Part, Prep
 use Rattle.silo_nodes.specs.Packets.{delta, Member}
 use Rattle.silo_nodes.specs.Logs.{is_committed, shifts_of, moved_by}
 use Rattle.two_silos.specs.World.{World, WorldEvent, log_at, begin, run, parts_in}
-use Rattle.two_silos.specs.Promise.{IsOpening, commit_moves, in_order, part_at, all_moves, IsQuiet, QuietIsWhole, OrderAgrees}
+use Rattle.two_silos.specs.Promise.{IsOpening, commit_moves, in_order, part_at, all_moves, IsQuietWorld, QuietIsWhole, OrderAgrees}
 use Rattle.silo_nodes.proofs.Logs.{shifts-member, done-entry}
 use Rattle.two_silos.proofs.Sums.{committed-member, committed-is}
 use Rattle.two_silos.proofs.Invariant.{Inv}
@@ -15,7 +15,7 @@ use Rattle.two_silos.proofs.Small.{opening_of}
 use Rattle.two_silos.proofs.Kept.{kept}
 
 -- each commit has moved all
-one-whole : (opening : ℕ → GrainId → Option ℤ) (parts : TxnId → List Part) (w : World) → Inv opening parts w → (n : ℕ) → IsQuiet w n → (g : GrainId) (t : TxnId) → Member t w.coordinator.commits → commit_moves g (log_at w.nodes n) t ≡ delta g (part_at n (parts t))
+one-whole : (opening : ℕ → GrainId → Option ℤ) (parts : TxnId → List Part) (w : World) → Inv opening parts w → (n : ℕ) → IsQuietWorld w n → (g : GrainId) (t : TxnId) → Member t w.coordinator.commits → commit_moves g (log_at w.nodes n) t ≡ delta g (part_at n (parts t))
 one-whole opening parts w i n quiet g t m = elim (part-cases n (parts t)) [
   | inl x ↦ (let there : Member (Prepared t x.0.shifts) (log_at w.nodes n) = subst (λ k. Member (Prepared t x.0.shifts) (log_at w.nodes k)) x.2 (i.everywhere t x.0 m x.1) in
       let d = done-entry t (log_at w.nodes n) (quiet t x.0.shifts there) in

@@ -64,12 +64,12 @@ all_moves parts n g [] = pos 0
 all_moves parts n g (t ∷ ts) = delta g (part_at n (parts t)) +ℤ all_moves parts n g ts
 
 -- the node waits for no decision
-abbrev pub IsQuiet : World → ℕ → Type 0
-IsQuiet w n = (t : TxnId) (s : List Shift) → Member (Prepared t s) (log_at w.nodes n) → is_done (log_at w.nodes n) t ≡ true
+abbrev pub IsQuietWorld : World → ℕ → Type 0
+IsQuietWorld w n = (t : TxnId) (s : List Shift) → Member (Prepared t s) (log_at w.nodes n) → is_done (log_at w.nodes n) t ≡ true
 
 -- Where a node waits for nothing, its balances are the opening's with all that the commits move there.
 abbrev pub QuietIsWhole : (TxnId → List Part) → World → Type 0
-QuietIsWhole parts w = (n : ℕ) → IsQuiet w n → (g : GrainId) (b : ℤ) → opening_at w.nodes n g ≡ Some b → balance (opening_at w.nodes n) (log_at w.nodes n) g ≡ Some (b +ℤ all_moves parts n g w.coordinator.commits)
+QuietIsWhole parts w = (n : ℕ) → IsQuietWorld w n → (g : GrainId) (b : ℤ) → opening_at w.nodes n g ≡ Some b → balance (opening_at w.nodes n) (log_at w.nodes n) g ≡ Some (b +ℤ all_moves parts n g w.coordinator.commits)
 
 -- the transactions that are done as committed, in log order
 abbrev pub done_commits : List NodeEntry → List TxnId

@@ -151,7 +151,7 @@ abbrev pub balance_in : List Node → ℕ → GrainId → Option ℤ
 balance_in nodes n g = balance_of (slice_get nodes n) g
 
 -- some list of events leads there from a first state
-pub record IsReached (w : World) : Type 0 where
+pub record IsReachedWorld (w : World) : Type 0 where
   pub openings : List (List (GrainId × ℤ))
   pub balances : IsOpening openings
   pub events : List WorldEvent

@@ -7,7 +7,7 @@ use Rattle.std.proofs.lemmas.List.{reverse-append, length-reverse, length-drop, 
 use Rattle.std.proofs.lemmas.List.Sums.{fails_before_first}
 use Rattle.std.proofs.lemmas.List.Quantifiers.{position-Some}
 use Rattle.cell_model.specs.Units.{UnitNo, nobody}
-use Rattle.cell_model.specs.Stacks.{Version, is_of, cut, committed}
+use Rattle.cell_model.specs.Stacks.{Version, is_of, cut, committed_stack}
 use Rattle.cell_model.proofs.Stacks.{cut-stranger, committed-stranger}
 
 -- a version, where a lemma on lists asks for one
@@ -90,18 +90,18 @@ any-missing p xs e = none-reverse p xs some_version (position-none p xs some_ver
 pub cut-missing : (p : Version → Bool) (xs : List Version) → position p xs ≡ None → cut p (reverse xs) ≡ reverse xs
 cut-missing p xs e = cut-stranger p (reverse xs) (any-missing p xs e)
 
-committed-reaches : (unit : UnitNo) (xs : List Version) (i : ℕ) (d : Version) → i < length xs → is_of unit (get_or xs i d) ≡ true → ((k : ℕ) → k < i → is_of unit (get_or xs k d) ≡ false) → committed unit xs ≡ take (suc i) xs
+committed-reaches : (unit : UnitNo) (xs : List Version) (i : ℕ) (d : Version) → i < length xs → is_of unit (get_or xs i d) ≡ true → ((k : ℕ) → k < i → is_of unit (get_or xs k d) ≡ false) → committed_stack unit xs ≡ take (suc i) xs
 committed-reaches unit [] i d h e before = absurd (omega arith)
-committed-reaches unit (x ∷ xs) zero d h e before = cond-true (is_of unit x) (x ∷ []) (x ∷ committed unit xs) e
+committed-reaches unit (x ∷ xs) zero d h e before = cond-true (is_of unit x) (x ∷ []) (x ∷ committed_stack unit xs) e
 committed-reaches unit (x ∷ xs) (suc i) d h e before =
-    cond-false (is_of unit x) (x ∷ []) (x ∷ committed unit xs) (before 0 (omega arith))
+    cond-false (is_of unit x) (x ∷ []) (x ∷ committed_stack unit xs) (before 0 (omega arith))
     ∙ ap (λ t. x ∷ t) (committed-reaches unit xs i d (omega arith) e (λ k l. before (suc k) (omega arith)))
 
 -- newest first, what is left goes down to the first that is the unit's
-pub committed-found : (unit : UnitNo) (xs : List Version) (at : ℕ) → position (is_of unit) xs ≡ Some at → committed unit xs ≡ take (suc at) xs
+pub committed-found : (unit : UnitNo) (xs : List Version) (at : ℕ) → position (is_of unit) xs ≡ Some at → committed_stack unit xs ≡ take (suc at) xs
 committed-found unit xs at e = (let t = position-Some (is_of unit) xs at some_version e in committed-reaches unit xs at some_version t.0 t.1 t.2)
 
-pub committed-missing : (unit : UnitNo) (xs : List Version) → position (is_of unit) xs ≡ None → committed unit xs ≡ xs
+pub committed-missing : (unit : UnitNo) (xs : List Version) → position (is_of unit) xs ≡ None → committed_stack unit xs ≡ xs
 committed-missing unit xs e = committed-stranger unit xs (none-any (is_of unit) xs some_version (position-none (is_of unit) xs some_version e))
 
 -- an index that was found is within the list
@@ -116,5 +116,5 @@ drop-reverse xs keep below e =
     sym (ap (take keep) whole ∙ take_at (reverse (drop below xs)) (reverse (take below xs)) keep long)
 
 -- what is left where the unit has committed, by what stands above its version
-pub committed-keeps : (unit : UnitNo) (xs : List Version) (above below : ℕ) → position (is_of unit) (reverse xs) ≡ Some above → suc above + below ≡ length xs → reverse (drop below xs) ≡ committed unit (reverse xs)
+pub committed-keeps : (unit : UnitNo) (xs : List Version) (above below : ℕ) → position (is_of unit) (reverse xs) ≡ Some above → suc above + below ≡ length xs → reverse (drop below xs) ≡ committed_stack unit (reverse xs)
 committed-keeps unit xs above below e h = drop-reverse xs (suc above) below h ∙ sym (committed-found unit (reverse xs) above e)

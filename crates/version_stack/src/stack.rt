@@ -1,6 +1,6 @@
 ghost use Rattle.std.specs.Prelude.{◌≡◌, ◌<◌, ◌≤◌, ◌+◌, [], ◌∷◌, length, take, reverse, position, IfOk, OnOk, OnErr};
 ghost use Rattle.cell_model.specs.Units.{nobody};
-ghost use Rattle.cell_model.specs.Stacks.{is_of, top, pushed, committed, removed, has_version};
+ghost use Rattle.cell_model.specs.Stacks.{is_of, top, pushed, committed_stack, removed, has_version};
 
 use base_types::{State, UnitNo, Version};
 use std::alloc::{AllocError, Global};
@@ -89,7 +89,7 @@ impl Stack {
     /// The unit has committed: what stands under its version is dropped. Does nothing where the unit has no
     /// version. Takes no memory.
     pub fn committed(&mut self, unit: UnitNo)
-        ensures versions { self.new.versions ≡ committed unit self.old.versions }
+        ensures versions { self.new.versions ≡ committed_stack unit self.old.versions }
         ensures spare { self.old.spare ≤ self.new.spare }
     {
         let Some(above) = newest_of(&self.entries, unit) else {

@@ -4,7 +4,7 @@ use Rattle.host_trait.specs.World.{Image}
 use Rattle.host_trait.proofs.Runs.{asked_then}
 use Rattle.log_reading.specs.declared.faults.FolderFault.{FolderFault}
 use Rattle.commit_log.specs.declared.records.Named.{Named}
-use Rattle.log_reading.specs.Steps.{manager, seen_in}
+use Rattle.log_reading.specs.Steps.{manager, seen_in, live_slot}
 use Rattle.log_reading.specs.Blocks.{records_in_file}
 use Rattle.log_reading.specs.Versions.{named_by, by_grain, first_missing}
 use Rattle.log_reading.specs.Sums.{state_after, end_after, StopsAt}
@@ -22,7 +22,7 @@ returns-in-Ok-read_versions-clause-opened g c told =
     record {
       records = l.records;
       read = l.read told;
-      whole = sym (λ i. first_missing shape (same i) (order i)) ∙ v.found told;
+      whole = sym (λ i. first_missing live_slot shape (same i) (order i)) ∙ v.found told;
       count = l.count;
       next = l.next;
       states = λ grain. v.states told grain ∙ (λ i. state_after shape (same i) (c.new-store.ensures grain i) (order i) grain);
@@ -51,5 +51,5 @@ returns-clause-refused g c told =
     let order : c.as_slice.result.now ≡ by_grain (named_by l.records) = c.as_slice.ensures.value ∙ c.in-Ok-sort_by_grain.ensures ∙ ap by_grain (c.into_vec-named.ensures ∙ l.named) in
     let v = c.in-Err-read_versions.ensures in
     versions_refused shape image l.records (l.read told) c.in-Err-read_versions.fault
-    (λ file place is. sym (λ i. first_missing shape (same i) (order i)) ∙ v.damaged file place is told)
+    (λ file place is. sym (λ i. first_missing live_slot shape (same i) (order i)) ∙ v.damaged file place is told)
     (λ file is. subst (λ (im : Image). StopsAt shape im (by_grain (named_by l.records)) file) same (subst (λ (ns : List Named). StopsAt shape (seen_in (g.H.Host.world c.read_log.new.host).disk) ns file) order (v.failed file is told)))

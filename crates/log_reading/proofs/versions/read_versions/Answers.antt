@@ -10,7 +10,7 @@ use Rattle.host_trait.proofs.Runs.{asked_then}
 use Rattle.host_trait.proofs.Counts.{none_then}
 use Rattle.log_reading.specs.declared.faults.FolderFault.{FolderFault}
 use Rattle.commit_log.specs.declared.records.Named.{Named}
-use Rattle.log_reading.specs.Steps.{seen_in}
+use Rattle.log_reading.specs.Steps.{seen_in, live_slot}
 use Rattle.host_trait.specs.Files.{same_grain}
 use Rattle.log_reading.specs.Versions.{version_named}
 use Rattle.log_reading.specs.Sums.{later_end}
@@ -42,8 +42,8 @@ returns-in_err-version-clause-damaged g c =
     let x : Named = get_or xs i no_name in
     rw (p.1, p.2) λ file place is told.
     let err = other_value _ (FolderFault.Damaged file place) is in
-    let here : version_named shape (seen_in (g.H.Host.world c.loop-one.host).disk) x ≡ Err place = c.in_err-version.ensures.damaged file place err told in
-    let there : version_named shape (seen_in (g.H.Host.world c.args.host.now).disk) x ≡ Err place = subst (λ (d : Disk). version_named shape (seen_in d) x ≡ Err place) (inv.asked told).disk here in
+    let here : version_named live_slot shape (seen_in (g.H.Host.world c.loop-one.host).disk) x ≡ Err place = c.in_err-version.ensures.damaged file place err told in
+    let there : version_named live_slot shape (seen_in (g.H.Host.world c.args.host.now).disk) x ≡ Err place = subst (λ (d : Disk). version_named live_slot shape (seen_in d) x ≡ Err place) (inv.asked told).disk here in
     let at : file ≡ Grain 0 x.written.grain = c.in_err-version.ensures.file file place err in
     passed_here shape _ xs (drop i xs) (inv.passed told) x (drop (i + 1) xs) (next_default i xs no_name c.loop-one-test.true) place there
     ∙ ap (λ (f : FileId). Some (f, place)) (sym at)
@@ -76,9 +76,9 @@ loop-one-preserved g c =
     let v = c.in_ok-version.version in
     let next = next_default i xs no_name c.loop-one-test.true in
     let image = seen_in (g.H.Host.world c.args.host.now).disk in
-    let found : (told : IsTrue g.H.Host.tells) → version_named shape image x ≡ Ok v = λ told.
-    let here : version_named shape (seen_in (g.H.Host.world c.loop-one.host).disk) x ≡ Ok v = c.in_ok-version.ensures.found told in
-    subst (λ (d : Disk). version_named shape (seen_in d) x ≡ Ok v) (inv.asked told).disk here in
+    let found : (told : IsTrue g.H.Host.tells) → version_named live_slot shape image x ≡ Ok v = λ told.
+    let here : version_named live_slot shape (seen_in (g.H.Host.world c.loop-one.host).disk) x ≡ Ok v = c.in_ok-version.ensures.found told in
+    subst (λ (d : Disk). version_named live_slot shape (seen_in d) x ≡ Ok v) (inv.asked told).disk here in
     record {
       passed = λ told. passed_more shape image xs (drop i xs) (inv.passed told) x (drop (i + 1) xs) next v (found told);
       states = λ told grain. state_more shape image x (drop (i + 1) xs) (drop i xs) grain v _ _ _ next (found told) (c.in_ok-keep.ensures.states grain) (inv.states told grain);

@@ -1,12 +1,12 @@
 use Rattle.std.proofs.Common.{◌≡◌, ◌+◌, ◌≤◌}
 use Rattle.std.specs.Prelude.{vec_len, vec_capacity}
-use Rattle.script_meaning.specs.Play.{written}
+use Rattle.script_meaning.specs.Play.{states_set}
 use Rattle.script_machine.proofs.Orders.{onto}
 use Rattle.script_machine.proofs.writes.ascending.Given as goal
 
 abbrev pub invariant-loop-one : goal.invariant-loop-one
 invariant-loop-one l = record {
-  order : onto l.held.items l.writes.items ≡ written l.fn.held.items;
+  order : onto l.held.items l.writes.items ≡ states_set l.fn.held.items;
   room : vec_len l.held + vec_len l.writes ≤ vec_capacity l.writes;
 }
 

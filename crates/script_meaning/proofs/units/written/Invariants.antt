@@ -1,11 +1,11 @@
 use Rattle.std.proofs.Common.{◌≡◌, ◌≤◌, length, drop}
-use Rattle.script_meaning.specs.Play.{written}
+use Rattle.script_meaning.specs.Play.{states_set}
 use Rattle.script_meaning.proofs.units.written.Given as goal
 
 abbrev pub invariant-loop-left : goal.invariant-loop-left
 invariant-loop-left l = record {
   within : l.left ≤ length l.held;
-  so_far : l.writes.items ≡ written (drop l.left l.held);
+  so_far : l.writes.items ≡ states_set (drop l.left l.held);
 }
 
 abbrev pub decreases-loop-left : goal.decreases-loop-left

@@ -1,3 +1,4 @@
+use Rattle.promise_spec.specs.Logs.{live_slot}
 use Rattle.std.proofs.Common.{rules, ◌≡◌, ℕ, true, List, Ok, Err, sym, ◌∙◌, ap, subst}
 use Rattle.base_types.specs.declared.shapes.Shape.{Shape}
 use Rattle.host_trait.specs.declared.channels.FileId.{FileId}
@@ -35,7 +36,7 @@ returns-in-Err-clause-refused g c told =
     let is : c.in-Ok.is' ≡ true = search rules in
     let silo : is_silo (image manager) ≡ true = sym (c.in-Ok.ensures.told told) ∙ is in
     let same : seen_in (g.H.Host.world c.is_silo.new.host).disk ≡ image = c.is_silo.ensures.seen told in
-    subst (λ (e : OpenFault). IsRefusedBy image (opened_as image) (ending_of e)) (sym c.program_fault.ensures)
+    subst (λ (e : OpenFault). IsRefusedBy image (opened_as live_slot image) (ending_of e)) (sym c.program_fault.ensures)
     (program_refused image silo c.in-Err.fault (λ place e. ap (λ (im : Image). program_in_file (im program_file)) (sym same) ∙ c.in-Err.ensures.damaged place e told))
 
 pub returns-in-Err-read_contents-clause-refused : goal.returns-in-Err-read_contents-clause-refused
@@ -49,7 +50,7 @@ returns-in-Err-read_contents-clause-refused g c told =
     let p : Program = record { text = found.0; types = program_tree c.in-Ok-read_program.checked } in
     let program : program_in_file (image program_file) ≡ Ok p = ap (λ (im : Image). program_in_file (im program_file)) (sym first) ∙ found.1 in
     let shape : c.in-Ok-shape.shape ≡ shape_in p = (λ i. record { types = c.in-Ok-shape.ensures i }) in
-    subst (λ (e : OpenFault). IsRefusedBy image (opened_as image) (ending_of e)) (sym c.folder_fault.ensures)
+    subst (λ (e : OpenFault). IsRefusedBy image (opened_as live_slot image) (ending_of e)) (sym c.folder_fault.ensures)
     (log_refused image p silo program c.in-Err-read_contents.fault (subst (λ (im : Image). IsUnread (shape_in p) im c.in-Err-read_contents.fault) same
     (subst (λ (s : Shape). IsUnread s (seen_in (g.H.Host.world c.read_program.new.host).disk) c.in-Err-read_contents.fault) shape (c.in-Err-read_contents.ensures.refused told))))
 

@@ -5,7 +5,7 @@ use Rattle.script_tree.specs.Exprs.{expr_tree}
 use Rattle.script_tree.specs.Stmts.{stmt_tree}
 use Rattle.script_tree.specs.Programs.{program_tree}
 use Rattle.script_meaning.specs.Requests.{Requests}
-use Rattle.script_machine.specs.Runs.{GoesOn, back_of, next_here}
+use Rattle.script_machine.specs.Runs.{GoesTo, back_of, next_here}
 use Rattle.script_machine.proofs.Steps.{loop_test, while_test, turn_again}
 use Rattle.script_machine.proofs.runs.Run.again.Goals as goal
 
@@ -16,4 +16,4 @@ returns-else-not-take_step-clause-tree c =
     let test = ap (λ (s : Stmt). loop_test (stmt_tree s)) c.in-While.is ∙ while_test c.in-While.test c.in-While.body in
     let there : true ≡ nat_lt 0 run.has.left = search rules in
     let once = turn_again types run.top.post (back_of types run) (stmt_tree c.args.stmt.now) (expr_tree c.in-While.test) test (next_here types run) run.top.locals.items run.has c.take_step.new.self there c.take_step.ensures.taken in
-    subst (λ (left : Requests). GoesOn left types c.turn.new.self c.turn.result) (sym once) c.turn.ensures.tree
+    subst (λ (left : Requests). GoesTo left types c.turn.new.self c.turn.result) (sym once) c.turn.ensures.tree

@@ -15,13 +15,13 @@ use Rattle.script_tree.specs.declared.statements.Stmt.{Stmt}
 use Rattle.script_tree.specs.Exprs.{expr_tree, call_tree}
 use Rattle.script_tree.specs.Stmts.{StmtTree, Repeat, source_tree, stmt_tree, stmt_trees, block_tree, else_tree}
 use Rattle.script_tree.specs.Programs.{type_tree}
-use Rattle.script_values.specs.Expressions.{Locals, put, value_in, values_in}
+use Rattle.script_values.specs.Expressions.{Locals, put_local, value_in, values_in}
 use Rattle.script_values.specs.Faults.{unknown, budget, depth}
 use Rattle.script_values.specs.Reasons.{reason_text}
 use Rattle.script_holding.specs.Holding.{Holding}
 use Rattle.script_meaning.specs.Requests.{Back, stop, with_value}
 use Rattle.script_meaning.specs.Calls.{Target, bound, joined, enters, method_of, to_type, to_target, type_from}
-use Rattle.script_meaning.specs.Statements.{around, calls, chosen, deep, does, runs, runs_else, sourced}
+use Rattle.script_meaning.specs.Statements.{around, calls, by_truth, deep, does, runs, runs_else, sourced}
 use Rattle.script_meaning.specs.Targets.{target_of}
 use Rattle.script_meaning.specs.Playing.{types_in, site_of, surrounds, below, plays_method, heard, flowing, answering}
 use Rattle.script_meaning.specs.declared.flows.Flow.{Flow}
@@ -114,7 +114,7 @@ play_loop-returns-in_err-holds-clause-led t c = λ back next.
     let second = next locals after in
     let p = err_from_is_err_and c.from_residual.result c.from_residual.ensures.1 in
     rw (p.1, p.2) (ends_on world (record { has = after; progress = progress }) progress c.args.self.now.progress c.in_err-holds.field-0.0
-    (with_value (value_in (surrounds site found after) test) after (λ value. chosen value after first second))
+    (with_value (value_in (surrounds site found after) test) after (λ value. by_truth value after first second))
     (again c.args.locals.now.items c.args.self.now.has)
     (c.in_err-holds.ensures {u = tt} world first second)
     (turn_reached world progress n site back test block next locals found c.turns.self.has after c.as_slice.ensures.value granted.there granted.taken
@@ -248,7 +248,7 @@ play_statement-returns-in_err-value-in-Let-clause-led t c = λ back next.
     let run = below world c.args.site.now.depth in
     let site = site_of c.args.site.now in
     let locals = c.args.locals.now.items in
-    let onto = λ (value : Value) (l : Locals). next (put c.in-Let.name.text value l) in
+    let onto = λ (value : Value) (l : Locals). next (put_local c.in-Let.name.text value l) in
     let source = source_tree c.in-Let.value in
     let p = err_from_is_err_and c.from_residual.result c.from_residual.ensures.1 in
     rw (p.1, p.2) (ends_on world c.play_source.new.self progress progress c.in_err-value-in-Let.field-0.0
@@ -266,7 +266,7 @@ play_statement-returns-in_err-value-in-Assign-clause-led t c = λ back next.
     let run = below world c.args.site.now.depth in
     let site = site_of c.args.site.now in
     let locals = c.args.locals.now.items in
-    let onto = λ (value : Value) (l : Locals). next (put c.in-Assign.name.text value l) in
+    let onto = λ (value : Value) (l : Locals). next (put_local c.in-Assign.name.text value l) in
     let source = source_tree c.in-Assign.value in
     let p = err_from_is_err_and c.from_residual-in_err-value-in-Assign.result c.from_residual-in_err-value-in-Assign.ensures.1 in
     rw (p.1, p.2) (ends_on world c.play_source-in-Assign.new.self progress progress c.in_err-value-in-Assign.field-0.0
@@ -285,11 +285,11 @@ play_statement-returns-in_ok-assign-in-Let-clause-led t c = λ back next.
     let site = site_of c.args.site.now in
     let locals = c.args.locals.now.items in
     let name = c.in-Let.name.text in
-    let onto = λ (value : Value) (l : Locals). next (put name value l) in
+    let onto = λ (value : Value) (l : Locals). next (put_local name value l) in
     let source = source_tree c.in-Let.value in
     let then_at = c.play_source.new.self in
     ap (λ (l : Locals). heard world then_at.progress (next l then_at.has)) (c.in_ok-assign-in-Let.ensures {u = tt}).ok
-    ∙ ap (λ (l : Locals). heard world then_at.progress (next (put name c.in_ok-value-in-Let.value l) then_at.has)) (sym c.as_slice.ensures.value)
+    ∙ ap (λ (l : Locals). heard world then_at.progress (next (put_local name c.in_ok-value-in-Let.value l) then_at.has)) (sym c.as_slice.ensures.value)
     ∙ (c.in_ok-value-in-Let.ensures {u = tt}).led back onto
     ∙ ap (λ (l : Locals). heard world progress (sourced types run site back source onto l has)) c.as_slice.ensures.value
     ∙ ap (λ (s : StmtTree). heard world progress (does types run site back s next locals has)) (sym (ap stmt_tree c.in-Let.is ∙ let_tree c.in-Let.name c.in-Let.value))
@@ -304,11 +304,11 @@ play_statement-returns-in_ok-assign-in-Assign-clause-led t c = λ back next.
     let site = site_of c.args.site.now in
     let locals = c.args.locals.now.items in
     let name = c.in-Assign.name.text in
-    let onto = λ (value : Value) (l : Locals). next (put name value l) in
+    let onto = λ (value : Value) (l : Locals). next (put_local name value l) in
     let source = source_tree c.in-Assign.value in
     let then_at = c.play_source-in-Assign.new.self in
     ap (λ (l : Locals). heard world then_at.progress (next l then_at.has)) (c.in_ok-assign-in-Assign.ensures {u = tt}).ok
-    ∙ ap (λ (l : Locals). heard world then_at.progress (next (put name c.in_ok-value-in-Assign.value l) then_at.has)) (sym c.as_slice-in-Assign.ensures.value)
+    ∙ ap (λ (l : Locals). heard world then_at.progress (next (put_local name c.in_ok-value-in-Assign.value l) then_at.has)) (sym c.as_slice-in-Assign.ensures.value)
     ∙ (c.in_ok-value-in-Assign.ensures {u = tt}).led back onto
     ∙ ap (λ (l : Locals). heard world progress (sourced types run site back source onto l has)) c.as_slice-in-Assign.ensures.value
     ∙ ap (λ (s : StmtTree). heard world progress (does types run site back s next locals has)) (sym (ap stmt_tree c.in-Assign.is ∙ assign_tree c.in-Assign.name c.in-Assign.value))
@@ -340,10 +340,10 @@ play_statement-returns-in_err-holds-in-If-clause-led t c = λ back next.
     let second = runs_else types run site back (else_tree c.in-If.other) next locals has in
     let p = err_from_is_err_and c.from_residual-in_err-holds-in-If.result c.from_residual-in_err-holds-in-If.ensures.1 in
     rw (p.1, p.2) (ends_on world c.args.self.now progress progress c.in_err-holds-in-If.field-0.0
-    (with_value (value_in (surrounds site c.as_slice-in-If.result.now has) test) has (λ value. chosen value has first second))
+    (with_value (value_in (surrounds site c.as_slice-in-If.result.now has) test) has (λ value. by_truth value has first second))
     (does types run site back (stmt_tree c.args.stmt.now) next locals has)
     (c.in_err-holds-in-If.ensures {u = tt} world first second)
-    (ap (λ (l : Locals). heard world progress (with_value (value_in (surrounds site l has) test) has (λ value. chosen value has first second))) c.as_slice-in-If.ensures.value
+    (ap (λ (l : Locals). heard world progress (with_value (value_in (surrounds site l has) test) has (λ value. by_truth value has first second))) c.as_slice-in-If.ensures.value
     ∙ ap (λ (s : StmtTree). heard world progress (does types run site back s next locals has)) (sym (ap stmt_tree c.in-If.is ∙ if_tree c.in-If.test c.in-If.then c.in-If.other))))
 
 pub play_statement-returns-then-holds-clause-led : goal.play_statement-returns-then-holds-clause-led
@@ -365,7 +365,7 @@ play_statement-returns-then-holds-clause-led t c = λ back next.
     (ap (λ (l : List Stmt). heard world progress (runs types run site back (block_tree (stmt_trees l)) next locals has)) c.as_slice-then-holds.ensures
     ∙ ap (λ (b : Bool). heard world progress (if b then first else second)) (sym c.if-holds.true)
     ∙ c.in_ok-holds-in-If.ensures {u = tt} world first second
-    ∙ ap (λ (l : Locals). heard world progress (with_value (value_in (surrounds site l has) test) has (λ value. chosen value has first second))) c.as_slice-in-If.ensures.value
+    ∙ ap (λ (l : Locals). heard world progress (with_value (value_in (surrounds site l has) test) has (λ value. by_truth value has first second))) c.as_slice-in-If.ensures.value
     ∙ ap (λ (s : StmtTree). heard world progress (does types run site back s next locals has)) (sym (ap stmt_tree c.in-If.is ∙ if_tree c.in-If.test c.in-If.then c.in-If.other)))
 
 pub play_statement-returns-in-Some-clause-led : goal.play_statement-returns-in-Some-clause-led
@@ -388,7 +388,7 @@ play_statement-returns-in-Some-clause-led t c = λ back next.
     ∙ ap (λ (o : Option (Items Stmt)). heard world progress (runs_else types run site back (else_tree o) next locals has)) (sym c.in-Some.is)
     ∙ ap (λ (b : Bool). heard world progress (if b then first else second)) (sym c.if-holds.false)
     ∙ c.in_ok-holds-in-If.ensures {u = tt} world first second
-    ∙ ap (λ (l : Locals). heard world progress (with_value (value_in (surrounds site l has) test) has (λ value. chosen value has first second))) c.as_slice-in-If.ensures.value
+    ∙ ap (λ (l : Locals). heard world progress (with_value (value_in (surrounds site l has) test) has (λ value. by_truth value has first second))) c.as_slice-in-If.ensures.value
     ∙ ap (λ (s : StmtTree). heard world progress (does types run site back s next locals has)) (sym (ap stmt_tree c.in-If.is ∙ if_tree c.in-If.test c.in-If.then c.in-If.other)))
 
 pub play_statement-returns-in-None-clause-led : goal.play_statement-returns-in-None-clause-led
@@ -406,7 +406,7 @@ play_statement-returns-in-None-clause-led t c = λ back next.
     ap (λ (o : Option (Items Stmt)). heard world progress (runs_else types run site back (else_tree o) next locals has)) (sym c.in-None.is)
     ∙ ap (λ (b : Bool). heard world progress (if b then first else second)) (sym c.if-holds.false)
     ∙ c.in_ok-holds-in-If.ensures {u = tt} world first second
-    ∙ ap (λ (l : Locals). heard world progress (with_value (value_in (surrounds site l has) test) has (λ value. chosen value has first second))) c.as_slice-in-If.ensures.value
+    ∙ ap (λ (l : Locals). heard world progress (with_value (value_in (surrounds site l has) test) has (λ value. by_truth value has first second))) c.as_slice-in-If.ensures.value
     ∙ ap (λ (s : StmtTree). heard world progress (does types run site back s next locals has)) (sym (ap stmt_tree c.in-If.is ∙ if_tree c.in-If.test c.in-If.then c.in-If.other))
 
 pub play_statement-returns-in-While-clause-led : goal.play_statement-returns-in-While-clause-led
@@ -438,8 +438,8 @@ play_statement-returns-in_ok-assign-in-Value-clause-led t c = λ back next.
     let name = c.in-Attempt.name.text in
     let first = block_tree (stmt_trees c.in-Attempt.then.list.items) in
     let second = block_tree (stmt_trees c.in-Attempt.other.list.items) in
-    let onto : Back = λ value. runs types run site back first next (put name value locals) in
-    let caught = λ (fault : List ℕ). runs types run site back second next (put name (Text fault) locals) in
+    let onto : Back = λ value. runs types run site back first next (put_local name value locals) in
+    let caught = λ (fault : List ℕ). runs types run site back second next (put_local name (Text fault) locals) in
     let called = c.play_call.new.self in
     leads_on world c.play_block-in-Value.new.self called.progress progress c.play_block-in-Value.result (λ flow. flowing flow back next c.play_block-in-Value.new.locals.items c.play_block-in-Value.new.self.has)
     (runs types run site back (block_tree (stmt_trees c.as_slice-in-Value.result.now)) next c.assign-in-Value.new.locals.items called.has)
@@ -464,8 +464,8 @@ play_statement-returns-in_ok-assign-in-Caught-clause-led t c = λ back next.
     let name = c.in-Attempt.name.text in
     let first = block_tree (stmt_trees c.in-Attempt.then.list.items) in
     let second = block_tree (stmt_trees c.in-Attempt.other.list.items) in
-    let onto : Back = λ value. runs types run site back first next (put name value locals) in
-    let caught = λ (fault : List ℕ). runs types run site back second next (put name (Text fault) locals) in
+    let onto : Back = λ value. runs types run site back first next (put_local name value locals) in
+    let caught = λ (fault : List ℕ). runs types run site back second next (put_local name (Text fault) locals) in
     let called = c.play_call.new.self in
     leads_on world c.play_block-in-Caught.new.self called.progress progress c.play_block-in-Caught.result (λ flow. flowing flow back next c.play_block-in-Caught.new.locals.items c.play_block-in-Caught.new.self.has)
     (runs types run site back (block_tree (stmt_trees c.as_slice-in-Caught.result.now)) next c.assign-in-Caught.new.locals.items called.has)

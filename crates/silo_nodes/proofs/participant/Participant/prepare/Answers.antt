@@ -5,7 +5,7 @@ use Rattle.base_types.specs.Stores.{grain_cmp}
 use Rattle.silo_nodes.specs.Packets.{Prepared, same_txn}
 use Rattle.silo_nodes.specs.Logs.{is_prepared}
 use Rattle.silo_nodes.specs.Node.{log_prepare}
-use Rattle.silo_nodes.specs.Cached.{Node, all_allow, IsKnown, Follows, opening_in, prepared_at, held}
+use Rattle.silo_nodes.specs.Cached.{Node, all_allow, IsKnown, FollowsLog, opening_in, prepared_at, held}
 use Rattle.silo_nodes.specs.Orders.{txn_cmp}
 use Rattle.silo_nodes.proofs.Holding.{undone, prepare-done, prepare-not, prepare-new, allow-is, follows-prepared, marks, node-stays, known-prepared, known-new-txn}
 use Rattle.silo_nodes.proofs.participant.Participant.prepare.Goals as goal
@@ -43,8 +43,8 @@ invariant_of-self-2 c =
     let shifts : c.as_slice-2.result.now ≡ c.in_ok-shifts.shifts = search rules in
     let up = c.in_ok-insert.ensures.updates in
     let mark = marks c.self.inside.known c.insert.new.self c.args.txn (record { at = c.len-at.result; done = false }) up.1 up.2 in
-    subst (λ l. Follows (opening_in c.self.inside.opening) l (get txn_cmp c.insert.new.self) c.push-listed.new.self.items (get grain_cmp c.hold.new.cells)) (sym entry)
-    (subst (λ u. Follows (opening_in c.self.inside.opening) (c.self.inside.log.items ++ Prepared c.args.txn c.args.shifts.now ∷ []) (get txn_cmp c.insert.new.self) u (get grain_cmp c.hold.new.cells)) (sym listed)
+    subst (λ l. FollowsLog (opening_in c.self.inside.opening) l (get txn_cmp c.insert.new.self) c.push-listed.new.self.items (get grain_cmp c.hold.new.cells)) (sym entry)
+    (subst (λ u. FollowsLog (opening_in c.self.inside.opening) (c.self.inside.log.items ++ Prepared c.args.txn c.args.shifts.now ∷ []) (get txn_cmp c.insert.new.self) u (get grain_cmp c.hold.new.cells)) (sym listed)
     (follows-prepared (opening_in c.self.inside.opening) c.self.inside.log.items (get txn_cmp c.self.inside.known) (get txn_cmp c.insert.new.self) c.self.inside.undecided.items (get grain_cmp c.self.inside.cells) (get grain_cmp c.hold.new.cells)
     c.args.txn c.args.shifts.now c.self.invariant new c.requires.apart allowed
     (λ u. mark u ∙ ap (λ k. if same_txn c.args.txn u then Some (record { at = k; done = false }) else get txn_cmp c.self.inside.known u) len)
