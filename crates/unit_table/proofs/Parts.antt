@@ -2,9 +2,12 @@
 use Rattle.std.proofs.Common.{◌≡◌, ℕ, List, [], ◌∷◌, ◌++◌, Bool, true, false, refl, ap, Option, not, if◌then◌else◌}
 use Rattle.base_types.specs.declared.entries.BadRequest.{BadRequest}
 use Rattle.cell_model.specs.Sources.{with_source}
-use Rattle.core_model.specs.World.{UnitNo, GrainId, Mode, Origin, Call, Outcome, Settled, Effect, Finished, Refused, Ended, top, put, World}
+use Rattle.core_model.specs.World.{UnitNo, GrainId, Mode, Origin, Call, Outcome, Settled, top, put, World}
+use Rattle.core_model.specs.declared.effects.Effect.{Effect}
+use Rattle.core_model.specs.declared.phases.Phase.TheVariants.{Finished, Refused, Ended}
 use Rattle.core_model.specs.Changes.{spoiled_line, new_unit, begun, read_of, is_sure, without_want, locked, raised, refused, finished, ended}
-use Rattle.core_model.specs.Events.{does, Halt, Want}
+use Rattle.core_model.specs.declared.events.CoreEvent.TheVariants.{Halt, Want}
+use Rattle.core_model.specs.Events.{does}
 use Rattle.unit_table.specs.declared.table.UnitTable.{UnitTable}
 use Rattle.unit_table.specs.Parts.{next_unit, units_bad_line, units_begun, deps_after, units_read, units_over, units_seen, units_wanting, units_halted}
 use Rattle.unit_table.specs.Table.{units_of}

@@ -2,7 +2,11 @@
 use Rattle.std.proofs.Common.{◌≡◌, ℕ, ◌+◌, ◌-◌, ◌<◌, List, [], ◌∷◌, ◌++◌, length, set, get_or, Bool, true, false, ◌⊎◌, inl, inr, refl, sym, ap, ◌∙◌, arith, Option, Some, None, is_some, vec_len}
 use Rattle.std.proofs.lemmas.Option.{slice_get_read, slice_get_past}
 use Rattle.base_types.specs.declared.calls.Outcome.TheVariants.{Aborted as aborted}
-use Rattle.core_model.specs.World.{UnitNo, GrainId, Origin, Call, Outcome, Read, Phase, Verdict, Open, put}
+use Rattle.core_model.specs.World.{UnitNo, GrainId, Origin, Call, Outcome, put}
+use Rattle.core_model.specs.declared.effects.Read.{Read}
+use Rattle.core_model.specs.declared.phases.Phase.{Phase}
+use Rattle.core_model.specs.declared.phases.Verdict.{Verdict}
+use Rattle.core_model.specs.declared.phases.Verdict.TheVariants.{Open}
 use Rattle.core_model.specs.Tests.{is_running, is_over}
 use Rattle.core_model.specs.Changes.{without_want, without_wants}
 use Rattle.unit_table.specs.declared.entry.RunningUnit.{RunningUnit}

@@ -2,7 +2,12 @@
 use Rattle.std.specs.Prelude.{◌≡◌, ◌<◌, ℕ, List, [], ◌∷◌, ◌++◌, Bool, false, Option, Some, None, vec_len, vec_capacity}
 use Rattle.base_types.specs.declared.calls.Origin.TheVariants.{Line, Child}
 use Rattle.base_types.specs.declared.calls.Outcome.TheVariants.{Aborted as aborted}
-use Rattle.core_model.specs.World.{UnitNo, Origin, Call, Outcome, Read, Phase, Unborn, Running, Verdict, Open, put}
+use Rattle.core_model.specs.World.{UnitNo, Origin, Call, Outcome, put}
+use Rattle.core_model.specs.declared.effects.Read.{Read}
+use Rattle.core_model.specs.declared.phases.Phase.{Phase}
+use Rattle.core_model.specs.declared.phases.Verdict.{Verdict}
+use Rattle.core_model.specs.declared.phases.Phase.TheVariants.{Unborn, Running}
+use Rattle.core_model.specs.declared.phases.Verdict.TheVariants.{Open}
 use Rattle.core_model.specs.Tests.{outcome_in}
 use Rattle.core_model.specs.declared.phases.Phase.TheVariants as phase
 use Rattle.unit_table.specs.declared.entry.RunningUnit.{RunningUnit}

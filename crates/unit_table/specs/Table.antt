@@ -1,6 +1,9 @@
 -- What a table of units stands for.
 use Rattle.std.specs.Prelude.{ℕ, ◌+◌, ◌-◌, List, Bool, Option, Some, None, nat_lt, if◌then◌else◌, slice_get, vec_len, is_some, option_map}
-use Rattle.core_model.specs.World.{UnitNo, GrainId, Origin, Call, Outcome, Read, Phase, Verdict, Units}
+use Rattle.core_model.specs.World.{UnitNo, GrainId, Origin, Call, Outcome, Units}
+use Rattle.core_model.specs.declared.effects.Read.{Read}
+use Rattle.core_model.specs.declared.phases.Phase.{Phase}
+use Rattle.core_model.specs.declared.phases.Verdict.{Verdict}
 use Rattle.core_model.specs.Tests.{outcome_in}
 use Rattle.unit_table.specs.declared.entry.RunningUnit.{RunningUnit}
 use Rattle.unit_table.specs.declared.entry.UnitEntry.{UnitEntry}
