@@ -23,7 +23,8 @@ put-kept of f u x same = λ i v. at v i
     at : (v : UnitNo) → of (put f u x v) ≡ of (f v)
     at v = put-at f u x (λ y. of y ≡ of (f v)) v (λ e. same ∙ ap (λ q. of (f q)) (sym e)) (λ n. refl)
 
-get-set_same : {A : Type 0} (xs : List A) (k : ℕ) (x : A) → k < length xs → slice_get (set xs k x) k ≡ Some x
+-- the item that was written
+pub get-set_same : {A : Type 0} (xs : List A) (k : ℕ) (x : A) → k < length xs → slice_get (set xs k x) k ≡ Some x
 get-set_same xs k x h = slice_get-get_or (set xs k x) k x (let e = length-set xs k x in omega arith) ∙ ap Some (get_or-set_same xs k x x h)
 
 get-set_other : {A : Type 0} (xs : List A) (k j : ℕ) (x : A) → (j ≡ k → ⊥) → slice_get (set xs k x) j ≡ slice_get xs j

@@ -1,5 +1,5 @@
 -- One unit of a table changes.
-use Rattle.std.proofs.Common.{◌≡◌, ℕ, ◌+◌, ◌-◌, ◌<◌, List, [], ◌∷◌, ◌++◌, length, set, get_or, Bool, true, false, ◌⊎◌, inl, inr, refl, sym, ap, ◌∙◌, arith, Option, Some, None, is_some, vec_len}
+use Rattle.std.proofs.Common.{◌≡◌, ℕ, ◌+◌, ◌-◌, ◌<◌, List, [], ◌∷◌, ◌++◌, length, set, get_or, Bool, true, false, ◌⊎◌, inl, inr, refl, sym, ap, ◌∙◌, arith, if◌then◌else◌, Option, Some, None, is_some, vec_len}
 use Rattle.std.proofs.lemmas.Option.{slice_get_read, slice_get_past}
 use Rattle.base_types.specs.declared.calls.Outcome.TheVariants.{Aborted as aborted}
 use Rattle.core_model.specs.World.{UnitNo, GrainId, Origin, Call, Outcome, put}
@@ -7,7 +7,7 @@ use Rattle.core_model.specs.declared.effects.Read.{Read}
 use Rattle.core_model.specs.declared.phases.Phase.{Phase}
 use Rattle.core_model.specs.declared.phases.Verdict.{Verdict}
 use Rattle.core_model.specs.declared.phases.Verdict.TheVariants.{Open}
-use Rattle.core_model.specs.Tests.{is_running, is_over}
+use Rattle.core_model.specs.Tests.{is_running}
 use Rattle.core_model.specs.Changes.{without_want, without_wants}
 use Rattle.unit_table.specs.declared.entry.RunningUnit.{RunningUnit}
 use Rattle.unit_table.specs.declared.entry.OverUnit.{OverUnit}
@@ -19,8 +19,8 @@ use Rattle.unit_table.specs.declared.table.UnitTable.{UnitTable}
 use Rattle.unit_table.specs.Known.{KnownUnit, unborn, known_entry, phase_at}
 use Rattle.unit_table.specs.Parts.{units_read, units_over, deps_after}
 use Rattle.unit_table.specs.Table.{entry_in, entry_among, known_of, known_in, base_of, next_in, phase_in, verdict_in, result_in, units_of, wants_in}
-use Rattle.unit_table.specs.Rooms.{SameUnits, SameRest, KidRoomAt, ReadRoomAt}
-use Rattle.unit_table.proofs.Entries.{put-of, put-kept, entry-place, set-entries, push-entries}
+use Rattle.unit_table.specs.Rooms.{SameUnits, SameRest}
+use Rattle.unit_table.proofs.Entries.{put-of, put-kept, get-set_same, entry-place, set-entries, push-entries}
 
 -- a unit whose entry is read
 pub entry-read : (t : UnitTable) (u : UnitNo) (k : ℕ) (x : UnitEntry) → u.0 ≡ t.base + k → k < vec_len t.units → x ≡ get_or t.units.items k x → entry_in t u ≡ Some x
@@ -36,11 +36,28 @@ known-set t n u k x base items within place =
     ∙ ap (λ (f : UnitNo → Option UnitEntry). λ v. known_of (f v)) (set-entries t.base t.units.items u k x inside place)
     ∙ put-of known_of (entry_in t) u (Some x)
 
+-- it is changed
+pub known-changed : (t n : UnitTable) (u : UnitNo) (k : ℕ) (y x : UnitEntry) (change : KnownUnit → KnownUnit) → n.base ≡ t.base → n.units.items ≡ set t.units.items k x →
+    u.0 ≡ t.base + k → k < vec_len t.units → y ≡ get_or t.units.items k y → known_entry x ≡ change (known_entry y) → known_in n ≡ put (known_in t) u (change (known_in t u))
+known-changed t n u k y x change base items place within read e =
+    known-set t n u k x base items within place
+    ∙ ap (put (known_in t) u) (e ∙ ap (λ o. change (known_of o)) (sym (entry-read t u k y place within read)))
+
 -- it stays what it was
-pub known-same : (t n : UnitTable) (u : UnitNo) (k : ℕ) (x : UnitEntry) → n.base ≡ t.base → n.units.items ≡ set t.units.items k x → k < vec_len t.units → u.0 ≡ t.base + k →
-    known_entry x ≡ known_in t u → known_in n ≡ known_in t
-known-same t n u k x base items within place same =
-    known-set t n u k x base items within place ∙ put-kept (λ y. y) (known_in t) u (known_entry x) same
+pub known-stays : (t n : UnitTable) (u : UnitNo) (k : ℕ) (y x : UnitEntry) → n.base ≡ t.base → n.units.items ≡ set t.units.items k x →
+    u.0 ≡ t.base + k → k < vec_len t.units → y ≡ get_or t.units.items k y → known_entry x ≡ known_entry y → known_in n ≡ known_in t
+known-stays t n u k y x base items place within read e =
+    known-set t n u k x base items within place
+    ∙ put-kept (λ z. z) (known_in t) u (known_entry x) (e ∙ ap known_of (sym (entry-read t u k y place within read)))
+
+-- the entry that was written is the unit's
+pub entry-written : (t n : UnitTable) (u : UnitNo) (k : ℕ) (x : UnitEntry) → n.base ≡ t.base → n.units.items ≡ set t.units.items k x →
+    u.0 ≡ t.base + k → k < vec_len t.units → entry_in n u ≡ Some x
+entry-written t n u k x base items place within =
+    let inside : k < length t.units.items = let len = t.units.ok.0 in omega arith in
+    (λ i. entry_among (base i) (items i) u)
+    ∙ entry-place t.base (set t.units.items k x) u k place
+    ∙ get-set_same t.units.items k x inside
 
 -- one more unit is known
 pub known-push : (t n : UnitTable) (x : UnitEntry) → n.base ≡ t.base → n.units.items ≡ t.units.items ++ x ∷ [] →
@@ -52,30 +69,17 @@ known-push t n x base items =
     ∙ ap (λ (f : UnitNo → Option UnitEntry). λ v. known_of (f v)) (push-entries t.base t.units.items u x place)
     ∙ put-of known_of (entry_in t) u (Some x)
 
+-- the same, after a push that was tested
+pub known-pushed : (t n : UnitTable) (x : UnitEntry) (pushed : Bool) → n.base ≡ t.base → pushed ≡ true → n.units.items ≡ (if pushed then t.units.items ++ x ∷ [] else t.units.items) →
+    known_in n ≡ put (known_in t) (record { 0 = next_in t }) (known_entry x)
+known-pushed t n x pushed base done items =
+    known-push t n x base (items ∙ ap (λ (b : Bool). if b then t.units.items ++ x ∷ [] else t.units.items) done)
+
 -- nothing is known of the next unit
 pub next-unborn : (t : UnitTable) → known_in t (record { 0 = next_in t }) ≡ unborn
 next-unborn t =
     let u : UnitNo = record { 0 = next_in t } in
     ap known_of (entry-place t.base t.units.items u (vec_len t.units) refl ∙ slice_get_past t.units.items (vec_len t.units) (let len = t.units.ok.0 in omega arith))
-
--- a unit that has begun has an entry
-pub has-entry : (t : UnitTable) (u : UnitNo) → (is_running (phase_in t u) ≡ true) ⊎ (is_over (phase_in t u) ≡ true) → is_some (entry_in t u) ≡ true
-has-entry t u h = by (entry_in t u) h
-  where
-    by : (o : Option UnitEntry) → (is_running (known_of o).phase ≡ true) ⊎ (is_over (known_of o).phase ≡ true) → is_some o ≡ true
-    by (Some x) h = refl
-    by None (inl e) = cc
-    by None (inr e) = cc
-
--- so has one with room for a child
-pub kid-entry : (o : Option UnitEntry) → KidRoomAt o → is_some o ≡ true
-kid-entry (Some x) h = refl
-kid-entry None h = absurd h
-
--- and one with room for a read
-pub read-entry : (o : Option UnitEntry) → ReadRoomAt o → is_some o ≡ true
-read-entry (Some x) h = refl
-read-entry None h = absurd h
 
 -- nothing is decided of a unit that runs, and it has no result
 pub running-open : (k : Option UnitEntry) → is_running (known_of k).phase ≡ true → ((known_of k).verdict ≡ Open) × ((known_of k).result ≡ aborted)
@@ -95,6 +99,15 @@ attr-put of f g u x e = ap (λ (h : UnitNo → KnownUnit). λ v. of (h v)) e ∙
 -- one that it keeps
 pub attr-kept : {A : Type 0} (of : KnownUnit → A) (f g : UnitNo → KnownUnit) (u : UnitNo) (x : KnownUnit) → g ≡ put f u x → of x ≡ of (f u) → ◌≡◌ {A = UnitNo → A} (λ v. of (g v)) (λ v. of (f v))
 attr-kept of f g u x e same = ap (λ (h : UnitNo → KnownUnit). λ v. of (h v)) e ∙ put-kept of f u x same
+
+-- two steps that leave all units
+pub same-twice : (t m n : UnitTable) → SameUnits t m → SameUnits m n → SameUnits t n
+same-twice t m n a b = record {
+  units = λ seen. b.units seen ∙ a.units seen;
+  verdict = b.verdict ∙ a.verdict;
+  result = b.result ∙ a.result;
+  base = b.base ∙ a.base;
+}
 
 -- The two have as many units and lines.
 pub record SameCounts (t n : UnitTable) : Type 0 where
