@@ -81,16 +81,6 @@ abbrev pub known_entry : UnitEntry → KnownUnit
 known_entry (entry.Running unit) = known_running unit.value
 known_entry (entry.Over unit) = known_over unit
 
--- what is kept of a unit while it runs
-abbrev pub running_of : UnitEntry → Option RunningUnit
-running_of (entry.Running unit) = Some unit.value
-running_of (entry.Over unit) = None
-
--- a unit's result, once it is over
-abbrev pub result_of : UnitEntry → Option Outcome
-result_of (entry.Running unit) = None
-result_of (entry.Over unit) = Some unit.result
-
 -- the outcome of a unit that is over, once it is decided for good
 abbrev pub outcome_over : OverUnit → Option Outcome
 outcome_over x = outcome_in (phase_at x.ending) x.verdict x.result

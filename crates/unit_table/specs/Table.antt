@@ -1,14 +1,13 @@
 -- What a table of units stands for.
-use Rattle.std.specs.Prelude.{ℕ, ◌+◌, ◌-◌, List, Bool, Option, Some, None, nat_lt, if◌then◌else◌, slice_get, vec_len, is_some, option_map}
+use Rattle.std.specs.Prelude.{ℕ, ◌+◌, ◌-◌, List, Bool, Option, Some, None, nat_lt, if◌then◌else◌, slice_get, vec_len}
 use Rattle.core_model.specs.World.{UnitNo, GrainId, Origin, Call, Outcome, Units}
 use Rattle.core_model.specs.declared.effects.Read.{Read}
 use Rattle.core_model.specs.declared.phases.Phase.{Phase}
 use Rattle.core_model.specs.declared.phases.Verdict.{Verdict}
 use Rattle.core_model.specs.Tests.{outcome_in}
-use Rattle.unit_table.specs.declared.entry.RunningUnit.{RunningUnit}
 use Rattle.unit_table.specs.declared.entry.UnitEntry.{UnitEntry}
 use Rattle.unit_table.specs.declared.table.UnitTable.{UnitTable}
-use Rattle.unit_table.specs.Known.{KnownUnit, unborn, known_entry, running_of, result_of}
+use Rattle.unit_table.specs.Known.{KnownUnit, unborn, known_entry}
 
 -- the unit's entry among these, whose first is the unit of that number
 abbrev pub entry_among : ℕ → List UnitEntry → UnitNo → Option UnitEntry
@@ -96,21 +95,3 @@ units_of t seen = record {
   wants = wants_in t;
   halt = t.halt;
 }
-
--- what is kept of an entry while its unit runs
-abbrev pub running_kept : Option UnitEntry → Option RunningUnit
-running_kept None = None
-running_kept (Some x) = running_of x
-
--- what is kept of a unit while it runs
-abbrev pub running_in : UnitTable → UnitNo → Option RunningUnit
-running_in t u = running_kept (entry_in t u)
-
--- the result that an entry keeps
-abbrev pub result_kept : Option UnitEntry → Option Outcome
-result_kept None = None
-result_kept (Some x) = result_of x
-
--- what is kept of a unit's result: none before it is over
-abbrev pub result_over : UnitTable → UnitNo → Option Outcome
-result_over t u = result_kept (entry_in t u)

@@ -1,9 +1,9 @@
-ghost use Rattle.std.specs.Prelude.{◌≡◌, ◌<◌, true, [], ◌∷◌, ◌++◌, is_some, vec_len, vec_capacity, IfOk, OnOk};
+ghost use Rattle.std.specs.Prelude.{◌≡◌, ◌<◌, true, false, [], ◌∷◌, ◌++◌, is_some, MatchOption, IfSome, vec_len, vec_capacity, IfOk, OnOk};
 ghost use Rattle.std.specs.Option.{option_copied};
 ghost use Rattle.core_model.specs.declared.phases.Phase.TheVariants as phases;
 ghost use Rattle.core_model.specs.Tests.{is_running, is_over, is_final, outcome_in};
 ghost use Rattle.unit_table.specs.Parts.{deps_after};
-ghost use Rattle.unit_table.specs.Known.{HasKidRoom, HasReadRoom, IsBlank, begun, known_running, known_entry, phase_at, outcome_over, outcome_of, running_of, result_of};
+ghost use Rattle.unit_table.specs.Known.{HasKidRoom, HasReadRoom, IsBlank, begun, known_running, known_entry, phase_at, outcome_over, outcome_of};
 
 use base_types::{Call, GrainId, List, Origin, Outcome, UnitNo};
 use core_model::{Phase, Read, Verdict};
@@ -185,7 +185,7 @@ impl OverUnit {
 impl UnitEntry {
     /// What is kept of it while it runs.
     pub fn running(&self) -> Option<&RunningUnit>
-        ensures { option_copied result ≡ running_of self.now }
+        ensures { MatchOption (option_copied result) (is_running (known_entry self.now).phase ≡ false) (λ kept. known_entry self.now ≡ known_running kept) }
     {
         match self {
             UnitEntry::Running(unit) => Some(unit.as_ref()),
@@ -215,7 +215,8 @@ impl UnitEntry {
 
     /// Its result, once it is over.
     pub fn result(&self) -> Option<&Outcome>
-        ensures { option_copied result ≡ result_of self.now }
+        ensures over { is_some (option_copied result) ≡ is_over (known_entry self.now).phase }
+        ensures result { IfSome (option_copied result) (λ kept. kept ≡ (known_entry self.now).result) }
     {
         match self {
             UnitEntry::Running(_) => None,

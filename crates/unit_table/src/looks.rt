@@ -1,7 +1,8 @@
-ghost use Rattle.std.specs.Prelude.{◌≡◌, ◌&&◌, not, is_some, true, IfOk};
+ghost use Rattle.std.specs.Prelude.{◌≡◌, is_some, true, false, MatchOption, IfSome, IfOk};
 ghost use Rattle.std.specs.Option.{option_copied};
 ghost use Rattle.core_model.specs.Tests.{is_running, is_over};
-ghost use Rattle.unit_table.specs.Table.{entry_in, phase_in, kids_in, reads_in, deps_in, verdict_in, wants_in, outcome_known, running_in, result_over};
+ghost use Rattle.unit_table.specs.Known.{known_running};
+ghost use Rattle.unit_table.specs.Table.{entry_in, known_in, phase_in, kids_in, reads_in, deps_in, verdict_in, result_in, wants_in, outcome_known};
 
 use crate::entry::{Ending, OverUnit, RunningUnit, UnitEntry};
 use crate::table::UnitTable;
@@ -74,9 +75,9 @@ impl UnitTable {
         }
     }
 
-    /// What is kept of a unit while it runs: `None` exactly where it doesn't.
+    /// What is kept of a unit while it runs, which is all that is known of it: `None` exactly where it doesn't run.
     pub fn running(&self, unit: UnitNo) -> Option<&RunningUnit>
-        ensures { option_copied result ≡ running_in self.now unit }
+        ensures { MatchOption (option_copied result) (is_running (phase_in self.now unit) ≡ false) (λ kept. known_in self.now unit ≡ known_running kept) }
     {
         match self.entry(unit) {
             Some(entry) => entry.running(),
@@ -127,9 +128,10 @@ impl UnitTable {
         }
     }
 
-    /// The result of a unit that is over: `None` exactly where it isn't.
+    /// The result of a unit that is over: `None` exactly where it isn't over.
     pub fn result(&self, unit: UnitNo) -> Option<&Outcome>
-        ensures { option_copied result ≡ result_over self.now unit }
+        ensures over { is_some (option_copied result) ≡ is_over (phase_in self.now unit) }
+        ensures result { IfSome (option_copied result) (λ kept. kept ≡ result_in self.now unit) }
     {
         match self.entry(unit) {
             Some(entry) => entry.result(),
