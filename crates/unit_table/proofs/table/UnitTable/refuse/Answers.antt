@@ -3,8 +3,9 @@ use Rattle.base_types.specs.declared.calls.Outcome.TheVariants as outcomes
 use Rattle.core_model.specs.declared.phases.Phase.TheVariants as phases
 use Rattle.core_model.specs.declared.phases.Verdict.TheVariants as verdicts
 use Rattle.unit_table.specs.Known.{KnownUnit}
-use Rattle.unit_table.specs.Table.{entry_in, known_in}
-use Rattle.unit_table.proofs.Tables.{over-units, attr-put, attr-kept, running-open}
+use Rattle.unit_table.specs.Table.{known_in}
+use Rattle.unit_table.proofs.Tables.{over-units, attr-put, attr-kept}
+use Rattle.unit_table.proofs.Running.{running-resultless}
 use Rattle.unit_table.proofs.table.UnitTable.refuse.Goals as goal
 
 pub returns-clause-units : goal.returns-clause-units
@@ -23,4 +24,4 @@ returns-clause-result c =
     let t = c.args.self.now in
     attr-kept (λ (k : KnownUnit). k.result) (known_in t) (known_in c.close.new.self) c.args.unit
     (record (known_in t c.args.unit) { phase = phases.Refused; verdict = verdicts.Aborted; result = outcomes.Aborted }) c.close.ensures.known
-    (sym (running-open (entry_in t c.args.unit) c.requires).1)
+    (sym (running-resultless t c.args.unit c.requires))
