@@ -1,5 +1,5 @@
 -- What is known of a unit that runs.
-use Rattle.std.proofs.Common.{◌≡◌, Bool, true, refl, Option, Some, None}
+use Rattle.std.proofs.Common.{◌≡◌, true, refl, Option, Some, None}
 use Rattle.base_types.specs.declared.calls.Outcome.TheVariants.{Aborted as aborted}
 use Rattle.core_model.specs.World.{UnitNo}
 use Rattle.core_model.specs.Tests.{is_running}

@@ -1,21 +1,16 @@
 -- One unit of a table changes.
-use Rattle.std.proofs.Common.{◌≡◌, ℕ, ◌+◌, ◌-◌, ◌<◌, List, [], ◌∷◌, ◌++◌, length, set, get_or, Bool, true, false, ◌⊎◌, inl, inr, refl, sym, ap, ◌∙◌, arith, if◌then◌else◌, Option, Some, None, is_some, vec_len}
+use Rattle.std.proofs.Common.{◌≡◌, ℕ, ◌+◌, ◌<◌, [], ◌∷◌, ◌++◌, length, set, get_or, Bool, true, refl, sym, ap, ◌∙◌, arith, if◌then◌else◌, Option, Some, vec_len}
 use Rattle.std.proofs.lemmas.Option.{slice_get_read, slice_get_past}
-use Rattle.core_model.specs.World.{UnitNo, GrainId, Origin, Call, Outcome, put}
+use Rattle.core_model.specs.World.{UnitNo, Outcome, put}
 use Rattle.core_model.specs.declared.effects.Read.{Read}
 use Rattle.core_model.specs.declared.phases.Phase.{Phase}
 use Rattle.core_model.specs.declared.phases.Verdict.{Verdict}
 use Rattle.core_model.specs.Changes.{without_want, without_wants}
-use Rattle.unit_table.specs.declared.entry.RunningUnit.{RunningUnit}
-use Rattle.unit_table.specs.declared.entry.OverUnit.{OverUnit}
-use Rattle.unit_table.specs.declared.entry.Ending.{Ending}
-use Rattle.unit_table.specs.declared.entry.Ending.TheVariants as ending
 use Rattle.unit_table.specs.declared.entry.UnitEntry.{UnitEntry}
-use Rattle.unit_table.specs.declared.entry.UnitEntry.TheVariants as entry
 use Rattle.unit_table.specs.declared.table.UnitTable.{UnitTable}
-use Rattle.unit_table.specs.Known.{KnownUnit, unborn, known_entry, phase_at}
+use Rattle.unit_table.specs.Known.{KnownUnit, unborn, known_entry}
 use Rattle.unit_table.specs.Parts.{units_read, units_over, deps_after}
-use Rattle.unit_table.specs.Table.{entry_in, entry_among, known_of, known_in, base_of, next_in, phase_in, verdict_in, result_in, units_of, wants_in}
+use Rattle.unit_table.specs.Table.{entry_in, entry_among, known_of, known_in, next_in, units_of, wants_in}
 use Rattle.unit_table.specs.Rooms.{SameUnits, SameRest}
 use Rattle.unit_table.proofs.Entries.{put-of, put-kept, get-set_same, entry-place, set-entries, push-entries}
 

@@ -25,11 +25,7 @@ fn begin_line(alloc: Global, table: &mut UnitTable) -> Result<UnitNo, AllocError
     Ok(table.begin(origin, call(alloc), false))
 }
 
-fn begin_child(
-    alloc: Global,
-    table: &mut UnitTable,
-    parent: UnitNo,
-) -> Result<UnitNo, AllocError> {
+fn begin_child(alloc: Global, table: &mut UnitTable, parent: UnitNo) -> Result<UnitNo, AllocError> {
     let origin = Origin::Child {
         parent,
         index: 0,

@@ -1,4 +1,4 @@
-use Rattle.std.proofs.Common.{refl, sym}
+use Rattle.std.proofs.Common.{sym}
 use Rattle.core_model.specs.declared.phases.Phase.TheVariants as phases
 use Rattle.core_model.specs.declared.phases.Verdict.TheVariants as verdicts
 use Rattle.unit_table.specs.Known.{KnownUnit}
@@ -14,13 +14,9 @@ returns-clause-units c =
 
 pub returns-clause-verdict : goal.returns-clause-verdict
 returns-clause-verdict c =
-    let t = c.args.self.now in
-    attr-kept (λ (k : KnownUnit). k.verdict) (known_in t) (known_in c.close.new.self) c.args.unit
-    (record (known_in t c.args.unit) { phase = phases.Ended; verdict = verdicts.Open; result = c.args.outcome }) c.close.ensures.known
-    (sym (running-open t c.args.unit c.requires))
+    attr-kept (λ (k : KnownUnit). k.verdict) (known_in c.args.self.now) (known_in c.close.new.self) c.args.unit _ c.close.ensures.known
+    (sym (running-open c.args.self.now c.args.unit c.requires))
 
 pub returns-clause-result : goal.returns-clause-result
 returns-clause-result c =
-    let t = c.args.self.now in
-    attr-put (λ (k : KnownUnit). k.result) (known_in t) (known_in c.close.new.self) c.args.unit
-    (record (known_in t c.args.unit) { phase = phases.Ended; verdict = verdicts.Open; result = c.args.outcome }) c.close.ensures.known
+    attr-put (λ (k : KnownUnit). k.result) (known_in c.args.self.now) (known_in c.close.new.self) c.args.unit _ c.close.ensures.known
