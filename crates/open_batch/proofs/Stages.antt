@@ -2,7 +2,7 @@
 use Rattle.std.proofs.Common.{◌≡◌, ℕ, zero, suc, ◌+◌, ◌<◌, ◌≤◌, List, [], ◌∷◌, ◌++◌, Bool, true, false, ◌&&◌, ◌||◌, not, refl, sym, ap, ◌∙◌, filter, map, length, take, Some, None, cond, arith, nat_lt}
 use Rattle.std.specs.Prelude.{find, slice_get}
 use Rattle.std.specs.List.{list_any as any, list_all as all}
-use Rattle.std.proofs.lemmas.Bool.{cases_Bool}
+use Rattle.std.proofs.lemmas.Bool.{cases_Bool, lt-ltb}
 use Rattle.std.proofs.lemmas.List.Folds.{list_any-append}
 use Rattle.base_types.specs.declared.calls.UnitNo.{UnitNo}
 use Rattle.base_types.specs.declared.calls.GrainId.{GrainId}
@@ -130,7 +130,7 @@ commits-some [] = refl
 commits-some (d ∷ ds) = by_test (is_commit d) (commits-some ds)
   where
     by_test : (t : Bool) → nat_lt 0 (length (filter is_commit ds)) ≡ any is_commit ds → nat_lt 0 (length (cond t (d ∷ filter is_commit ds) (filter is_commit ds))) ≡ (t || any is_commit ds)
-    by_test true rest = ltb-intro 0 (length (d ∷ filter is_commit ds)) (omega arith)
+    by_test true rest = lt-ltb 0 (length (d ∷ filter is_commit ds)) (omega arith)
     by_test false rest = rest
 
 no_more : (g : GrainId) (gs : List GrainId) → length (without_grain g gs) ≤ length gs

@@ -15,6 +15,10 @@ next-taken xs i x l e = take_more xs i x l ∙ ap (λ y. take i xs ++ y ∷ []) 
 pub next-left : {A : Type 0} (xs : List A) (i j : ℕ) (x : A) → j + 1 ≡ i → j < length xs → x ≡ get_or xs j x → drop j xs ≡ x ∷ drop i xs
 next-left xs i j x n l e = drop_more xs j x l ∙ (λ k. sym e k ∷ drop (n k) xs)
 
+-- the same, by the item that is read there
+pub next-read : {A : Type 0} (xs : List A) (i j : ℕ) (d : A) → j + 1 ≡ i → j < length xs → drop j xs ≡ get_or xs j d ∷ drop i xs
+next-read xs i j d n l = drop_more xs j d l ∙ (λ k. get_or xs j d ∷ drop (n k) xs)
+
 -- what is made of the items so far, with that of the next
 pub flat-step : {A B : Type 0} (f : A → List B) (xs : List A) (i : ℕ) (x : A) → i < length xs → x ≡ get_or xs i x → flat_map f (take i xs) ++ f x ≡ flat_map f (take (i + 1) xs)
 flat-step f xs i x l e =
