@@ -1,5 +1,5 @@
 -- What a batch in code shows of the model's, from its take to its decisions.
-use Rattle.std.proofs.Common.{◌≡◌, ℕ, zero, suc, ◌+◌, ◌<◌, ◌≤◌, List, [], ◌∷◌, ◌++◌, Bool, true, false, ◌&&◌, ◌||◌, not, refl, sym, ap, ◌∙◌, filter, map, length, take, Some, None, cond, arith, nat_lt}
+use Rattle.std.proofs.Common.{◌≡◌, ℕ, zero, suc, ◌+◌, ◌<◌, ◌≤◌, List, [], ◌∷◌, ◌++◌, Bool, true, false, ◌&&◌, ◌||◌, not, inl, inr, refl, sym, ap, ◌∙◌, filter, map, length, take, Some, None, cond, arith, nat_lt}
 use Rattle.std.specs.Prelude.{find, slice_get}
 use Rattle.std.specs.List.{list_any as any, list_all as all}
 use Rattle.std.proofs.lemmas.Bool.{cases_Bool, lt-ltb}

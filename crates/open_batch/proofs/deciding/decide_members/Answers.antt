@@ -1,4 +1,5 @@
-use Rattle.std.proofs.Common.{◌≡◌, ◌∙◌, ap, map, filter, length, length-map}
+use Rattle.std.proofs.Common.{◌≡◌, ◌∙◌, ap, map, filter, length}
+use Rattle.std.proofs.lemmas.List.{length-map}
 use Rattle.base_types.specs.declared.calls.UnitNo.{UnitNo}
 use Rattle.cell_model.specs.Sources.{is_among}
 use Rattle.cell_model.specs.Decisions.{decided}
@@ -14,7 +15,7 @@ decide_batch-requires c =
     let votes = c.args.votes.now in
     let members = c.args.members.now in
     let prepared : c.from_vec.result ≡ map (prepared_by votes) members = c.from_vec.ensures ∙ c.name_failed.ensures ∙ ap (named votes members) c.requires.prepared ∙ named-unprepared votes members in
-    ap length prepared ∙ length-map (prepared_by votes) members ∙ c.requires.room
+    ap length prepared ∙ length-map members (prepared_by votes) ∙ c.requires.room
 
 pub returns : goal.returns
 returns c =
