@@ -1,0 +1,4 @@
+pub mod Parts
+mod Entries
+mod Tables
+mod Beginning
