@@ -91,6 +91,7 @@ any-filter q g (x ∷ xs) =
         any (same_grain g) (cond t (x ∷ filter q xs) (filter q xs)) ≡ ((same_grain g x || any (same_grain g) xs) && q g)
     here true h e rest = ap (λ b. b || any (same_grain g) (filter q xs)) e ∙ h ∙ sym (ap (λ b. (b || any (same_grain g) xs) && q g) e)
     here false h e rest = rest ∙ ap (λ b. any (same_grain g) xs && b) (sym h) ∙ sym (and_false (any (same_grain g) xs)) ∙ h ∙ sym (ap (λ b. (b || any (same_grain g) xs) && q g) e)
+
     past : (t : Bool) → same_grain g x ≡ false → any (same_grain g) (filter q xs) ≡ (any (same_grain g) xs && q g) →
         any (same_grain g) (cond t (x ∷ filter q xs) (filter q xs)) ≡ ((same_grain g x || any (same_grain g) xs) && q g)
     past true e rest = ap (λ b. b || any (same_grain g) (filter q xs)) e ∙ rest ∙ sym (ap (λ b. (b || any (same_grain g) xs) && q g) e)

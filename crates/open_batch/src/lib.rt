@@ -11,3 +11,6 @@ mod taking;
 
 pub use batch::OpenBatch;
 pub use members::FinishedUnit;
+
+#[cfg(test)]
+mod tests;
