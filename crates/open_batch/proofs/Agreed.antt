@@ -1,6 +1,5 @@
 -- Decisions rest on what is said of the dependencies alone.
-use Rattle.std.proofs.Common.{◌≡◌, List, [], ◌∷◌, ◌++◌, Bool, true, false, ◌&&◌, ◌||◌, not, inl, inr, refl, sym, ap, ◌∙◌, subst, filter, map, cond}
-use Rattle.std.specs.List.{list_any as any, flat_map}
+use Rattle.std.proofs.Common.{◌≡◌, List, [], ◌∷◌, Bool, true, false, ◌&&◌, ◌||◌, not, inl, inr, refl, sym, ap, ◌∙◌, subst, filter, map, cond}
 use Rattle.std.proofs.lemmas.Bool.{cases_Bool}
 use Rattle.base_types.specs.declared.calls.GrainId.{GrainId}
 use Rattle.cell_model.specs.Units.{UnitNo, Member, same_unit, oldest}

@@ -1,5 +1,5 @@
 -- What a batch in code decides and shows is what the model does.
-use Rattle.std.proofs.Common.{◌≡◌, ℕ, List, [], ◌∷◌, ◌++◌, Bool, true, false, refl, sym, ap, ◌∙◌, zero, suc, filter, map, zip, take, drop, length, Some, cond}
+use Rattle.std.proofs.Common.{◌≡◌, ℕ, List, [], ◌∷◌, ◌++◌, Bool, true, false, refl, sym, ap, ◌∙◌, zero, suc, filter, map, zip, take, drop, Some, cond}
 use Rattle.std.specs.Prelude.{if◌then◌else◌}
 use Rattle.std.specs.List.{list_any as any, flat_map}
 use Rattle.std.proofs.lemmas.List.{take-map}

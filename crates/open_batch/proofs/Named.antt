@@ -1,5 +1,5 @@
 -- One unit after the other is named.
-use Rattle.std.proofs.Common.{◌≡◌, ℕ, zero, suc, ◌+◌, ◌<◌, ◌≤◌, List, [], ◌∷◌, ◌++◌, length, get_or, take, drop, set, map, Bool, Option, refl, sym, ap, ◌∙◌, arith, add-one}
+use Rattle.std.proofs.Common.{◌≡◌, ℕ, zero, suc, ◌+◌, ◌<◌, ◌≤◌, List, [], ◌∷◌, ◌++◌, length, get_or, take, drop, set, map, Bool, refl, ap, ◌∙◌, arith, add-one}
 use Rattle.base_types.specs.declared.calls.GrainId.{GrainId}
 use Rattle.cell_model.specs.declared.outcomes.Prepared.{Prepared}
 use Rattle.core_model.specs.Tests.{failed_in}

@@ -1,5 +1,5 @@
 -- What a batch in code shows of the model's, from its take to its decisions.
-use Rattle.std.proofs.Common.{◌≡◌, ℕ, zero, suc, ◌+◌, ◌<◌, ◌≤◌, List, [], ◌∷◌, ◌++◌, Bool, true, false, ◌&&◌, ◌||◌, not, inl, inr, refl, sym, ap, ◌∙◌, filter, map, length, take, Some, None, cond, arith, nat_lt}
+use Rattle.std.proofs.Common.{◌≡◌, ℕ, suc, ◌+◌, ◌<◌, ◌≤◌, List, [], ◌∷◌, ◌++◌, Bool, true, false, ◌&&◌, ◌||◌, not, inl, inr, refl, sym, ap, ◌∙◌, filter, length, take, Some, cond, arith, nat_lt}
 use Rattle.std.specs.Prelude.{find, slice_get}
 use Rattle.std.specs.List.{list_any as any, list_all as all}
 use Rattle.std.proofs.lemmas.Bool.{cases_Bool, lt-ltb}
@@ -16,8 +16,8 @@ use Rattle.core_model.specs.Tests.{waiting, planned, is_bad, is_vote_on, is_plan
 use Rattle.core_model.specs.Changes.{new_batch}
 use Rattle.core_model.specs.Settler.{first_unvoted}
 use Rattle.open_batch.specs.declared.members.FinishedUnit.{FinishedUnit}
-use Rattle.open_batch.specs.Taken.{TakenBatch, IsOf, first_batch, with_vote, with_decisions, without_grain}
-use Rattle.open_batch.specs.Shown.{AreUnits, ShowsBatch, unvoted_of}
+use Rattle.open_batch.specs.Taken.{TakenBatch, first_batch, with_vote, with_decisions, without_grain}
+use Rattle.open_batch.specs.Shown.{AreUnits, ShowsBatch}
 use Rattle.open_batch.proofs.Linked.{plan-link}
 
 filter-all : {A : Type 0} (xs : List A) → xs ≡ filter (λ x. true) xs

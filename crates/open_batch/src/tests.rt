@@ -11,6 +11,9 @@ use std::alloc::{AllocError, Global};
 use std::test::Fail;
 use unit_table::UnitTable;
 
+// A unit's number, the key of the grain that it wrote, and its sources.
+type Row<'a> = (u64, u32, &'a [u64]);
+
 fn grain(key: u32) -> GrainId {
     GrainId { kind: 1, key }
 }
@@ -48,6 +51,14 @@ fn finished(
         result: Outcome::Aborted,
     };
     Ok(FinishedUnit { effect, deps })
+}
+
+fn members_of(alloc: Global, rows: &[Row]) -> Result<Vec<FinishedUnit>, AllocError> {
+    let mut members = Vec::new(alloc);
+    for (unit, key, sources) in rows {
+        members.push(finished(alloc, *unit, *key, sources)?)?;
+    }
+    Ok(members)
 }
 
 // The first unit, 1, is over, with this verdict.
@@ -102,50 +113,54 @@ fn decided(alloc: Global, members: &[FinishedUnit], units: &UnitTable) -> Result
 fn a_failed_vote_takes_its_dependent_along(rt: HostRuntime) -> Result<(), Fail> {
     let alloc = rt.alloc();
     let units = table_of(alloc, Verdict::Aborted)?;
-    let mut members = Vec::new(alloc);
-    members.push(finished(alloc, 11, 7, &[])?)?;
-    members.push(finished(alloc, 12, 9, &[11])?)?;
-    members.push(finished(alloc, 13, 9, &[])?)?;
-    members.push(finished(alloc, 14, 8, &[1])?)?;
+    let members = members_of(alloc, &[(11, 7, &[]), (12, 9, &[11]), (13, 9, &[])])?;
     let batch = decided(alloc, &members, &units)?;
     let want = [
         Decision::Vote { grain: grain(7) },
         Decision::Dependency { on: UnitNo(11) },
         Decision::Commit,
-        Decision::Dependency { on: UnitNo(1) },
     ];
-    match batch.decisions() {
-        Some(found) => assert!(rt; found == want.as_slice()),
-        None => assert!(rt; false, "the batch isn't decided"),
-    }
+    let found = batch.decisions().ok_or("the batch isn't decided")?;
+    assert!(rt; found == want.as_slice());
     assert_eq!(rt; batch.commits(), 1);
-    assert_eq!(rt; batch.versions(&members, &units, grain(9))?.len(), 2);
-    assert_eq!(rt; batch.versions(&members, &units, grain(8))?.len(), 0);
-    let view = batch.view(&members, &units)?;
-    assert_eq!(rt; view.batch, 5);
-    assert_eq!(rt; view.effects.len(), 4);
-    assert!(rt; view.aborted.as_slice() == [UnitNo(1)].as_slice());
-    assert!(rt; view.votes.as_slice() == [(grain(7), false), (grain(9), true)].as_slice());
     Ok(())
+}
+
+#[test]
+fn a_unit_with_an_aborted_source_is_left_out(rt: HostRuntime) -> Result<(), Fail> {
+    let alloc = rt.alloc();
+    let units = table_of(alloc, Verdict::Aborted)?;
+    let members = members_of(alloc, &[(11, 8, &[1]), (12, 9, &[]), (13, 7, &[])])?;
+    let batch = decided(alloc, &members, &units)?;
+    let view = batch.view(&members, &units)?;
+    assert!(rt; view.votes.as_slice() == [(grain(7), false), (grain(9), true)].as_slice());
+    assert!(rt; view.aborted.as_slice() == [UnitNo(1)].as_slice());
+    assert_eq!(rt; view.effects.len(), 3);
+    assert_eq!(rt; batch.versions(&members, &units, grain(8))?.len(), 0);
+    assert_eq!(rt; batch.versions(&members, &units, grain(9))?.len(), 1);
+    Ok(())
+}
+
+// Unit 1 wrote the grain 9, unit 2 the grain 7, and each later one read from unit 1 and wrote the grain 9.
+fn many(alloc: Global) -> Result<Vec<FinishedUnit>, AllocError> {
+    let mut members = members_of(alloc, &[(1, 9, &[]), (2, 7, &[])])?;
+    for unit in 3..=64 {
+        members.push(finished(alloc, unit, 9, &[1])?)?;
+    }
+    Ok(members)
 }
 
 #[test]
 fn a_batch_has_64_units(rt: HostRuntime) -> Result<(), Fail> {
     let alloc = rt.alloc();
     let units = table_of(alloc, Verdict::Chosen)?;
-    let mut members = Vec::new(alloc);
-    members.push(finished(alloc, 1, 9, &[])?)?;
-    members.push(finished(alloc, 2, 7, &[])?)?;
-    for unit in 3..=64 {
-        members.push(finished(alloc, unit, 9, &[1])?)?;
-    }
+    let members = many(alloc)?;
     let batch = decided(alloc, &members, &units)?;
-    assert_eq!(rt; batch.number(), 5);
-    assert_eq!(rt; batch.size(), 64);
-    assert_eq!(rt; batch.commits(), 63);
-    assert!(rt; !batch.is_open());
-    assert!(rt; batch.is_voted());
-    assert!(rt; !batch.may_vote(grain(9)));
+    assert_eq!(rt;
+        (batch.number(), batch.size(), batch.commits()),
+        (5, 64, 63)
+    );
+    assert!(rt; batch.is_voted() && !batch.is_open());
     assert_eq!(rt; batch.to_commit(&members, &units)?.len(), 1);
     Ok(())
 }

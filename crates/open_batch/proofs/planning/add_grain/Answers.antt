@@ -1,4 +1,4 @@
-use Rattle.std.proofs.Common.{◌≡◌, ◌∙◌, sym, ap, position, Some, None, false}
+use Rattle.std.proofs.Common.{◌≡◌, ◌∙◌, sym, ap, position, Some, None}
 use Rattle.base_types.specs.declared.calls.GrainId.{GrainId}
 use Rattle.cell_model.specs.Units.{same_grain}
 use Rattle.open_batch.proofs.Planned.{reaches, comes-last, comes-at, is-there}
