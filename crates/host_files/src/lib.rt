@@ -16,6 +16,3 @@ mod table;
 
 pub use disk_file::DiskFile;
 pub use host::FolderHost;
-
-#[cfg(test)]
-mod tests;

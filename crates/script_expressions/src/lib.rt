@@ -10,6 +10,3 @@ mod expressions;
 mod operators;
 
 pub use cursor::Cursor;
-
-#[cfg(test)]
-mod tests;

@@ -13,6 +13,3 @@ mod tokens;
 pub use faults::ParseFault;
 pub use lexing::{Lexed, tokens_of};
 pub use tokens::{Spanned, Symbol, Token, Word};
-
-#[cfg(test)]
-mod tests;

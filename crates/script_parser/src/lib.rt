@@ -11,6 +11,3 @@ mod types;
 
 pub use programs::{DEPTH_LIMIT, TEXT_LIMIT, parse};
 pub use script_lexer::ParseFault;
-
-#[cfg(test)]
-mod tests;

@@ -7,6 +7,10 @@ mod answers;
 #[cfg(test)]
 mod bank;
 #[cfg(test)]
+mod cursors;
+#[cfg(test)]
+mod examples;
+#[cfg(test)]
 mod faults;
 #[cfg(test)]
 mod hostile;
@@ -20,5 +24,7 @@ mod printing;
 mod programs;
 #[cfg(test)]
 mod refusals;
+#[cfg(test)]
+mod tokens;
 #[cfg(test)]
 mod trees;

@@ -1,4 +1,4 @@
-use crate::Cursor;
+use script_expressions::Cursor;
 use script_lexer::{ParseFault, Symbol, tokens_of};
 use script_tree::{BinaryOp, Expr};
 use std::test::Fail;

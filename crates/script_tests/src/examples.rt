@@ -1,4 +1,4 @@
-use crate::{ParseFault, TEXT_LIMIT, parse};
+use script_parser::{ParseFault, TEXT_LIMIT, parse};
 use std::alloc::Global;
 use std::test::Fail;
 
@@ -9,24 +9,22 @@ fn fault_of(alloc: Global, text: &[u8]) -> Option<ParseFault> {
     parse(alloc, text).err()
 }
 
-fn unexpected(at: u32) -> Option<ParseFault> {
-    Some(ParseFault::Unexpected { at })
-}
-
-fn bad(at: u32) -> Option<ParseFault> {
-    Some(ParseFault::BadToken { at })
-}
+// A text, and its first fault.
+const FAULTS: &[(&[u8], ParseFault, &str)] = &[
+    (b"type a {", ParseFault::Unexpected { at: 8 }, "no end"),
+    (b"type A", ParseFault::BadToken { at: 5 }, "a capital"),
+    (
+        b"type a { } x \xff",
+        ParseFault::Unexpected { at: 11 },
+        "an earlier token",
+    ),
+];
 
 #[test]
 fn the_first_wrong_place_is_named(rt: HostRuntime) -> Result<(), Fail> {
-    let alloc = rt.alloc();
-    assert_eq!(rt; fault_of(alloc, b"type a {"), unexpected(8), "no end");
-    assert_eq!(rt; fault_of(alloc, b"type A"), bad(5), "a capital");
-    assert_eq!(rt;
-        fault_of(alloc, b"type a { } x \xff"),
-        unexpected(11),
-        "an earlier token"
-    );
+    for (text, fault, what) in FAULTS {
+        assert_eq!(rt; fault_of(rt.alloc(), text), Some(*fault), "{what}");
+    }
     Ok(())
 }
 
