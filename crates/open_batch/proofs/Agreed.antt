@@ -5,7 +5,7 @@ use Rattle.base_types.specs.declared.calls.GrainId.{GrainId}
 use Rattle.cell_model.specs.Units.{UnitNo, Member, same_unit, oldest}
 use Rattle.cell_model.specs.Sources.{is_among}
 use Rattle.cell_model.specs.declared.outcomes.Prepared.{Prepared}
-use Rattle.cell_model.specs.Decisions.{is_commit, by_cause, decision, decided, and_itself}
+use Rattle.cell_model.specs.Decisions.{is_commit, by_cause, decision, all_decided, and_itself}
 use Rattle.cell_model.proofs.Units.{same_unit-is, same_unit-not, any-member, any-none, filter-member, filter-stays, Member-left, Member-right}
 use Rattle.open_batch.specs.declared.members.FinishedUnit.{FinishedUnit}
 use Rattle.open_batch.specs.Members.{sources_in, sources_of, prepared_by, decisions_by}
@@ -20,13 +20,13 @@ decision-agree : (d e : UnitNo → Bool) (p : Prepared) → ((x : UnitNo) → Me
 decision-agree d e p h = ap (λ ys. by_cause p.failed (oldest ys)) (filter-agree d e p.deps h)
 
 -- two tests that say the same of each dependency of a batch decide it alike
-decided-agree : (d e : UnitNo → Bool) (ps : List Prepared) → ((p : Prepared) → Member p ps → (x : UnitNo) → Member x p.deps → d x ≡ e x) → decided d ps ≡ decided e ps
+decided-agree : (d e : UnitNo → Bool) (ps : List Prepared) → ((p : Prepared) → Member p ps → (x : UnitNo) → Member x p.deps → d x ≡ e x) → all_decided d ps ≡ all_decided e ps
 decided-agree d e [] h = refl
 decided-agree d e (p ∷ ps) h =
     let one = decision-agree d e p (h p (inl refl)) in
     let rest = decided-agree (and_itself d p) (and_itself e p) ps (λ q m x k.
     (ap (λ c. (same_unit x p.unit && not (is_commit c)) || d x) one ∙ ap (λ b. (same_unit x p.unit && not (is_commit (decision e p))) || b) (h q (inr m) x k))) in
-    ap (λ c. c ∷ decided (and_itself d p) ps) one ∙ ap (λ cs. decision e p ∷ cs) rest
+    ap (λ c. c ∷ all_decided (and_itself d p) ps) one ∙ ap (λ cs. decision e p ∷ cs) rest
 
 -- of a list's units the bad ones are among those that are kept
 among-kept : (bad : UnitNo → Bool) (xs : List UnitNo) (d : UnitNo) → Member d xs → is_among (filter bad xs) d ≡ bad d
@@ -49,7 +49,7 @@ source-in votes (x ∷ ms) p d (inl e) k = Member-left d (sources_in x) (sources
 source-in votes (x ∷ ms) p d (inr m) k = Member-right d (sources_in x) (sources_of ms) (source-in votes ms p d m k)
 
 -- the bad sources alone are enough to decide
-pub decides : (bad : UnitNo → Bool) (votes : List (GrainId × Bool)) (ms : List FinishedUnit) → decided (is_among (filter bad (sources_of ms))) (map (prepared_by votes) ms) ≡ decisions_by bad votes ms
+pub decides : (bad : UnitNo → Bool) (votes : List (GrainId × Bool)) (ms : List FinishedUnit) → all_decided (is_among (filter bad (sources_of ms))) (map (prepared_by votes) ms) ≡ decisions_by bad votes ms
 decides bad votes ms =
     decided-agree (is_among (filter bad (sources_of ms))) bad (map (prepared_by votes) ms)
     (λ p m d k. among-kept bad (sources_of ms) d (source-in votes ms p d m k))

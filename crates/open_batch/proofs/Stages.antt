@@ -11,7 +11,7 @@ use Rattle.cell_model.specs.Units.{same_grain}
 use Rattle.cell_model.specs.Decisions.{is_commit}
 use Rattle.cell_model.proofs.Units.{same_grain-true}
 use Rattle.core_model.specs.declared.phases.Verdict.{Verdict}
-use Rattle.core_model.specs.World.{Batch, World}
+use Rattle.core_model.specs.CoreState.{Batch, CoreState}
 use Rattle.core_model.specs.Tests.{waiting, planned, is_bad, is_vote_on, is_planned, is_voted, is_empty}
 use Rattle.core_model.specs.Changes.{new_batch}
 use Rattle.core_model.specs.Settler.{first_unvoted}
@@ -25,7 +25,7 @@ filter-all [] = refl
 filter-all (x ∷ xs) = ap (λ t. x ∷ t) (filter-all xs)
 
 -- a batch that was just taken shows the model's
-pub shows-taken : (v : UnitNo → Verdict) (number size : ℕ) (ms : List FinishedUnit) (w : World) → w.manager.verdict ≡ v → number ≡ w.manager.batches + 1 → length ms ≡ size → AreUnits ms w (take size (waiting w)) → ShowsBatch (first_batch number (λ u. is_bad (v u)) ms) ms (new_batch w size)
+pub shows-taken : (v : UnitNo → Verdict) (number size : ℕ) (ms : List FinishedUnit) (w : CoreState) → w.manager.verdict ≡ v → number ≡ w.manager.batches + 1 → length ms ≡ size → AreUnits ms w (take size (waiting w)) → ShowsBatch (first_batch number (λ u. is_bad (v u)) ms) ms (new_batch w size)
 shows-taken v number size ms w e n l s = record {
   number = n;
   size = l;

@@ -6,10 +6,10 @@ use Rattle.base_types.specs.declared.calls.GrainId.{GrainId}
 use Rattle.base_types.specs.declared.stores.Version.{Version}
 use Rattle.cell_model.specs.declared.outcomes.Prepared.{Prepared}
 use Rattle.cell_model.specs.declared.outcomes.Decision.{Decision}
-use Rattle.cell_model.specs.Decisions.{decided}
+use Rattle.cell_model.specs.Decisions.{all_decided}
 use Rattle.core_model.specs.declared.effects.Effect.{Effect}
-use Rattle.core_model.specs.World.{Write}
-use Rattle.core_model.specs.Tests.{written, failed_in, with_grain, grains_of}
+use Rattle.core_model.specs.CoreState.{Write}
+use Rattle.core_model.specs.Tests.{state_written, failed_in, with_grain, grains_of}
 use Rattle.core_model.specs.Answers.{as_set}
 use Rattle.core_model.specs.Settler.{version_of}
 use Rattle.open_batch.specs.declared.members.FinishedUnit.{FinishedUnit}
@@ -63,11 +63,11 @@ named votes (m ∷ ms) (p ∷ ps) = with_failed (failed_in votes m.effect.writes
 
 -- what becomes of each unit, by these votes
 abbrev pub decisions_by : (UnitNo → Bool) → List (GrainId × Bool) → List FinishedUnit → List Decision
-decisions_by bad votes ms = decided bad (map (prepared_by votes) ms)
+decisions_by bad votes ms = all_decided bad (map (prepared_by votes) ms)
 
 -- the unit's version of the grain, none where it didn't write it or is left out
 abbrev pub version_by : (UnitNo → Bool) → GrainId → FinishedUnit → List Version
-version_by bad g m = if is_left_out bad m then [] else version_of m.effect.unit (written g m.effect.writes)
+version_by bad g m = if is_left_out bad m then [] else version_of m.effect.unit (state_written g m.effect.writes)
 
 -- the versions of the grain that go to its file
 abbrev pub versions_by : (UnitNo → Bool) → GrainId → List FinishedUnit → List Version

@@ -3,7 +3,7 @@ use Rattle.std.specs.Prelude.{◌≡◌, List, not, map, filter}
 use Rattle.std.specs.List.{list_any as any}
 use Rattle.base_types.specs.declared.calls.UnitNo.{UnitNo}
 use Rattle.base_types.specs.declared.calls.GrainId.{GrainId}
-use Rattle.core_model.specs.World.{Batch, World}
+use Rattle.core_model.specs.CoreState.{Batch, CoreState}
 use Rattle.core_model.specs.Tests.{is_vote_on}
 use Rattle.core_model.specs.Effects.{effect_of}
 use Rattle.open_batch.specs.declared.members.FinishedUnit.{FinishedUnit}
@@ -24,6 +24,6 @@ pub record ShowsBatch (x : TakenBatch) (ms : List FinishedUnit) (b : Batch) : Ty
   pub decisions : x.decisions ≡ b.decisions
 
 -- these finished units are the state's, in this order
-pub record AreUnits (ms : List FinishedUnit) (w : World) (us : List UnitNo) : Type 0 where
+pub record AreUnits (ms : List FinishedUnit) (w : CoreState) (us : List UnitNo) : Type 0 where
   pub effects : map effect_in ms ≡ map (effect_of w) us
   pub sources : map sources_in ms ≡ map w.units.deps us

@@ -1,6 +1,6 @@
 ghost use Rattle.std.specs.Prelude.{◌≡◌, ◌||◌, map, position, IfOk, OnOk};
 ghost use Rattle.cell_model.specs.Units.{same_grain};
-ghost use Rattle.core_model.specs.World.{Write};
+ghost use Rattle.core_model.specs.CoreState.{Write};
 ghost use Rattle.core_model.specs.Tests.{is_bad, is_before, with_grain};
 ghost use Rattle.open_batch.specs.Members.{grains_by, plan_of, with_grains};
 ghost use Rattle.unit_table.specs.Table.{verdict_in};

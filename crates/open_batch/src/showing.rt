@@ -1,7 +1,7 @@
 ghost use Rattle.std.specs.Prelude.{◌≡◌, ◌++◌, map, filter, if◌then◌else◌, IfOk, OnOk};
 ghost use Rattle.std.specs.Option.{option_copied};
 ghost use Rattle.cell_model.specs.Sources.{with_source};
-ghost use Rattle.core_model.specs.Tests.{is_bad, is_good, is_aborted, written};
+ghost use Rattle.core_model.specs.Tests.{is_bad, is_good, is_aborted, state_written};
 ghost use Rattle.core_model.specs.Answers.{as_set};
 ghost use Rattle.open_batch.specs.Members.{effect_in, version_by, versions_by, kept_by, to_commit_by, aborted_by};
 ghost use Rattle.unit_table.specs.Table.{verdict_in};
@@ -55,7 +55,7 @@ fn add_version(
 
 // The state that these writes leave in the grain.
 fn written(writes: &[(GrainId, State)], grain: GrainId) -> Option<&State>
-    ensures { option_copied result ≡ written grain writes.now }
+    ensures { option_copied result ≡ state_written grain writes.now }
 {
     for write in writes {
         if is_same(write.0, grain) {

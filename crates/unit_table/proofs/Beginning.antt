@@ -1,7 +1,7 @@
 -- A unit begins: its parent has one child more, then it is known itself.
 use Rattle.std.proofs.Common.{◌≡◌, ℕ, ◌+◌, List, [], ◌∷◌, ◌++◌, Bool, refl, sym, ap, ◌∙◌, Option}
 use Rattle.base_types.specs.declared.calls.Origin.TheVariants.{Line, Child}
-use Rattle.core_model.specs.World.{UnitNo, Origin, Call, put}
+use Rattle.core_model.specs.CoreState.{UnitNo, Origin, Call, put}
 use Rattle.core_model.specs.Changes.{lines_with, kids_with}
 use Rattle.unit_table.specs.declared.table.UnitTable.{UnitTable}
 use Rattle.unit_table.specs.Known.{KnownUnit, unborn, begun, with_kid}

@@ -1,7 +1,7 @@
 -- What is known of a unit that runs.
 use Rattle.std.proofs.Common.{◌≡◌, true, refl, Option, Some, None}
 use Rattle.base_types.specs.declared.calls.Outcome.TheVariants.{Aborted as aborted}
-use Rattle.core_model.specs.World.{UnitNo}
+use Rattle.core_model.specs.CoreState.{UnitNo}
 use Rattle.core_model.specs.Tests.{is_running}
 use Rattle.core_model.specs.declared.phases.Verdict.TheVariants.{Open}
 use Rattle.unit_table.specs.declared.entry.Ending.{Ending}

@@ -1,7 +1,7 @@
 -- One unit of a table changes.
 use Rattle.std.proofs.Common.{◌≡◌, ℕ, ◌+◌, ◌<◌, [], ◌∷◌, ◌++◌, length, set, get_or, Bool, true, refl, sym, ap, ◌∙◌, arith, if◌then◌else◌, Option, Some, vec_len}
 use Rattle.std.proofs.lemmas.Option.{slice_get_read, slice_get_past}
-use Rattle.core_model.specs.World.{UnitNo, Outcome, put}
+use Rattle.core_model.specs.CoreState.{UnitNo, Outcome, put}
 use Rattle.core_model.specs.declared.effects.Read.{Read}
 use Rattle.core_model.specs.declared.phases.Phase.{Phase}
 use Rattle.core_model.specs.declared.phases.Verdict.{Verdict}

@@ -2,7 +2,7 @@
 use Rattle.std.specs.Prelude.{◌≡◌, ◌<◌, List, [], ◌∷◌, ◌++◌, Bool, false, Option, vec_len, vec_capacity}
 use Rattle.base_types.specs.declared.calls.Origin.TheVariants.{Line, Child}
 use Rattle.base_types.specs.declared.calls.Outcome.TheVariants.{Aborted as aborted}
-use Rattle.core_model.specs.World.{UnitNo, Origin, Call, Outcome, put}
+use Rattle.core_model.specs.CoreState.{UnitNo, Origin, Call, Outcome, put}
 use Rattle.core_model.specs.declared.effects.Read.{Read}
 use Rattle.core_model.specs.declared.phases.Phase.{Phase}
 use Rattle.core_model.specs.declared.phases.Verdict.{Verdict}

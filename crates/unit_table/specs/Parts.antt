@@ -1,7 +1,7 @@
 -- What each call does to the model's units: the part of an event's change that is about them.
 use Rattle.std.specs.Prelude.{ℕ, ◌+◌, List, [], ◌∷◌, ◌++◌, Bool, true, Option, if◌then◌else◌}
 use Rattle.cell_model.specs.Sources.{with_source}
-use Rattle.core_model.specs.World.{UnitNo, GrainId, Origin, Call, Units, put}
+use Rattle.core_model.specs.CoreState.{UnitNo, GrainId, Origin, Call, Units, put}
 use Rattle.core_model.specs.declared.effects.Read.{Read}
 use Rattle.core_model.specs.declared.phases.Phase.{Phase}
 use Rattle.core_model.specs.declared.phases.Phase.TheVariants.{Running}

@@ -3,7 +3,7 @@ use Rattle.std.specs.Prelude.{◌≡◌, ◌<◌, ◌^◌, ℕ, Option, Some, No
 use Rattle.std.specs.Global.{Global}
 use Rattle.base_types.specs.declared.calls.Origin.{Origin}
 use Rattle.base_types.specs.declared.calls.Origin.TheVariants.{Line, Child}
-use Rattle.core_model.specs.World.{UnitNo}
+use Rattle.core_model.specs.CoreState.{UnitNo}
 use Rattle.core_model.specs.Tests.{is_running}
 use Rattle.unit_table.specs.declared.entry.RunningUnit.{RunningUnit}
 use Rattle.unit_table.specs.declared.entry.UnitEntry.{UnitEntry}

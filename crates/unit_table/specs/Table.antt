@@ -1,6 +1,6 @@
 -- What a table of units stands for.
 use Rattle.std.specs.Prelude.{ℕ, ◌+◌, ◌-◌, List, Bool, Option, Some, None, nat_lt, if◌then◌else◌, slice_get, vec_len}
-use Rattle.core_model.specs.World.{UnitNo, GrainId, Origin, Call, Outcome, Units}
+use Rattle.core_model.specs.CoreState.{UnitNo, GrainId, Origin, Call, Outcome, Units}
 use Rattle.core_model.specs.declared.effects.Read.{Read}
 use Rattle.core_model.specs.declared.phases.Phase.{Phase}
 use Rattle.core_model.specs.declared.phases.Verdict.{Verdict}

@@ -1,6 +1,6 @@
 ghost use Rattle.std.specs.Prelude.{◌≡◌, ◌<◌, ◌+◌, ◌^◌, ◌∷◌, ◌++◌, [], ℕ, true, Option, vec_len, vec_capacity, OnOk};
 ghost use Rattle.base_types.specs.declared.calls.UnitNo.{UnitNo};
-ghost use Rattle.core_model.specs.World.{put};
+ghost use Rattle.core_model.specs.CoreState.{put};
 ghost use Rattle.core_model.specs.Tests.{is_running};
 ghost use Rattle.core_model.specs.Changes.{lines_with};
 ghost use Rattle.unit_table.specs.Known.{begun, with_kid};

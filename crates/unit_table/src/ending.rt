@@ -2,7 +2,7 @@ ghost use Rattle.std.specs.Prelude.{◌≡◌, ℕ, true, Option};
 ghost use Rattle.base_types.specs.declared.calls.UnitNo.{UnitNo};
 ghost use Rattle.core_model.specs.declared.phases.Phase.TheVariants as phases;
 ghost use Rattle.core_model.specs.declared.phases.Verdict.TheVariants as verdicts;
-ghost use Rattle.core_model.specs.World.{put};
+ghost use Rattle.core_model.specs.CoreState.{put};
 ghost use Rattle.core_model.specs.Changes.{without_wants};
 ghost use Rattle.core_model.specs.Tests.{is_running, is_over};
 ghost use Rattle.unit_table.specs.Known.{phase_at};

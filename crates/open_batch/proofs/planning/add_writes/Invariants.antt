@@ -1,5 +1,5 @@
 use Rattle.std.proofs.Common.{◌≡◌, ◌≤◌, drop, length, map}
-use Rattle.core_model.specs.World.{Write}
+use Rattle.core_model.specs.CoreState.{Write}
 use Rattle.open_batch.specs.Members.{with_grains}
 use Rattle.open_batch.proofs.planning.add_writes.Given as goal
 

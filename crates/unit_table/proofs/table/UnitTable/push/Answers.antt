@@ -1,6 +1,6 @@
 use Rattle.std.proofs.Common.{refl, sym, ap, ◌∙◌}
 use Rattle.std.specs.Prelude.{is_ok}
-use Rattle.core_model.specs.World.{put}
+use Rattle.core_model.specs.CoreState.{put}
 use Rattle.unit_table.specs.Table.{known_in, next_in}
 use Rattle.unit_table.proofs.Tables.{known-pushed}
 use Rattle.unit_table.proofs.table.UnitTable.push.Goals as goal

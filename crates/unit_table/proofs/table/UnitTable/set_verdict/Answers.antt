@@ -1,6 +1,6 @@
 use Rattle.std.proofs.Common.{◌≡◌, refl}
 use Rattle.std.specs.Vec.{with_item}
-use Rattle.core_model.specs.World.{put}
+use Rattle.core_model.specs.CoreState.{put}
 use Rattle.unit_table.specs.declared.table.UnitTable.{UnitTable}
 use Rattle.unit_table.specs.Known.{KnownUnit}
 use Rattle.unit_table.specs.Table.{known_in}
