@@ -4,7 +4,7 @@ use Rattle.base_types.specs.declared.calls.Origin.TheVariants.{Line, Child}
 use Rattle.core_model.specs.CoreState.{UnitNo, Origin, Call, put}
 use Rattle.core_model.specs.Changes.{lines_with, kids_with}
 use Rattle.unit_table.specs.declared.table.UnitTable.{UnitTable}
-use Rattle.unit_table.specs.Known.{KnownUnit, unborn, begun, with_kid}
+use Rattle.unit_table.specs.Known.{KnownUnit, unborn, just_begun, with_kid}
 use Rattle.unit_table.specs.Parts.{units_begun}
 use Rattle.unit_table.specs.Table.{known_in, next_in, verdict_in, result_in, units_of, wants_in}
 use Rattle.unit_table.specs.Rooms.{SameRest, SameRoom}
@@ -66,11 +66,11 @@ fresh-kids t m n origin u x counted pushed none =
     ∙ kid-kids (known_in t) origin u
 
 -- the units after both
-pub begun-units : (t m n : UnitTable) (origin : Origin) (call : Call) (plain : Bool) → Counted t m origin (record { 0 = next_in t }) → Pushed m n (begun origin call plain) →
+pub begin-units : (t m n : UnitTable) (origin : Origin) (call : Call) (plain : Bool) → Counted t m origin (record { 0 = next_in t }) → Pushed m n (just_begun origin call plain) →
     (seen : UnitNo → Option ℕ) → units_of n seen ≡ units_begun (units_of t seen) origin call plain
-begun-units t m n origin call plain counted pushed seen =
+begin-units t m n origin call plain counted pushed seen =
     let u : UnitNo = record { 0 = next_in t } in
-    let x : KnownUnit = begun origin call plain in
+    let x : KnownUnit = just_begun origin call plain in
     let next : next_in n ≡ next_in t + 1 = pushed.next ∙ ap (λ (q : ℕ). q + 1) (next-counted t m counted.room counted.rest) in
     let lines : n.lines ≡ lines_with t.lines origin = pushed.lines ∙ counted.lines in
     let kinds : n.kinds ≡ t.kinds = pushed.rest.kinds ∙ counted.rest.kinds in
@@ -93,11 +93,11 @@ begun-units t m n origin call plain counted pushed seen =
     }
 
 -- nothing is decided of the new unit
-pub begun-verdict : (t m n : UnitTable) (origin : Origin) (call : Call) (plain : Bool) → Counted t m origin (record { 0 = next_in t }) → Pushed m n (begun origin call plain) → verdict_in n ≡ verdict_in t
-begun-verdict t m n origin call plain counted pushed =
-    fresh-kept (λ (k : KnownUnit). k.verdict) t m n origin (record { 0 = next_in t }) (begun origin call plain) counted pushed (λ k kids. refl) refl
+pub begin-verdict : (t m n : UnitTable) (origin : Origin) (call : Call) (plain : Bool) → Counted t m origin (record { 0 = next_in t }) → Pushed m n (just_begun origin call plain) → verdict_in n ≡ verdict_in t
+begin-verdict t m n origin call plain counted pushed =
+    fresh-kept (λ (k : KnownUnit). k.verdict) t m n origin (record { 0 = next_in t }) (just_begun origin call plain) counted pushed (λ k kids. refl) refl
 
 -- and it has no result
-pub begun-result : (t m n : UnitTable) (origin : Origin) (call : Call) (plain : Bool) → Counted t m origin (record { 0 = next_in t }) → Pushed m n (begun origin call plain) → result_in n ≡ result_in t
-begun-result t m n origin call plain counted pushed =
-    fresh-kept (λ (k : KnownUnit). k.result) t m n origin (record { 0 = next_in t }) (begun origin call plain) counted pushed (λ k kids. refl) refl
+pub begin-result : (t m n : UnitTable) (origin : Origin) (call : Call) (plain : Bool) → Counted t m origin (record { 0 = next_in t }) → Pushed m n (just_begun origin call plain) → result_in n ≡ result_in t
+begin-result t m n origin call plain counted pushed =
+    fresh-kept (λ (k : KnownUnit). k.result) t m n origin (record { 0 = next_in t }) (just_begun origin call plain) counted pushed (λ k kids. refl) refl

@@ -58,8 +58,8 @@ known_running x = record {
 }
 
 -- a unit that has just begun
-abbrev pub begun : Origin → Call → Bool → KnownUnit
-begun origin call plain = record unborn { phase = Running; origin = origin; call = call; plain = plain }
+abbrev pub just_begun : Origin → Call → Bool → KnownUnit
+just_begun origin call plain = record unborn { phase = Running; origin = origin; call = call; plain = plain }
 
 -- a child stands last among its parent's children
 abbrev pub with_kid : (UnitNo → KnownUnit) → Origin → UnitNo → UnitNo → KnownUnit
@@ -86,8 +86,8 @@ abbrev pub outcome_over : OverUnit → Option Outcome
 outcome_over x = outcome_in (phase_at x.ending) x.verdict x.result
 
 -- a unit's outcome, once it is decided for good
-abbrev pub outcome_of : UnitEntry → Option Outcome
-outcome_of x = outcome_in (known_entry x).phase (known_entry x).verdict (known_entry x).result
+abbrev pub entry_outcome : UnitEntry → Option Outcome
+entry_outcome x = outcome_in (known_entry x).phase (known_entry x).verdict (known_entry x).result
 
 -- a running unit has room for one more child
 abbrev pub HasKidRoom : UnitEntry → Type 0

@@ -3,7 +3,7 @@ ghost use Rattle.base_types.specs.declared.calls.UnitNo.{UnitNo};
 ghost use Rattle.core_model.specs.CoreState.{put};
 ghost use Rattle.core_model.specs.Tests.{is_running};
 ghost use Rattle.core_model.specs.Changes.{lines_with};
-ghost use Rattle.unit_table.specs.Known.{begun, with_kid};
+ghost use Rattle.unit_table.specs.Known.{just_begun, with_kid};
 ghost use Rattle.unit_table.specs.Parts.{units_begun};
 ghost use Rattle.unit_table.specs.Table.{entry_in, known_in, base_of, next_in, phase_in, verdict_in, result_in, wants_in, units_of};
 ghost use Rattle.unit_table.specs.Rooms.{SameUnits, SameRest, SameRoom, ParentRuns, ParentHasRoom, KidRoomAt, BlankAt, RoomToBegin, LineIsCounted};
@@ -128,7 +128,7 @@ impl UnitTable {
     fn push(&mut self, origin: Origin, call: Call, plain: bool)
         requires entry { vec_len self.old.units < vec_capacity self.old.units }
         requires unit { BlankAt self.old.spare }
-        ensures known { known_in self.new ≡ put (known_in self.old) (record { 0 = next_in self.old }) (begun origin call plain) }
+        ensures known { known_in self.new ≡ put (known_in self.old) (record { 0 = next_in self.old }) (just_begun origin call plain) }
         ensures lines { self.new.lines ≡ self.old.lines }
         ensures next { next_in self.new ≡ next_in self.old + 1 }
         ensures wants { wants_in self.new ≡ wants_in self.old }

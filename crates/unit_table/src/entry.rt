@@ -3,7 +3,7 @@ ghost use Rattle.std.specs.Option.{option_copied};
 ghost use Rattle.core_model.specs.declared.phases.Phase.TheVariants as phases;
 ghost use Rattle.core_model.specs.Tests.{is_running, is_over, is_final, outcome_in};
 ghost use Rattle.unit_table.specs.Parts.{deps_after};
-ghost use Rattle.unit_table.specs.Known.{HasKidRoom, HasReadRoom, IsBlank, begun, known_running, known_entry, phase_at, outcome_over, outcome_of};
+ghost use Rattle.unit_table.specs.Known.{HasKidRoom, HasReadRoom, IsBlank, just_begun, known_running, known_entry, phase_at, outcome_over, entry_outcome};
 
 use base_types::{Call, GrainId, List, Origin, Outcome, UnitNo};
 use core_model::{Phase, Read, Verdict};
@@ -86,7 +86,7 @@ impl RunningUnit {
     /// A blank unit begins, with that call. Takes no memory.
     pub fn begin(&mut self, origin: Origin, call: Call, plain: bool)
         requires { IsBlank self.old }
-        ensures { known_running self.new ≡ begun origin call plain }
+        ensures { known_running self.new ≡ just_begun origin call plain }
     {
         self.origin = origin;
         self.call = call;
@@ -226,7 +226,7 @@ impl UnitEntry {
 
     /// Whether its outcome is decided for good.
     pub fn is_decided(&self) -> bool
-        ensures { result ≡ is_some (outcome_of self.now) }
+        ensures { result ≡ is_some (entry_outcome self.now) }
     {
         match self {
             UnitEntry::Running(_) => false,
@@ -236,7 +236,7 @@ impl UnitEntry {
 
     /// A copy of its outcome, `None` where it isn't decided for good.
     pub fn outcome(&self) -> Result<Option<Outcome>, AllocError>
-        ensures { IfOk result (λ known. known ≡ outcome_of self.now) }
+        ensures { IfOk result (λ known. known ≡ entry_outcome self.now) }
     {
         match self {
             UnitEntry::Running(_) => Ok(None),

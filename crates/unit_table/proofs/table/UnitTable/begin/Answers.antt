@@ -1,7 +1,7 @@
 use Rattle.std.proofs.Common.{◌≡◌, ℕ, ◌+◌, ap, ◌∙◌}
-use Rattle.unit_table.specs.Known.{begun, with_kid}
+use Rattle.unit_table.specs.Known.{just_begun, with_kid}
 use Rattle.unit_table.specs.Table.{known_in, next_in}
-use Rattle.unit_table.proofs.Beginning.{Counted, Pushed, begun-units, begun-verdict, begun-result}
+use Rattle.unit_table.proofs.Beginning.{Counted, Pushed, begin-units, begin-verdict, begin-result}
 use Rattle.unit_table.proofs.table.UnitTable.begin.Goals as goal
 use Rattle.unit_table.proofs.table.UnitTable.begin.Goals.{After-push}
 
@@ -18,7 +18,7 @@ counted c =
     }
 
 -- and the unit is known
-pushed : (c : After-push) → Pushed c.count.new.self c.push.new.self (begun c.args.origin c.args.call c.args.plain)
+pushed : (c : After-push) → Pushed c.count.new.self c.push.new.self (just_begun c.args.origin c.args.call c.args.plain)
 pushed c = record {
   known = c.push.ensures.known;
   lines = c.push.ensures.lines;
@@ -28,10 +28,10 @@ pushed c = record {
 }
 
 pub returns-clause-units : goal.returns-clause-units
-returns-clause-units c = begun-units c.args.self.now c.count.new.self c.push.new.self c.args.origin c.args.call c.args.plain (counted c) (pushed c)
+returns-clause-units c = begin-units c.args.self.now c.count.new.self c.push.new.self c.args.origin c.args.call c.args.plain (counted c) (pushed c)
 
 pub returns-clause-verdict : goal.returns-clause-verdict
-returns-clause-verdict c = begun-verdict c.args.self.now c.count.new.self c.push.new.self c.args.origin c.args.call c.args.plain (counted c) (pushed c)
+returns-clause-verdict c = begin-verdict c.args.self.now c.count.new.self c.push.new.self c.args.origin c.args.call c.args.plain (counted c) (pushed c)
 
 pub returns-clause-result : goal.returns-clause-result
-returns-clause-result c = begun-result c.args.self.now c.count.new.self c.push.new.self c.args.origin c.args.call c.args.plain (counted c) (pushed c)
+returns-clause-result c = begin-result c.args.self.now c.count.new.self c.push.new.self c.args.origin c.args.call c.args.plain (counted c) (pushed c)
