@@ -1,7 +1,7 @@
 -- One entry of a list is written or added.
-use Rattle.std.proofs.Common.{◌≡◌, ◌≢◌, ℕ, zero, suc, ◌+◌, ◌-◌, ◌<◌, ◌≤◌, List, [], ◌∷◌, ◌++◌, length, set, get_or, Bool, true, false, cond, refl, sym, ap, ◌∙◌, arith, Option, Some, None, nat_lt, slice_get, length-set, get_or-set_same}
+use Rattle.std.proofs.Common.{◌≡◌, ℕ, zero, suc, ◌+◌, ◌-◌, ◌<◌, ◌≤◌, List, [], ◌∷◌, ◌++◌, length, set, Bool, true, false, cond, refl, sym, ap, ◌∙◌, arith, Some, None, nat_lt, slice_get, length-set, get_or-set_same}
 use Rattle.std.proofs.lemmas.Bool.{cond_both, ltb-true, ltb-false}
-use Rattle.std.proofs.lemmas.Option.{slice_get-get_or, slice_get_read}
+use Rattle.std.proofs.lemmas.Option.{slice_get-get_or}
 use Rattle.core_model.specs.World.{UnitNo, put}
 use Rattle.core_model.proofs.Puts.{put-at, put-is, put-other}
 use Rattle.unit_table.specs.declared.entry.UnitEntry.{UnitEntry}

@@ -1,24 +1,16 @@
 -- One unit of a table changes.
-use Rattle.std.proofs.Common.{◌≡◌, ℕ, ◌+◌, ◌-◌, ◌<◌, List, [], ◌∷◌, ◌++◌, length, set, get_or, Bool, true, false, ◌⊎◌, inl, inr, refl, sym, ap, ◌∙◌, arith, if◌then◌else◌, Option, Some, None, is_some, vec_len}
+use Rattle.std.proofs.Common.{◌≡◌, ℕ, ◌+◌, ◌<◌, [], ◌∷◌, ◌++◌, length, set, get_or, Bool, true, refl, sym, ap, ◌∙◌, arith, if◌then◌else◌, Option, Some, vec_len}
 use Rattle.std.proofs.lemmas.Option.{slice_get_read, slice_get_past}
-use Rattle.base_types.specs.declared.calls.Outcome.TheVariants.{Aborted as aborted}
-use Rattle.core_model.specs.World.{UnitNo, GrainId, Origin, Call, Outcome, put}
+use Rattle.core_model.specs.World.{UnitNo, Outcome, put}
 use Rattle.core_model.specs.declared.effects.Read.{Read}
 use Rattle.core_model.specs.declared.phases.Phase.{Phase}
 use Rattle.core_model.specs.declared.phases.Verdict.{Verdict}
-use Rattle.core_model.specs.declared.phases.Verdict.TheVariants.{Open}
-use Rattle.core_model.specs.Tests.{is_running}
 use Rattle.core_model.specs.Changes.{without_want, without_wants}
-use Rattle.unit_table.specs.declared.entry.RunningUnit.{RunningUnit}
-use Rattle.unit_table.specs.declared.entry.OverUnit.{OverUnit}
-use Rattle.unit_table.specs.declared.entry.Ending.{Ending}
-use Rattle.unit_table.specs.declared.entry.Ending.TheVariants as ending
 use Rattle.unit_table.specs.declared.entry.UnitEntry.{UnitEntry}
-use Rattle.unit_table.specs.declared.entry.UnitEntry.TheVariants as entry
 use Rattle.unit_table.specs.declared.table.UnitTable.{UnitTable}
-use Rattle.unit_table.specs.Known.{KnownUnit, unborn, known_entry, phase_at}
+use Rattle.unit_table.specs.Known.{KnownUnit, unborn, known_entry}
 use Rattle.unit_table.specs.Parts.{units_read, units_over, deps_after}
-use Rattle.unit_table.specs.Table.{entry_in, entry_among, known_of, known_in, base_of, next_in, phase_in, verdict_in, result_in, units_of, wants_in}
+use Rattle.unit_table.specs.Table.{entry_in, entry_among, known_of, known_in, next_in, units_of, wants_in}
 use Rattle.unit_table.specs.Rooms.{SameUnits, SameRest}
 use Rattle.unit_table.proofs.Entries.{put-of, put-kept, get-set_same, entry-place, set-entries, push-entries}
 
@@ -80,17 +72,6 @@ pub next-unborn : (t : UnitTable) → known_in t (record { 0 = next_in t }) ≡ 
 next-unborn t =
     let u : UnitNo = record { 0 = next_in t } in
     ap known_of (entry-place t.base t.units.items u (vec_len t.units) refl ∙ slice_get_past t.units.items (vec_len t.units) (let len = t.units.ok.0 in omega arith))
-
--- nothing is decided of a unit that runs, and it has no result
-pub running-open : (k : Option UnitEntry) → is_running (known_of k).phase ≡ true → ((known_of k).verdict ≡ Open) × ((known_of k).result ≡ aborted)
-running-open None e = cc
-running-open (Some (entry.Running x)) e = (refl, refl)
-running-open (Some (entry.Over x)) e = by x.ending e
-  where
-    by : {A : Type 0} (how : Ending) → is_running (phase_at how) ≡ true → A
-    by ending.Finished e = cc
-    by ending.Refused e = cc
-    by ending.Ended e = cc
 
 -- an attribute that the unit gets
 pub attr-put : {A : Type 0} (of : KnownUnit → A) (f g : UnitNo → KnownUnit) (u : UnitNo) (x : KnownUnit) → g ≡ put f u x → ◌≡◌ {A = UnitNo → A} (λ v. of (g v)) (put (λ v. of (f v)) u (of x))

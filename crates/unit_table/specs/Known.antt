@@ -1,5 +1,5 @@
 -- What an entry stands for.
-use Rattle.std.specs.Prelude.{◌≡◌, ◌<◌, ℕ, List, [], ◌∷◌, ◌++◌, Bool, false, Option, Some, None, vec_len, vec_capacity}
+use Rattle.std.specs.Prelude.{◌≡◌, ◌<◌, List, [], ◌∷◌, ◌++◌, Bool, false, Option, vec_len, vec_capacity}
 use Rattle.base_types.specs.declared.calls.Origin.TheVariants.{Line, Child}
 use Rattle.base_types.specs.declared.calls.Outcome.TheVariants.{Aborted as aborted}
 use Rattle.core_model.specs.World.{UnitNo, Origin, Call, Outcome, put}

@@ -3,13 +3,13 @@ use Rattle.std.specs.Prelude.{◌≡◌, ◌<◌, ◌^◌, ℕ, Option, Some, No
 use Rattle.std.specs.Global.{Global}
 use Rattle.base_types.specs.declared.calls.Origin.{Origin}
 use Rattle.base_types.specs.declared.calls.Origin.TheVariants.{Line, Child}
-use Rattle.core_model.specs.World.{UnitNo, Units}
+use Rattle.core_model.specs.World.{UnitNo}
 use Rattle.core_model.specs.Tests.{is_running}
 use Rattle.unit_table.specs.declared.entry.RunningUnit.{RunningUnit}
 use Rattle.unit_table.specs.declared.entry.UnitEntry.{UnitEntry}
 use Rattle.unit_table.specs.declared.table.UnitTable.{UnitTable}
 use Rattle.unit_table.specs.Known.{HasKidRoom, HasReadRoom, IsBlank}
-use Rattle.unit_table.specs.Table.{entry_in, phase_in, next_in, units_of, verdict_in, result_in, base_of}
+use Rattle.unit_table.specs.Table.{entry_in, phase_in, lines_in, next_in, units_of, verdict_in, result_in, base_of}
 
 -- The two stand for the same.
 pub record SameUnits (old new : UnitTable) : Type 0 where
@@ -60,7 +60,7 @@ pub record RoomToBegin (t : UnitTable) (origin : Origin) : Type 0 where
 
 -- one more line can be counted, where the unit is a line's
 abbrev pub LineIsCounted : UnitTable → Origin → Type 0
-LineIsCounted t (Line n) = t.lines < 2 ^ 32
+LineIsCounted t (Line n) = lines_in t < 2 ^ 32
 LineIsCounted t (Child p i d) = Unit {0}
 
 -- there is an entry, with room for one more read and dependency

@@ -34,6 +34,18 @@ base_of t = t.base
 abbrev pub next_in : UnitTable → ℕ
 next_in t = t.base + vec_len t.units
 
+-- how many lines have begun or are bad
+abbrev pub lines_in : UnitTable → ℕ
+lines_in t = t.lines
+
+-- how many types the program has
+abbrev pub kinds_in : UnitTable → ℕ
+kinds_in t = t.kinds
+
+-- the run is to stop
+abbrev pub halt_in : UnitTable → Bool
+halt_in t = t.halt
+
 -- each unit's phase
 abbrev pub phase_in : UnitTable → UnitNo → Phase
 phase_in t u = (known_in t u).phase
@@ -82,8 +94,8 @@ outcome_known t u = outcome_in (phase_in t u) (verdict_in t u) (result_in t u)
 abbrev pub units_of : UnitTable → (UnitNo → Option ℕ) → Units
 units_of t seen = record {
   next = next_in t;
-  lines = t.lines;
-  kinds = t.kinds;
+  lines = lines_in t;
+  kinds = kinds_in t;
   phase = phase_in t;
   origin = origin_in t;
   call = call_in t;
@@ -93,5 +105,5 @@ units_of t seen = record {
   deps = deps_in t;
   seen_at = seen;
   wants = wants_in t;
-  halt = t.halt;
+  halt = halt_in t;
 }

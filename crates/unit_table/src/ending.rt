@@ -67,13 +67,7 @@ impl UnitTable {
     }
 
     // A running unit comes to its end, and waits for no grain. Its dependencies are handed out.
-    fn close(
-        &mut self,
-        unit: UnitNo,
-        ending: Ending,
-        verdict: Verdict,
-        outcome: Outcome,
-    ) -> DepSet
+    fn close(&mut self, unit: UnitNo, ending: Ending, verdict: Verdict, outcome: Outcome) -> DepSet
         requires { is_running (phase_in self.old unit) ≡ true }
         ensures deps { result.sources ≡ deps_in self.old unit }
         ensures known { known_in self.new ≡ put (known_in self.old) unit (record (known_in self.old unit) { phase = phase_at ending; verdict = verdict; result = outcome }) }

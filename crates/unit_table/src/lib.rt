@@ -13,3 +13,6 @@ mod waits;
 
 pub use entry::RunningUnit;
 pub use table::UnitTable;
+
+#[cfg(test)]
+mod tests;

@@ -2,7 +2,7 @@ ghost use Rattle.std.specs.Prelude.{◌≡◌, is_some, true, false, MatchOption
 ghost use Rattle.std.specs.Option.{option_copied};
 ghost use Rattle.core_model.specs.Tests.{is_running, is_over};
 ghost use Rattle.unit_table.specs.Known.{known_running};
-ghost use Rattle.unit_table.specs.Table.{entry_in, known_in, phase_in, kids_in, reads_in, deps_in, verdict_in, result_in, wants_in, outcome_known};
+ghost use Rattle.unit_table.specs.Table.{entry_in, known_in, lines_in, kinds_in, halt_in, phase_in, kids_in, reads_in, deps_in, verdict_in, result_in, wants_in, outcome_known};
 
 use crate::entry::{Ending, OverUnit, RunningUnit, UnitEntry};
 use crate::table::UnitTable;
@@ -13,21 +13,21 @@ use std::alloc::AllocError;
 impl UnitTable {
     /// How many lines have begun or are bad.
     pub fn lines(&self) -> u64
-        ensures { result ≡ self.now.lines }
+        ensures { result ≡ lines_in self.now }
     {
         self.lines
     }
 
     /// How many types the program has.
     pub fn kinds(&self) -> u64
-        ensures { result ≡ self.now.kinds }
+        ensures { result ≡ kinds_in self.now }
     {
         self.kinds
     }
 
     /// Whether the run is to stop.
     pub fn is_halted(&self) -> bool
-        ensures { result ≡ self.now.halt }
+        ensures { result ≡ halt_in self.now }
     {
         self.halt
     }

@@ -4,7 +4,7 @@ ghost use Rattle.base_types.specs.declared.calls.Outcome.TheVariants as outcomes
 ghost use Rattle.core_model.specs.declared.phases.Verdict.TheVariants as verdicts;
 ghost use Rattle.core_model.specs.Events.{first_units};
 ghost use Rattle.unit_table.specs.Parts.{units_bad_line, units_wanting, units_halted};
-ghost use Rattle.unit_table.specs.Table.{entry_in, base_of, verdict_in, result_in, units_of};
+ghost use Rattle.unit_table.specs.Table.{entry_in, lines_in, base_of, verdict_in, result_in, units_of};
 ghost use Rattle.unit_table.specs.Rooms.{SameUnits, RoomToWant};
 
 use crate::entry::{RunningUnit, UnitEntry};
@@ -52,7 +52,7 @@ impl UnitTable {
 
     /// One more line is bad. Takes no memory.
     pub fn bad_line(&mut self)
-        requires { self.old.lines < 2 ^ 32 }
+        requires { lines_in self.old < 2 ^ 32 }
         ensures units { (seen : UnitNo → Option ℕ) → units_of self.new seen ≡ units_bad_line (units_of self.old seen) }
         ensures verdict { verdict_in self.new ≡ verdict_in self.old }
         ensures result { result_in self.new ≡ result_in self.old }

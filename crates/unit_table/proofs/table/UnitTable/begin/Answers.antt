@@ -1,62 +1,37 @@
-use Rattle.std.proofs.Common.{◌≡◌, ℕ, ◌+◌, refl, ap, ◌∙◌}
-use Rattle.unit_table.specs.Known.{KnownUnit, begun, with_kid}
+use Rattle.std.proofs.Common.{◌≡◌, ℕ, ◌+◌, ap, ◌∙◌}
+use Rattle.unit_table.specs.Known.{begun, with_kid}
 use Rattle.unit_table.specs.Table.{known_in, next_in}
 use Rattle.unit_table.proofs.Beginning.{Counted, Pushed, begun-units, begun-verdict, begun-result}
 use Rattle.unit_table.proofs.table.UnitTable.begin.Goals as goal
+use Rattle.unit_table.proofs.table.UnitTable.begin.Goals.{After-push}
+
+-- the parent has one child more
+counted : (c : After-push) → Counted c.args.self.now c.count.new.self c.args.origin (record { 0 = next_in c.args.self.now })
+counted c =
+    let t = c.args.self.now in
+    let number : t.base + c.len.result ≡ next_in t = ap (λ (q : ℕ). t.base + q) c.len.ensures in
+    record {
+      known = c.count.ensures.known ∙ ap (λ (q : ℕ). with_kid (known_in t) c.args.origin (record { 0 = q })) number;
+      lines = c.count.ensures.lines;
+      room = c.count.ensures.room;
+      rest = c.count.ensures.rest;
+    }
+
+-- and the unit is known
+pushed : (c : After-push) → Pushed c.count.new.self c.push.new.self (begun c.args.origin c.args.call c.args.plain)
+pushed c = record {
+  known = c.push.ensures.known;
+  lines = c.push.ensures.lines;
+  next = c.push.ensures.next;
+  wants = c.push.ensures.wants;
+  rest = c.push.ensures.rest;
+}
 
 pub returns-clause-units : goal.returns-clause-units
-returns-clause-units c =
-    let t = c.args.self.now in
-    let number : t.base + c.len.result ≡ next_in t = ap (λ (q : ℕ). t.base + q) c.len.ensures in
-    let counted : Counted t c.count.new.self c.args.origin (record { 0 = next_in t }) = record {
-      known = c.count.ensures.known ∙ ap (λ (q : ℕ). with_kid (known_in t) c.args.origin (record { 0 = q })) number;
-      lines = c.count.ensures.lines;
-      room = c.count.ensures.room;
-      rest = c.count.ensures.rest;
-    } in
-    let pushed : Pushed c.count.new.self c.push.new.self (begun c.args.origin c.args.call c.args.plain) = record {
-      known = c.push.ensures.known;
-      lines = c.push.ensures.lines;
-      next = c.push.ensures.next;
-      wants = c.push.ensures.wants;
-      rest = c.push.ensures.rest;
-    } in
-    begun-units t c.count.new.self c.push.new.self c.args.origin c.args.call c.args.plain counted pushed
+returns-clause-units c = begun-units c.args.self.now c.count.new.self c.push.new.self c.args.origin c.args.call c.args.plain (counted c) (pushed c)
 
 pub returns-clause-verdict : goal.returns-clause-verdict
-returns-clause-verdict c =
-    let t = c.args.self.now in
-    let number : t.base + c.len.result ≡ next_in t = ap (λ (q : ℕ). t.base + q) c.len.ensures in
-    let counted : Counted t c.count.new.self c.args.origin (record { 0 = next_in t }) = record {
-      known = c.count.ensures.known ∙ ap (λ (q : ℕ). with_kid (known_in t) c.args.origin (record { 0 = q })) number;
-      lines = c.count.ensures.lines;
-      room = c.count.ensures.room;
-      rest = c.count.ensures.rest;
-    } in
-    let pushed : Pushed c.count.new.self c.push.new.self (begun c.args.origin c.args.call c.args.plain) = record {
-      known = c.push.ensures.known;
-      lines = c.push.ensures.lines;
-      next = c.push.ensures.next;
-      wants = c.push.ensures.wants;
-      rest = c.push.ensures.rest;
-    } in
-    begun-verdict t c.count.new.self c.push.new.self c.args.origin c.args.call c.args.plain counted pushed
+returns-clause-verdict c = begun-verdict c.args.self.now c.count.new.self c.push.new.self c.args.origin c.args.call c.args.plain (counted c) (pushed c)
 
 pub returns-clause-result : goal.returns-clause-result
-returns-clause-result c =
-    let t = c.args.self.now in
-    let number : t.base + c.len.result ≡ next_in t = ap (λ (q : ℕ). t.base + q) c.len.ensures in
-    let counted : Counted t c.count.new.self c.args.origin (record { 0 = next_in t }) = record {
-      known = c.count.ensures.known ∙ ap (λ (q : ℕ). with_kid (known_in t) c.args.origin (record { 0 = q })) number;
-      lines = c.count.ensures.lines;
-      room = c.count.ensures.room;
-      rest = c.count.ensures.rest;
-    } in
-    let pushed : Pushed c.count.new.self c.push.new.self (begun c.args.origin c.args.call c.args.plain) = record {
-      known = c.push.ensures.known;
-      lines = c.push.ensures.lines;
-      next = c.push.ensures.next;
-      wants = c.push.ensures.wants;
-      rest = c.push.ensures.rest;
-    } in
-    begun-result t c.count.new.self c.push.new.self c.args.origin c.args.call c.args.plain counted pushed
+returns-clause-result c = begun-result c.args.self.now c.count.new.self c.push.new.self c.args.origin c.args.call c.args.plain (counted c) (pushed c)

@@ -1,9 +1,10 @@
-use Rattle.std.proofs.Common.{refl, sym}
+use Rattle.std.proofs.Common.{sym}
 use Rattle.core_model.specs.declared.phases.Phase.TheVariants as phases
 use Rattle.core_model.specs.declared.phases.Verdict.TheVariants as verdicts
 use Rattle.unit_table.specs.Known.{KnownUnit}
-use Rattle.unit_table.specs.Table.{entry_in, known_in}
-use Rattle.unit_table.proofs.Tables.{over-units, attr-put, attr-kept, running-open}
+use Rattle.unit_table.specs.Table.{known_in}
+use Rattle.unit_table.proofs.Tables.{over-units, attr-put, attr-kept}
+use Rattle.unit_table.proofs.Running.{running-open}
 use Rattle.unit_table.proofs.table.UnitTable.finish.Goals as goal
 
 pub returns-clause-units : goal.returns-clause-units
@@ -13,13 +14,9 @@ returns-clause-units c =
 
 pub returns-clause-verdict : goal.returns-clause-verdict
 returns-clause-verdict c =
-    let t = c.args.self.now in
-    attr-kept (λ (k : KnownUnit). k.verdict) (known_in t) (known_in c.close.new.self) c.args.unit
-    (record (known_in t c.args.unit) { phase = phases.Finished; verdict = verdicts.Open; result = c.args.outcome }) c.close.ensures.known
-    (sym (running-open (entry_in t c.args.unit) c.requires).0)
+    attr-kept (λ (k : KnownUnit). k.verdict) (known_in c.args.self.now) (known_in c.close.new.self) c.args.unit _ c.close.ensures.known
+    (sym (running-open c.args.self.now c.args.unit c.requires))
 
 pub returns-clause-result : goal.returns-clause-result
 returns-clause-result c =
-    let t = c.args.self.now in
-    attr-put (λ (k : KnownUnit). k.result) (known_in t) (known_in c.close.new.self) c.args.unit
-    (record (known_in t c.args.unit) { phase = phases.Finished; verdict = verdicts.Open; result = c.args.outcome }) c.close.ensures.known
+    attr-put (λ (k : KnownUnit). k.result) (known_in c.args.self.now) (known_in c.close.new.self) c.args.unit _ c.close.ensures.known

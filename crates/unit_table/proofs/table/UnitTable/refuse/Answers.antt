@@ -1,10 +1,11 @@
-use Rattle.std.proofs.Common.{refl, sym}
+use Rattle.std.proofs.Common.{sym}
 use Rattle.base_types.specs.declared.calls.Outcome.TheVariants as outcomes
 use Rattle.core_model.specs.declared.phases.Phase.TheVariants as phases
 use Rattle.core_model.specs.declared.phases.Verdict.TheVariants as verdicts
 use Rattle.unit_table.specs.Known.{KnownUnit}
-use Rattle.unit_table.specs.Table.{entry_in, known_in}
-use Rattle.unit_table.proofs.Tables.{over-units, attr-put, attr-kept, running-open}
+use Rattle.unit_table.specs.Table.{known_in}
+use Rattle.unit_table.proofs.Tables.{over-units, attr-put, attr-kept}
+use Rattle.unit_table.proofs.Running.{running-resultless}
 use Rattle.unit_table.proofs.table.UnitTable.refuse.Goals as goal
 
 pub returns-clause-units : goal.returns-clause-units
@@ -14,13 +15,9 @@ returns-clause-units c =
 
 pub returns-clause-verdict : goal.returns-clause-verdict
 returns-clause-verdict c =
-    let t = c.args.self.now in
-    attr-put (λ (k : KnownUnit). k.verdict) (known_in t) (known_in c.close.new.self) c.args.unit
-    (record (known_in t c.args.unit) { phase = phases.Refused; verdict = verdicts.Aborted; result = outcomes.Aborted }) c.close.ensures.known
+    attr-put (λ (k : KnownUnit). k.verdict) (known_in c.args.self.now) (known_in c.close.new.self) c.args.unit _ c.close.ensures.known
 
 pub returns-clause-result : goal.returns-clause-result
 returns-clause-result c =
-    let t = c.args.self.now in
-    attr-kept (λ (k : KnownUnit). k.result) (known_in t) (known_in c.close.new.self) c.args.unit
-    (record (known_in t c.args.unit) { phase = phases.Refused; verdict = verdicts.Aborted; result = outcomes.Aborted }) c.close.ensures.known
-    (sym (running-open (entry_in t c.args.unit) c.requires).1)
+    attr-kept (λ (k : KnownUnit). k.result) (known_in c.args.self.now) (known_in c.close.new.self) c.args.unit _ c.close.ensures.known
+    (sym (running-resultless c.args.self.now c.args.unit c.requires))

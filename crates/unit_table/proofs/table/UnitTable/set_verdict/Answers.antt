@@ -1,30 +1,31 @@
 use Rattle.std.proofs.Common.{◌≡◌, refl}
 use Rattle.std.specs.Vec.{with_item}
 use Rattle.core_model.specs.World.{put}
+use Rattle.unit_table.specs.declared.table.UnitTable.{UnitTable}
 use Rattle.unit_table.specs.Known.{KnownUnit}
 use Rattle.unit_table.specs.Table.{known_in}
 use Rattle.unit_table.proofs.Tables.{known-changed, decided-units, attr-put, attr-kept}
 use Rattle.unit_table.proofs.table.UnitTable.set_verdict.Goals as goal
+use Rattle.unit_table.proofs.table.UnitTable.set_verdict.Goals.{After-set_verdict}
+
+-- the table at the end
+abbrev left : After-set_verdict → UnitTable
+left c = record c.args.self.now { units = with_item c.args.self.now.units c.place-at.result c.set_verdict.new.self }
+
+-- the unit's verdict alone is another
+judged : (c : After-set_verdict) → known_in (left c) ≡ put (known_in c.args.self.now) c.args.unit (record (known_in c.args.self.now c.args.unit) { verdict = c.args.verdict })
+judged c =
+    known-changed c.args.self.now (left c) c.args.unit c.place-at.result c.index_mut-entry.result.now c.set_verdict.new.self
+    (λ (k : KnownUnit). record k { verdict = c.args.verdict })
+    refl refl c.place-at.ensures.at c.place-at.ensures.within c.index_mut-entry.ensures.value c.set_verdict.ensures
 
 pub returns-clause-units : goal.returns-clause-units
 returns-clause-units c =
-    let t = c.args.self.now in
-    let n = record t { units = with_item t.units c.place-at.result c.set_verdict.new.self } in
-    decided-units t n c.args.unit c.args.verdict
-    (known-changed t n c.args.unit c.place-at.result c.index_mut-entry.result.now c.set_verdict.new.self (λ (k : KnownUnit). record k { verdict = c.args.verdict }) refl refl c.place-at.ensures.at c.place-at.ensures.within c.index_mut-entry.ensures.value c.set_verdict.ensures)
-    refl (record { next = refl; lines = refl; rest = record { base = refl; kinds = refl; halt = refl } })
+    decided-units c.args.self.now (left c.before) c.args.unit c.args.verdict (judged c.before) refl
+    (record { next = refl; lines = refl; rest = record { base = refl; kinds = refl; halt = refl } })
 
 pub returns-clause-verdict : goal.returns-clause-verdict
-returns-clause-verdict c =
-    let t = c.args.self.now in
-    let n = record t { units = with_item t.units c.place-at.result c.set_verdict.new.self } in
-    attr-put (λ (k : KnownUnit). k.verdict) (known_in t) (known_in n) c.args.unit (record (known_in t c.args.unit) { verdict = c.args.verdict })
-    (known-changed t n c.args.unit c.place-at.result c.index_mut-entry.result.now c.set_verdict.new.self (λ (k : KnownUnit). record k { verdict = c.args.verdict }) refl refl c.place-at.ensures.at c.place-at.ensures.within c.index_mut-entry.ensures.value c.set_verdict.ensures)
+returns-clause-verdict c = attr-put (λ (k : KnownUnit). k.verdict) (known_in c.args.self.now) (known_in (left c.before)) c.args.unit _ (judged c.before)
 
 pub returns-clause-result : goal.returns-clause-result
-returns-clause-result c =
-    let t = c.args.self.now in
-    let n = record t { units = with_item t.units c.place-at.result c.set_verdict.new.self } in
-    attr-kept (λ (k : KnownUnit). k.result) (known_in t) (known_in n) c.args.unit (record (known_in t c.args.unit) { verdict = c.args.verdict })
-    (known-changed t n c.args.unit c.place-at.result c.index_mut-entry.result.now c.set_verdict.new.self (λ (k : KnownUnit). record k { verdict = c.args.verdict }) refl refl c.place-at.ensures.at c.place-at.ensures.within c.index_mut-entry.ensures.value c.set_verdict.ensures)
-    refl
+returns-clause-result c = attr-kept (λ (k : KnownUnit). k.result) (known_in c.args.self.now) (known_in (left c.before)) c.args.unit _ (judged c.before) refl
