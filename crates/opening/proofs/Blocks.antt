@@ -9,7 +9,7 @@ use Rattle.silo_spec.specs.declared.units.Logged.{Logged}
 use Rattle.silo_spec.specs.Units.{body_of, AreUnits, last_from}
 use Rattle.silo_spec.specs.Damage.{IsDamagedAt}
 use Rattle.silo_spec.proofs.Bodies.{body_above, bodies-push}
-use Rattle.opening.specs.Reading.{IsBroken, IsBlockAt, IsCounterNext}
+use Rattle.opening.specs.Reading.{IsBroken, IsBlockAt, IsNext}
 
 -- each block has bytes
 fewer : (bodies : List (List ℕ)) → length bodies ≤ length (open_blocks bodies)
@@ -48,7 +48,7 @@ pub none_read : (file : List ℕ) → first_gate < length file → HasBlocks (ma
 none_read file long = no_blocks file long
 
 -- one unit more
-pub one_read : (log : List Logged) (above gate : ℕ) (l : Logged) (next : ℕ) (file : List ℕ) → HasBlocks (map body_of log) gate file → IsBlockAt gate file l → IsCounterNext above gate l next
+pub one_read : (log : List Logged) (above gate : ℕ) (l : Logged) (next : ℕ) (file : List ℕ) → HasBlocks (map body_of log) gate file → IsBlockAt gate file l → IsNext above gate l next
     → HasBlocks (map body_of (log ++ l ∷ [])) next file
 one_read log above gate l next file has block is =
     subst (λ (n : ℕ). HasBlocks (map body_of (log ++ l ∷ [])) n file) (sym is.behind)

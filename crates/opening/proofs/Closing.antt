@@ -13,7 +13,7 @@ use Rattle.host_trait.proofs.Runs.{asked_keeps, image_from, settled_image, run_o
 use Rattle.silo_spec.specs.Silos.{manager, IsSilo}
 use Rattle.silo_spec.specs.Moments.{IsUntouched}
 use Rattle.silo_spec.specs.Making.{IsEntryButGate, IsEarly, IsUnsynced, FromFirstSync}
-use Rattle.opening.specs.Steps.{IsNamedOtherwiseCounter, SyncsCounterOnce, ClosesCounterBy, MayCloseCounter, HasNoCounterSilo}
+use Rattle.opening.specs.Steps.{IsNamedOtherwise, SyncsOnce, ClosesBy, MayClose, HasNoSilo}
 
 settled_state : (file : FileState) → file.base ≡ file.seen → file.ranges ≡ [] → file.longest ≡ length file.seen → file ≡ settled file.seen
 settled_state file base ranges longest = λ i. record { base = base i; seen = file.seen; ranges = ranges i; longest = longest i }
@@ -59,39 +59,39 @@ own_early old pending = record { pending = pending; near = own_near old; unwritt
 short_no_silo : (magic file : List ℕ) → length file < 16 → IsSilo magic file → ⊥
 short_no_silo magic file short silo = omega (arith, short, silo.long)
 
-pub otherwise_no_silo : (magic file : List ℕ) → IsNamedOtherwiseCounter magic file → IsSilo magic file → ⊥
+pub otherwise_no_silo : (magic file : List ℕ) → IsNamedOtherwise magic file → IsSilo magic file → ⊥
 otherwise_no_silo magic file (inl short) silo = short_no_silo magic file short silo
 otherwise_no_silo magic file (inr other) silo = other silo.named
 
-torn_no_silo : (magic d c : List ℕ) → IsNamedOtherwiseCounter magic d → Tears 0 1 d c → IsSilo magic c → ⊥
+torn_no_silo : (magic d c : List ℕ) → IsNamedOtherwise magic d → Tears 0 1 d c → IsSilo magic c → ⊥
 torn_no_silo magic d c (inl short) tears silo = omega (arith, short, tears.no_longer, silo.long)
 torn_no_silo magic d c (inr other) tears silo = other (ap (λ (l : List ℕ). take 8 l) (sym tears.after) ∙ silo.named)
 
-while_closing : (magic file : List ℕ) (mid : World) → mid.disk manager ≡ settled file → IsNamedOtherwiseCounter magic file → (m : Moment) → ChangesFile manager (Tears 0 1) mid m → HasNoCounterSilo magic m
+while_closing : (magic file : List ℕ) (mid : World) → mid.disk manager ≡ settled file → IsNamedOtherwise magic file → (m : Moment) → ChangesFile manager (Tears 0 1) mid m → HasNoSilo magic m
 while_closing magic file mid lasts other m changes image is silo =
     let from = changes.crash (image manager) (is manager) in
     let was : from.0 ≡ file = settled_image mid.disk manager file from.0 lasts from.1 in
     torn_no_silo magic file (image manager) other (subst (λ (f : List ℕ). Tears 0 1 f (image manager)) was from.2) silo
 
-settled_no_silo : (magic file : List ℕ) (m : Moment) → m.disk manager ≡ settled file → (IsSilo magic file → ⊥) → HasNoCounterSilo magic m
+settled_no_silo : (magic file : List ℕ) (m : Moment) → m.disk manager ≡ settled file → (IsSilo magic file → ⊥) → HasNoSilo magic m
 settled_no_silo magic file m lasts lacks image is silo = lacks (subst (λ (f : List ℕ). IsSilo magic f) (settled_image m.disk manager file (image manager) lasts (is manager)) silo)
 
 -- what was read of a file that was synced lasts
-once_lasts : (old new : World) → SyncsCounterOnce old new → new.disk manager ≡ settled (old.disk manager).seen
+once_lasts : (old new : World) → SyncsOnce old new → new.disk manager ≡ settled (old.disk manager).seen
 once_lasts old new once = ap (λ (d : Disk). d manager) once.more.disk ∙ once.sync.state ∙ ap (λ (d : Disk). settled (d manager).seen) once.asked.disk
 
 -- a file that was synced, and is no silo as it reads
-pub once_first : (magic : List ℕ) (old new : World) → SyncsCounterOnce old new → (IsSilo magic (old.disk manager).seen → ⊥) → FromFirstSync (HasNoCounterSilo magic) old new
+pub once_first : (magic : List ℕ) (old new : World) → SyncsOnce old new → (IsSilo magic (old.disk manager).seen → ⊥) → FromFirstSync (HasNoSilo magic) old new
 once_first magic old new once lacks =
     let lasts : once.after.disk manager ≡ settled (old.disk manager).seen = once.sync.state ∙ ap (λ (d : Disk). settled (d manager).seen) once.asked.disk in
-    let there : HasNoCounterSilo magic (moment_of once.after) = settled_no_silo magic (old.disk manager).seen (moment_of once.after) lasts lacks in
-    let late : Passes (HasNoCounterSilo magic) once.before.past new.past = both (HasNoCounterSilo magic) (one (HasNoCounterSilo magic) once.before once.after once.sync.past there) (asked_keeps (HasNoCounterSilo magic) once.after new once.more there) in
+    let there : HasNoSilo magic (moment_of once.after) = settled_no_silo magic (old.disk manager).seen (moment_of once.after) lasts lacks in
+    let late : Passes (HasNoSilo magic) once.before.past new.past = both (HasNoSilo magic) (one (HasNoSilo magic) once.before once.after once.sync.past there) (asked_keeps (HasNoSilo magic) once.after new once.more there) in
     record {
       moments = elim (cases_settled (old.disk manager)) [
         | inl is ↦
-            let own : HasNoCounterSilo magic (moment_of old) = settled_no_silo magic (old.disk manager).seen (moment_of old) is lacks in
-            all_late (IsEarly old) (HasNoCounterSilo magic) (both (HasNoCounterSilo magic) (asked_keeps (HasNoCounterSilo magic) old once.before once.asked own) late)
-        | inr pending ↦ in_turn (IsEarly old) (HasNoCounterSilo magic) (asked_keeps (IsEarly old) old once.before once.asked (own_early old pending)) late
+            let own : HasNoSilo magic (moment_of old) = settled_no_silo magic (old.disk manager).seen (moment_of old) is lacks in
+            all_late (IsEarly old) (HasNoSilo magic) (both (HasNoSilo magic) (asked_keeps (HasNoSilo magic) old once.before once.asked own) late)
+        | inr pending ↦ in_turn (IsEarly old) (HasNoSilo magic) (asked_keeps (IsEarly old) old once.before once.asked (own_early old pending)) late
       ];
       now = settled_no_silo magic (old.disk manager).seen (moment_of new) (once_lasts old new once) lacks;
     }
@@ -108,11 +108,11 @@ first_weaker P Q old new leads first = record {
 }
 
 -- a file that was synced, and whose gate is closed then
-pub once_closed : (magic : List ℕ) (old mid new : World) → SyncsCounterOnce old mid → IsNamedOtherwiseCounter magic (old.disk manager).seen → RunsOnFile manager (Tears 0 1) 1 mid new → FromFirstSync (HasNoCounterSilo magic) old new
+pub once_closed : (magic : List ℕ) (old mid new : World) → SyncsOnce old mid → IsNamedOtherwise magic (old.disk manager).seen → RunsOnFile manager (Tears 0 1) 1 mid new → FromFirstSync (HasNoSilo magic) old new
 once_closed magic old mid new once other run =
     let closing = while_closing magic (old.disk manager).seen mid (once_lasts old mid once) other in
-    first_then (HasNoCounterSilo magic) old mid new (once_first magic old mid once (otherwise_no_silo magic (old.disk manager).seen other))
-    (weaker (ChangesFile manager (Tears 0 1) mid) (HasNoCounterSilo magic) closing run.moments) (closing (moment_of new) run.now)
+    first_then (HasNoSilo magic) old mid new (once_first magic old mid once (otherwise_no_silo magic (old.disk manager).seen other))
+    (weaker (ChangesFile manager (Tears 0 1) mid) (HasNoSilo magic) closing run.moments) (closing (moment_of new) run.now)
 
 -- A file that read as empty: its gate is written before the first sync.
 module _ (magic : List ℕ) (old mid : World) (asked : OnlyAsked old mid) (empty : (old.disk manager).seen ≡ []) where
@@ -120,14 +120,14 @@ module _ (magic : List ℕ) (old mid : World) (asked : OnlyAsked old mid) (empty
   short = omega (arith, ap length empty)
 
   -- nothing was pending in it at entry
-  from_settled : old.disk manager ≡ settled (old.disk manager).seen → (new : World) → RunsOnFile manager (Tears 0 1) 1 mid new → FromFirstSync (HasNoCounterSilo magic) old new
+  from_settled : old.disk manager ≡ settled (old.disk manager).seen → (new : World) → RunsOnFile manager (Tears 0 1) 1 mid new → FromFirstSync (HasNoSilo magic) old new
   from_settled is new run =
-      let own : HasNoCounterSilo magic (moment_of old) = settled_no_silo magic (old.disk manager).seen (moment_of old) is (short_no_silo magic (old.disk manager).seen short) in
+      let own : HasNoSilo magic (moment_of old) = settled_no_silo magic (old.disk manager).seen (moment_of old) is (short_no_silo magic (old.disk manager).seen short) in
       let closing = while_closing magic (old.disk manager).seen mid (ap (λ (d : Disk). d manager) asked.disk ∙ is) (inl short) in
       record {
         moments =
-            all_late (IsEarly old) (HasNoCounterSilo magic)
-            (both (HasNoCounterSilo magic) (asked_keeps (HasNoCounterSilo magic) old mid asked own) (weaker (ChangesFile manager (Tears 0 1) mid) (HasNoCounterSilo magic) closing run.moments));
+            all_late (IsEarly old) (HasNoSilo magic)
+            (both (HasNoSilo magic) (asked_keeps (HasNoSilo magic) old mid asked own) (weaker (ChangesFile manager (Tears 0 1) mid) (HasNoSilo magic) closing run.moments));
         now = closing (moment_of new) run.now;
       }
 
@@ -148,18 +148,18 @@ module _ (magic : List ℕ) (old mid : World) (asked : OnlyAsked old mid) (empty
     written_early : (new : World) → Written manager 0 1 mid new → ChangesFile manager (Tears 0 1) mid (moment_of new) → Passes (IsEarly old) old.past new.past
     written_early new written changes = both (IsEarly old) asked_early (one (IsEarly old) mid new written.past (wrote_early new written (moment_of new) refl changes))
 
-    from_pending : (new : World) → ClosesCounterBy true mid new → FromFirstSync (HasNoCounterSilo magic) old new
+    from_pending : (new : World) → ClosesBy true mid new → FromFirstSync (HasNoSilo magic) old new
     from_pending new closes =
         let file : List ℕ = (closes.before.disk manager).seen in
         let was : (mid.disk manager).seen ≡ [] = ap (λ (d : Disk). (d manager).seen) asked.disk ∙ empty in
         let low : length file < 16 = omega (arith, closes.run.seen.no_longer, ap length was) in
-        let there : HasNoCounterSilo magic (moment_of new) = settled_no_silo magic file (moment_of new) closes.sync.state (short_no_silo magic file low) in
+        let there : HasNoSilo magic (moment_of new) = settled_no_silo magic file (moment_of new) closes.sync.state (short_no_silo magic file low) in
         record {
-          moments = in_turn (IsEarly old) (HasNoCounterSilo magic) (written_early closes.before closes.written closes.run.now) (one (HasNoCounterSilo magic) closes.before new closes.sync.past there);
+          moments = in_turn (IsEarly old) (HasNoSilo magic) (written_early closes.before closes.written closes.run.now) (one (HasNoSilo magic) closes.before new closes.sync.past there);
           now = there;
         }
 
-    still_pending : (new : World) → RunsOnFile manager (Tears 0 1) 1 mid new → ClosesCounterBy false mid new → IsUnsynced old new
+    still_pending : (new : World) → RunsOnFile manager (Tears 0 1) 1 mid new → ClosesBy false mid new → IsUnsynced old new
     still_pending new run closes =
         let now : IsEarly old (moment_of new) = wrote_early closes.before closes.written (moment_of new) closes.sync.state run.now in
         record {
@@ -167,20 +167,20 @@ module _ (magic : List ℕ) (old mid : World) (asked : OnlyAsked old mid) (empty
           now = now;
         }
 
-    tried_by : (new : World) → RunsOnFile manager (Tears 0 1) 1 mid new → (ok : Bool) → ClosesCounterBy ok mid new → IsUnsynced old new ⊎ FromFirstSync (HasNoCounterSilo magic) old new
+    tried_by : (new : World) → RunsOnFile manager (Tears 0 1) 1 mid new → (ok : Bool) → ClosesBy ok mid new → IsUnsynced old new ⊎ FromFirstSync (HasNoSilo magic) old new
     tried_by new run true closes = inr (from_pending new closes)
     tried_by new run false closes = inl (still_pending new run closes)
 
-    tried_pending : (new : World) → RunsOnFile manager (Tears 0 1) 1 mid new → MayCloseCounter mid new → IsUnsynced old new ⊎ FromFirstSync (HasNoCounterSilo magic) old new
+    tried_pending : (new : World) → RunsOnFile manager (Tears 0 1) 1 mid new → MayClose mid new → IsUnsynced old new ⊎ FromFirstSync (HasNoSilo magic) old new
     tried_pending new run (inl written) = inl (record { moments = written_early new written run.now; now = wrote_early new written (moment_of new) refl run.now })
     tried_pending new run (inr closes) = tried_by new run closes.0 closes.1
 
   -- the sync succeeded
-  pub closed_first : (new : World) → RunsOnFile manager (Tears 0 1) 1 mid new → ClosesCounterBy true mid new → FromFirstSync (HasNoCounterSilo magic) old new
+  pub closed_first : (new : World) → RunsOnFile manager (Tears 0 1) 1 mid new → ClosesBy true mid new → FromFirstSync (HasNoSilo magic) old new
   closed_first new run closes = elim (cases_settled (old.disk manager)) [ inl is ↦ from_settled is new run | inr pending ↦ from_pending pending new closes ]
 
   -- whether it succeeded or not, or wasn't asked
-  pub tried : (new : World) → RunsOnFile manager (Tears 0 1) 1 mid new → MayCloseCounter mid new → IsUntouched old new ⊎ (IsUnsynced old new ⊎ FromFirstSync (HasNoCounterSilo magic) old new)
+  pub tried : (new : World) → RunsOnFile manager (Tears 0 1) 1 mid new → MayClose mid new → IsUntouched old new ⊎ (IsUnsynced old new ⊎ FromFirstSync (HasNoSilo magic) old new)
   tried new run may = elim (cases_settled (old.disk manager)) [ inl is ↦ inr (inr (from_settled is new run)) | inr pending ↦ inr (tried_pending pending new run may) ]
 
 -- a clause on success, where it was one
@@ -189,7 +189,7 @@ on_ok P (Ok value) holds ok = holds
 on_ok P (Err why) holds ok = absurd (false≢true ok)
 
 -- the write of the gate and the sync
-pub closes_by : (ok : Bool) (old mid new : World) → Written manager 0 1 old mid → MayLeave (old.disk manager) (old.disk manager).seen → Synced manager ok mid new → ClosesCounterBy ok old new
+pub closes_by : (ok : Bool) (old mid new : World) → Written manager 0 1 old mid → MayLeave (old.disk manager) (old.disk manager).seen → Synced manager ok mid new → ClosesBy ok old new
 closes_by ok old mid new written here synced = record {
   before = mid;
   written = written;

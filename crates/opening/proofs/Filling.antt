@@ -11,7 +11,7 @@ use Rattle.gate_block.specs.Log.{LogsUpTo, first_gate}
 use Rattle.gate_block.proofs.Logs.{no_blocks, logged}
 use Rattle.silo_spec.specs.Silos.{manager, program_file, counter_magic, IsSilo, HasProgram, IsNewSilo, new_header}
 use Rattle.silo_spec.specs.Making.{IsNewAt, IsMade}
-use Rattle.opening.specs.Steps.{IsShutCounter}
+use Rattle.opening.specs.Steps.{IsShut}
 
 log_apart : manager ≢ program_file
 log_apart e = cc
@@ -63,7 +63,7 @@ header_behind : (file : List ℕ) → 0 < length file → take 15 (drop 1 (overl
 header_behind [] some = absurd (omega arith)
 header_behind (x ∷ file) some = refl
 
-module _ (text : List ℕ) (w0 : World) (shut : IsShutCounter (w0.disk manager)) where
+module _ (text : List ℕ) (w0 : World) (shut : IsShut (w0.disk manager)) where
   -- while the program file is written
   pub while_program : (m : Moment) → ChangesFile program_file (Tears 0 (4 + length text)) w0 m → IsNewAt counter_magic text m
   while_program m changes image is silo =

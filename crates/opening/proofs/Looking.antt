@@ -13,33 +13,33 @@ use Rattle.silo_spec.specs.Moments.{IsAsAtEntry, IsUntouched}
 use Rattle.opening.specs.declared.creation.Front.{Front}
 use Rattle.opening.specs.declared.creation.Front.TheVariants.{Empty, Silo, Open, Closed}
 use Rattle.silo_spec.specs.Making.{IsBeside, StaysBeside}
-use Rattle.opening.specs.Steps.{IsLookedAtCounter, IsLookingCounter, LooksCounter, SyncsCounterOnce, SyncsForCounter}
+use Rattle.opening.specs.Steps.{IsLookedAt, IsLooking, Looks, SyncsOnce, SyncsFor}
 
 -- what a read gives is among what a crash may leave, of each file
 abbrev pub SeenMayStay : World → Type 0
 SeenMayStay w = (file : FileId) → MayLeave (w.disk file) (w.disk file).seen
 
-looked_left : (old new : FileState) → MayLeave old old.seen → IsLookedAtCounter old new → (c : List ℕ) → MayLeave new c → MayLeave old c
+looked_left : (old new : FileState) → MayLeave old old.seen → IsLookedAt old new → (c : List ℕ) → MayLeave new c → MayLeave old c
 looked_left old new here (inl same) c left = subst (λ (s : FileState). MayLeave s c) same left
 looked_left old new here (inr lasts) c left = subst (λ (bytes : List ℕ). MayLeave old bytes) (sym (settled_only old.seen c (subst (λ (s : FileState). MayLeave s c) lasts left))) here
 
-looked_seen : (old new : FileState) → IsLookedAtCounter old new → new.seen ≡ old.seen
+looked_seen : (old new : FileState) → IsLookedAt old new → new.seen ≡ old.seen
 looked_seen old new (inl same) = ap (λ (s : FileState). s.seen) same
 looked_seen old new (inr lasts) = ap (λ (s : FileState). s.seen) lasts
 
-looking_image : (old : World) → SeenMayStay old → (m : Moment) → IsLookingCounter old m → (image : Image) → IsImage m.disk image → IsImage old.disk image
+looking_image : (old : World) → SeenMayStay old → (m : Moment) → IsLooking old m → (image : Image) → IsImage m.disk image → IsImage old.disk image
 looking_image old here m looking image is file = elim (cases_file manager file) [
   | inl same ↦ subst (λ (f : FileId). MayLeave (old.disk f) (image f)) same (looked_left (old.disk manager) (m.disk manager) (here manager) looking.log (image manager) (is manager))
   | inr other ↦ subst (λ (s : FileState). MayLeave s (image file)) (looking.others file (λ e. other (sym e))) (is file)
 ]
 
-looking_same : (old : World) → SeenMayStay old → (m : Moment) → IsLookingCounter old m → IsAsAtEntry old m
+looking_same : (old : World) → SeenMayStay old → (m : Moment) → IsLooking old m → IsAsAtEntry old m
 looking_same old here m looking = record { quiet = looking.output; images = looking_image old here m looking }
 
 -- nothing was written
-pub looks_untouched : (old new : World) → SeenMayStay old → LooksCounter old new → IsUntouched old new
+pub looks_untouched : (old new : World) → SeenMayStay old → Looks old new → IsUntouched old new
 looks_untouched old new here looks = record {
-  moments = weaker (IsLookingCounter old) (IsAsAtEntry old) (looking_same old here) looks.moments;
+  moments = weaker (IsLooking old) (IsAsAtEntry old) (looking_same old here) looks.moments;
   now = looking_same old here (moment_of new) looks.now;
   seen = λ file. elim (cases_file manager file) [
     | inl same ↦ subst (λ (f : FileId). (new.disk f).seen ≡ (old.disk f).seen) same (looked_seen (old.disk manager) (new.disk manager) looks.now.log)
@@ -47,56 +47,56 @@ looks_untouched old new here looks = record {
   ];
 }
 
-own_looking : (old : World) → IsLookingCounter old (moment_of old)
+own_looking : (old : World) → IsLooking old (moment_of old)
 own_looking old = record { output = refl; others = λ f other. refl; log = inl refl }
 
 -- calls that only asked
-pub asked_looks : (old new : World) → OnlyAsked old new → LooksCounter old new
+pub asked_looks : (old new : World) → OnlyAsked old new → Looks old new
 asked_looks old new asked = record {
   input = asked.input;
-  moments = asked_keeps (IsLookingCounter old) old new asked (own_looking old);
-  now = subst (λ (m : Moment). IsLookingCounter old m) (sym (same_moment old new asked.output asked.disk)) (own_looking old);
+  moments = asked_keeps (IsLooking old) old new asked (own_looking old);
+  now = subst (λ (m : Moment). IsLooking old m) (sym (same_moment old new asked.output asked.disk)) (own_looking old);
 }
 
-pub looks_asked : (old mid new : World) → LooksCounter old mid → OnlyAsked mid new → LooksCounter old new
+pub looks_asked : (old mid new : World) → Looks old mid → OnlyAsked mid new → Looks old new
 looks_asked old mid new looks asked = record {
   input = asked.input ∙ looks.input;
-  moments = both (IsLookingCounter old) looks.moments (asked_keeps (IsLookingCounter old) mid new asked looks.now);
-  now = subst (λ (m : Moment). IsLookingCounter old m) (sym (same_moment mid new asked.output asked.disk)) looks.now;
+  moments = both (IsLooking old) looks.moments (asked_keeps (IsLooking old) mid new asked looks.now);
+  now = subst (λ (m : Moment). IsLooking old m) (sym (same_moment mid new asked.output asked.disk)) looks.now;
 }
 
-synced_log : (ok : Bool) (old mid new : FileState) → mid ≡ old → new ≡ after_sync ok mid → IsLookedAtCounter old new
+synced_log : (ok : Bool) (old mid new : FileState) → mid ≡ old → new ≡ after_sync ok mid → IsLookedAt old new
 synced_log true old mid new same synced = inr (synced ∙ ap (λ (s : FileState). settled s.seen) same)
 synced_log false old mid new same synced = inl (synced ∙ same)
 
 -- a sync of the manager file behind them
-pub looks_synced : (old mid new : World) (ok : Bool) → OnlyAsked old mid → Synced manager ok mid new → LooksCounter old new
+pub looks_synced : (old mid new : World) (ok : Bool) → OnlyAsked old mid → Synced manager ok mid new → Looks old new
 looks_synced old mid new ok asked synced =
-    let here : IsLookingCounter old (moment_of new) = record {
+    let here : IsLooking old (moment_of new) = record {
       output = synced.output ∙ asked.output;
       others = λ f other. synced.others f other ∙ ap (λ (d : Disk). d f) asked.disk;
       log = synced_log ok (old.disk manager) (mid.disk manager) (new.disk manager) (ap (λ (d : Disk). d manager) asked.disk) synced.state;
     } in
     record {
       input = synced.input ∙ asked.input;
-      moments = both (IsLookingCounter old) (asked_looks old mid asked).moments (one (IsLookingCounter old) mid new synced.past here);
+      moments = both (IsLooking old) (asked_looks old mid asked).moments (one (IsLooking old) mid new synced.past here);
       now = here;
     }
 
 -- a file that has bytes was synced
-pub synced_for : (front : Front) → front ≢ Empty → (old new : World) → SyncsCounterOnce old new → SyncsForCounter front old new
+pub synced_for : (front : Front) → front ≢ Empty → (old new : World) → SyncsOnce old new → SyncsFor front old new
 synced_for Empty some old new once = absurd (some refl)
 synced_for Silo some old new once = once
 synced_for Open some old new once = once
 synced_for Closed some old new once = once
 
-looking_beside : (old : World) (m : Moment) → IsLookingCounter old m → IsBeside old m
+looking_beside : (old : World) (m : Moment) → IsLooking old m → IsBeside old m
 looking_beside old m looking = record { output = looking.output; others = λ file other apart. looking.others file other }
 
-pub looks_beside : (old new : World) → LooksCounter old new → StaysBeside old new
+pub looks_beside : (old new : World) → Looks old new → StaysBeside old new
 looks_beside old new looks = record {
   input = looks.input;
-  moments = weaker (IsLookingCounter old) (IsBeside old) (looking_beside old) looks.moments;
+  moments = weaker (IsLooking old) (IsBeside old) (looking_beside old) looks.moments;
   now = looking_beside old (moment_of new) looks.now;
 }
 

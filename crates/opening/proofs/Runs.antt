@@ -13,7 +13,7 @@ use Rattle.silo_spec.specs.declared.units.Logged.{Logged}
 use Rattle.silo_spec.specs.Units.{body_of, AreUnits}
 use Rattle.silo_spec.specs.Logs.{IsLog}
 use Rattle.silo_spec.specs.Moments.{IsAsAtEntry, IsUntouched}
-use Rattle.opening.specs.Reading.{StaysCounter}
+use Rattle.opening.specs.Reading.{Stays}
 
 -- calls that only asked, behind a run on one file
 pub run_only_asked : (file : FileId) (R : Change) (most : ℕ) (old mid new : World) → RunsOnFile file R most old mid → OnlyAsked mid new → RunsOnFile file R most old new
@@ -28,19 +28,19 @@ run_only_asked file R most old mid new run asked = record {
 }
 
 -- the length was asked
-pub run_length : (old new : World) → Asked old new → RunsOnFile manager StaysCounter 1 old new
-run_length old new asked = run_more_syncs manager StaysCounter 0 1 old new (omega arith) (run_asked manager StaysCounter 0 old old new (run_started manager StaysCounter old (λ d. refl)) asked)
+pub run_length : (old new : World) → Asked old new → RunsOnFile manager Stays 1 old new
+run_length old new asked = run_more_syncs manager Stays 0 1 old new (omega arith) (run_asked manager Stays 0 old old new (run_started manager Stays old (λ d. refl)) asked)
 
 -- and then the file was synced
-pub run_settled : (old mid new : World) (ok : Bool) → Asked old mid → Synced manager ok mid new → MayLeave (mid.disk manager) (mid.disk manager).seen → RunsOnFile manager StaysCounter 1 old new
-run_settled old mid new ok asked synced here = run_synced manager StaysCounter 0 old mid new (run_asked manager StaysCounter 0 old old mid (run_started manager StaysCounter old (λ d. refl)) asked) ok synced here
+pub run_settled : (old mid new : World) (ok : Bool) → Asked old mid → Synced manager ok mid new → MayLeave (mid.disk manager) (mid.disk manager).seen → RunsOnFile manager Stays 1 old new
+run_settled old mid new ok asked synced here = run_synced manager Stays 0 old mid new (run_asked manager Stays 0 old old mid (run_started manager Stays old (λ d. refl)) asked) ok synced here
 
 -- at each moment of such a run each image is one of those at its start
-as_at_entry : (old : World) (m : Moment) → ChangesFile manager StaysCounter old m → IsAsAtEntry old m
+as_at_entry : (old : World) (m : Moment) → ChangesFile manager Stays old m → IsAsAtEntry old m
 as_at_entry old m changes = record {
   quiet = changes.output;
   images = λ image is f.
-      let comes = image_from manager StaysCounter old m changes image is in
+      let comes = image_from manager Stays old m changes image is in
       let same : comes.from f ≡ image f = elim (cases_file f manager) [
         | inl this ↦ subst (λ (g : FileId). comes.from g ≡ image g) (sym this) (sym comes.changed)
         | inr other ↦ sym (comes.others f other)
@@ -49,7 +49,7 @@ as_at_entry old m changes = record {
 }
 
 -- such a run left the folder untouched
-pub untouched : (most : ℕ) (old new : World) → RunsOnFile manager StaysCounter most old new → IsUntouched old new
+pub untouched : (most : ℕ) (old new : World) → RunsOnFile manager Stays most old new → IsUntouched old new
 untouched most old new run = record {
   moments = weaker _ _ (as_at_entry old) run.moments;
   now = as_at_entry old (moment_of new) run.now;

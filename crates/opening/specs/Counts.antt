@@ -8,13 +8,13 @@ use Rattle.opening.specs.declared.faults.OpenFault.{OpenFault}
 use Rattle.opening.specs.declared.faults.CreateFault.{CreateFault}
 
 -- a call on the manager file failed where `DiskFault` is answered, and none did where another fault is
-abbrev pub CounterOpenFaulted : OpenFault → (Channel → ℕ) → (Channel → ℕ) → Type 0
-CounterOpenFaulted OpenFault.NotASilo old new = NoneFailed old new
-CounterOpenFaulted (OpenFault.Damaged file place) old new = NoneFailed old new
-CounterOpenFaulted (OpenFault.DiskFault file) old new = (file ≡ manager) × FailedOn (File file) old new
-CounterOpenFaulted OpenFault.Memory old new = NoneFailed old new
+abbrev pub OpenFaulted : OpenFault → (Channel → ℕ) → (Channel → ℕ) → Type 0
+OpenFaulted OpenFault.NotASilo old new = NoneFailed old new
+OpenFaulted (OpenFault.Damaged file place) old new = NoneFailed old new
+OpenFaulted (OpenFault.DiskFault file) old new = (file ≡ manager) × FailedOn (File file) old new
+OpenFaulted OpenFault.Memory old new = NoneFailed old new
 
 -- a call on the file, one of the two, failed where `DiskFault` is answered, and none did where the folder is a silo
-abbrev pub CounterCreateFaulted : CreateFault → (Channel → ℕ) → (Channel → ℕ) → Type 0
-CounterCreateFaulted CreateFault.AlreadyASilo old new = NoneFailed old new
-CounterCreateFaulted (CreateFault.DiskFault file) old new = ((file ≡ manager) ⊎ (file ≡ program_file)) × FailedOn (File file) old new
+abbrev pub CreateFaulted : CreateFault → (Channel → ℕ) → (Channel → ℕ) → Type 0
+CreateFaulted CreateFault.AlreadyASilo old new = NoneFailed old new
+CreateFaulted (CreateFault.DiskFault file) old new = ((file ≡ manager) ⊎ (file ≡ program_file)) × FailedOn (File file) old new

@@ -6,8 +6,8 @@ use Rattle.silo_spec.specs.Units.{body_of, IsUnit}
 use Rattle.silo_spec.specs.Damage.{IsBodyAbove}
 
 -- the bytes are as they were
-abbrev pub StaysCounter : List ℕ → List ℕ → Type 0
-StaysCounter old new = new ≡ old
+abbrev pub Stays : List ℕ → List ℕ → Type 0
+Stays old new = new ≡ old
 
 -- there is an open block, and it isn't that of a unit above this one
 abbrev pub IsBroken : ℕ → Found → Type 0
@@ -21,7 +21,7 @@ pub record IsBlockAt (gate : ℕ) (file : List ℕ) (logged : Logged) : Type 0 w
   pub spelled : take (5 + length (body_of logged)) (drop gate file) ≡ block_at (body_of logged)
 
 -- a unit above this one, and the gate behind its block
-pub record IsCounterNext (above gate : ℕ) (logged : Logged) (next : ℕ) : Type 0 where
+pub record IsNext (above gate : ℕ) (logged : Logged) (next : ℕ) : Type 0 where
   pub higher : above < logged.unit.0
   pub unit : IsUnit logged
   pub small : length (body_of logged) < 2 ^ 32

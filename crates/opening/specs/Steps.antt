@@ -9,34 +9,34 @@ use Rattle.opening.specs.declared.creation.Front.{Front}
 use Rattle.opening.specs.declared.creation.Front.TheVariants.{Empty, Silo, Open, Closed}
 
 -- No byte 0 makes it a silo: it is too short, or its name isn't the magic.
-abbrev pub IsNamedOtherwiseCounter : List ℕ → List ℕ → Type 0
-IsNamedOtherwiseCounter magic file = (length file < 16) ⊎ (take 8 (drop 1 file) ≢ magic)
+abbrev pub IsNamedOtherwise : List ℕ → List ℕ → Type 0
+IsNamedOtherwise magic file = (length file < 16) ⊎ (take 8 (drop 1 file) ≢ magic)
 
 -- what the first bytes of a manager file say
-abbrev pub ShowsCounter : List ℕ → Front → List ℕ → Type 0
-ShowsCounter magic Empty file = file ≡ []
-ShowsCounter magic Silo file = IsSilo magic file
-ShowsCounter magic Open file = (0 < length file) × IsNamedOtherwiseCounter magic file
-ShowsCounter magic Closed file = (0 < length file) × (slice_index file 0 ≢ 1)
+abbrev pub Shows : List ℕ → Front → List ℕ → Type 0
+Shows magic Empty file = file ≡ []
+Shows magic Silo file = IsSilo magic file
+Shows magic Open file = (0 < length file) × IsNamedOtherwise magic file
+Shows magic Closed file = (0 < length file) × (slice_index file 0 ≢ 1)
 
 -- the manager file is as it was, or what was read of it lasts now
-abbrev pub IsLookedAtCounter : FileState → FileState → Type 0
-IsLookedAtCounter old new = (new ≡ old) ⊎ (new ≡ settled old.seen)
+abbrev pub IsLookedAt : FileState → FileState → Type 0
+IsLookedAt old new = (new ≡ old) ⊎ (new ≡ settled old.seen)
 
 -- and all else is as it was
-pub record IsLookingCounter (old : World) (m : Moment) : Type 0 where
+pub record IsLooking (old : World) (m : Moment) : Type 0 where
   pub output : m.output ≡ old.output
   pub others : (file : FileId) → file ≢ manager → m.disk file ≡ old.disk file
-  pub log : IsLookedAtCounter (old.disk manager) (m.disk manager)
+  pub log : IsLookedAt (old.disk manager) (m.disk manager)
 
 -- at each moment
-pub record LooksCounter (old new : World) : Type 0 where
+pub record Looks (old new : World) : Type 0 where
   pub input : new.input ≡ old.input
-  pub moments : Passes (IsLookingCounter old) old.past new.past
-  pub now : IsLookingCounter old (moment_of new)
+  pub moments : Passes (IsLooking old) old.past new.past
+  pub now : IsLooking old (moment_of new)
 
 -- the manager file was synced once, and beside that there was nothing but asking
-pub record SyncsCounterOnce (old new : World) : Type 0 where
+pub record SyncsOnce (old new : World) : Type 0 where
   pub before : World
   pub after : World
   pub asked : OnlyAsked old before
@@ -44,29 +44,29 @@ pub record SyncsCounterOnce (old new : World) : Type 0 where
   pub more : OnlyAsked after new
 
 -- whether the file had to be synced before it was read
-abbrev pub SyncsForCounter : Front → World → World → Type 0
-SyncsForCounter Empty old new = OnlyAsked old new
-SyncsForCounter Silo old new = SyncsCounterOnce old new
-SyncsForCounter Open old new = SyncsCounterOnce old new
-SyncsForCounter Closed old new = SyncsCounterOnce old new
+abbrev pub SyncsFor : Front → World → World → Type 0
+SyncsFor Empty old new = OnlyAsked old new
+SyncsFor Silo old new = SyncsOnce old new
+SyncsFor Open old new = SyncsOnce old new
+SyncsFor Closed old new = SyncsOnce old new
 
 -- byte 0 of the manager file was written, and then the file was synced, which succeeded or not
-pub record ClosesCounterBy (ok : Bool) (old new : World) : Type 0 where
+pub record ClosesBy (ok : Bool) (old new : World) : Type 0 where
   pub before : World
   pub written : Written manager 0 1 old before
   pub run : RunsOnFile manager (Tears 0 1) 0 old before
   pub sync : Synced manager ok before new
 
 -- it was written, and the file was synced or wasn't
-abbrev pub MayCloseCounter : World → World → Type 0
-MayCloseCounter old new = Written manager 0 1 old new ⊎ ((ok : Bool) × ClosesCounterBy ok old new)
+abbrev pub MayClose : World → World → Type 0
+MayClose old new = Written manager 0 1 old new ⊎ ((ok : Bool) × ClosesBy ok old new)
 
 -- in no image is the manager file a silo's
-abbrev pub HasNoCounterSilo : List ℕ → Moment → Type 0
-HasNoCounterSilo magic m = (image : Image) → IsImage m.disk image → IsSilo magic (image manager) → ⊥
+abbrev pub HasNoSilo : List ℕ → Moment → Type 0
+HasNoSilo magic m = (image : Image) → IsImage m.disk image → IsSilo magic (image manager) → ⊥
 
 -- the manager file has a header gate, which isn't open, and nothing is pending in it
-pub record IsShutCounter (file : FileState) : Type 0 where
+pub record IsShut (file : FileState) : Type 0 where
   pub lasts : file ≡ settled file.seen
   pub some : 0 < length file.seen
   pub closed : slice_index file.seen 0 ≢ 1

@@ -11,9 +11,9 @@ ghost use Rattle.silo_spec.specs.Silos.{manager, program_file, counter_magic, Is
 ghost use Rattle.silo_spec.specs.Moments.{IsUntouched};
 ghost use Rattle.opening.specs.declared.faults.CreateFault.{CreateFault};
 ghost use Rattle.opening.specs.declared.creation.Front.{Front};
-ghost use Rattle.opening.specs.Counts.{CounterCreateFaulted};
+ghost use Rattle.opening.specs.Counts.{CreateFaulted};
 ghost use Rattle.silo_spec.specs.Making.{IsMade, StaysBeside, IsUnsynced, FromFirstSync, IsNewAt, Makes};
-ghost use Rattle.opening.specs.Steps.{ShowsCounter, LooksCounter, SyncsForCounter, ClosesCounterBy, MayCloseCounter, HasNoCounterSilo, IsShutCounter};
+ghost use Rattle.opening.specs.Steps.{Shows, Looks, SyncsFor, ClosesBy, MayClose, HasNoSilo, IsShut};
 
 use crate::faults::CreateFault;
 use host_trait::{Failed, FileId, Host, read_full, write_synced};
@@ -79,7 +79,7 @@ pub fn create<H: Host>(host: &mut H, program: &[u8]) -> Result<(), CreateFault>
     // `DiskFault` is answered exactly where a call on the file, one of the two, failed: its count rose then, and no other
     // changed. With another answer no count has changed.
     ensures calm { OnOk result (NoneFailed (H.faults host.old) (H.faults host.new)) }
-    ensures fault { IfErr result (λ e. CounterCreateFaulted e (H.faults host.old) (H.faults host.new)) }
+    ensures fault { IfErr result (λ e. CreateFaulted e (H.faults host.old) (H.faults host.new)) }
     ensures ready { StaysReady (H.is_ready host.old) (H.is_ready host.new) }
 {
     prepare(host)?;
@@ -90,8 +90,8 @@ pub fn create<H: Host>(host: &mut H, program: &[u8]) -> Result<(), CreateFault>
 // Steps one and two: looks whether the folder is a silo, and closes the header gate where it has to be closed. After Ok no
 // image is a silo.
 fn prepare<H: Host>(host: &mut H) -> Result<(), CreateFault>
-    ensures first { OnOk result (IsTrue H.tells → FromFirstSync (HasNoCounterSilo counter_magic) (H.world host.old) (H.world host.new)) }
-    ensures shut { OnOk result (IsTrue H.tells → IsShutCounter ((H.world host.new).disk manager)) }
+    ensures first { OnOk result (IsTrue H.tells → FromFirstSync (HasNoSilo counter_magic) (H.world host.old) (H.world host.new)) }
+    ensures shut { OnOk result (IsTrue H.tells → IsShut ((H.world host.new).disk manager)) }
     ensures silo { IsTrue H.tells → IsSilo counter_magic ((H.world host.old).disk manager).seen
         → (IsErrOf result CreateFault.AlreadyASilo) ⊎ (IsErrOf result (CreateFault.DiskFault manager)) }
     ensures untouched { IsTrue H.tells → IsSilo counter_magic ((H.world host.old).disk manager).seen
@@ -102,10 +102,10 @@ fn prepare<H: Host>(host: &mut H) -> Result<(), CreateFault>
         → (H.world host.new).disk manager ≡ settled ((H.world host.old).disk manager).seen }
     ensures moments { IsTrue H.tells → IsUntouched (H.world host.old) (H.world host.new)
         ⊎ (IsUnsynced (H.world host.old) (H.world host.new)
-        ⊎ FromFirstSync (HasNoCounterSilo counter_magic) (H.world host.old) (H.world host.new)) }
+        ⊎ FromFirstSync (HasNoSilo counter_magic) (H.world host.old) (H.world host.new)) }
     ensures beside { IsTrue H.tells → StaysBeside (H.world host.old) (H.world host.new) }
     ensures calm { OnOk result (NoneFailed (H.faults host.old) (H.faults host.new)) }
-    ensures fault { IfErr result (λ e. CounterCreateFaulted e (H.faults host.old) (H.faults host.new)) }
+    ensures fault { IfErr result (λ e. CreateFaulted e (H.faults host.old) (H.faults host.new)) }
     ensures ready { StaysReady (H.is_ready host.old) (H.is_ready host.new) }
 {
     match look(host) {
@@ -125,9 +125,9 @@ fn prepare<H: Host>(host: &mut H) -> Result<(), CreateFault>
 
 // Step one: looks at the manager file, and makes what it reads last.
 fn look<H: Host>(host: &mut H) -> Result<Front, Failed>
-    ensures looks { IsTrue H.tells → LooksCounter (H.world host.old) (H.world host.new) }
-    ensures shows { IfOk result (λ front. IsTrue H.tells → ShowsCounter counter_magic front ((H.world host.old).disk manager).seen) }
-    ensures syncs { IfOk result (λ front. IsTrue H.tells → SyncsForCounter front (H.world host.old) (H.world host.new)) }
+    ensures looks { IsTrue H.tells → Looks (H.world host.old) (H.world host.new) }
+    ensures shows { IfOk result (λ front. IsTrue H.tells → Shows counter_magic front ((H.world host.old).disk manager).seen) }
+    ensures syncs { IfOk result (λ front. IsTrue H.tells → SyncsFor front (H.world host.old) (H.world host.new)) }
     ensures faults { Counted (File manager) result (H.faults host.old) (H.faults host.new) }
     ensures ready { StaysReady (H.is_ready host.old) (H.is_ready host.new) }
 {
@@ -142,7 +142,7 @@ fn look<H: Host>(host: &mut H) -> Result<Front, Failed>
 // What the first bytes of a manager file that has bytes say.
 fn read_front<H: Host>(host: &mut H) -> Result<Front, Failed>
     requires { IsTrue H.tells → 0 < length ((H.world host.old).disk manager).seen }
-    ensures shows { IfOk result (λ front. IsTrue H.tells → ShowsCounter counter_magic front ((H.world host.old).disk manager).seen) }
+    ensures shows { IfOk result (λ front. IsTrue H.tells → Shows counter_magic front ((H.world host.old).disk manager).seen) }
     ensures some { IfOk result (λ front. front ≢ Front.Empty) }
     ensures asked { IsTrue H.tells → OnlyAsked (H.world host.old) (H.world host.new) }
     ensures faults { Counted (File manager) result (H.faults host.old) (H.faults host.new) }
@@ -166,8 +166,8 @@ fn close_header<H: Host>(host: &mut H) -> Result<(), Failed>
     ensures run { IsTrue H.tells → RunsOnFile manager (Tears 0 1) 1 (H.world host.old) (H.world host.new) }
     ensures ok { OnOk result (IsTrue H.tells
         → (H.world host.new).disk manager ≡ settled (overlaid ((H.world host.old).disk manager).seen 0 (0 ∷ []))) }
-    ensures synced { OnOk result (IsTrue H.tells → ClosesCounterBy true (H.world host.old) (H.world host.new)) }
-    ensures tried { IsTrue H.tells → MayCloseCounter (H.world host.old) (H.world host.new) }
+    ensures synced { OnOk result (IsTrue H.tells → ClosesBy true (H.world host.old) (H.world host.new)) }
+    ensures tried { IsTrue H.tells → MayClose (H.world host.old) (H.world host.new) }
     ensures faults { Counted (File manager) result (H.faults host.old) (H.faults host.new) }
     ensures ready { StaysReady (H.is_ready host.old) (H.is_ready host.new) }
 {
@@ -179,7 +179,7 @@ fn close_header<H: Host>(host: &mut H) -> Result<(), Failed>
 // Steps three to five: writes the program file, then what stands behind the header gate, and then opens the gate.
 fn fill<H: Host>(host: &mut H, program: &[u8]) -> Result<(), CreateFault>
     requires small { length program.now ≤ 262144 }
-    requires shut { IsTrue H.tells → IsShutCounter ((H.world host.old).disk manager) }
+    requires shut { IsTrue H.tells → IsShut ((H.world host.old).disk manager) }
     ensures files { OnOk result (IsTrue H.tells → IsMade counter_magic program.now (H.world host.new).disk) }
     ensures moments { IsTrue H.tells
         → Passes (IsNewAt counter_magic program.now) (H.world host.old).past (H.world host.new).past }
@@ -187,7 +187,7 @@ fn fill<H: Host>(host: &mut H, program: &[u8]) -> Result<(), CreateFault>
     ensures beside { IsTrue H.tells → StaysBeside (H.world host.old) (H.world host.new) }
     ensures already { IsErrOf result CreateFault.AlreadyASilo → ⊥ }
     ensures calm { OnOk result (NoneFailed (H.faults host.old) (H.faults host.new)) }
-    ensures fault { IfErr result (λ e. CounterCreateFaulted e (H.faults host.old) (H.faults host.new)) }
+    ensures fault { IfErr result (λ e. CreateFaulted e (H.faults host.old) (H.faults host.new)) }
     ensures ready { StaysReady (H.is_ready host.old) (H.is_ready host.new) }
 {
     write_program(host, program).map_err(|_| CreateFault::DiskFault { file: PROGRAM })?;

@@ -16,8 +16,8 @@ ghost use Rattle.silo_spec.specs.Logs.{IsLog};
 ghost use Rattle.silo_spec.specs.Damage.{IsBodyAbove, IsDamagedAt};
 ghost use Rattle.silo_spec.specs.Moments.{IsUntouched};
 ghost use Rattle.opening.specs.declared.faults.OpenFault.{OpenFault};
-ghost use Rattle.opening.specs.Counts.{CounterOpenFaulted};
-ghost use Rattle.opening.specs.Reading.{StaysCounter, IsBroken, IsBlockAt, IsCounterNext};
+ghost use Rattle.opening.specs.Counts.{OpenFaulted};
+ghost use Rattle.opening.specs.Reading.{Stays, IsBroken, IsBlockAt, IsNext};
 
 use crate::faults::OpenFault;
 use base_types::{List, UnitNo};
@@ -42,7 +42,7 @@ fn settle<H: Host>(host: &mut H) -> Result<bool, Failed>
         length ((H.world host.old).disk manager).seen < 16) }
     ensures settled { IfOk result (λ long. IsTrue H.tells → long ≡ true →
         (H.world host.new).disk manager ≡ settled ((H.world host.old).disk manager).seen) }
-    ensures run { IsTrue H.tells → RunsOnFile manager StaysCounter 1 (H.world host.old) (H.world host.new) }
+    ensures run { IsTrue H.tells → RunsOnFile manager Stays 1 (H.world host.old) (H.world host.new) }
     ensures faults { Counted (File manager) result (H.faults host.old) (H.faults host.new) }
     ensures ready { StaysReady (H.is_ready host.old) (H.is_ready host.new) }
 {
@@ -87,7 +87,7 @@ fn is_silo<H: Host>(host: &mut H) -> Result<bool, Failed>
         IsSilo counter_magic ((H.world host.old).disk manager).seen → ⊥) }
     ensures settled { IfOk result (λ is. IsTrue H.tells → is ≡ true →
         (H.world host.new).disk manager ≡ settled ((H.world host.old).disk manager).seen) }
-    ensures run { IsTrue H.tells → RunsOnFile manager StaysCounter 1 (H.world host.old) (H.world host.new) }
+    ensures run { IsTrue H.tells → RunsOnFile manager Stays 1 (H.world host.old) (H.world host.new) }
     ensures faults { Counted (File manager) result (H.faults host.old) (H.faults host.new) }
     ensures ready { StaysReady (H.is_ready host.old) (H.is_ready host.new) }
 {
@@ -158,14 +158,14 @@ fn next_unit<H: Host>(
     requires place { gate_at < 2 ^ 63 }
     ensures end { IfOk result (λ found. IsTrue H.tells → IfNone found (found_at gate_at ((H.world host.old).disk manager).seen ≡ shut)) }
     ensures block { IfOk result (λ found. IsTrue H.tells → IfSome found (λ x. IsBlockAt gate_at ((H.world host.old).disk manager).seen x.0)) }
-    ensures next { IfOk result (λ found. IfSome found (λ x. IsCounterNext above gate_at x.0 x.1)) }
+    ensures next { IfOk result (λ found. IfSome found (λ x. IsNext above gate_at x.0 x.1)) }
     ensures broken { (file : FileId) (place : ℕ) → IsErrOf result (OpenFault.Damaged file place) → IsTrue H.tells
         → IsBroken above (found_at gate_at ((H.world host.old).disk manager).seen) }
     ensures place { (file : FileId) (place : ℕ) → IsErrOf result (OpenFault.Damaged file place) → (file ≡ manager) × (place ≡ gate_at + 1) }
     ensures silo { IsErrOf result OpenFault.NotASilo → ⊥ }
     ensures asked { IsTrue H.tells → OnlyAsked (H.world host.old) (H.world host.new) }
     ensures calm { OnOk result (NoneFailed (H.faults host.old) (H.faults host.new)) }
-    ensures fault { IfErr result (λ e. CounterOpenFaulted e (H.faults host.old) (H.faults host.new)) }
+    ensures fault { IfErr result (λ e. OpenFaulted e (H.faults host.old) (H.faults host.new)) }
     ensures ready { StaysReady (H.is_ready host.old) (H.is_ready host.new) }
 {
     let file = FileId::Manager { slot: 0 };
@@ -199,7 +199,7 @@ fn read_log<H: Host>(alloc: Global, host: &mut H) -> Result<Opened, OpenFault>
     ensures silo { IsErrOf result OpenFault.NotASilo → ⊥ }
     ensures asked { IsTrue H.tells → OnlyAsked (H.world host.old) (H.world host.new) }
     ensures calm { OnOk result (NoneFailed (H.faults host.old) (H.faults host.new)) }
-    ensures fault { IfErr result (λ e. CounterOpenFaulted e (H.faults host.old) (H.faults host.new)) }
+    ensures fault { IfErr result (λ e. OpenFaulted e (H.faults host.old) (H.faults host.new)) }
     ensures ready { StaysReady (H.is_ready host.old) (H.is_ready host.new) }
 {
     let mut log = List::new(alloc);
@@ -253,7 +253,7 @@ pub fn open_silo<H: Host>(alloc: Global, host: &mut H) -> Result<Opened, OpenFau
     // `DiskFault` is answered exactly where a call on the manager file failed: its count rose then, and no other changed.
     // With another answer no count has changed.
     ensures calm { OnOk result (NoneFailed (H.faults host.old) (H.faults host.new)) }
-    ensures fault { IfErr result (λ e. CounterOpenFaulted e (H.faults host.old) (H.faults host.new)) }
+    ensures fault { IfErr result (λ e. OpenFaulted e (H.faults host.old) (H.faults host.new)) }
 
     // Whatever is answered, nothing was written or emitted, and no input was taken.
     ensures untouched { IsTrue H.tells → IsUntouched (H.world host.old) (H.world host.new) }

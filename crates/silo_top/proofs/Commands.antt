@@ -16,7 +16,7 @@ use Rattle.opening.specs.declared.faults.CreateFault.TheVariants as faults
 use Rattle.silo_spec.specs.Making.{Makes, IsMade, StaysBeside}
 use Rattle.silo_top.specs.declared.status.Status.{Status}
 use Rattle.silo_top.specs.declared.status.Status.TheVariants.{Done, BadUse, Memory, ReadFault, WriteFault, DiskFault, NotASilo, AlreadyASilo, Damaged, InputTooLong}
-use Rattle.silo_top.specs.Runs.{counter_program, input_limit, IsMaking, RunEndsAs, IsServed, CarriesOut}
+use Rattle.silo_top.specs.Runs.{counter_program, input_limit, IsMaking, EndsAs, IsServed, IsCarried}
 use Rattle.silo_top.proofs.Serving.{seen_from, done_from, stopped_from, cut_from, doubt_from, unbegun_from}
 
 abbrev fine : Unit {0} → Result (Unit {0}) CreateFault
@@ -88,7 +88,7 @@ opened_stands w0 w1 log gate stay logs lasts =
     }
 
 -- how a run ended, seen from the command's entry
-ends_from : (status : Status) (opening : List Logged) (w0 w1 w2 : World) → w1.input ≡ w0.input → w1.output ≡ w0.output → RunEndsAs status opening w1 w2 → RunEndsAs status opening w0 w2
+ends_from : (status : Status) (opening : List Logged) (w0 w1 w2 : World) → w1.input ≡ w0.input → w1.output ≡ w0.output → EndsAs status opening w1 w2 → EndsAs status opening w0 w2
 ends_from Done opening w0 w1 w2 input output ends = (
   done_from opening (journal_of opening w1.input) (journal_of opening w0.input) w0 w1 w2 (ap (λ (b : List ℕ). journal_of opening b) input) output ends.0,
   ends.1,
@@ -115,7 +115,7 @@ ends_from (InputTooLong line) opening w0 w1 w2 input output ends = (unbegun_from
 
 -- a silo was opened and served
 pub carried : (status : Status) (w0 w1 w2 : World) (log : List Logged) (gate : ℕ) → ((file : FileId) → MayLeave (w1.disk file) (w1.disk file).seen) → IsUntouched w0 w1 → w1.input ≡ w0.input → ((image : Image) → IsImage w1.disk image → IsLog counter_magic image log gate)
-    → ((place : ℕ) → IsDamagedAt (w0.disk manager).seen place → ⊥) → KeepsOthers w0.disk (moment_of w1) → OnlyLogChanges w1 w2 → KeepsHeader (take 15 (w0.disk manager).seen) w1 w2 → IsServed status log w1 w2 → CarriesOut status w0 w2
+    → ((place : ℕ) → IsDamagedAt (w0.disk manager).seen place → ⊥) → KeepsOthers w0.disk (moment_of w1) → OnlyLogChanges w1 w2 → KeepsHeader (take 15 (w0.disk manager).seen) w1 w2 → IsServed status log w1 w2 → IsCarried status w0 w2
 carried status w0 w1 w2 log gate stay untouched input logs undamaged others after headed served =
     let keeps : (m : Moment) → AllKeep counter_magic log (journal_of log w1.input) w1.output m → AllKeep counter_magic log (journal_of log w0.input) w0.output m =
     seen_from log (journal_of log w1.input) (journal_of log w0.input) w1.output w0.output (ap (λ (b : List ℕ). journal_of log b) input) untouched.now.quiet in

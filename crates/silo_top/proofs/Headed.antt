@@ -6,7 +6,7 @@ use Rattle.host_trait.proofs.Crashes.{settled_only}
 use Rattle.host_trait.proofs.Moments.{started, one, both, weaker, same_moment}
 use Rattle.silo_spec.specs.Silos.{manager}
 use Rattle.silo_spec.specs.Moments.{HasHeader, KeepsHeader}
-use Rattle.silo_top.specs.Seals.{IsCounterSealing}
+use Rattle.silo_top.specs.Seals.{IsSealing}
 
 -- no call
 pub headed_none : (header : List ℕ) (w : World) → HasHeader header (moment_of w) → KeepsHeader header w w
@@ -18,7 +18,7 @@ headed_both header a b c first second = record { moments = both _ first.moments 
 
 -- a body is sealed
 pub headed_sealing : (header : List ℕ) (bodies : List (List ℕ)) (body : List ℕ) (gate : ℕ) (old new : World) → MayLeave (old.disk manager) (old.disk manager).seen → HasHeader header (moment_of old)
-    → Passes (IsCounterSealing bodies body gate old) old.past new.past → IsCounterSealing bodies body gate old (moment_of new) → KeepsHeader header old new
+    → Passes (IsSealing bodies body gate old) old.past new.past → IsSealing bodies body gate old (moment_of new) → KeepsHeader header old new
 headed_sealing header bodies body gate old new stay has run now =
     let seen : take 15 (old.disk manager).seen ≡ header = has (old.disk manager).seen stay in
     record {

@@ -8,7 +8,7 @@ use Rattle.silo_spec.specs.declared.units.Logged.{Logged}
 use Rattle.silo_spec.specs.Units.{body_of, AreUnits}
 use Rattle.silo_spec.specs.Settling.{Stands}
 use Rattle.silo_top.specs.declared.prepare.UnitBlock.{UnitBlock}
-use Rattle.silo_top.specs.Seals.{IsCounterSealing, IsSealed}
+use Rattle.silo_top.specs.Seals.{IsSealing, IsSealed}
 use Rattle.silo_top.specs.Prepared.{HoldsUnit, IsSealingUnit}
 use Rattle.silo_top.proofs.Standing.{unit_sealing, unit_sealed, stands_as}
 
@@ -19,10 +19,10 @@ module _ (o : Option UnitBlock) (held : UnitBlock) (is : o ≡ Some held) (body 
   units1 : AreUnits 0 (log ++ h.0 ∷ [])
   units1 = subst (λ (l : List Logged). AreUnits 0 (log ++ l)) h.1 units
 
-  pub by_now : (m : Moment) → IsCounterSealing (map body_of log) body gate w0 m → IsSealingUnit log logged w0.output m
+  pub by_now : (m : Moment) → IsSealing (map body_of log) body gate w0 m → IsSealingUnit log logged w0.output m
   by_now m s = subst (λ (l : List Logged). IsSealingUnit log l w0.output m) (sym h.1) (unit_sealing log gate w0 stands h.0 body (same ∙ h.2) units1 m s)
 
-  pub by_moments : (a b : List Moment) → Passes (IsCounterSealing (map body_of log) body gate w0) a b → Passes (IsSealingUnit log logged w0.output) a b
+  pub by_moments : (a b : List Moment) → Passes (IsSealing (map body_of log) body gate w0) a b → Passes (IsSealingUnit log logged w0.output) a b
   by_moments a b run = weaker _ _ by_now run
 
   pub by_sealed : (new : World) → IsSealed (map body_of log) body gate w0 new → Stands counter_magic (log ++ logged) (gate + length held.block) new.disk

@@ -10,7 +10,7 @@ use Rattle.gate_block.specs.Blocks.{block_of}
 use Rattle.gate_block.specs.Log.{LogsUpTo, EachLogs}
 use Rattle.gate_block.proofs.Images.{each_still, each_or_more, each_more}
 use Rattle.silo_spec.specs.Silos.{manager}
-use Rattle.silo_top.specs.Seals.{Rests, IsCounterSealing, IsSealed}
+use Rattle.silo_top.specs.Seals.{Rests, IsSealing, IsSealed}
 
 -- a gate stands behind the header
 pub behind_header : (bodies : List (List ℕ)) (gate : ℕ) (file : List ℕ) → LogsUpTo bodies gate file → 15 ≤ gate
@@ -39,7 +39,7 @@ module _ (bodies : List (List ℕ)) (body : List ℕ) (gate : ℕ) (w0 : World) 
   seen0 : List ℕ
   seen0 = (w0.disk manager).seen
 
-  pub while_block : (n : ℕ) (m : Moment) → ChangesFile manager (Tears (gate + 1) n) w0 m → IsCounterSealing bodies body gate w0 m
+  pub while_block : (n : ℕ) (m : Moment) → ChangesFile manager (Tears (gate + 1) n) w0 m → IsSealing bodies body gate w0 m
   while_block n m changes = record {
     output = changes.output;
     images = λ c left.
@@ -53,7 +53,7 @@ module _ (bodies : List (List ℕ)) (body : List ℕ) (gate : ℕ) (w0 : World) 
   }
 
   module _ (w1 : World) (there : w1.disk manager ≡ settled (overlaid (w0.disk manager).seen (gate + 1) (block_of body))) (quiet : w1.output ≡ w0.output) where
-    pub while_gate : (m : Moment) → ChangesFile manager (Tears gate 1) w1 m → IsCounterSealing bodies body gate w0 m
+    pub while_gate : (m : Moment) → ChangesFile manager (Tears gate 1) w1 m → IsSealing bodies body gate w0 m
     while_gate m changes = record {
       output = changes.output ∙ quiet;
       images = λ c left.
@@ -68,7 +68,7 @@ module _ (bodies : List (List ℕ)) (body : List ℕ) (gate : ℕ) (w0 : World) 
           };
     }
 
-    pub when_open : (w2 : World) → w2.disk manager ≡ settled (overlaid (w1.disk manager).seen gate (1 ∷ [])) → MayLeave (w2.disk manager) (w2.disk manager).seen → IsCounterSealing bodies body gate w0 (moment_of w2) → IsSealed bodies body gate w0 w2
+    pub when_open : (w2 : World) → w2.disk manager ≡ settled (overlaid (w1.disk manager).seen gate (1 ∷ [])) → MayLeave (w2.disk manager) (w2.disk manager).seen → IsSealing bodies body gate w0 (moment_of w2) → IsSealed bodies body gate w0 w2
     when_open w2 opened here sealing = record {
       rests = record {
         still = opened ∙ ap settled (sym (ap (λ (s : FileState). s.seen) opened));
@@ -81,20 +81,20 @@ module _ (bodies : List (List ℕ)) (body : List ℕ) (gate : ℕ) (w0 : World) 
 
 module _ (body block : List ℕ) (gate : ℕ) (w0 w1 : World) (is : block ≡ block_of body) (small : length body < 2 ^ 32)
     (run : RunsOnFile manager (Tears (gate + 1) (length block)) 1 w0 w1) (bodies : List (List ℕ)) (rests : Rests bodies gate w0.disk) where
-  pub block_now : IsCounterSealing bodies body gate w0 (moment_of w1)
+  pub block_now : IsSealing bodies body gate w0 (moment_of w1)
   block_now = while_block bodies body gate w0 rests small (length block) (moment_of w1) run.now
 
-  pub block_moments : Passes (IsCounterSealing bodies body gate w0) w0.past w1.past
+  pub block_moments : Passes (IsSealing bodies body gate w0) w0.past w1.past
   block_moments = weaker _ _ (while_block bodies body gate w0 rests small (length block)) run.moments
 
   module _ (w2 : World) (there : w1.disk manager ≡ settled (overlaid (w0.disk manager).seen (gate + 1) block)) (gate_run : RunsOnFile manager (Tears gate 1) 1 w1 w2) where
     block_there : w1.disk manager ≡ settled (overlaid (w0.disk manager).seen (gate + 1) (block_of body))
     block_there = there ∙ ap (λ (b : List ℕ). settled (overlaid (w0.disk manager).seen (gate + 1) b)) is
 
-    pub gate_now : IsCounterSealing bodies body gate w0 (moment_of w2)
+    pub gate_now : IsSealing bodies body gate w0 (moment_of w2)
     gate_now = while_gate bodies body gate w0 rests small w1 block_there run.now.output (moment_of w2) gate_run.now
 
-    pub gate_moments : Passes (IsCounterSealing bodies body gate w0) w0.past w2.past
+    pub gate_moments : Passes (IsSealing bodies body gate w0) w0.past w2.past
     gate_moments = both _ block_moments (weaker _ _ (while_gate bodies body gate w0 rests small w1 block_there run.now.output) gate_run.moments)
 
     pub gate_open : w2.disk manager ≡ settled (overlaid (w1.disk manager).seen gate (1 ∷ [])) → MayLeave (w2.disk manager) (w2.disk manager).seen → IsSealed bodies body gate w0 w2

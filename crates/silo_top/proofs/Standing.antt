@@ -12,7 +12,7 @@ use Rattle.silo_spec.specs.declared.units.Logged.{Logged}
 use Rattle.silo_spec.specs.Units.{body_of, AreUnits}
 use Rattle.silo_spec.specs.Logs.{IsLog}
 use Rattle.silo_spec.specs.Settling.{Stands}
-use Rattle.silo_top.specs.Seals.{Rests, IsCounterSealing, IsSealed}
+use Rattle.silo_top.specs.Seals.{Rests, IsSealing, IsSealed}
 use Rattle.silo_top.specs.Prepared.{IsSealingUnit}
 
 -- a file with the header of a silo is one
@@ -71,7 +71,7 @@ module _ (log : List Logged) (gate : ℕ) (w0 : World) (stands : Stands counter_
   more : (g : ℕ) (c : List ℕ) → LogsUpTo (map body_of log ++ body ∷ []) g c → LogsUpTo (map body_of (log ++ unit ∷ [])) g c
   more g c logs = subst (λ (bs : List (List ℕ)). LogsUpTo bs g c) (ap (λ (b : List ℕ). map body_of log ++ b ∷ []) is_body ∙ sym (bodies_push log unit)) logs
 
-  pub unit_sealing : (m : Moment) → IsCounterSealing (map body_of log) body gate w0 m → IsSealingUnit log (unit ∷ []) w0.output m
+  pub unit_sealing : (m : Moment) → IsSealing (map body_of log) body gate w0 m → IsSealingUnit log (unit ∷ []) w0.output m
   unit_sealing m sealing = record {
     output = sealing.output;
     images = λ image left.

@@ -8,10 +8,10 @@ use Rattle.silo_top.specs.declared.input.InputFault.{InputFault}
 use Rattle.silo_top.specs.declared.requests.RunFault.{RunFault}
 
 -- a call on the input failed where `Failed` is answered, and none did where another fault is
-abbrev pub CounterInputFaulted : InputFault → (Channel → ℕ) → (Channel → ℕ) → Type 0
-CounterInputFaulted InputFault.Memory old new = NoneFailed old new
-CounterInputFaulted InputFault.Failed old new = FailedOn Input old new
-CounterInputFaulted InputFault.TooLong old new = NoneFailed old new
+abbrev pub InputFaulted : InputFault → (Channel → ℕ) → (Channel → ℕ) → Type 0
+InputFaulted InputFault.Memory old new = NoneFailed old new
+InputFaulted InputFault.Failed old new = FailedOn Input old new
+InputFaulted InputFault.TooLong old new = NoneFailed old new
 
 -- a call on the output failed where `WriteFault` is answered, one on the manager file where `DiskFault` is, and none without memory
 abbrev pub RunFaulted : RunFault → (Channel → ℕ) → (Channel → ℕ) → Type 0

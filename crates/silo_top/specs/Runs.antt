@@ -42,49 +42,49 @@ input_limit = 16777216
 
 -- Why a run was refused before its first line: what the manager file reads at entry shows it. Want of memory is free, and a
 -- fault is shown by its count.
-abbrev pub IsRefusedStatus : Status → World → Type 0
-IsRefusedStatus Done old = ⊥
-IsRefusedStatus BadUse old = ⊥
-IsRefusedStatus Memory old = Unit {0}
-IsRefusedStatus ReadFault old = ⊥
-IsRefusedStatus WriteFault old = ⊥
-IsRefusedStatus (DiskFault file) old = file ≡ manager
-IsRefusedStatus NotASilo old = IsSilo counter_magic (old.disk manager).seen → ⊥
-IsRefusedStatus AlreadyASilo old = ⊥
-IsRefusedStatus (Damaged file place) old = (file ≡ manager) × IsSilo counter_magic (old.disk manager).seen × IsDamagedAt (old.disk manager).seen place
-IsRefusedStatus (InputTooLong line) old = ⊥
+abbrev pub IsRefusedBy : Status → World → Type 0
+IsRefusedBy Done old = ⊥
+IsRefusedBy BadUse old = ⊥
+IsRefusedBy Memory old = Unit {0}
+IsRefusedBy ReadFault old = ⊥
+IsRefusedBy WriteFault old = ⊥
+IsRefusedBy (DiskFault file) old = file ≡ manager
+IsRefusedBy NotASilo old = IsSilo counter_magic (old.disk manager).seen → ⊥
+IsRefusedBy AlreadyASilo old = ⊥
+IsRefusedBy (Damaged file place) old = (file ≡ manager) × IsSilo counter_magic (old.disk manager).seen × IsDamagedAt (old.disk manager).seen place
+IsRefusedBy (InputTooLong line) old = ⊥
 
 -- nothing was emitted or pulled, no read has changed, and no outcome of a crash was added
 pub record IsRefused (status : Status) (old new : World) : Type 0 where
   pub untouched : IsUntouched old new
   pub input : new.input ≡ old.input
-  pub cause : IsRefusedStatus status old
+  pub cause : IsRefusedBy status old
 
 -- What stands at the end of a run whose opening log was this one. The input was read whole unless reading it failed, or it was
 -- too long, or there was no memory.
-abbrev pub RunEndsAs : Status → List Logged → World → World → Type 0
-RunEndsAs Done opening old new = IsDone counter_magic opening (journal_of opening old.input) old new × (new.input ≡ []) × (length old.input ≤ input_limit)
-RunEndsAs BadUse opening old new = ⊥
-RunEndsAs Memory opening old new = IsStopped counter_magic opening (journal_of opening old.input) old new
-RunEndsAs ReadFault opening old new = IsUnbegun counter_magic opening old new
-RunEndsAs WriteFault opening old new = IsCut counter_magic opening (journal_of opening old.input) old new × (new.input ≡ []) × (length old.input ≤ input_limit)
-RunEndsAs (DiskFault file) opening old new = (file ≡ manager) × IsInDoubt counter_magic opening (journal_of opening old.input) old new × (new.input ≡ []) × (length old.input ≤ input_limit)
-RunEndsAs NotASilo opening old new = ⊥
-RunEndsAs AlreadyASilo opening old new = ⊥
-RunEndsAs (Damaged file place) opening old new = ⊥
-RunEndsAs (InputTooLong line) opening old new = IsUnbegun counter_magic opening old new × (line ≡ 0) × (input_limit < length old.input)
+abbrev pub EndsAs : Status → List Logged → World → World → Type 0
+EndsAs Done opening old new = IsDone counter_magic opening (journal_of opening old.input) old new × (new.input ≡ []) × (length old.input ≤ input_limit)
+EndsAs BadUse opening old new = ⊥
+EndsAs Memory opening old new = IsStopped counter_magic opening (journal_of opening old.input) old new
+EndsAs ReadFault opening old new = IsUnbegun counter_magic opening old new
+EndsAs WriteFault opening old new = IsCut counter_magic opening (journal_of opening old.input) old new × (new.input ≡ []) × (length old.input ≤ input_limit)
+EndsAs (DiskFault file) opening old new = (file ≡ manager) × IsInDoubt counter_magic opening (journal_of opening old.input) old new × (new.input ≡ []) × (length old.input ≤ input_limit)
+EndsAs NotASilo opening old new = ⊥
+EndsAs AlreadyASilo opening old new = ⊥
+EndsAs (Damaged file place) opening old new = ⊥
+EndsAs (InputTooLong line) opening old new = IsUnbegun counter_magic opening old new × (line ≡ 0) × (input_limit < length old.input)
 
 -- From an opened log on: at each moment and at the end each image keeps the journal of the input's lines, played one after
 -- another from where that log stands.
 pub record IsServed (status : Status) (opening : List Logged) (old new : World) : Type 0 where
   pub moments : Passes (AllKeep counter_magic opening (journal_of opening old.input) old.output) old.past new.past
   pub now : AllKeep counter_magic opening (journal_of opening old.input) old.output (moment_of new)
-  pub ends : RunEndsAs status opening old new
+  pub ends : EndsAs status opening old new
 
 -- The folder read as an undamaged silo with this log. Until it was opened each image was one of those at entry; from then on, and
 -- at the end, each image keeps the journal of the input's lines, played one after another from where the opening log stands,
 -- no file but the log's is other than it was, and that one's header is as it was.
-pub record CarriesOut (status : Status) (old new : World) : Type 0 where
+pub record IsCarried (status : Status) (old new : World) : Type 0 where
   pub opening : List Logged
   pub gate : ℕ
   pub read : IsLog counter_magic (λ file. (old.disk file).seen) opening gate
@@ -95,35 +95,35 @@ pub record CarriesOut (status : Status) (old new : World) : Type 0 where
   pub others_now : KeepsOthers old.disk (moment_of new)
   pub header : PassesTwice (IsAsAtEntry old) (HasHeader (take 15 (old.disk manager).seen)) old.past new.past
   pub header_now : HasHeader (take 15 (old.disk manager).seen) (moment_of new)
-  pub ends : RunEndsAs status opening old new
+  pub ends : EndsAs status opening old new
 
 -- what `run` does
 abbrev pub Runs : Status → World → World → Type 0
-Runs status old new = IsRefused status old new ⊎ CarriesOut status old new
+Runs status old new = IsRefused status old new ⊎ IsCarried status old new
 
 -- ---- init
 
 -- What stands at the end of `init`.
-abbrev pub InitsAs : Status → World → World → Type 0
-InitsAs Done old new = (IsSilo counter_magic (old.disk manager).seen → ⊥)
+abbrev pub MakesAs : Status → World → World → Type 0
+MakesAs Done old new = (IsSilo counter_magic (old.disk manager).seen → ⊥)
     × ((image : Image) → IsImage new.disk image → IsNewSilo counter_magic counter_program image)
     × IsMade counter_magic counter_program new.disk
-InitsAs BadUse old new = ⊥
-InitsAs Memory old new = ⊥
-InitsAs ReadFault old new = ⊥
-InitsAs WriteFault old new = ⊥
-InitsAs (DiskFault file) old new = ((file ≡ manager) ⊎ (file ≡ program_file))
+MakesAs BadUse old new = ⊥
+MakesAs Memory old new = ⊥
+MakesAs ReadFault old new = ⊥
+MakesAs WriteFault old new = ⊥
+MakesAs (DiskFault file) old new = ((file ≡ manager) ⊎ (file ≡ program_file))
     × (IsSilo counter_magic (old.disk manager).seen → (file ≡ manager) × IsUntouched old new)
-InitsAs NotASilo old new = ⊥
-InitsAs AlreadyASilo old new = IsSilo counter_magic (old.disk manager).seen × IsUntouched old new × (new.disk manager ≡ settled (old.disk manager).seen)
-InitsAs (Damaged file place) old new = ⊥
-InitsAs (InputTooLong line) old new = ⊥
+MakesAs NotASilo old new = ⊥
+MakesAs AlreadyASilo old new = IsSilo counter_magic (old.disk manager).seen × IsUntouched old new × (new.disk manager ≡ settled (old.disk manager).seen)
+MakesAs (Damaged file place) old new = ⊥
+MakesAs (InputTooLong line) old new = ⊥
 
 -- What `init` does, at each moment and at its end: nothing but the two files of a new silo changes.
 pub record IsMaking (status : Status) (old new : World) : Type 0 where
   pub moments : Makes counter_magic counter_program old new
   pub beside : StaysBeside old new
-  pub ends : InitsAs status old new
+  pub ends : MakesAs status old new
 
 -- ---- counts
 

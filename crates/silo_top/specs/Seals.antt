@@ -17,7 +17,7 @@ pub record HasOrNot (bodies : List (List ℕ)) (body : List ℕ) (gate : ℕ) (o
   pub blocks : LogsUpTo bodies gate file ⊎ LogsUpTo (bodies ++ body ∷ []) (gate + length (block_of body)) file
 
 -- nothing was emitted, and each image of the manager file has the body or it doesn't
-pub record IsCounterSealing (bodies : List (List ℕ)) (body : List ℕ) (gate : ℕ) (old : World) (m : Moment) : Type 0 where
+pub record IsSealing (bodies : List (List ℕ)) (body : List ℕ) (gate : ℕ) (old : World) (m : Moment) : Type 0 where
   pub output : m.output ≡ old.output
   pub images : (file : List ℕ) → MayLeave (m.disk manager) file → HasOrNot bodies body gate (old.disk manager).seen file
 

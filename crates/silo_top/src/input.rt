@@ -2,7 +2,7 @@ ghost use Rattle.std.specs.Prelude.{◌≡◌, ◌≤◌, ◌<◌, [], length, I
 ghost use Rattle.host_trait.specs.Faults.{NoneFailed};
 ghost use Rattle.host_trait.specs.Files.{StaysReady};
 ghost use Rattle.host_trait.specs.World.{Passes, moment_of};
-ghost use Rattle.silo_top.specs.Counts.{CounterInputFaulted};
+ghost use Rattle.silo_top.specs.Counts.{InputFaulted};
 
 use host_trait::{Failed, Host};
 use std::alloc::{AllocError, Global};
@@ -52,7 +52,7 @@ pub fn read_input<H: Host>(alloc: Global, host: &mut H) -> Result<Vec<u8>, Input
     ensures too_long { IfErr result (λ e. e ≡ InputFault.TooLong
         → IsTrue H.tells → INPUT_LIMIT < length (H.world host.old).input) }
     ensures calm { OnOk result (NoneFailed (H.faults host.old) (H.faults host.new)) }
-    ensures counts { IfErr result (λ e. CounterInputFaulted e (H.faults host.old) (H.faults host.new)) }
+    ensures counts { IfErr result (λ e. InputFaulted e (H.faults host.old) (H.faults host.new)) }
     ensures output { IsTrue H.tells → (H.world host.new).output ≡ (H.world host.old).output }
     ensures disk { IsTrue H.tells → (H.world host.new).disk ≡ (H.world host.old).disk }
     ensures moments { IsTrue H.tells → Passes (λ m. m ≡ moment_of (H.world host.old))

@@ -7,7 +7,7 @@ ghost use Rattle.gate_block.specs.Blocks.{block_of};
 ghost use Rattle.gate_block.specs.Gates.{IsClosedAt};
 ghost use Rattle.silo_spec.specs.Moments.{OnlyLogChanges};
 ghost use Rattle.silo_spec.specs.Silos.{manager};
-ghost use Rattle.silo_top.specs.Seals.{Rests, IsCounterSealing, IsSealed};
+ghost use Rattle.silo_top.specs.Seals.{Rests, IsSealing, IsSealed};
 
 use gate_block::{append_closed, open_gate};
 use host_trait::{Failed, FileId, Host};
@@ -24,9 +24,9 @@ pub fn seal<H: Host>(host: &mut H, gate_at: u64, body: &[u8], block: &[u8]) -> R
     requires closed { IsTrue H.tells → IsClosedAt gate_at ((H.world host.old).disk manager).seen }
 
     ensures moments { IsTrue H.tells → (bodies : List (List ℕ)) → Rests bodies gate_at (H.world host.old).disk
-        → Passes (IsCounterSealing bodies body.now gate_at (H.world host.old)) (H.world host.old).past (H.world host.new).past }
+        → Passes (IsSealing bodies body.now gate_at (H.world host.old)) (H.world host.old).past (H.world host.new).past }
     ensures now { IsTrue H.tells → (bodies : List (List ℕ)) → Rests bodies gate_at (H.world host.old).disk
-        → IsCounterSealing bodies body.now gate_at (H.world host.old) (moment_of (H.world host.new)) }
+        → IsSealing bodies body.now gate_at (H.world host.old) (moment_of (H.world host.new)) }
     ensures ok { OnOk result (IsTrue H.tells → (bodies : List (List ℕ)) → Rests bodies gate_at (H.world host.old).disk
         → IsSealed bodies body.now gate_at (H.world host.old) (H.world host.new)) }
 

@@ -3,7 +3,7 @@ use Rattle.host_trait.specs.Disk.{Tears}
 use Rattle.silo_spec.specs.Silos.{manager, counter_magic}
 use Rattle.opening.specs.declared.creation.Front.{Front}
 use Rattle.opening.specs.declared.creation.Front.TheVariants.{Empty, Open, Closed}
-use Rattle.opening.specs.Steps.{ShowsCounter, SyncsForCounter}
+use Rattle.opening.specs.Steps.{Shows, SyncsFor}
 use Rattle.opening.proofs.Looking.{looks_untouched, looks_beside, log_run_beside, beside_then}
 use Rattle.opening.proofs.Closing.{once_first, once_closed, closed_first, tried, on_ok}
 use Rattle.opening.proofs.creation.prepare.Goals as goal
@@ -30,8 +30,8 @@ pub returns-in_err-map_err-in-Ok-Empty-clause-moments : goal.returns-in_err-map_
 returns-in_err-map_err-in-Ok-Empty-clause-moments g c told =
     let w0 = g.H.Host.world c.args.host.now in
     let w1 = g.H.Host.world c.look.new.host in
-    let shows : ShowsCounter counter_magic Empty (w0.disk manager).seen = subst (λ (front : Front). ShowsCounter counter_magic front (w0.disk manager).seen) c.in-Ok-Empty.field-0-is (c.in-Ok-Empty.ensures.shows told) in
-    let syncs : SyncsForCounter Empty w0 w1 = subst (λ (front : Front). SyncsForCounter front w0 w1) c.in-Ok-Empty.field-0-is (c.in-Ok-Empty.ensures.syncs told) in
+    let shows : Shows counter_magic Empty (w0.disk manager).seen = subst (λ (front : Front). Shows counter_magic front (w0.disk manager).seen) c.in-Ok-Empty.field-0-is (c.in-Ok-Empty.ensures.shows told) in
+    let syncs : SyncsFor Empty w0 w1 = subst (λ (front : Front). SyncsFor front w0 w1) c.in-Ok-Empty.field-0-is (c.in-Ok-Empty.ensures.syncs told) in
     tried counter_magic w0 w1 syncs shows _ (c.close_header.ensures.run told) (c.close_header.ensures.tried told)
 
 pub returns-in_err-map_err-in-Ok-Empty-clause-beside : goal.returns-in_err-map_err-in-Ok-Empty-clause-beside
@@ -42,8 +42,8 @@ pub returns-in_err-map_err-in-Ok-Open-clause-moments : goal.returns-in_err-map_e
 returns-in_err-map_err-in-Ok-Open-clause-moments g c told =
     let w0 = g.H.Host.world c.args.host.now in
     let w1 = g.H.Host.world c.look.new.host in
-    let shows : ShowsCounter counter_magic Open (w0.disk manager).seen = subst (λ (front : Front). ShowsCounter counter_magic front (w0.disk manager).seen) c.in-Ok-Open.field-0-is (c.in-Ok-Open.ensures.shows told) in
-    let syncs : SyncsForCounter Open w0 w1 = subst (λ (front : Front). SyncsForCounter front w0 w1) c.in-Ok-Open.field-0-is (c.in-Ok-Open.ensures.syncs told) in
+    let shows : Shows counter_magic Open (w0.disk manager).seen = subst (λ (front : Front). Shows counter_magic front (w0.disk manager).seen) c.in-Ok-Open.field-0-is (c.in-Ok-Open.ensures.shows told) in
+    let syncs : SyncsFor Open w0 w1 = subst (λ (front : Front). SyncsFor front w0 w1) c.in-Ok-Open.field-0-is (c.in-Ok-Open.ensures.syncs told) in
     inr (inr (once_closed counter_magic w0 w1 _ syncs shows.1 (c.close_header-in-Ok-Open.ensures.run told)))
 
 pub returns-in_err-map_err-in-Ok-Open-clause-beside : goal.returns-in_err-map_err-in-Ok-Open-clause-beside
@@ -54,8 +54,8 @@ pub returns-in_ok-map_err-in-Ok-Empty-clause-first : goal.returns-in_ok-map_err-
 returns-in_ok-map_err-in-Ok-Empty-clause-first g c told =
     let w0 = g.H.Host.world c.args.host.now in
     let w1 = g.H.Host.world c.look.new.host in
-    let shows : ShowsCounter counter_magic Empty (w0.disk manager).seen = subst (λ (front : Front). ShowsCounter counter_magic front (w0.disk manager).seen) c.in-Ok-Empty.field-0-is (c.in-Ok-Empty.ensures.shows told) in
-    let syncs : SyncsForCounter Empty w0 w1 = subst (λ (front : Front). SyncsForCounter front w0 w1) c.in-Ok-Empty.field-0-is (c.in-Ok-Empty.ensures.syncs told) in
+    let shows : Shows counter_magic Empty (w0.disk manager).seen = subst (λ (front : Front). Shows counter_magic front (w0.disk manager).seen) c.in-Ok-Empty.field-0-is (c.in-Ok-Empty.ensures.shows told) in
+    let syncs : SyncsFor Empty w0 w1 = subst (λ (front : Front). SyncsFor front w0 w1) c.in-Ok-Empty.field-0-is (c.in-Ok-Empty.ensures.syncs told) in
     let ok : is_ok c.close_header.result ≡ true = search rules in
     closed_first counter_magic w0 w1 syncs shows _ (c.close_header.ensures.run told) (on_ok _ c.close_header.result c.close_header.ensures.synced ok told)
 
@@ -63,8 +63,8 @@ pub returns-in_ok-map_err-in-Ok-Empty-clause-moments : goal.returns-in_ok-map_er
 returns-in_ok-map_err-in-Ok-Empty-clause-moments g c told =
     let w0 = g.H.Host.world c.args.host.now in
     let w1 = g.H.Host.world c.look.new.host in
-    let shows : ShowsCounter counter_magic Empty (w0.disk manager).seen = subst (λ (front : Front). ShowsCounter counter_magic front (w0.disk manager).seen) c.in-Ok-Empty.field-0-is (c.in-Ok-Empty.ensures.shows told) in
-    let syncs : SyncsForCounter Empty w0 w1 = subst (λ (front : Front). SyncsForCounter front w0 w1) c.in-Ok-Empty.field-0-is (c.in-Ok-Empty.ensures.syncs told) in
+    let shows : Shows counter_magic Empty (w0.disk manager).seen = subst (λ (front : Front). Shows counter_magic front (w0.disk manager).seen) c.in-Ok-Empty.field-0-is (c.in-Ok-Empty.ensures.shows told) in
+    let syncs : SyncsFor Empty w0 w1 = subst (λ (front : Front). SyncsFor front w0 w1) c.in-Ok-Empty.field-0-is (c.in-Ok-Empty.ensures.syncs told) in
     tried counter_magic w0 w1 syncs shows _ (c.close_header.ensures.run told) (c.close_header.ensures.tried told)
 
 pub returns-in_ok-map_err-in-Ok-Empty-clause-beside : goal.returns-in_ok-map_err-in-Ok-Empty-clause-beside
@@ -75,16 +75,16 @@ pub returns-in_ok-map_err-in-Ok-Open-clause-first : goal.returns-in_ok-map_err-i
 returns-in_ok-map_err-in-Ok-Open-clause-first g c told =
     let w0 = g.H.Host.world c.args.host.now in
     let w1 = g.H.Host.world c.look.new.host in
-    let shows : ShowsCounter counter_magic Open (w0.disk manager).seen = subst (λ (front : Front). ShowsCounter counter_magic front (w0.disk manager).seen) c.in-Ok-Open.field-0-is (c.in-Ok-Open.ensures.shows told) in
-    let syncs : SyncsForCounter Open w0 w1 = subst (λ (front : Front). SyncsForCounter front w0 w1) c.in-Ok-Open.field-0-is (c.in-Ok-Open.ensures.syncs told) in
+    let shows : Shows counter_magic Open (w0.disk manager).seen = subst (λ (front : Front). Shows counter_magic front (w0.disk manager).seen) c.in-Ok-Open.field-0-is (c.in-Ok-Open.ensures.shows told) in
+    let syncs : SyncsFor Open w0 w1 = subst (λ (front : Front). SyncsFor front w0 w1) c.in-Ok-Open.field-0-is (c.in-Ok-Open.ensures.syncs told) in
     once_closed counter_magic w0 w1 _ syncs shows.1 (c.close_header-in-Ok-Open.ensures.run told)
 
 pub returns-in_ok-map_err-in-Ok-Open-clause-moments : goal.returns-in_ok-map_err-in-Ok-Open-clause-moments
 returns-in_ok-map_err-in-Ok-Open-clause-moments g c told =
     let w0 = g.H.Host.world c.args.host.now in
     let w1 = g.H.Host.world c.look.new.host in
-    let shows : ShowsCounter counter_magic Open (w0.disk manager).seen = subst (λ (front : Front). ShowsCounter counter_magic front (w0.disk manager).seen) c.in-Ok-Open.field-0-is (c.in-Ok-Open.ensures.shows told) in
-    let syncs : SyncsForCounter Open w0 w1 = subst (λ (front : Front). SyncsForCounter front w0 w1) c.in-Ok-Open.field-0-is (c.in-Ok-Open.ensures.syncs told) in
+    let shows : Shows counter_magic Open (w0.disk manager).seen = subst (λ (front : Front). Shows counter_magic front (w0.disk manager).seen) c.in-Ok-Open.field-0-is (c.in-Ok-Open.ensures.shows told) in
+    let syncs : SyncsFor Open w0 w1 = subst (λ (front : Front). SyncsFor front w0 w1) c.in-Ok-Open.field-0-is (c.in-Ok-Open.ensures.syncs told) in
     inr (inr (once_closed counter_magic w0 w1 _ syncs shows.1 (c.close_header-in-Ok-Open.ensures.run told)))
 
 pub returns-in_ok-map_err-in-Ok-Open-clause-beside : goal.returns-in_ok-map_err-in-Ok-Open-clause-beside
@@ -95,16 +95,16 @@ pub returns-in-Ok-Closed-clause-first : goal.returns-in-Ok-Closed-clause-first
 returns-in-Ok-Closed-clause-first g c told =
     let w0 = g.H.Host.world c.args.host.now in
     let w1 = g.H.Host.world c.look.new.host in
-    let shows : ShowsCounter counter_magic Closed (w0.disk manager).seen = subst (λ (front : Front). ShowsCounter counter_magic front (w0.disk manager).seen) c.in-Ok-Closed.field-0-is (c.in-Ok-Closed.ensures.shows told) in
-    let syncs : SyncsForCounter Closed w0 w1 = subst (λ (front : Front). SyncsForCounter front w0 w1) c.in-Ok-Closed.field-0-is (c.in-Ok-Closed.ensures.syncs told) in
+    let shows : Shows counter_magic Closed (w0.disk manager).seen = subst (λ (front : Front). Shows counter_magic front (w0.disk manager).seen) c.in-Ok-Closed.field-0-is (c.in-Ok-Closed.ensures.shows told) in
+    let syncs : SyncsFor Closed w0 w1 = subst (λ (front : Front). SyncsFor front w0 w1) c.in-Ok-Closed.field-0-is (c.in-Ok-Closed.ensures.syncs told) in
     once_first counter_magic w0 w1 syncs (λ silo. shows.1 silo.gate)
 
 pub returns-in-Ok-Closed-clause-moments : goal.returns-in-Ok-Closed-clause-moments
 returns-in-Ok-Closed-clause-moments g c told =
     let w0 = g.H.Host.world c.args.host.now in
     let w1 = g.H.Host.world c.look.new.host in
-    let shows : ShowsCounter counter_magic Closed (w0.disk manager).seen = subst (λ (front : Front). ShowsCounter counter_magic front (w0.disk manager).seen) c.in-Ok-Closed.field-0-is (c.in-Ok-Closed.ensures.shows told) in
-    let syncs : SyncsForCounter Closed w0 w1 = subst (λ (front : Front). SyncsForCounter front w0 w1) c.in-Ok-Closed.field-0-is (c.in-Ok-Closed.ensures.syncs told) in
+    let shows : Shows counter_magic Closed (w0.disk manager).seen = subst (λ (front : Front). Shows counter_magic front (w0.disk manager).seen) c.in-Ok-Closed.field-0-is (c.in-Ok-Closed.ensures.shows told) in
+    let syncs : SyncsFor Closed w0 w1 = subst (λ (front : Front). SyncsFor front w0 w1) c.in-Ok-Closed.field-0-is (c.in-Ok-Closed.ensures.syncs told) in
     inr (inr (once_first counter_magic w0 w1 syncs (λ silo. shows.1 silo.gate)))
 
 pub returns-in-Ok-Closed-clause-beside : goal.returns-in-Ok-Closed-clause-beside

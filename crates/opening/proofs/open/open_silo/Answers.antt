@@ -7,7 +7,7 @@ use Rattle.silo_spec.specs.Silos.{manager, counter_magic}
 use Rattle.silo_spec.specs.Units.{body_of}
 use Rattle.silo_spec.specs.Damage.{IsDamagedAt}
 use Rattle.opening.specs.declared.faults.OpenFault.{OpenFault}
-use Rattle.opening.specs.Reading.{StaysCounter}
+use Rattle.opening.specs.Reading.{Stays}
 use Rattle.opening.proofs.Blocks.{log_is_whole}
 use Rattle.opening.proofs.Errors.{other_value}
 use Rattle.opening.proofs.Runs.{run_only_asked, untouched, each_log}
@@ -26,7 +26,7 @@ returns-in_err-opened-clause-damaged g c =
     subst (λ (bytes : List ℕ). IsDamagedAt bytes place) (c.is_silo.ensures.run told).seen (c.in_err-opened.ensures.damaged file place (other_value _ (OpenFault.Damaged file place) is) told)
 
 pub returns-in_err-opened-clause-untouched : goal.returns-in_err-opened-clause-untouched
-returns-in_err-opened-clause-untouched g c told = untouched 1 _ _ (run_only_asked manager StaysCounter 1 _ _ _ (c.is_silo.ensures.run told) (c.read_log.ensures.asked told))
+returns-in_err-opened-clause-untouched g c told = untouched 1 _ _ (run_only_asked manager Stays 1 _ _ _ (c.is_silo.ensures.run told) (c.read_log.ensures.asked told))
 
 pub returns-clause-log : goal.returns-clause-log
 returns-clause-log g c told =
@@ -45,4 +45,4 @@ returns-clause-undamaged g c told place damaged =
     log_is_whole opened.log opened.gate_at ((g.H.Host.world c.is_silo.new.host).disk manager).seen (c.in_ok-opened.ensures.log told) c.in_ok-opened.ensures.units place damaged_there
 
 pub returns-clause-untouched : goal.returns-clause-untouched
-returns-clause-untouched g c told = untouched 1 _ _ (run_only_asked manager StaysCounter 1 _ _ _ (c.is_silo.ensures.run told) (c.read_log.ensures.asked told))
+returns-clause-untouched g c told = untouched 1 _ _ (run_only_asked manager Stays 1 _ _ _ (c.is_silo.ensures.run told) (c.read_log.ensures.asked told))

@@ -11,7 +11,7 @@ use Rattle.silo_spec.specs.Units.{body_of, AreUnits, last_from}
 use Rattle.silo_spec.specs.Damage.{IsDamagedAt}
 use Rattle.silo_spec.proofs.Bodies.{AreUnits-push, last_from-push}
 use Rattle.opening.specs.declared.faults.OpenFault.{OpenFault}
-use Rattle.opening.specs.Reading.{IsBroken, IsBlockAt, IsCounterNext}
+use Rattle.opening.specs.Reading.{IsBroken, IsBlockAt, IsNext}
 use Rattle.opening.proofs.Blocks.{one_read, broken_at}
 use Rattle.opening.proofs.Errors.{other_value}
 use Rattle.opening.proofs.open.read_log.Goals as goal
@@ -49,7 +49,7 @@ loop-log-preserved g c =
     let next = c.in-Some.next in
     let seen = ((g.H.Host.world c.args.host.now).disk manager).seen in
     let pushed : c.push.new.self ≡ log ++ logged ∷ [] = search rules in
-    let is : IsCounterNext above gate logged next = search rules in
+    let is : IsNext above gate logged next = search rules in
     record {
       bound = is.bound;
       units = subst (λ (l : List Logged). AreUnits 0 l) (sym pushed) (AreUnits-push log 0 logged inv.units (subst (λ (n : ℕ). n < logged.unit.0) inv.above is.higher) is.unit);
