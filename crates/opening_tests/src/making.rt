@@ -64,6 +64,23 @@ fn a_text_that_is_no_program_is_named_at_its_place(rt: HostRuntime) -> Result<()
 }
 
 #[test]
+fn a_text_that_is_too_deep_is_named_at_its_33rd_brace(rt: HostRuntime) -> Result<(), Fail> {
+    let alloc = rt.alloc();
+    let mut text = String::new(alloc);
+    text.push_str("type a { method m() create plain { ")?;
+    for _ in 0..31u32 {
+        text.push_str("if 1 { ")?;
+    }
+    let mut host = MemoryHost::new(alloc, text.as_bytes())?;
+    assert_eq!(rt;
+        init(alloc, &mut host),
+        Err(InitFault::BadProgram(ProgramFault::Unparsed(ParseFault::TooDeep { at: 250 })))
+    );
+    assert!(rt; host.file(PROGRAM).is_none());
+    Ok(())
+}
+
+#[test]
 fn the_longest_text_is_taken_and_one_byte_more_is_not(rt: HostRuntime) -> Result<(), Fail> {
     let alloc = rt.alloc();
     let mut text = vec![in alloc; b' '; 262_144]?;
@@ -81,18 +98,28 @@ fn each_call_of_a_making_fails_in_turn(rt: HostRuntime) -> Result<(), Fail> {
     let mut host = MemoryHost::new(alloc, TEXT.as_bytes())?;
     host.fail_on(CallKind::Pull, Channel::Input, 1)?;
     assert_eq!(rt; init(alloc, &mut host), Err(InitFault::ReadFault));
-    for (what, file) in [
-        (CallKind::Length, MANAGER),
-        (CallKind::Write, MANAGER),
-        (CallKind::Sync, MANAGER),
-        (CallKind::Write, PROGRAM),
-        (CallKind::Sync, PROGRAM),
+    // What fails, the how manieth of its kind, and what the same call answers then.
+    for (what, file, nth, again) in [
+        (CallKind::Length, MANAGER, 1, Ok(())),
+        (CallKind::Write, MANAGER, 1, Ok(())),
+        (CallKind::Sync, MANAGER, 1, Ok(())),
+        (CallKind::Write, PROGRAM, 1, Ok(())),
+        (CallKind::Write, PROGRAM, 2, Ok(())),
+        (CallKind::Sync, PROGRAM, 1, Ok(())),
+        (CallKind::Write, MANAGER, 2, Ok(())),
+        (CallKind::Sync, MANAGER, 2, Ok(())),
+        (CallKind::Write, MANAGER, 3, Ok(())),
+        (CallKind::Sync, MANAGER, 3, Err(InitFault::AlreadyASilo)),
     ] {
         let mut host = MemoryHost::new(alloc, TEXT.as_bytes())?;
-        host.fail_on(what, Channel::File(file), 1)?;
-        assert_eq!(rt; init(alloc, &mut host), Err(InitFault::DiskFault { file }));
+        host.fail_on(what, Channel::File(file), nth)?;
+        assert_eq!(rt;
+            init(alloc, &mut host),
+            Err(InitFault::DiskFault { file }),
+            "{nth}"
+        );
         host.set_input(TEXT.as_bytes())?;
-        assert_eq!(rt; init(alloc, &mut host), Ok(()));
+        assert_eq!(rt; init(alloc, &mut host), again, "{nth}");
         assert!(rt; open_silo(alloc, &mut host).is_ok());
     }
     Ok(())

@@ -59,21 +59,26 @@ fn a_changed_byte_is_named_where_it_counts(rt: HostRuntime) -> Result<(), Fail> 
         (8, 48, Some(OpenFault::NotASilo)),
         (13, 9, None),
         (15, 0, None),
+        (15, 255, None),
         (16, 69, damaged(MANAGER, 16)),
-        (20, 65, damaged(MANAGER, 20)),
+        (20, 255, damaged(MANAGER, 20)),
+        (24, 255, damaged(GRAIN, 0)),
         (24, 0, damaged(MANAGER, 24)),
+        (31, 255, damaged(MANAGER, 24)),
         (31, 128, damaged(MANAGER, 24)),
-        (32, 2, damaged(MANAGER, 32)),
-        (37, 1, damaged(MANAGER, 37)),
-        (43, 1, damaged(MANAGER, 43)),
-        (45, 2, damaged(MANAGER, 45)),
+        (32, 255, damaged(MANAGER, 32)),
+        (37, 255, damaged(MANAGER, 37)),
+        (43, 255, damaged(MANAGER, 43)),
+        (45, 255, damaged(MANAGER, 45)),
         (47, 3, damaged(MANAGER, 47)),
+        (47, 255, damaged(MANAGER, 47)),
         (56, 255, damaged(MANAGER, 56)),
         (58, 0, damaged(MANAGER, 58)),
+        (58, 255, damaged(MANAGER, 58)),
         (59, 255, damaged(MANAGER, 59)),
-        (68, 65, damaged(MANAGER, 68)),
+        (68, 255, damaged(MANAGER, 68)),
         (70, 255, damaged(MANAGER, 70)),
-        (72, 2, damaged(GRAIN_OF_KEY_2, 0)),
+        (72, 255, damaged(GRAIN_OF_KEY_255, 0)),
         (76, 1, damaged(GRAIN, 1)),
         (84, 18, damaged(GRAIN, 11)),
         (88, 7, None),
@@ -96,10 +101,10 @@ fn a_changed_byte_is_named_where_it_counts(rt: HostRuntime) -> Result<(), Fail> 
     Ok(())
 }
 
-// The file of the grain that byte 72 names where it is 2.
-const GRAIN_OF_KEY_2: FileId = FileId::Grain {
+// The file of the grain that byte 72 names where it is 255.
+const GRAIN_OF_KEY_255: FileId = FileId::Grain {
     slot: 0,
-    grain: base_types::GrainId { kind: 0, key: 2 },
+    grain: base_types::GrainId { kind: 0, key: 255 },
 };
 
 #[test]

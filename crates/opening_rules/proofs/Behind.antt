@@ -1,0 +1,64 @@
+-- What stands behind an opening.
+use Rattle.std.proofs.Common.{◌≡◌, ℕ, List, inl, inr, sym, ◌∙◌, ap, subst}
+use Rattle.std.proofs.lemmas.List.{append_cancel_left}
+use Rattle.host_trait.specs.declared.channels.FileId.{FileId}
+use Rattle.host_trait.specs.Disk.{FileState, MayLeave}
+use Rattle.host_trait.specs.World as host
+use Rattle.host_trait.specs.World.{Moment, Image, IsImage, moment_of, last_of}
+use Rattle.host_trait.specs.Runs.{ChangesFile, RunsOnFile}
+use Rattle.host_trait.proofs.Names.{cases_file}
+use Rattle.host_trait.proofs.Moments.{weaker}
+use Rattle.silo_spec.specs.Silos.{manager}
+use Rattle.silo_spec.specs.Moments.{IsAsAtEntry, IsUntouched}
+use Rattle.log_reading.specs.Steps.{seen_in}
+use Rattle.promise_spec.specs.Programs.{Program, IsChecked}
+use Rattle.promise_spec.specs.Openings.{Reads}
+use Rattle.promise_spec.specs.Courses.{Observed, Course}
+use Rattle.promise_spec.specs.Promise.{IsSoundFolder}
+use Rattle.explained_runs.specs.Closings.{ReadsMayStay, IsBehind}
+use Rattle.explained_runs.specs.Obligations.{Opens}
+use Rattle.explained_runs.proofs.KeptRuns.{opens_sound}
+use Rattle.silo_opening.specs.Opened.{Stays, IsOpened}
+use Rattle.silo_opening.specs.declared.open.Opened.{Opened}
+use Rattle.opening_rules.specs.Behind.{program_of, FollowsOpening}
+
+-- where no byte changed, no outcome of a crash was added
+unchanged : (old : host.World) (m : Moment) → ChangesFile manager Stays old m → IsAsAtEntry old m
+unchanged old m changes = record { quiet = changes.output; images = images }
+  where
+    images : (image : Image) → IsImage m.disk image → IsImage old.disk image
+    images image is file = elim (cases_file manager file) [
+      | inl same ↦
+          let crash = changes.crash (image manager) (is manager) in
+          let left : MayLeave (old.disk manager) (image manager) = subst (λ (d : List ℕ). MayLeave (old.disk manager) d) (sym crash.2) crash.1 in
+          subst (λ (f : FileId). MayLeave (old.disk f) (image f)) same left
+      | inr other ↦ subst (λ (s : FileState). MayLeave s (image file)) (changes.others file (λ e. other (sym e))) (is file)
+    ]
+
+untouched : (old mid : host.World) → RunsOnFile manager Stays 1 old mid → IsUntouched old mid
+untouched old mid run = record {
+  moments = weaker (ChangesFile manager Stays old) (IsAsAtEntry old) (unchanged old) run.moments;
+  now = unchanged old (moment_of mid) run.now;
+  seen = seen;
+}
+  where
+    seen : (file : FileId) → (mid.disk file).seen ≡ (old.disk file).seen
+    seen file = elim (cases_file manager file) [
+      | inl same ↦ subst (λ (f : FileId). (mid.disk f).seen ≡ (old.disk f).seen) same run.seen
+      | inr other ↦ ap (λ (s : FileState). s.seen) (run.now.others file (λ e. other (sym e)))
+    ]
+
+pub behind : (o : Opened) (r : Observed) (c : Course) (mid : host.World) (is : IsOpened (seen_in r.old.disk) o) → FollowsOpening r c mid is.log → IsBehind (program_of is) r c mid
+behind o r c mid is follows = record {
+  reads = is.reads ∙ ap (λ l. Reads (program_of is) l) (sym follows.opening);
+  untouched = untouched r.old mid follows.run;
+  settled = follows.settled;
+  others = λ file other. follows.run.now.others file other;
+  early = follows.early;
+  last = subst (λ ms. last_of (moment_of r.old) ms ≡ moment_of mid) (append_cancel_left r.old.past follows.run.clock.more c.early (sym follows.run.clock.past ∙ follows.early)) follows.run.clock.last;
+  late = follows.late;
+}
+
+pub opens : (q : Program) (o : Opened) (r : Observed) (c : Course) (mid : host.World) (is : IsOpened (seen_in r.old.disk) o) → FollowsOpening r c mid is.log → IsChecked q → IsSoundFolder q r.old → ReadsMayStay r.old → ReadsMayStay mid →
+    Opens (program_of is) r c
+opens q o r c mid is follows checked sound stay stay_mid = opens_sound (program_of is) r c mid (behind o r c mid is follows) q checked sound stay stay_mid

@@ -1,0 +1,26 @@
+-- A run that goes on behind `open_silo`.
+use Rattle.std.specs.Prelude.{◌≡◌, List, ◌++◌}
+use Rattle.host_trait.specs.Disk.{settled}
+use Rattle.host_trait.specs.Runs.{RunsOnFile}
+use Rattle.host_trait.specs.World as host
+use Rattle.host_trait.specs.World.{Image}
+use Rattle.script_tree.specs.Programs.{program_tree}
+use Rattle.silo_spec.specs.Silos.{manager}
+use Rattle.promise_spec.specs.Programs.{Program}
+use Rattle.promise_spec.specs.Records.{Commit}
+use Rattle.promise_spec.specs.Courses.{Observed, Course}
+use Rattle.silo_opening.specs.Opened.{Stays, IsOpened}
+use Rattle.silo_opening.specs.declared.open.Opened.{Opened}
+
+-- the program of an opened silo
+abbrev pub program_of : {image : Image} {o : Opened} → IsOpened image o → Program
+program_of {image} {o} is = record { text = is.text; types = program_tree o.checked }
+
+-- The course begins with the log that was opened. Its early moments are those of the opening, which ends in the world `mid` as
+-- `open_silo` ensures, and the late ones come behind it.
+pub record FollowsOpening (r : Observed) (c : Course) (mid : host.World) (log : List Commit) : Type 0 where
+  pub opening : c.opening ≡ log
+  pub run : RunsOnFile manager Stays 1 r.old mid
+  pub settled : mid.disk manager ≡ settled (r.old.disk manager).seen
+  pub early : mid.past ≡ r.old.past ++ c.early
+  pub late : r.new.past ≡ mid.past ++ c.late
