@@ -18,7 +18,7 @@ use Rattle.promise_spec.specs.Promise.{IsSoundFolder}
 use Rattle.explained_runs.specs.Closings.{ReadsMayStay, IsBehind}
 use Rattle.explained_runs.specs.Obligations.{Opens}
 use Rattle.explained_runs.proofs.KeptRuns.{opens_sound}
-use Rattle.silo_opening.specs.Opened.{Stays, IsOpened}
+use Rattle.silo_opening.specs.Opened.{Stays, IsOpenedFrom}
 use Rattle.silo_opening.specs.declared.open.Opened.{Opened}
 use Rattle.opening_rules.specs.Behind.{program_of, FollowsOpening}
 
@@ -48,7 +48,7 @@ untouched old mid run = record {
       | inr other ↦ ap (λ (s : FileState). s.seen) (run.now.others file (λ e. other (sym e)))
     ]
 
-pub behind : (o : Opened) (r : Observed) (c : Course) (mid : host.World) (is : IsOpened (seen_in r.old.disk) o) → FollowsOpening r c mid is.log → IsBehind (program_of is) r c mid
+pub behind : (o : Opened) (r : Observed) (c : Course) (mid : host.World) (is : IsOpenedFrom (seen_in r.old.disk) o) → FollowsOpening r c mid is.log → IsBehind (program_of is) r c mid
 behind o r c mid is follows = record {
   reads = is.reads ∙ ap (λ l. Reads (program_of is) l) (sym follows.opening);
   untouched = untouched r.old mid follows.run;
@@ -59,6 +59,6 @@ behind o r c mid is follows = record {
   late = follows.late;
 }
 
-pub opens : (q : Program) (o : Opened) (r : Observed) (c : Course) (mid : host.World) (is : IsOpened (seen_in r.old.disk) o) → FollowsOpening r c mid is.log → IsChecked q → IsSoundFolder q r.old → ReadsMayStay r.old → ReadsMayStay mid →
+pub opens : (q : Program) (o : Opened) (r : Observed) (c : Course) (mid : host.World) (is : IsOpenedFrom (seen_in r.old.disk) o) → FollowsOpening r c mid is.log → IsChecked q → IsSoundFolder q r.old → ReadsMayStay r.old → ReadsMayStay mid →
     Opens (program_of is) r c
 opens q o r c mid is follows checked sound stay stay_mid = opens_sound (program_of is) r c mid (behind o r c mid is follows) q checked sound stay stay_mid

@@ -9,11 +9,11 @@ use Rattle.silo_spec.specs.Silos.{manager}
 use Rattle.promise_spec.specs.Programs.{Program}
 use Rattle.promise_spec.specs.Records.{Commit}
 use Rattle.promise_spec.specs.Courses.{Observed, Course}
-use Rattle.silo_opening.specs.Opened.{Stays, IsOpened}
+use Rattle.silo_opening.specs.Opened.{Stays, IsOpenedFrom}
 use Rattle.silo_opening.specs.declared.open.Opened.{Opened}
 
 -- the program of an opened silo
-abbrev pub program_of : {image : Image} {o : Opened} → IsOpened image o → Program
+abbrev pub program_of : {image : Image} {o : Opened} → IsOpenedFrom image o → Program
 program_of {image} {o} is = record { text = is.text; types = program_tree o.checked }
 
 -- The course begins with the log that was opened. Its early moments are those of the opening, which ends in the world `mid` as

@@ -36,14 +36,14 @@ pub struct Participant {
 impl Model for Participant {
     ghost use Rattle.std.specs.BTreeMap.{get};
     ghost use Rattle.base_types.specs.Stores.{grain_cmp};
-    ghost use Rattle.silo_nodes.specs.Cached.{Node, Follows, opening_in};
+    ghost use Rattle.silo_nodes.specs.Cached.{Node, FollowsLog, opening_in};
     ghost use Rattle.silo_nodes.specs.Orders.{txn_cmp};
 
     ghost Value = { Node };
 
     ghost view = { λ p. record { number = p.number; opening = p.opening; log = p.log.items } };
 
-    ghost invariant = { λ p. Follows (opening_in p.opening) p.log.items (get txn_cmp p.known) p.undecided.items (get grain_cmp p.cells) };
+    ghost invariant = { λ p. FollowsLog (opening_in p.opening) p.log.items (get txn_cmp p.known) p.undecided.items (get grain_cmp p.cells) };
 }
 
 impl Participant {

@@ -8,7 +8,7 @@ use Rattle.silo_nodes.specs.Logs.{is_prepared, is_done}
 use Rattle.silo_nodes.specs.Node.{is_busy, can_prepare, log_prepare, log_decision}
 use Rattle.silo_nodes.specs.Cached.{Node, opening_in}
 use Rattle.silo_nodes.specs.Participants.{learned, answers, questions}
-use Rattle.silo_nodes.specs.Coordinators.{Coordination, parts_from, begun, find, is_unanimous, decided, agreed, voted}
+use Rattle.silo_nodes.specs.Coordinators.{Coordination, parts_from, begun, find, is_unanimous, with_decision, agreed, voted}
 use Rattle.silo_nodes.proofs.Lists.{Member-append}
 use Rattle.two_silos.specs.World.{World, WorldEvent, Start, Deliver, NudgeCoordinator, Nudge, RestartCoordinator, Restart, node_at, log_at, can_start, next_txn, started, handed, send, delivered, does, is_within, step, run, begin, parts_in}
 use Rattle.two_silos.specs.Promise.{IsOpening}
@@ -34,7 +34,7 @@ voted-front c t n false None = front-same c.commits
 voted-front c t n true None = front-same c.commits
 voted-front c t n false (Some p) = front-same c.commits
 voted-front c t n true (Some p) =
-    cond_both (is_unanimous p.parts (n ∷ p.yes)) (decided c t true) (record c { pending = agreed t n c.pending }) (λ (d : Coordination). IsFront c.commits d.commits)
+    cond_both (is_unanimous p.parts (n ∷ p.yes)) (with_decision c t true) (record c { pending = agreed t n c.pending }) (λ (d : Coordination). IsFront c.commits d.commits)
     (λ e. (t ∷ [], refl)) (λ e. front-same c.commits)
 
 begun-front : (c : Coordination) (qs : List Part) → IsFront c.commits (begun c qs).commits

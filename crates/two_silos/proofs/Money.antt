@@ -10,7 +10,7 @@ use Rattle.silo_nodes.specs.Participants.{learned, answers, questions}
 use Rattle.silo_nodes.specs.Coordinators.{parts_from}
 use Rattle.silo_nodes.proofs.Lists.{Member-get, all-true}
 use Rattle.two_silos.specs.World.{World, WorldEvent, Start, Deliver, NudgeCoordinator, Nudge, RestartCoordinator, Restart, node_at, nobody, nodes_from, opening_at, balance_in, balance_of, put_txn, is_part, can_start, next_txn, started, handed, send, delivered, does, is_within, step, run, begin, parts_with, parts_after, parts_in}
-use Rattle.two_silos.specs.Promise.{IsOpening, IsQuiet, QuietIsWhole, part_at, all_moves}
+use Rattle.two_silos.specs.Promise.{IsOpening, IsQuietWorld, QuietIsWhole, part_at, all_moves}
 use Rattle.two_silos.specs.Summaries.{or_zero}
 use Rattle.two_silos.specs.Money.{held_at, held_from, opened, all_opened, is_once, AreOnce, parts_amount, txns_amount, IsPayment, ArePayments, IsStill}
 use Rattle.two_silos.proofs.Totals.{zero-plus}
@@ -43,7 +43,7 @@ pub record Place (w : World) (parts : TxnId → List Part) (n : ℕ) (os : List 
   pub once : is_once os ≡ true
   pub has : (t : TxnId) → all (has_in os) (part_at n (parts t)) ≡ true
 
-node-held : (w : World) (parts : TxnId → List Part) (n : ℕ) (os : List (GrainId × ℤ)) → QuietIsWhole parts w → IsQuiet w n → Place w parts n os →
+node-held : (w : World) (parts : TxnId → List Part) (n : ℕ) (os : List (GrainId × ℤ)) → QuietIsWhole parts w → IsQuietWorld w n → Place w parts n os →
     held_at w n os ≡ opened os +ℤ amounts_at parts n w.coordinator.commits
 node-held w parts n os whole quiet p =
     held-moves w parts n w.coordinator.commits os each

@@ -4,7 +4,7 @@ use Rattle.two_silos.specs.Nodes.{GrainId, Part, Shift, TxnId}
 use Rattle.silo_nodes.specs.Packets.{all}
 use Rattle.silo_nodes.specs.Cached.{opening_in}
 use Rattle.two_silos.specs.World.{World, WorldEvent, Start, Deliver, NudgeCoordinator, Nudge, RestartCoordinator, Restart, balance_in}
-use Rattle.two_silos.specs.Promise.{IsQuiet}
+use Rattle.two_silos.specs.Promise.{IsQuietWorld}
 use Rattle.two_silos.specs.Summaries.{or_zero}
 
 -- the balances of these grains at a participant, together
@@ -72,4 +72,4 @@ ArePayments (e ∷ es) = IsPayment e × ArePayments es
 
 -- no participant waits for a decision
 abbrev pub IsStill : World → Type 0
-IsStill w = (n : ℕ) → IsQuiet w n
+IsStill w = (n : ℕ) → IsQuietWorld w n

@@ -22,13 +22,13 @@ pub struct World {
 }
 
 impl Model for World {
-    ghost use Rattle.two_silos.specs.World.{World as WorldState, IsReached};
+    ghost use Rattle.two_silos.specs.World.{World as WorldState, IsReachedWorld};
 
     ghost Value = { WorldState };
 
     ghost view = { λ w. record { coordinator = w.coordinator; nodes = w.nodes.items; packets = w.packets.items } };
 
-    ghost invariant = { λ w. IsReached (record { coordinator = w.coordinator; nodes = w.nodes.items; packets = w.packets.items }) };
+    ghost invariant = { λ w. IsReachedWorld (record { coordinator = w.coordinator; nodes = w.nodes.items; packets = w.packets.items }) };
 }
 
 impl World {
