@@ -1,5 +1,5 @@
 -- What each call of an agent leaves, as its access tells it.
-use Rattle.std.proofs.Common.{◌≡◌, ◌<◌, ℕ, ◌+◌, length, List, true, false, true≢false, inl, inr, refl, sym, ap, ◌∙◌, subst, arith}
+use Rattle.std.proofs.Common.{◌≡◌, ◌<◌, ℕ, ◌+◌, length, List, Bool, true, false, true≢false, inl, inr, refl, sym, ap, ◌∙◌, subst, arith}
 use Rattle.std.specs.Prelude.{◌||◌, is_none, is_some, not}
 use Rattle.std.proofs.lemmas.Bool.{and_from}
 use Rattle.base_types.specs.declared.calls.Mode.{Mode}
@@ -52,7 +52,7 @@ module _ (types : ProgramTree) (s : Sight) (c : Carried) (work : Work) (counts :
   paused-there pause rest k = saw-knows (leaves_unit c.unit) (λ r. IsPaused types r c work k.trail) (λ r e h p. paused-on types r e c h work k.trail p) s rest counts k.linked
 
   -- behind a look
-  pub paused-looks : (may : CoreEvent → Bool) (t : Sight) (pause : Pause) → Looks may s t → KnowsPaused types s c work pause → KnowsPaused types t c work pause
+  abbrev pub paused-looks : (may : CoreEvent → Bool) (t : Sight) (pause : Pause) → Looks may s t → KnowsPaused types s c work pause → KnowsPaused types t c work pause
   paused-looks may t pause l k = record {
     trail = k.trail;
     at_work = k.at_work;
@@ -61,7 +61,7 @@ module _ (types : ProgramTree) (s : Sight) (c : Carried) (work : Work) (counts :
   }
 
   -- where it waits for the unit's child
-  pub waiting-looks : (may : CoreEvent → Bool) (t : Sight) (child : UnitNo) → Looks may s t → KnowsWaiting types s c work child → KnowsWaiting types t c work child
+  abbrev pub waiting-looks : (may : CoreEvent → Bool) (t : Sight) (child : UnitNo) → Looks may s t → KnowsWaiting types s c work child → KnowsWaiting types t c work child
   waiting-looks may t child l k = record {
     trail = k.trail;
     call = k.call;
@@ -82,6 +82,14 @@ module _ (types : ProgramTree) (s : Sight) (c : Carried) (counts : Counts s) whe
   -- where it was stopped
   pub stopped-looks : (may : CoreEvent → Bool) (t : Sight) → Looks may s t → IfOwn c s (λ r. IsStopped r c) → IfOwn c t (λ r. IsStopped r c)
   stopped-looks may t l k = looks-knows (leaves_unit c.unit) (λ r. IsStopped r c) (λ r e h p. stopped-on types r e c h p) may s t l counts k
+
+-- few units were begun
+pub few_kids : (types : ProgramTree) (s : Sight) (c : Carried) (work : Work) (call : Call) (depth : ℕ) → KnowsPaused types s c work (NeedUnit call depth) → work.kids < unit_limit
+few_kids types s c work call depth k =
+    let n = missing-unit types work.call (depth_of c.origin) k.trail k.at_work.follows.named call depth
+        (next-own types work.call (depth_of c.origin) work.machine k.trail k.at_work.follows ∙ unit-wants (asks (rest types work.machine)) call depth k.ready.asks_for) in
+    let m = k.at_work.kids in
+    omega (arith, n, m)
 
 -- ---- a call that puts an event
 
@@ -111,7 +119,7 @@ module _ (may : CoreEvent → Bool) (types : ProgramTree) (s t : Sight) (c : Car
 
   module _ (g : GrainId) (mode : Mode) (y : CoreReply) (k : KnowsPaused types s c work (NeedGrain g mode)) where
     -- a grant
-    pub grant_puts : Tells may s (Grant c.unit g mode) y t → Puts may types c.unit s (Grant c.unit g mode) y t
+    abbrev pub grant_puts : Tells may s (Grant c.unit g mode) y t → Puts may types c.unit s (Grant c.unit g mode) y t
     grant_puts l = record {
       told = l;
       own = refl;
@@ -142,7 +150,7 @@ module _ (may : CoreEvent → Bool) (types : ProgramTree) (s t : Sight) (c : Car
     })
 
     -- a refusal
-    pub refuse_puts : Tells may s (Refuse c.unit g mode) y t → Puts may types c.unit s (Refuse c.unit g mode) y t
+    abbrev pub refuse_puts : Tells may s (Refuse c.unit g mode) y t → Puts may types c.unit s (Refuse c.unit g mode) y t
     refuse_puts l = record {
       told = l;
       own = refl;
@@ -178,7 +186,7 @@ module _ (may : CoreEvent → Bool) (types : ProgramTree) (s t : Sight) (c : Car
 
   module _ (call : Call) (depth : ℕ) (y : CoreReply) (k : KnowsPaused types s c work (NeedUnit call depth)) where
     -- a child
-    pub begin_puts : Tells may s (Begin (Child c.unit work.kids depth) call false) y t → Puts may types c.unit s (Begin (Child c.unit work.kids depth) call false) y t
+    abbrev pub begin_puts : Tells may s (Begin (Child c.unit work.kids depth) call false) y t → Puts may types c.unit s (Begin (Child c.unit work.kids depth) call false) y t
     begin_puts l = record {
       told = l;
       own = refl;
@@ -210,14 +218,6 @@ module _ (may : CoreEvent → Bool) (types : ProgramTree) (s t : Sight) (c : Car
       missed = begin_missed l f;
     })
 
-    -- few were begun
-    pub few_kids : work.kids < unit_limit
-    few_kids =
-        let n = missing-unit types work.call (depth_of c.origin) k.trail k.at_work.follows.named call depth
-            (next-own types work.call (depth_of c.origin) work.machine k.trail k.at_work.follows ∙ unit-wants (asks (rest types work.machine)) call depth k.ready.asks_for) in
-        let m = k.at_work.kids in
-        omega (arith, n, m)
-
     pub begin_known : (l : Tells may s (Begin (Child c.unit work.kids depth) call false) y t) (work' : Work) (child : UnitNo) → y ≡ reply.Began child → work'.call ≡ work.call → work'.machine ≡ work.machine → work'.held ≡ work.held → work'.sources ≡ work.sources → work'.kids ≡ work.kids + 1 →
         KnowsWaiting types t c work' child
     begin_known l work' child is same machine held sources kids = record {
@@ -239,7 +239,7 @@ module _ (may : CoreEvent → Bool) (types : ProgramTree) (s t : Sight) (c : Car
 
   module _ (outcome : Outcome) (effect : Effect) (y : CoreReply) (k : KnowsPaused types s c work (Done outcome)) (made : IsEffectOf types c work k.trail effect) where
     -- the end of a transaction
-    pub finish_puts : Tells may s (Finish c.unit effect) y t → Puts may types c.unit s (Finish c.unit effect) y t
+    abbrev pub finish_puts : Tells may s (Finish c.unit effect) y t → Puts may types c.unit s (Finish c.unit effect) y t
     finish_puts l = record {
       told = l;
       own = refl;
@@ -276,7 +276,7 @@ module _ (may : CoreEvent → Bool) (types : ProgramTree) (s t : Sight) (c : Car
         (λ p. stopped-by types (run_seen (saw s l.rest)) c work k.trail (Finish c.unit effect) p refl (can-finished types (run_seen (saw s l.rest)) c work k.trail _ k.at_work p effect made kind) (finish_missed l f)) k.linked
 
     -- the end of a plain run
-    pub end_puts : Tells may s (EndPlain c.unit effect) y t → Puts may types c.unit s (EndPlain c.unit effect) y t
+    abbrev pub end_puts : Tells may s (EndPlain c.unit effect) y t → Puts may types c.unit s (EndPlain c.unit effect) y t
     end_puts l = record {
       told = l;
       own = refl;

@@ -6,7 +6,8 @@ use Rattle.base_types.specs.declared.calls.Origin.{Origin}
 use Rattle.base_types.specs.declared.calls.Origin.TheVariants.{Line, Child}
 use Rattle.cell_model.specs.Locks.{holds_lock, is_hold_of}
 use Rattle.cell_model.proofs.Units.{any-none, same_unit-true, same_unit-not}
-use Rattle.core_model.specs.CoreState.{UnitNo, GrainId, Hold, Call, Mode, Read, Reading, Value, Member, same_unit, CoreState}
+use Rattle.core_model.specs.CoreState.{UnitNo, GrainId, Hold, Call, Mode, Value, Member, same_unit, CoreState}
+use Rattle.core_model.specs.declared.effects.Read.{Read}
 use Rattle.core_model.specs.declared.phases.Phase.{Phase}
 use Rattle.core_model.specs.declared.phases.Phase.TheVariants.{Unborn, Running}
 use Rattle.core_model.specs.declared.events.CoreEvent.{CoreEvent}
@@ -30,12 +31,13 @@ use Rattle.turn_rules.specs.Going.{with_event, got_next}
 use Rattle.turn_rules.specs.Links.{IsAwaiting}
 use Rattle.turn_rules.proofs.Growth.{ends-more, got-event}
 use Rattle.turn_rules.proofs.Frame.{begun-old}
-use Rattle.turn_rules.proofs.Linked.{child-began, runs-born}
+use Rattle.turn_rules.proofs.Linked.{child-began}
 use Rattle.txn_agent.specs.declared.work.Carried.{Carried}
 use Rattle.txn_agent.specs.declared.work.Work.{Work}
-use Rattle.txn_agent.specs.Linked.{IsSound, IsLinked, IsPaused, IsWaiting, IsNew}
+use Rattle.txn_agent.specs.Working.{found_by, source_of}
+use Rattle.txn_agent.specs.Linked.{IsSound, IsPaused, IsWaiting, IsNew}
 use Rattle.txn_agent.proofs.Shaped.{next-grows}
-use Rattle.txn_agent.proofs.Others.{kept-sound, sound-event, alone-is}
+use Rattle.txn_agent.proofs.Others.{kept-sound, runs-born, sound-event, alone-is}
 
 -- the reply with a number comes where the unit began
 pub began-reply : (w : CoreState) (origin : Origin) (call : Call) (plain : Bool) (child : UnitNo) → reply.Began child ≡ reply_to w (Begin origin call plain) → (applies w (Begin origin call plain) ≡ true) × (child ≡ new_unit w)
@@ -118,8 +120,8 @@ began-waiting types r c work work' trail call depth index child p replied same s
         came = i.origin_of ∙ p.linked.came;
         kind = i.plain_of ∙ p.linked.kind;
         plainly = λ is t. p.linked.plainly is (subst (λ (x : Call). IsTransaction types x) same t);
-        found = ap (λ (f : UnitNo → List Read). map _ (f c.unit)) i.reads ∙ p.linked.found;
-        sources = ap (λ (f : UnitNo → List Read). map _ (f c.unit)) i.reads ∙ p.linked.sources ∙ sym sources;
+        found = ap (λ (f : UnitNo → List Read). map found_by (f c.unit)) i.reads ∙ p.linked.found;
+        sources = ap (λ (f : UnitNo → List Read). map source_of (f c.unit)) i.reads ∙ p.linked.sources ∙ sym sources;
         locks = λ g. ap (λ (f : GrainId → List Hold). holds_lock c.unit (f g)) i.holds ∙ p.linked.locks g;
         alone = λ g. ap (λ (f : GrainId → List Hold). alone-is c.unit (f g)) i.holds ∙ p.linked.alone g;
       };

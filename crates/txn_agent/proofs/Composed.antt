@@ -1,6 +1,6 @@
 -- A look and then a step, what each answer says of it, and what a look shows of a lock that is asked for.
 use Rattle.std.proofs.Common.{◌≡◌, ◌⊎◌, inl, inr, ℕ, ◌<◌, length, List, [], ◌∷◌, ◌++◌, Bool, true, false, true≢false, refl, sym, ap, ◌∙◌, subst, arith, Option, Some, None}
-use Rattle.std.specs.Prelude.{◌&&◌, ◌||◌, not}
+use Rattle.std.specs.Prelude.{◌&&◌, ◌||◌, not, Result, Ok, Err, IfOk}
 use Rattle.std.proofs.lemmas.Bool.{and_from, and_parts}
 use Rattle.base_types.specs.declared.calls.Mode.{Mode}
 use Rattle.base_types.specs.declared.calls.Mode.TheVariants.{Update}
@@ -73,6 +73,15 @@ module _ (may : CoreEvent → Bool) (types : ProgramTree) (u : UnitNo) (s t v : 
   happened_on kids Moved (inr (inl m)) = inr (inl (misses-on m))
   happened_on kids Moved (inr (inr m)) = inr (inr record { looked = looks-on may s t v l m.looked; never = m.never })
 
+  -- where there was memory
+  pub told_on : {D E : Type 0} (kids : ℕ) (r : Result (D × Advanced) E) → IfOk r (λ made. Happened may types u kids t v made.1) → IfOk r (λ made. Happened may types u kids s v made.1)
+  told_on kids (Ok made) h = happened_on kids made.1 h
+  told_on kids (Err e) h = h
+
+  -- with as many children
+  pub told_by : {D E : Type 0} (kids count : ℕ) → kids ≡ count → (r : Result (D × Advanced) E) → IfOk r (λ made. Happened may types u kids t v made.1) → IfOk r (λ made. Happened may types u count s v made.1)
+  told_by {D} {E} kids count q r h = subst (λ (n : ℕ). IfOk r (λ made. Happened may types u n s v made.1)) q (told_on kids r h)
+
 -- each answer is of a step
 pub happened-acts : (may : CoreEvent → Bool) (types : ProgramTree) (u : UnitNo) (kids : ℕ) (s t : Sight) (a : Advanced) → Happened may types u kids s t a → Acts may types u s t
 happened-acts may types u kids s t (Granted g source) h = inr (_, (_, h.1.1))
@@ -104,7 +113,7 @@ looks_counted may s t l n = looks-counts may s t l n
 
 module _ (may : CoreEvent → Bool) (types : ProgramTree) (s t : Sight) (c : Carried) (work : Work) (g : GrainId) (mode : Mode) (kids : ℕ) (counts : Counts s) (l : Looks may s t) (k : KnowsPaused types s c work (NeedGrain g mode)) where
   -- what is known behind the look
-  there : KnowsPaused types t c work (NeedGrain g mode)
+  abbrev there : KnowsPaused types t c work (NeedGrain g mode)
   there = paused-looks types s c work counts may t (NeedGrain g mode) l k
 
   -- that the unit waits

@@ -26,7 +26,7 @@ module _ (types : ProgramTree) (c : Carried) (work : Work) (trail : List Given) 
   states-found = (trails_read_once_lem types work.call (depth_of c.origin) trail follows.named).found
 
   -- the play over them
-  played : Played
+  abbrev played : Played
   played = play_over types work.call (depth_of c.origin) (states_of (reads_of trail)) (answers_of trail)
 
   module _ (parts : Parts) (reads : List Read)
@@ -34,7 +34,7 @@ module _ (types : ProgramTree) (c : Carried) (work : Work) (trail : List Given) 
       (is : IsPartsOf parts trail (play_over types work.call (depth_of c.origin) (states_of (reads_of trail)) (answers_of trail)))
       (found : map found_by reads ≡ parts.reads) (from : parts.reads ≡ reads_in work.machine) (sources : map source_of reads ≡ work.sources) where
     -- the effect
-    effect : Effect
+    abbrev effect : Effect
     effect = record { unit = c.unit; origin = c.origin; call = work.call; answers = parts.answers; reads = reads; writes = parts.writes; result = parts.result }
 
     all-reads : map found_by reads ≡ reads_of trail

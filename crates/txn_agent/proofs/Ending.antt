@@ -4,6 +4,7 @@ use Rattle.std.specs.Prelude.{if◌then◌else◌, ◌||◌, ◌&&◌, filter, n
 use Rattle.std.proofs.lemmas.Bool.{cond-true, cases_Bool, and_parts, and_from}
 use Rattle.base_types.specs.declared.calls.Origin.TheVariants.{Line, Child}
 use Rattle.base_types.specs.declared.entries.Settled.{Settled}
+use Rattle.cell_model.specs.Locks as locks
 use Rattle.cell_model.specs.Locks.{holds_lock, dropped}
 use Rattle.cell_model.proofs.Asking.{dropped-none}
 use Rattle.cell_model.proofs.Units.{same_grain-true, same_grain-is, same_unit-true}
@@ -197,7 +198,7 @@ idle-can w u v idle q = ap (λ (x : UnitNo). is_running (w.units.phase x)) (same
 
 -- who doesn't run isn't active
 idle-asks : (w : CoreState) (v : UnitNo) (g : GrainId) (mode : Mode) → is_running (w.units.phase v) ≡ false → ask w v g mode ≡ answer.NotActive
-idle-asks w v g mode idle = ap (λ (b : Bool). if b then ask_doom (doomed_by w v) (ask_lock (w.cells.here g) _) else answer.NotActive) (and-not (is_running (w.units.phase v)) _ idle)
+idle-asks w v g mode idle = ap (λ (b : Bool). if b then ask_doom (doomed_by w v) (ask_lock (w.cells.here g) (locks.ask (w.cells.holds g) v mode)) else answer.NotActive) (and-not (is_running (w.units.phase v)) _ idle)
 
 -- so no event of a unit that is over and holds nothing applies
 pub over-events : (r : Run) (c : Carried) → IsOver r c [] → HasNoEvent (ends r) c.unit

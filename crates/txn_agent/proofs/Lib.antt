@@ -5,6 +5,7 @@ pub mod Locking
 pub mod Beginning
 pub mod Lowest
 pub mod Ending
+pub mod Replied
 pub mod Possible
 pub mod Effects
 pub mod Acting

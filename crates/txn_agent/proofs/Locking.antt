@@ -10,7 +10,8 @@ use Rattle.base_types.specs.declared.calls.Origin.{Origin}
 use Rattle.cell_model.specs.Locks.{holds_lock, is_hold_of, is_update, dropped, granted as granted_locks}
 use Rattle.cell_model.proofs.Asking.{granted-new, granted-member}
 use Rattle.cell_model.proofs.Units.{any-member, any-none, any-false, any-true, same_unit-is, same_unit-true, same_unit-not, same_grain-true, same_grain-is}
-use Rattle.core_model.specs.CoreState.{UnitNo, GrainId, Hold, Call, Value, Version, Read, Member, same_grain, put, put_grain, top, CoreState}
+use Rattle.core_model.specs.CoreState.{UnitNo, GrainId, Hold, Call, Value, Version, Member, same_grain, put, put_grain, top, CoreState}
+use Rattle.core_model.specs.declared.effects.Read.{Read}
 use Rattle.core_model.specs.declared.phases.Phase.{Phase}
 use Rattle.core_model.specs.declared.questions.AskAnswer.{AskAnswer}
 use Rattle.core_model.specs.declared.questions.AskAnswer.TheVariants as answer
@@ -166,7 +167,7 @@ no-lock-alone u hs e = any-none (λ (h : Hold). is_hold_of u h && is_update h.mo
 module _ (types : ProgramTree) (r : Run) (c : Carried) (work work' : Work) (trail : List Given) (g : GrainId) (mode : Mode) (s : List Value) (source : UnitNo)
     (p : IsPaused types r c work trail) (replied : reply.Granted s source ≡ reply_to (ends r) (Grant c.unit g mode)) (call : work'.call ≡ work.call) where
   module _ (free : any (same_grain g) (grains_of (reads_of trail)) ≡ false) (sources : work'.sources ≡ work.sources ++ (source ∷ [])) where
-    given : Given
+    abbrev given : Given
     given = GivenLock g mode s
 
     told : (applies (ends r) (Grant c.unit g mode) ≡ true) × (s ≡ (top (cleaned (ends r) g)).state) × (source ≡ (top (cleaned (ends r) g)).unit)

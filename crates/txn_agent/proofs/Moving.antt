@@ -6,7 +6,7 @@ use Rattle.base_types.specs.declared.calls.Mode.{Mode}
 use Rattle.base_types.specs.declared.calls.Outcome.{Outcome}
 use Rattle.cell_model.specs.Locks.{holds_lock, is_hold_of}
 use Rattle.cell_model.proofs.Units.{same_unit-true, same_unit-is, same_grain-is, any-true, any-member}
-use Rattle.core_model.specs.CoreState.{UnitNo, GrainId, Call, Effect, same_grain, CoreState}
+use Rattle.core_model.specs.CoreState.{UnitNo, GrainId, Call, same_grain, CoreState}
 use Rattle.core_model.specs.declared.phases.Phase.{Phase}
 use Rattle.core_model.specs.declared.phases.Phase.TheVariants.{Unborn, Running, Finished, Refused, Ended}
 use Rattle.core_model.specs.declared.questions.AskAnswer.{AskAnswer}

@@ -1,10 +1,10 @@
 -- What an agent knows of its unit stays by events that aren't the unit's, and by those that don't apply.
-use Rattle.std.proofs.Common.{◌≡◌, ℕ, List, [], ◌∷◌, ◌++◌, Bool, true, false, refl, sym, ap, ◌∙◌, subst, append-nil, Option, Some, None}
+use Rattle.std.proofs.Common.{◌≡◌, ℕ, List, [], ◌∷◌, ◌++◌, Bool, true, false, true≢false, refl, sym, ap, ◌∙◌, subst, append-nil}
 use Rattle.std.specs.Prelude.{◌&&◌, ◌||◌, if◌then◌else◌, map, not}
 use Rattle.std.proofs.lemmas.Bool.{cond-false, cond_both, cases_Bool, and_parts}
 use Rattle.base_types.specs.declared.calls.Origin.{Origin}
 use Rattle.cell_model.specs.Locks.{holds_lock, is_hold_of, is_update}
-use Rattle.core_model.specs.CoreState.{UnitNo, GrainId, Hold, Read, Call, Value, CoreState}
+use Rattle.core_model.specs.CoreState.{UnitNo, GrainId, Hold, Call, Value, CoreState}
 use Rattle.core_model.specs.declared.effects.Effect.{Effect}
 use Rattle.core_model.specs.declared.phases.Phase.{Phase}
 use Rattle.core_model.specs.declared.phases.Phase.TheVariants.{Unborn, Running}
@@ -25,12 +25,13 @@ use Rattle.turn_rules.specs.Links.{IsGiven, IsAwaiting, Holds}
 use Rattle.turn_rules.specs.Still.{IsStill, own_holds}
 use Rattle.turn_rules.proofs.Growth.{ends-more, got-event}
 use Rattle.turn_rules.proofs.Movers.{still-locks}
-use Rattle.turn_rules.proofs.Linked.{runs-born, over-born, still-others, given-others, awaiting-others, holds-others}
+use Rattle.turn_rules.proofs.Linked.{still-others, given-others, awaiting-others, holds-others}
 use Rattle.worker_rules.specs.Stories.{is_load}
 use Rattle.worker_rules.specs.Sharing.{leaves_unit}
 use Rattle.worker_rules.proofs.Promising.{leaves-is}
 use Rattle.txn_agent.specs.declared.work.Carried.{Carried}
 use Rattle.txn_agent.specs.declared.work.Work.{Work}
+use Rattle.txn_agent.specs.Working.{found_by, source_of}
 use Rattle.txn_agent.specs.Linked.{IsSound, IsLinked, IsPaused, IsWaiting, IsOver, IsStopped, IsNew}
 use Rattle.txn_agent.proofs.Shaped.{going-back}
 
@@ -66,6 +67,14 @@ pub kept-sound : (r : Run) → IsSound r → Kept r.opening (ends r)
 kept-sound r s = kept-ends (λ (x : Effect). true) r s
 
 -- ---- an event of others
+
+-- who runs has begun
+pub runs-born : (w : CoreState) (u : UnitNo) → w.units.phase u ≡ Running → w.units.phase u ≡ Unborn → ⊥
+runs-born w u q e = (let t : Unborn ≡ Running = sym e ∙ q in absurd cc)
+
+-- and who is over
+over-born : (w : CoreState) (u : UnitNo) → is_over (w.units.phase u) ≡ true → w.units.phase u ≡ Unborn → ⊥
+over-born w u o e = absurd (true≢false (sym o ∙ ap is_over e))
 
 -- the unit holds the grain alone, by the grain's locks
 abbrev pub alone-is : UnitNo → List Hold → Bool
@@ -104,8 +113,8 @@ module _ (types : ProgramTree) (r : Run) (e : CoreEvent) (c : Carried) (leaves :
         came = still.origin ∙ l.came;
         kind = still.plain ∙ l.kind;
         plainly = l.plainly;
-        found = ap (map _) still.reads ∙ l.found;
-        sources = ap (map _) still.reads ∙ l.sources;
+        found = ap (map found_by) still.reads ∙ l.found;
+        sources = ap (map source_of) still.reads ∙ l.sources;
         locks = λ g. still-locks c.unit (ends r) (ends (with_event r e)) still g ∙ l.locks g;
         alone = λ g. still-alone c.unit (ends r) (ends (with_event r e)) still g ∙ l.alone g;
       }
@@ -165,8 +174,8 @@ module _ (types : ProgramTree) (r : Run) (e : CoreEvent) (c : Carried) (a : appl
       came = ap (λ (w : CoreState). w.units.origin c.unit) same ∙ p.linked.came;
       kind = ap (λ (w : CoreState). w.units.plain c.unit) same ∙ p.linked.kind;
       plainly = p.linked.plainly;
-      found = ap (λ (w : CoreState). map _ (w.units.reads c.unit)) same ∙ p.linked.found;
-      sources = ap (λ (w : CoreState). map _ (w.units.reads c.unit)) same ∙ p.linked.sources;
+      found = ap (λ (w : CoreState). map found_by (w.units.reads c.unit)) same ∙ p.linked.found;
+      sources = ap (λ (w : CoreState). map source_of (w.units.reads c.unit)) same ∙ p.linked.sources;
       locks = λ g. ap (λ (w : CoreState). holds_lock c.unit (w.cells.holds g)) same ∙ p.linked.locks g;
       alone = λ g. ap (λ (w : CoreState). holds_alone w c.unit g) same ∙ p.linked.alone g;
     };

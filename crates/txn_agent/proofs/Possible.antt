@@ -22,7 +22,7 @@ use Rattle.core_model.specs.Tests.{all, any, answered_by, is_answer, is_before, 
 use Rattle.core_model.specs.Events.{can, holds_alone, is_of_call}
 use Rattle.core_model.specs.Legal.{Run, ends}
 use Rattle.script_tree.specs.Programs.{ProgramTree}
-use Rattle.script_meaning.specs.Play.{IsTransaction, asks, next}
+use Rattle.script_meaning.specs.Play.{Found, IsTransaction, Played, asks, next, play_over}
 use Rattle.script_meaning.specs.Trails.{Given, GivenLock, GivenRaise, GivenOutcome, answers_of, exclusive_in, locks_of, states_of}
 use Rattle.script_meaning.proofs.Plays.{plain_runs_lock_nothing_lem}
 use Rattle.script_machine.specs.declared.machine.Pause.TheVariants.{NeedGrain, NeedUnit, Done}
@@ -82,26 +82,28 @@ reads-itself xs = list-itself same_read read-itself xs
 -- what was given answers each child
 given-kids : (w : CoreState) (got : List Got) (trail : List Given) → given_by w got ≡ Some trail → answered_by w (kids_got got) (answers_of trail) ≡ true
 given-kids w [] trail e = subst (λ (l : List Given). answered_by w [] (answers_of l) ≡ true) (some_is [] trail e) refl
-given-kids w (GotLock g mode state ∷ got) trail e = by (given_by w got) refl e
+given-kids w (GotLock g mode state ∷ got) trail e = by (given_by w got) (given-kids w got) e
   where
-    by : (o : Option (List Given)) → given_by w got ≡ o → and_given (GivenLock g mode state) o ≡ Some trail → answered_by w (kids_got got) (answers_of trail) ≡ true
-    by None q h = absurd cc
-    by (Some more) q h = subst (λ (l : List Given). answered_by w (kids_got got) (answers_of l) ≡ true) (some_is (GivenLock g mode state ∷ more) trail h) (given-kids w got more q)
-given-kids w (GotRaise g ∷ got) trail e = by (given_by w got) refl e
+    by : (o : Option (List Given)) → ((more : List Given) → o ≡ Some more → answered_by w (kids_got got) (answers_of more) ≡ true) → and_given (GivenLock g mode state) o ≡ Some trail → answered_by w (kids_got got) (answers_of trail) ≡ true
+    by None ih h = absurd cc
+    by (Some more) ih h = subst (λ (l : List Given). answered_by w (kids_got got) (answers_of l) ≡ true) (some_is (GivenLock g mode state ∷ more) trail h) (ih more refl)
+given-kids w (GotRaise g ∷ got) trail e = by (given_by w got) (given-kids w got) e
   where
-    by : (o : Option (List Given)) → given_by w got ≡ o → and_given (GivenRaise g) o ≡ Some trail → answered_by w (kids_got got) (answers_of trail) ≡ true
-    by None q h = absurd cc
-    by (Some more) q h = subst (λ (l : List Given). answered_by w (kids_got got) (answers_of l) ≡ true) (some_is (GivenRaise g ∷ more) trail h) (given-kids w got more q)
-given-kids w (GotChild call d child ∷ got) trail e = first (outcome_of w child) refl e
+    by : (o : Option (List Given)) → ((more : List Given) → o ≡ Some more → answered_by w (kids_got got) (answers_of more) ≡ true) → and_given (GivenRaise g) o ≡ Some trail → answered_by w (kids_got got) (answers_of trail) ≡ true
+    by None ih h = absurd cc
+    by (Some more) ih h = subst (λ (l : List Given). answered_by w (kids_got got) (answers_of l) ≡ true) (some_is (GivenRaise g ∷ more) trail h) (ih more refl)
+given-kids w (GotChild call d child ∷ got) trail e = first (outcome_of w child) refl (given-kids w got) e
   where
-    by : (out : Outcome) → outcome_of w child ≡ Some out → (o : Option (List Given)) → given_by w got ≡ o → and_given (GivenOutcome call d out) o ≡ Some trail → answered_by w (child ∷ kids_got got) (answers_of trail) ≡ true
-    by out known None q h = absurd cc
-    by out known (Some more) q h = subst (λ (l : List Given). answered_by w (child ∷ kids_got got) (answers_of l) ≡ true) (some_is (GivenOutcome call d out ∷ more) trail h)
-        (and_from (is_answer (outcome_of w child) out) (answered_by w (kids_got got) (answers_of more)) (ap (λ (x : Option Outcome). is_answer x out) known ∙ outcome-itself out) (given-kids w got more q))
+    by : (out : Outcome) → outcome_of w child ≡ Some out → (o : Option (List Given)) → ((more : List Given) → o ≡ Some more → answered_by w (kids_got got) (answers_of more) ≡ true) → and_given (GivenOutcome call d out) o ≡ Some trail →
+        answered_by w (child ∷ kids_got got) (answers_of trail) ≡ true
+    by out is None ih h = absurd cc
+    by out is (Some more) ih h = subst (λ (l : List Given). answered_by w (child ∷ kids_got got) (answers_of l) ≡ true) (some_is (GivenOutcome call d out ∷ more) trail h)
+        (and_from (is_answer (outcome_of w child) out) (answered_by w (kids_got got) (answers_of more)) (ap (λ (x : Option Outcome). is_answer x out) is ∙ outcome-itself out) (ih more refl))
 
-    first : (x : Option Outcome) → outcome_of w child ≡ x → option_and_then (λ out. and_given (GivenOutcome call d out) (given_by w got)) x ≡ Some trail → answered_by w (child ∷ kids_got got) (answers_of trail) ≡ true
-    first None q h = absurd cc
-    first (Some out) q h = by out q (given_by w got) refl h
+    first : (x : Option Outcome) → outcome_of w child ≡ x → ((more : List Given) → given_by w got ≡ Some more → answered_by w (kids_got got) (answers_of more) ≡ true) → option_and_then (λ out. and_given (GivenOutcome call d out) (given_by w got)) x ≡ Some trail →
+        answered_by w (child ∷ kids_got got) (answers_of trail) ≡ true
+    first None q ih h = absurd cc
+    first (Some out) q ih h = by out q (given_by w got) ih h
 
 -- who is answered is decided
 answered-decided : (w : CoreState) (kids : List UnitNo) (answers : List Outcome) → answered_by w kids answers ≡ true → (all (is_decided w) kids ≡ true) × (length kids ≡ length answers)
@@ -116,6 +118,25 @@ answered-decided w (k ∷ kids) (a ∷ answers) e =
     decided : (o : Option Outcome) → is_answer o a ≡ true → is_some o ≡ true
     decided None q = absurd (true≢false (sym q))
     decided (Some x) q = refl
+
+-- reads are told by what was found and by whom it was written
+reads-are : (xs ys : List Read) → map found_by xs ≡ map found_by ys → map source_of xs ≡ map source_of ys → xs ≡ ys
+reads-are [] [] e f = refl
+reads-are [] (y ∷ ys) e f = absurd cc
+reads-are (x ∷ xs) [] e f = absurd cc
+reads-are (x ∷ xs) (y ∷ ys) e f =
+    let front : found_by x ≡ found_by y = cc in
+    let g : x.grain ≡ y.grain = ap (λ (z : Found). z.0) front in
+    let s : x.state ≡ y.state = ap (λ (z : Found). z.1) front in
+    let u : x.source ≡ y.source = cc in
+    let more : map found_by xs ≡ map found_by ys = cc in
+    let others : map source_of xs ≡ map source_of ys = cc in
+    λ i. record { grain = g i; state = s i; source = u i } ∷ reads-are xs ys more others i
+
+-- none were found
+no-reads : (xs : List Read) → map found_by xs ≡ [] → is_empty xs ≡ true
+no-reads [] e = refl
+no-reads (x ∷ xs) e = absurd cc
 
 -- ---- what is due
 
@@ -178,19 +199,6 @@ module _ (types : ProgramTree) (r : Run) (c : Carried) (work : Work) (trail : Li
     -- and has its reads
     of-reads : effect.reads ≡ (ends r).units.reads c.unit
     of-reads = reads-are effect.reads ((ends r).units.reads c.unit) (is.found ∙ sym p.linked.found) (is.sources ∙ sym p.linked.sources)
-      where
-        reads-are : (xs ys : List Read) → map found_by xs ≡ map found_by ys → map source_of xs ≡ map source_of ys → xs ≡ ys
-        reads-are [] [] e f = refl
-        reads-are [] (y ∷ ys) e f = absurd cc
-        reads-are (x ∷ xs) [] e f = absurd cc
-        reads-are (x ∷ xs) (y ∷ ys) e f =
-            let g : x.grain ≡ y.grain = cc in
-            let s : x.state ≡ y.state = cc in
-            let u : x.source ≡ y.source = cc in
-            let front : x ≡ y = (λ i. record { grain = g i; state = s i; source = u i }) in
-            let more : map found_by xs ≡ map found_by ys = cc in
-            let others : map source_of xs ≡ map source_of ys = cc in
-            λ i. front i ∷ reads-are xs ys more others i
 
     -- what it writes the unit holds alone
     of-writes : (writes : List Write) → All (λ one. Contains (exclusive_in trail) one.0) writes → all (λ (x : Write). holds_alone (ends r) c.unit x.0) writes ≡ true
@@ -208,13 +216,8 @@ module _ (types : ProgramTree) (r : Run) (c : Carried) (work : Work) (trail : Li
     -- and so may a plain run
     pub can-ended : c.plain ≡ true → can (ends r) (EndPlain c.unit effect) ≡ true
     can-ended kind =
+        let played : Played = play_over types effect.call (depth_of effect.origin) (states_of (map (λ (x : Read). (x.grain, x.state)) effect.reads)) effect.answers in
+        let none : (played.reads ≡ []) × (played.writes ≡ []) = plain_runs_lock_nothing_lem types effect.call (depth_of effect.origin) (states_of (map (λ (x : Read). (x.grain, x.state)) effect.reads)) effect.answers
+            (λ t. p.linked.plainly kind (subst (λ (x : Call). IsTransaction types x) is.call t)) in
         and_from _ _ (and_from (is_running ((ends r).units.phase c.unit)) _ (ap is_running p.given.running) (p.linked.kind ∙ kind))
         (and_from _ _ of-call (and_from _ _ (no-reads effect.reads (sym is.play.reads ∙ none.0)) (ap is_empty (sym is.play.writes ∙ none.1))))
-      where
-        none : _
-        none = plain_runs_lock_nothing_lem types effect.call (depth_of effect.origin) (states_of (map (λ (x : Read). (x.grain, x.state)) effect.reads)) effect.answers
-            (λ t. p.linked.plainly kind (subst (λ (x : Call). IsTransaction types x) is.call t))
-
-        no-reads : (xs : List Read) → map (λ (x : Read). (x.grain, x.state)) xs ≡ [] → is_empty xs ≡ true
-        no-reads [] e = refl
-        no-reads (x ∷ xs) e = absurd cc

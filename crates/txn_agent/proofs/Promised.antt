@@ -23,7 +23,7 @@ use Rattle.worker_rules.specs.Sharing.{leaves_unit, BeganHere, KeepsPromise}
 use Rattle.worker_rules.proofs.Promising.{alone-quiet, is-harmless, looks-promise, tells-promise}
 use Rattle.core_access.specs.OneHolder.{none_comes}
 use Rattle.core_access.specs.Sights.{Sight, run_seen, saw, told, Looks, Tells, Counts, IsAlone, IfAlone}
-use Rattle.core_access.proofs.Sights.{looks-alone, tells-alone, run-alone, run-told, saw-before, saw-none, same-saw, tells-before, told-stays}
+use Rattle.core_access.proofs.Sights.{looks-alone, tells-alone, run-alone, run-told, tells-before, told-stays}
 use Rattle.core_access.proofs.Knowing.{looks-knows, tells-knows}
 use Rattle.txn_agent.specs.declared.work.Carried.{Carried}
 use Rattle.txn_agent.specs.declared.work.Work.{Work}
@@ -162,7 +162,7 @@ acts-alone types u v s t (inr (e, (r, p))) a = subst (IsAlone (leaves_unit v)) (
 pub acts-rule : (b : Basis) (u : UnitNo) (s t : Sight) → Acts none_comes b.types u s t → IsAlone (leaves_unit u) s → KeepsUnitRule b (run_seen s) → KeepsUnitRule b (run_seen t)
 acts-rule b u s t (inl l) alone keeps = subst (λ (x : Sight). KeepsUnitRule b (run_seen x)) (sym (looks-alone s t l)) keeps
 acts-rule b u s t (inr (e, (r, p))) alone keeps =
-    let same : saw s p.told.rest ≡ s = same-saw s p.told.rest p.told.others in
+    let same : saw s p.told.rest ≡ s = looks-alone s (saw s p.told.rest) (record { rest = p.told.rest; others = p.told.others; sight = refl }) in
     subst (KeepsUnitRule b) (sym (run-alone s t e r p.told))
     (unit-grows b (run_seen s) e keeps (subst (λ (x : Sight). IfAlone (leaves_unit u) x (λ z. IsDueFor b.types z e)) same p.due alone b refl))
 

@@ -7,7 +7,7 @@ use Rattle.base_types.specs.declared.calls.Mode.{Mode}
 use Rattle.base_types.specs.declared.calls.Outcome.{Outcome}
 use Rattle.cell_model.specs.Locks.{holds_lock}
 use Rattle.cell_model.proofs.Units.{any-member, any-none, any-true, same_grain-true, same_grain-is}
-use Rattle.core_model.specs.CoreState.{UnitNo, GrainId, Call, Value, Read, same_grain}
+use Rattle.core_model.specs.CoreState.{UnitNo, GrainId, Call, Value, same_grain}
 use Rattle.core_model.specs.declared.events.CoreEvent.{CoreEvent}
 use Rattle.core_model.specs.declared.events.CoreEvent.TheVariants.{Grant, Release}
 use Rattle.core_model.specs.declared.events.CoreReply.{CoreReply}
@@ -37,7 +37,7 @@ use Rattle.core_access.proofs.Knowing.{tells-knows}
 use Rattle.txn_agent.specs.declared.work.Carried.{Carried}
 use Rattle.txn_agent.specs.declared.work.Work.{Work}
 use Rattle.txn_agent.specs.declared.agent.Advanced.TheVariants as came
-use Rattle.txn_agent.specs.Working.{IsAtWork, IsReady}
+use Rattle.txn_agent.specs.Working.{IsAtWork, IsReady, found_by, source_of}
 use Rattle.txn_agent.specs.Linked.{IfOwn, IsLinked, IsPaused, IsWaiting, IsOver, IsNew, KnowsPaused, KnowsWaiting}
 use Rattle.txn_agent.specs.Stepping.{Acts, Happened, Puts, without}
 use Rattle.txn_agent.proofs.Trails.{IsResumed, answers-last, exclusive-last, first-answer, grains-last, missing-lock, missing-raise, next-own, raise-answer, reads-last, start-answer, unit-answer}
@@ -191,8 +191,8 @@ new_known types s c call machine work pause follows resumed same held sources ki
           came = n.came;
           kind = n.kind;
           plainly = λ is x. n.plainly is (subst (λ (z : Call). IsTransaction types z) same x);
-          found = ap (map _) n.reads;
-          sources = ap (map _) n.reads ∙ sym sources;
+          found = ap (map found_by) n.reads;
+          sources = ap (map source_of) n.reads ∙ sym sources;
           locks = n.locks;
           alone = λ g. no-lock-alone c.unit ((ends (run_seen s)).cells.holds g) (n.locks g);
         };
@@ -204,7 +204,7 @@ new_known types s c call machine work pause follows resumed same held sources ki
 
 module _ (may : CoreEvent → Bool) (types : ProgramTree) (s t : Sight) (c : Carried) (held : List GrainId) (g : GrainId) (y : CoreReply) (counts : Counts s) (k : IfOwn c s (λ r. IsOver r c held)) (first : Some g ≡ first_grain held) where
   -- the first one goes first
-  pub release_puts : Tells may s (Release c.unit g) y t → Puts may types c.unit s (Release c.unit g) y t
+  abbrev pub release_puts : Tells may s (Release c.unit g) y t → Puts may types c.unit s (Release c.unit g) y t
   release_puts l = record {
     told = l;
     own = refl;
@@ -245,6 +245,11 @@ module _ (may : CoreEvent → Bool) (types : ProgramTree) (s t : Sight) (c : Car
   release_stays l f = tells-knows (leaves_unit c.unit) (λ r. IsOver r c held) (λ r e h p. over-on types r e c h held p) (λ r. IsOver r c held)
       may s t (Release c.unit g) y l counts (λ o. over-as types (run_seen (saw s l.rest)) (Release c.unit g) c (release_missed l f) refl held o) k
 
+-- no first one
+no-some : (o : Option GrainId) → ((g : GrainId) → o ≡ Some g → ⊥) → o ≡ None
+no-some None n = refl
+no-some (Some g) n = absurd (n g refl)
+
 -- a unit that has no lock has ended
-pub ended_happened : (may : CoreEvent → Bool) (types : ProgramTree) (s : Sight) (c : Carried) (held : List GrainId) (kids : ℕ) → None ≡ first_grain held → IfOwn c s (λ r. IsOver r c held) → Happened may types c.unit kids s s came.Ended
-ended_happened may types s c held kids none k = (looks-none may s, λ alone. over-events (run_seen s) c (subst (λ (l : List GrainId). IsOver (run_seen s) c l) (first_grain-none held (sym none)) (k alone)))
+pub ended_happened : (may : CoreEvent → Bool) (types : ProgramTree) (s : Sight) (c : Carried) (held : List GrainId) (kids : ℕ) (first : Option GrainId) → first ≡ first_grain held → ((g : GrainId) → first ≡ Some g → ⊥) → IfOwn c s (λ r. IsOver r c held) → Happened may types c.unit kids s s came.Ended
+ended_happened may types s c held kids first is none k = (looks-none may s, λ alone. over-events (run_seen s) c (subst (λ (l : List GrainId). IsOver (run_seen s) c l) (first_grain-none held (sym is ∙ no-some first none)) (k alone)))

@@ -99,12 +99,8 @@ missing-any gs g n = any-none (same_grain g) gs (λ h m. elim (cases_Bool (same_
 ])
 
 module _ (types : ProgramTree) (call : Call) (depth : ℕ) (trail : List Given) (is : IsTrail types call depth trail) where
-  -- what is asked for
-  want : Want
-  want = next types call depth (locks_of trail) (answers_of trail)
-
-  -- is missing
-  missing : (w : Want) → want ≡ w → IsMissing types depth trail w
+  -- what is asked for is missing
+  missing : (w : Want) → next types call depth (locks_of trail) (answers_of trail) ≡ w → IsMissing types depth trail w
   missing w e = subst (IsMissing types depth trail) e (next_is_missing_lem types call depth trail is)
 
   -- a first lock is of a grain that wasn't read

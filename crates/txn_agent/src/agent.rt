@@ -134,7 +134,8 @@ impl Agent {
         ensures looked { Looks A.may_come (A.sight access.old) (A.sight access.new) }
         ensures moves { IfOk result (λ b. (types : ProgramTree) → Counts (A.sight access.old) → Knows types (A.sight access.old) self.now → IfOwn self.now.carried (A.sight access.new) (λ r. ShowsMove types r self.now.carried self.now.doing b)) }
     {
-        moves_now(access, self.carried, &self.doing)
+        let moves = moves_now(access, self.carried, &self.doing)?;
+        Ok(moves)
     }
 
     /// Goes on by at most one event of the unit.

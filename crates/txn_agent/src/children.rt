@@ -1,4 +1,4 @@
-ghost use Rattle.std.specs.Prelude.{◌≡◌, ◌×◌, IfOk};
+ghost use Rattle.std.specs.Prelude.{◌≡◌, IfOk};
 ghost use Rattle.core_access.specs.Sights.{Counts, Looks};
 ghost use Rattle.script_tree.specs.Programs.{program_tree};
 ghost use Rattle.script_machine.specs.declared.machine.Pause.TheVariants.{NeedUnit as NeedsUnit};
@@ -83,18 +83,18 @@ pub fn begin_child<A: Access>(
         CoreReply::Began { unit: child } => {
             let mut work = work;
             work.kids = begun;
-            Ok((
+            return Ok((
                 Doing::Awaits { work, child },
                 Advanced::Began {
                     child,
                     call: asked,
                     depth,
                 },
-            ))
+            ));
         }
         _ => {
             let pause = Pause::NeedUnit { call: asked, depth };
-            Ok((Doing::Asks { work, pause }, Advanced::Moved))
+            return Ok((Doing::Asks { work, pause }, Advanced::Moved));
         }
     }
 }

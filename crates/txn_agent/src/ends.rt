@@ -1,4 +1,4 @@
-ghost use Rattle.std.specs.Prelude.{◌≡◌, ◌×◌, IfOk, List as AList, length, map, not, true, false, Some};
+ghost use Rattle.std.specs.Prelude.{◌≡◌, IfOk, List as AList, length, map, not, true, false, Some};
 ghost use Rattle.core_model.specs.CoreState.{same_grain};
 ghost use Rattle.core_model.specs.Tests.{first_grain, first_of_two, is_before};
 ghost use Rattle.core_access.specs.Sights.{Counts};

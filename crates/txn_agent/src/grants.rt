@@ -1,4 +1,4 @@
-ghost use Rattle.std.specs.Prelude.{◌≡◌, ◌×◌, IfOk, false, true};
+ghost use Rattle.std.specs.Prelude.{◌≡◌, IfOk, false, true};
 ghost use Rattle.core_model.specs.declared.questions.AskAnswer.TheVariants.{Free as IsFree};
 ghost use Rattle.core_model.specs.Legal.{ends};
 ghost use Rattle.core_model.specs.Tests.{ask};

@@ -1,4 +1,4 @@
-ghost use Rattle.std.specs.Prelude.{◌≡◌, ◌×◌, IfOk, is_some, true};
+ghost use Rattle.std.specs.Prelude.{◌≡◌, IfOk, is_some, true};
 ghost use Rattle.core_model.specs.Changes.{refusal};
 ghost use Rattle.core_model.specs.Legal.{ends};
 ghost use Rattle.core_model.specs.Tests.{ask};
