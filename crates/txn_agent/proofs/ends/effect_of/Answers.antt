@@ -7,7 +7,7 @@ use Rattle.txn_agent.proofs.Effects.{effect-is}
 use Rattle.txn_agent.proofs.ends.effect_of.Goals as goal
 
 pub with_sources-requires : goal.with_sources-requires
-with_sources-requires c = c.requires.sources ∙ ap length (sym c.effect_parts-answers.ensures.reads)
+with_sources-requires c = record { each = c.requires.sources ∙ ap length (sym c.effect_parts-answers.ensures.reads) }
 
 pub returns-clause-effect : goal.returns-clause-effect
 returns-clause-effect c = λ types trail f. effect-is types c.args.carried c.args.work trail f c.effect_parts-answers.result c.in_ok-reads.reads

@@ -28,8 +28,8 @@ returns-in-Frees-clause-told g c = told_by g.A.Access.may_come (program_tree c.a
     (sym (ap children_of c.in-Frees.is) ∙ c.in_ok-work.ensures.children) c.release.result c.release.ensures.told
 
 pub returns-in-Awaits-clause-told : goal.returns-in-Awaits-clause-told
-returns-in-Awaits-clause-told g c = waits_for_child g.A.Access.may_come (program_tree c.args.checked.now) (g.A.Access.sight c.args.access.now) (g.A.Access.sight c.hear_child.new.access) c.args.carried c.in-Awaits.work c.in-Awaits.child _ c.hear_child.ensures.looked
+returns-in-Awaits-clause-told g c = waits_for_child g.A.Access.may_come (program_tree c.args.checked.now) (g.A.Access.sight c.args.access.now) (g.A.Access.sight c.hear_child.new.access) c.args.carried c.in-Awaits.work c.in-Awaits.child (children_of c.args.doing) c.hear_child.ensures.looked
     (subst (Hears (g.A.Access.sight c.hear_child.new.access)) c.in-Awaits.is c.in_ok-work.ensures.heard) (subst (KnowsDoing (program_tree c.args.checked.now) (g.A.Access.sight c.hear_child.new.access) c.args.carried) c.in-Awaits.is c.in_ok-work.ensures.doing)
 
 pub returns-in-Stopped-clause-told : goal.returns-in-Stopped-clause-told
-returns-in-Stopped-clause-told g c = stopped_happened g.A.Access.may_come (program_tree c.args.checked.now) (g.A.Access.sight c.args.access.now) (g.A.Access.sight c.hear_child.new.access) c.args.carried _ c.hear_child.ensures.looked (subst (KnowsDoing (program_tree c.args.checked.now) (g.A.Access.sight c.hear_child.new.access) c.args.carried) c.in-Stopped.is c.in_ok-work.ensures.doing)
+returns-in-Stopped-clause-told g c = stopped_happened g.A.Access.may_come (program_tree c.args.checked.now) (g.A.Access.sight c.args.access.now) (g.A.Access.sight c.hear_child.new.access) c.args.carried (children_of c.args.doing) c.hear_child.ensures.looked (subst (KnowsDoing (program_tree c.args.checked.now) (g.A.Access.sight c.hear_child.new.access) c.args.carried) c.in-Stopped.is c.in_ok-work.ensures.doing)
