@@ -87,7 +87,7 @@ module _ (types : ProgramTree) (s : Sight) (c : Carried) (counts : Counts s) whe
 pub few_kids : (types : ProgramTree) (s : Sight) (c : Carried) (work : Work) (call : Call) (depth : ℕ) → KnowsPaused types s c work (NeedUnit call depth) → work.kids < unit_limit
 few_kids types s c work call depth k =
     let n = missing-unit types work.call (depth_of c.origin) k.trail k.at_work.follows.named call depth
-        (next-own types work.call (depth_of c.origin) work.machine k.trail k.at_work.follows ∙ unit-wants (asks (rest types work.machine)) call depth k.ready.asks_for) in
+    (next-own types work.call (depth_of c.origin) work.machine k.trail k.at_work.follows ∙ unit-wants (asks (rest types work.machine)) call depth k.ready.asks_for) in
     let m = k.at_work.kids in
     omega (arith, n, m)
 

@@ -1,22 +1,20 @@
 -- What the begin of a unit leaves of the one that asked for it, and of the new one.
-use Rattle.std.proofs.Common.{◌≡◌, ◌≤◌, ℕ, List, [], ◌∷◌, ◌++◌, Bool, true, false, true≢false, refl, sym, ap, ◌∙◌, subst, arith, append-nil, Option, Some, None, le_refl, inl, inr}
+use Rattle.std.proofs.Common.{◌≡◌, ◌≤◌, ℕ, List, [], ◌∷◌, ◌++◌, Bool, true, false, true≢false, refl, sym, ap, ◌∙◌, subst, arith, Option, Some, None, le_refl, inl, inr}
 use Rattle.std.specs.Prelude.{if◌then◌else◌, map}
-use Rattle.std.proofs.lemmas.Bool.{cond-true, cond-false, and_parts, cases_Bool}
+use Rattle.std.proofs.lemmas.Bool.{cond-true, and_parts, cases_Bool}
 use Rattle.base_types.specs.declared.calls.Origin.{Origin}
 use Rattle.base_types.specs.declared.calls.Origin.TheVariants.{Line, Child}
 use Rattle.cell_model.specs.Locks.{holds_lock, is_hold_of}
 use Rattle.cell_model.proofs.Units.{any-none, same_unit-true, same_unit-not}
-use Rattle.core_model.specs.CoreState.{UnitNo, GrainId, Hold, Call, Mode, Value, Member, same_unit, CoreState}
+use Rattle.core_model.specs.CoreState.{UnitNo, GrainId, Hold, Call, Value, Member, same_unit, CoreState}
 use Rattle.core_model.specs.declared.effects.Read.{Read}
-use Rattle.core_model.specs.declared.phases.Phase.{Phase}
 use Rattle.core_model.specs.declared.phases.Phase.TheVariants.{Unborn, Running}
 use Rattle.core_model.specs.declared.events.CoreEvent.{CoreEvent}
 use Rattle.core_model.specs.declared.events.CoreEvent.TheVariants.{Bad, Begin, Grant, Refuse, Finish, EndPlain, EndSnapshot, Release, Take, Vote, Decide, Sealed, NotSealed, Doubt, Learn, Emitted, Halt, Want, Load}
-use Rattle.core_model.specs.declared.events.CoreReply.{CoreReply}
 use Rattle.core_model.specs.declared.events.CoreReply.TheVariants as reply
 use Rattle.core_model.specs.Tests.{is_running}
 use Rattle.core_model.specs.Changes.{begun, new_unit, swept, swept_by}
-use Rattle.core_model.specs.Events.{applies, can, does, is_allowed, is_free_answer, reply_with, reply_without, reply_to, run, step}
+use Rattle.core_model.specs.Events.{applies, can, does, is_allowed, reply_with, reply_without, reply_to, run, step}
 use Rattle.core_model.specs.Legal.{Run, begins, ends}
 use Rattle.core_model.specs.Serial.{AllLoadsTrue}
 use Rattle.core_model.proofs.Puts.{put-other, put-same}
@@ -26,7 +24,7 @@ use Rattle.core_model.proofs.Decoded.{ask-granted}
 use Rattle.script_tree.specs.Programs.{ProgramTree}
 use Rattle.script_meaning.specs.Play.{IsTransaction}
 use Rattle.script_meaning.specs.Trails.{Given}
-use Rattle.promise_spec.specs.Gotten.{Got, GotChild, got_lock, got_by, got_from, got_in}
+use Rattle.promise_spec.specs.Gotten.{GotChild, got_lock, got_by, got_from, got_in}
 use Rattle.turn_rules.specs.Going.{with_event, got_next}
 use Rattle.turn_rules.specs.Links.{IsAwaiting}
 use Rattle.turn_rules.proofs.Growth.{ends-more, got-event}

@@ -1,42 +1,39 @@
 -- A look and then a step, what each answer says of it, and what a look shows of a lock that is asked for.
-use Rattle.std.proofs.Common.{◌≡◌, ◌⊎◌, inl, inr, ℕ, ◌<◌, length, List, [], ◌∷◌, ◌++◌, Bool, true, false, true≢false, refl, sym, ap, ◌∙◌, subst, arith, Option, Some, None}
+use Rattle.std.proofs.Common.{◌≡◌, inl, inr, ℕ, ◌<◌, length, Bool, true, false, true≢false, refl, sym, ap, ◌∙◌, subst, arith, Some, None}
 use Rattle.std.specs.Prelude.{◌&&◌, ◌||◌, not, Result, Ok, Err, IfOk}
 use Rattle.std.proofs.lemmas.Bool.{and_from, and_parts}
 use Rattle.base_types.specs.declared.calls.Mode.{Mode}
 use Rattle.base_types.specs.declared.calls.Mode.TheVariants.{Update}
-use Rattle.cell_model.specs.Locks as locks
-use Rattle.cell_model.specs.Locks.{holds_lock, is_hold_of, is_update, covers}
-use Rattle.cell_model.proofs.Units.{any-true, any-member, any-false}
-use Rattle.core_model.specs.CoreState.{UnitNo, GrainId, Hold, Call, Member, same_grain, CoreState}
+use Rattle.cell_model.specs.Locks.{is_hold_of, is_update, covers}
+use Rattle.cell_model.proofs.Units.{any-true, any-member}
+use Rattle.core_model.specs.CoreState.{UnitNo, GrainId, Hold, Member}
 use Rattle.core_model.specs.declared.events.CoreEvent.{CoreEvent}
 use Rattle.core_model.specs.declared.events.CoreReply.{CoreReply}
 use Rattle.core_model.specs.declared.questions.AskAnswer.{AskAnswer}
 use Rattle.core_model.specs.declared.questions.AskAnswer.TheVariants as answer
-use Rattle.core_model.specs.Asked.{AskExactly, IsActive}
-use Rattle.core_model.specs.Tests.{any, ask, is_decided, outcome_of}
-use Rattle.core_model.specs.Legal.{Run, ends}
+use Rattle.core_model.specs.Asked.{AskExactly}
+use Rattle.core_model.specs.Tests.{any, ask, outcome_of}
+use Rattle.core_model.specs.Legal.{ends}
 use Rattle.core_model.proofs.Asked.{ask-ends}
 use Rattle.script_tree.specs.Programs.{ProgramTree}
 use Rattle.script_meaning.specs.Laws.{IsOfTypes}
-use Rattle.script_meaning.specs.Play.{Want, WantLock, WantRaise, asks, grains_of, next}
-use Rattle.script_meaning.specs.Trails.{Given, answers_of, exclusive_in, locks_of, reads_of}
+use Rattle.script_meaning.specs.Play.{Want, asks, next}
+use Rattle.script_meaning.specs.Trails.{answers_of, locks_of}
 use Rattle.script_meaning.proofs.Within.{next_is_of_types_lem}
-use Rattle.script_machine.specs.declared.machine.Pause.{Pause}
 use Rattle.script_machine.specs.declared.machine.Pause.TheVariants.{NeedGrain}
 use Rattle.script_machine.specs.Machines.{pause_for, rest}
 use Rattle.promise_spec.specs.Serial.{depth_of}
 use Rattle.promise_spec.specs.Gotten.{got_in, wanted_by, wanted_lock}
 use Rattle.turn_rules.proofs.Linked.{wants}
 use Rattle.worker_rules.specs.Sharing.{leaves_unit}
-use Rattle.core_access.specs.Sights.{Sight, run_seen, saw, Looks, Tells, Counts, IfAlone}
+use Rattle.core_access.specs.Sights.{Sight, run_seen, Looks, Counts, IfAlone}
 use Rattle.core_access.proofs.Sights.{looks-none, looks-on, tells-on, saw-on, looks-counts, tells-counts}
 use Rattle.txn_agent.specs.declared.work.Carried.{Carried}
 use Rattle.txn_agent.specs.declared.work.Work.{Work}
 use Rattle.txn_agent.specs.declared.agent.Advanced.{Advanced}
 use Rattle.txn_agent.specs.declared.agent.Advanced.TheVariants.{Moved, Granted, Began, Waits, WaitsFor, Ended}
-use Rattle.txn_agent.specs.Working.{IsAtWork}
 use Rattle.txn_agent.specs.Linked.{IfOwn, IsPaused, IsStopped, KnowsPaused, KnowsWaiting}
-use Rattle.txn_agent.specs.Stepping.{Acts, Happened, IsDueFor, Misses, Puts, Strays, WaitsBehind, WaitsForChild}
+use Rattle.txn_agent.specs.Stepping.{Acts, Happened, IsDueFor, Misses, Puts}
 use Rattle.txn_agent.proofs.Trails.{grain-wants, missing-lock, missing-raise, next-own}
 use Rattle.txn_agent.proofs.Shaped.{kinds-ends, here-ends}
 use Rattle.txn_agent.proofs.Ending.{stopped-events}

@@ -1,20 +1,19 @@
 -- The effect that is made of a machine's parts is its call's whole play.
-use Rattle.std.proofs.Common.{◌≡◌, ℕ, suc, length, List, [], ◌∷◌, refl, sym, ap, ◌∙◌, subst}
+use Rattle.std.proofs.Common.{◌≡◌, length, List, refl, sym, ap, ◌∙◌, subst}
 use Rattle.std.specs.Prelude.{map}
 use Rattle.std.specs.List.{All, Contains}
-use Rattle.core_model.specs.CoreState.{UnitNo, Call, Write}
 use Rattle.core_model.specs.declared.effects.Effect.{Effect}
 use Rattle.core_model.specs.declared.effects.Read.{Read}
 use Rattle.script_tree.specs.Programs.{ProgramTree}
-use Rattle.script_meaning.specs.Requests.{Requests, End}
-use Rattle.script_meaning.specs.Play.{Found, Played, Over, asks, next, play_over}
-use Rattle.script_meaning.specs.Trails.{Given, answers_of, exclusive_in, locks_of, reads_of, states_of, Has, IsWhole, IsShown}
+use Rattle.script_meaning.specs.Requests.{End}
+use Rattle.script_meaning.specs.Play.{Played, asks, play_over}
+use Rattle.script_meaning.specs.Trails.{Given, answers_of, exclusive_in, reads_of, states_of, Has, IsShown}
 use Rattle.script_meaning.proofs.Once.{trails_read_once_lem}
 use Rattle.script_meaning.proofs.Plays.{next_is_play_lem}
 use Rattle.script_machine.specs.declared.machine.Parts.{Parts}
 use Rattle.script_machine.specs.Machines.{Follows, IsPartsOf, holding_of, reads_in, rest}
 use Rattle.promise_spec.specs.Serial.{depth_of}
-use Rattle.promise_spec.specs.UnitRule.{IsPlayOf, played_by}
+use Rattle.promise_spec.specs.UnitRule.{played_by}
 use Rattle.txn_agent.specs.declared.work.Carried.{Carried}
 use Rattle.txn_agent.specs.declared.work.Work.{Work}
 use Rattle.txn_agent.specs.Working.{IsEffectOf, found_by, source_of}

@@ -1,7 +1,7 @@
 -- What the end of a unit and the giving back of its locks leave, and that a unit which has none has no event left.
-use Rattle.std.proofs.Common.{◌≡◌, ℕ, length, List, [], ◌∷◌, ◌++◌, Bool, true, false, true≢false, ◌⊎◌, inl, inr, refl, sym, ap, ◌∙◌, subst, Option, Some, None}
-use Rattle.std.specs.Prelude.{if◌then◌else◌, ◌||◌, ◌&&◌, filter, not, is_some, is_none}
-use Rattle.std.proofs.lemmas.Bool.{cond-true, cases_Bool, and_parts, and_from}
+use Rattle.std.proofs.Common.{◌≡◌, ℕ, List, [], ◌∷◌, Bool, true, false, true≢false, inl, inr, refl, sym, ap, ◌∙◌, subst, Option, Some, None}
+use Rattle.std.specs.Prelude.{if◌then◌else◌, ◌||◌, ◌&&◌, not, is_some, is_none}
+use Rattle.std.proofs.lemmas.Bool.{cond-true, cases_Bool, and_parts}
 use Rattle.base_types.specs.declared.calls.Origin.TheVariants.{Line, Child}
 use Rattle.base_types.specs.declared.entries.Settled.{Settled}
 use Rattle.cell_model.specs.Locks as locks
@@ -18,7 +18,7 @@ use Rattle.core_model.specs.declared.events.CoreReply.{CoreReply}
 use Rattle.core_model.specs.declared.events.CoreReply.TheVariants as reply
 use Rattle.core_model.specs.declared.questions.AskAnswer.{AskAnswer}
 use Rattle.core_model.specs.declared.questions.AskAnswer.TheVariants as answer
-use Rattle.core_model.specs.Tests.{any, ask, ask_doom, ask_lock, doomed_by, is_active, is_over, is_running}
+use Rattle.core_model.specs.Tests.{any, ask, ask_doom, ask_lock, doomed_by, is_over, is_running}
 use Rattle.core_model.specs.Changes.{refusal, refused_by, released, swept, swept_by}
 use Rattle.core_model.specs.Asked.{IsGoing}
 use Rattle.core_model.specs.Events.{applies, can, does, is_after_doubt, is_after_halt, is_allowed, is_free_answer, reply_with, reply_without, reply_to}
@@ -93,7 +93,7 @@ module _ (types : ProgramTree) (r : Run) (c : Carried) (work : Work) (trail : Li
   over-behind : (e : CoreEvent) → is_load e ≡ false → applies (ends r) e ≡ true → IsEnding (ends r) c.unit (does (ends r) e) → IsOver (with_event r e) c held
   over-behind e plain a ending =
       let i : IsEnding (ends r) c.unit (ends (with_event r e)) =
-          subst (IsEnding (ends r) c.unit) (sym (ends-more r e ∙ cond-true (applies (ends r) e) (swept (does (ends r) e)) (ends r) a)) (ending-swept (ends r) c.unit (does (ends r) e) ending) in
+      subst (IsEnding (ends r) c.unit) (sym (ends-more r e ∙ cond-true (applies (ends r) e) (swept (does (ends r) e)) (ends r) a)) (ending-swept (ends r) c.unit (does (ends r) e) ending) in
       record {
         sound = sound-event r e plain p.linked.sound;
         over = i.over;
@@ -162,8 +162,8 @@ released-swept w u g w' i = go w'.cells.capacity
 pub over-released : (r : Run) (c : Carried) (g : GrainId) (held : List GrainId) → applies (ends r) (Release c.unit g) ≡ true → IsOver r c held → IsOver (with_event r (Release c.unit g)) c (without g held)
 over-released r c g held a o =
     let i : IsReleased (ends r) c.unit g (ends (with_event r (Release c.unit g))) =
-        subst (IsReleased (ends r) c.unit g) (sym (ends-more r (Release c.unit g) ∙ cond-true (applies (ends r) (Release c.unit g)) (swept (does (ends r) (Release c.unit g))) (ends r) a))
-        (released-swept (ends r) c.unit g (released (ends r) c.unit g) record { phase = refl; holds = refl }) in
+    subst (IsReleased (ends r) c.unit g) (sym (ends-more r (Release c.unit g) ∙ cond-true (applies (ends r) (Release c.unit g)) (swept (does (ends r) (Release c.unit g))) (ends r) a))
+    (released-swept (ends r) c.unit g (released (ends r) c.unit g) record { phase = refl; holds = refl }) in
     record {
       sound = sound-event r (Release c.unit g) refl o.sound;
       over = ap (λ (f : UnitNo → Phase). is_over (f c.unit)) i.phase ∙ o.over;

@@ -1,28 +1,27 @@
 -- What a grant that applied leaves of the link.
-use Rattle.std.proofs.Common.{◌≡◌, ℕ, List, [], ◌∷◌, ◌++◌, Bool, true, false, true≢false, refl, sym, ap, ◌∙◌, subst, append-nil, Option, Some, None, inl, inr}
-use Rattle.std.specs.Prelude.{◌||◌, ◌&&◌, if◌then◌else◌, map, not}
+use Rattle.std.proofs.Common.{◌≡◌, ℕ, List, [], ◌∷◌, ◌++◌, Bool, true, false, refl, sym, ap, ◌∙◌, subst, append-nil, Option, Some, None, inl, inr}
+use Rattle.std.specs.Prelude.{◌||◌, ◌&&◌, if◌then◌else◌, map}
 use Rattle.std.proofs.lemmas.Bool.{cond_both, cond-true, cond-false, cases_Bool}
 use Rattle.std.proofs.lemmas.List.{map-append}
 use Rattle.std.proofs.Math.Bool.{or-false}
 use Rattle.base_types.specs.declared.calls.Mode.{Mode}
 use Rattle.base_types.specs.declared.calls.Mode.TheVariants.{Read as Shared, Update}
 use Rattle.base_types.specs.declared.calls.Origin.{Origin}
-use Rattle.cell_model.specs.Locks.{holds_lock, is_hold_of, is_update, dropped, granted as granted_locks}
+use Rattle.cell_model.specs.Locks.{holds_lock, is_hold_of, is_update, granted as granted_locks}
 use Rattle.cell_model.proofs.Asking.{granted-new, granted-member}
-use Rattle.cell_model.proofs.Units.{any-member, any-none, any-false, any-true, same_unit-is, same_unit-true, same_unit-not, same_grain-true, same_grain-is}
-use Rattle.core_model.specs.CoreState.{UnitNo, GrainId, Hold, Call, Value, Version, Member, same_grain, put, put_grain, top, CoreState}
+use Rattle.cell_model.proofs.Units.{any-member, any-none, any-false, same_unit-is, same_unit-not, same_grain-true, same_grain-is}
+use Rattle.core_model.specs.CoreState.{UnitNo, GrainId, Hold, Call, Value, Version, same_grain, put_grain, top, CoreState}
 use Rattle.core_model.specs.declared.effects.Read.{Read}
 use Rattle.core_model.specs.declared.phases.Phase.{Phase}
 use Rattle.core_model.specs.declared.questions.AskAnswer.{AskAnswer}
 use Rattle.core_model.specs.declared.questions.AskAnswer.TheVariants as answer
 use Rattle.core_model.specs.declared.events.CoreEvent.TheVariants.{Grant}
-use Rattle.core_model.specs.declared.events.CoreReply.{CoreReply}
 use Rattle.core_model.specs.declared.events.CoreReply.TheVariants as reply
 use Rattle.core_model.specs.Tests.{any, ask}
 use Rattle.core_model.specs.Changes.{granted, locked, raised, restacked, cleaned, read_of, swept, swept_by}
 use Rattle.core_model.specs.Events.{applies, does, holds_alone, is_allowed, not_granted, reply_with, reply_without, reply_to}
 use Rattle.core_model.specs.Legal.{Run, ends}
-use Rattle.core_model.proofs.Puts.{grain-at, grain-same, grain-other, put-same}
+use Rattle.core_model.proofs.Puts.{grain-at, grain-same, put-same}
 use Rattle.script_tree.specs.Programs.{ProgramTree}
 use Rattle.script_meaning.specs.Play.{Found, IsTransaction, grains_of}
 use Rattle.script_meaning.specs.Trails.{Given, GivenLock, GivenRaise, exclusive_in, reads_of}
@@ -33,7 +32,7 @@ use Rattle.turn_rules.proofs.Linked.{locked-first, locked-again}
 use Rattle.txn_agent.specs.declared.work.Carried.{Carried}
 use Rattle.txn_agent.specs.declared.work.Work.{Work}
 use Rattle.txn_agent.specs.Working.{found_by, source_of}
-use Rattle.txn_agent.specs.Linked.{IsLinked, IsPaused}
+use Rattle.txn_agent.specs.Linked.{IsPaused}
 use Rattle.txn_agent.proofs.Trails.{reads-last, exclusive-last, grains-last, any-last}
 use Rattle.txn_agent.proofs.Others.{kept-sound, sound-event}
 
@@ -189,8 +188,8 @@ module _ (types : ProgramTree) (r : Run) (c : Carried) (work work' : Work) (trai
     alone-by : (m : Mode) → mode ≡ m → (h : GrainId) → holds_alone (ends (with_event r (Grant c.unit g mode))) c.unit h ≡ any (same_grain h) (exclusive_in trail ++ exclusive_in (GivenLock g m s ∷ []))
     alone-by Shared q = locks-by r c.unit g mode told.0 (λ h hs. any (λ (x : Hold). is_hold_of c.unit x && is_update x.mode) hs ≡ any (same_grain h) (exclusive_in trail ++ []))
         (λ h e. own-alone r c.unit g mode told.0 ((ends r).cells.holds g) ∙ ap is_update q
-            ∙ sym (ap (λ (l : List GrainId). any (same_grain h) l) (append-nil (exclusive_in trail)) ∙ ap (λ (z : GrainId). any (same_grain z) (exclusive_in trail)) e
-            ∙ sym (p.linked.alone g) ∙ no-lock-alone c.unit ((ends r).cells.holds g) unlocked))
+        ∙ sym (ap (λ (l : List GrainId). any (same_grain h) l) (append-nil (exclusive_in trail)) ∙ ap (λ (z : GrainId). any (same_grain z) (exclusive_in trail)) e
+        ∙ sym (p.linked.alone g) ∙ no-lock-alone c.unit ((ends r).cells.holds g) unlocked))
         (λ h n. p.linked.alone h ∙ sym (ap (λ (l : List GrainId). any (same_grain h) l) (append-nil (exclusive_in trail))))
     alone-by Update q = locks-by r c.unit g mode told.0 (λ h hs. any (λ (x : Hold). is_hold_of c.unit x && is_update x.mode) hs ≡ any (same_grain h) (exclusive_in trail ++ (g ∷ [])))
         (λ h e. own-alone r c.unit g mode told.0 ((ends r).cells.holds g) ∙ ap is_update q ∙ sym (any-that (exclusive_in trail) g h e))

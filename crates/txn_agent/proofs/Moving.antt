@@ -1,5 +1,5 @@
 -- What a look shows of whether a unit moves.
-use Rattle.std.proofs.Common.{◌≡◌, ℕ, ◌+◌, length, List, [], ◌∷◌, ◌++◌, Bool, true, false, true≢false, inl, inr, refl, sym, ap, ◌∙◌, subst, arith, eqb-true, Option, Some, None}
+use Rattle.std.proofs.Common.{◌≡◌, ℕ, length, List, [], ◌∷◌, ◌++◌, Bool, true, false, true≢false, inl, inr, refl, sym, ap, ◌∙◌, subst, arith, eqb-true, Option, Some, None}
 use Rattle.std.specs.Prelude.{if◌then◌else◌, not, is_some, ◌&&◌, ◌||◌, ◌==◌, option_map, option_and_then}
 use Rattle.std.proofs.lemmas.Bool.{cases_Bool}
 use Rattle.base_types.specs.declared.calls.Mode.{Mode}
@@ -13,13 +13,12 @@ use Rattle.core_model.specs.declared.questions.AskAnswer.{AskAnswer}
 use Rattle.core_model.specs.Tests.{any, ask, is_decided, is_free, is_over, is_running, outcome_of}
 use Rattle.core_model.specs.Legal.{Run, ends}
 use Rattle.core_model.specs.declared.events.CoreEvent.{CoreEvent}
-use Rattle.core_model.proofs.Kept.{Kept}
 use Rattle.core_model.proofs.Batching.{free-holds, unfree-holds}
 use Rattle.script_tree.specs.Programs.{ProgramTree}
 use Rattle.script_meaning.specs.Play.{Want, WantLock, WantRaise, WantUnit, Over, asks}
 use Rattle.script_meaning.specs.Trails.{Given, GivenLock, GivenRaise, GivenOutcome}
 use Rattle.script_machine.specs.declared.machine.Pause.{Pause}
-use Rattle.script_machine.specs.declared.machine.Pause.TheVariants.{NeedGrain, NeedUnit, Done}
+use Rattle.script_machine.specs.declared.machine.Pause.TheVariants.{NeedGrain}
 use Rattle.script_machine.specs.Machines.{pause_for, rest}
 use Rattle.promise_spec.specs.Gotten.{Got, GotLock, GotRaise, GotChild, and_given, given_by, got_in, wanted_by}
 use Rattle.promise_spec.specs.TurnRule.{can_move, is_unhindered, is_wait}
@@ -30,7 +29,7 @@ use Rattle.txn_agent.specs.declared.work.Work.{Work}
 use Rattle.txn_agent.specs.declared.work.Doing.{Doing}
 use Rattle.txn_agent.specs.declared.work.Doing.TheVariants.{Asks, Awaits, Frees, Stopped}
 use Rattle.txn_agent.specs.Working.{IsAtWork}
-use Rattle.txn_agent.specs.Linked.{IfOwn, IsPaused, IsWaiting, IsOver, KnowsPaused, KnowsDoing}
+use Rattle.txn_agent.specs.Linked.{IfOwn, IsPaused, IsWaiting, IsOver, KnowsDoing}
 use Rattle.txn_agent.specs.Movable.{ShowsMove, moves}
 use Rattle.txn_agent.proofs.Trails.{grain-wants}
 use Rattle.txn_agent.proofs.Others.{kept-sound}
@@ -103,9 +102,9 @@ free-is r c [] o = elim (cases_Bool (is_free (ends r) c.unit)) [
 free-is r c (g ∷ held) o = elim (cases_Bool (is_free (ends r) c.unit)) [
   | inr e ↦ e ∙ sym (not-none g held)
   | inl e ↦ (
-    let has : holds_lock c.unit ((ends r).cells.holds g) ≡ true = o.locks g ∙ ap (λ (b : Bool). b || any (same_grain g) held) (same_grain-is g g refl) in
-    let t = any-true (is_hold_of c.unit) ((ends r).cells.holds g) has in
-    absurd (free-holds r.opening _ (ends r) (kept-sound r o.sound).0 c.unit e g t.0 t.1 (same_unit-true t.0.unit c.unit t.2)))
+      let has : holds_lock c.unit ((ends r).cells.holds g) ≡ true = o.locks g ∙ ap (λ (b : Bool). b || any (same_grain g) held) (same_grain-is g g refl) in
+      let t = any-true (is_hold_of c.unit) ((ends r).cells.holds g) has in
+      absurd (free-holds r.opening _ (ends r) (kept-sound r o.sound).0 c.unit e g t.0 t.1 (same_unit-true t.0.unit c.unit t.2)))
 ]
 
 freeing-moves : (types : ProgramTree) (r : Run) (c : Carried) (held : List GrainId) → IsOver r c held → not (length held == 0) ≡ moves types r c
@@ -139,7 +138,7 @@ module _ (may : CoreEvent → Bool) (types : ProgramTree) (s t : Sight) (c : Car
       let there = paused-looks types s c work counts may t found l (as-known (Asks work found) whole) in
       as-shown (Asks work found) true whole
       (λ alone. sym (paused-moves types (run_seen t) c work there.trail _ there.at_work (there.linked alone)
-          ∙ other-moves (ends (run_seen t)) c.unit (asks (rest types work.machine)) found there.ready.asks_for f))
+      ∙ other-moves (ends (run_seen t)) c.unit (asks (rest types work.machine)) found there.ready.asks_for f))
 
   -- it waits for its child
   pub waiting_all : (work : Work) (child : UnitNo) (decided : Bool) → doing ≡ Awaits work child → decided ≡ is_decided (ends (run_seen t)) child → IfOwn c t (λ r. ShowsMove types r c doing decided)

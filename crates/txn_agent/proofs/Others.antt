@@ -1,12 +1,10 @@
 -- What an agent knows of its unit stays by events that aren't the unit's, and by those that don't apply.
-use Rattle.std.proofs.Common.{◌≡◌, ℕ, List, [], ◌∷◌, ◌++◌, Bool, true, false, true≢false, refl, sym, ap, ◌∙◌, subst, append-nil}
-use Rattle.std.specs.Prelude.{◌&&◌, ◌||◌, if◌then◌else◌, map, not}
-use Rattle.std.proofs.lemmas.Bool.{cond-false, cond_both, cases_Bool, and_parts}
-use Rattle.base_types.specs.declared.calls.Origin.{Origin}
+use Rattle.std.proofs.Common.{◌≡◌, ℕ, List, [], ◌∷◌, ◌++◌, Bool, true, false, true≢false, refl, sym, ap, ◌∙◌, append-nil}
+use Rattle.std.specs.Prelude.{◌&&◌, ◌||◌, if◌then◌else◌, map}
+use Rattle.std.proofs.lemmas.Bool.{cond-false}
 use Rattle.cell_model.specs.Locks.{holds_lock, is_hold_of, is_update}
 use Rattle.core_model.specs.CoreState.{UnitNo, GrainId, Hold, Call, Value, CoreState}
 use Rattle.core_model.specs.declared.effects.Effect.{Effect}
-use Rattle.core_model.specs.declared.phases.Phase.{Phase}
 use Rattle.core_model.specs.declared.phases.Phase.TheVariants.{Unborn, Running}
 use Rattle.core_model.specs.declared.events.CoreEvent.{CoreEvent}
 use Rattle.core_model.specs.declared.events.CoreEvent.TheVariants.{Finish, EndPlain, Load}
@@ -19,9 +17,8 @@ use Rattle.core_model.proofs.Kept.{Kept}
 use Rattle.core_model.proofs.Ends.{kept-ends}
 use Rattle.script_tree.specs.Programs.{ProgramTree}
 use Rattle.script_meaning.specs.Trails.{Given}
-use Rattle.promise_spec.specs.Gotten.{Got, got_by, got_in, given_by}
+use Rattle.promise_spec.specs.Gotten.{got_by, got_in, given_by}
 use Rattle.turn_rules.specs.Going.{with_event, is_own}
-use Rattle.turn_rules.specs.Links.{IsGiven, IsAwaiting, Holds}
 use Rattle.turn_rules.specs.Still.{IsStill, own_holds}
 use Rattle.turn_rules.proofs.Growth.{ends-more, got-event}
 use Rattle.turn_rules.proofs.Movers.{still-locks}
@@ -32,7 +29,7 @@ use Rattle.worker_rules.proofs.Promising.{leaves-is}
 use Rattle.txn_agent.specs.declared.work.Carried.{Carried}
 use Rattle.txn_agent.specs.declared.work.Work.{Work}
 use Rattle.txn_agent.specs.Working.{found_by, source_of}
-use Rattle.txn_agent.specs.Linked.{IsSound, IsLinked, IsPaused, IsWaiting, IsOver, IsStopped, IsNew}
+use Rattle.txn_agent.specs.Linked.{IsSound, IsLinked, IsPaused, IsWaiting, IsOver, IsStopped}
 use Rattle.txn_agent.proofs.Shaped.{going-back}
 
 -- ---- the run stays legal

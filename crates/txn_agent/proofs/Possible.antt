@@ -1,10 +1,9 @@
 -- What an agent puts is due, and applies unless there is a doubt or a stop.
-use Rattle.std.proofs.Common.{◌≡◌, ◌<◌, ℕ, zero, suc, length, List, [], ◌∷◌, ◌++◌, Bool, true, false, true≢false, ◌⊎◌, inl, inr, refl, sym, ap, ◌∙◌, subst, arith, Option, Some, None, eq-eqb}
-use Rattle.std.specs.Prelude.{◌&&◌, ◌==◌, map, not, is_some, option_and_then, if◌then◌else◌}
+use Rattle.std.proofs.Common.{◌≡◌, ℕ, suc, length, List, [], ◌∷◌, Bool, true, false, true≢false, inl, inr, refl, sym, ap, ◌∙◌, subst, arith, Option, Some, None, eq-eqb}
+use Rattle.std.specs.Prelude.{◌&&◌, ◌==◌, map, is_some, option_and_then}
 use Rattle.std.specs.List.{All, Contains}
 use Rattle.std.proofs.lemmas.Bool.{and_from, and_parts, not_from_false}
 use Rattle.base_types.specs.declared.calls.Mode.{Mode}
-use Rattle.base_types.specs.declared.calls.Mode.TheVariants.{Update}
 use Rattle.base_types.specs.declared.calls.Origin.{Origin}
 use Rattle.base_types.specs.declared.calls.Origin.TheVariants.{Line, Child}
 use Rattle.base_types.specs.declared.calls.Outcome.{Outcome}
@@ -18,14 +17,14 @@ use Rattle.core_model.specs.declared.effects.Effect.{Effect}
 use Rattle.core_model.specs.declared.effects.Read.{Read}
 use Rattle.core_model.specs.declared.events.CoreEvent.TheVariants.{Begin, Grant, Refuse, Finish, EndPlain}
 use Rattle.core_model.specs.Equality.{same_list, same_text, same_value, same_state, same_outcome, same_call, same_origin, same_read, same_reads}
-use Rattle.core_model.specs.Tests.{all, any, answered_by, is_answer, is_before, is_decided, is_empty, is_running, outcome_of}
+use Rattle.core_model.specs.Tests.{all, answered_by, is_answer, is_decided, is_empty, is_running, outcome_of}
 use Rattle.core_model.specs.Events.{can, holds_alone, is_of_call}
 use Rattle.core_model.specs.Legal.{Run, ends}
 use Rattle.script_tree.specs.Programs.{ProgramTree}
 use Rattle.script_meaning.specs.Play.{Found, IsTransaction, Played, asks, next, play_over}
 use Rattle.script_meaning.specs.Trails.{Given, GivenLock, GivenRaise, GivenOutcome, answers_of, exclusive_in, locks_of, states_of}
 use Rattle.script_meaning.proofs.Plays.{plain_runs_lock_nothing_lem}
-use Rattle.script_machine.specs.declared.machine.Pause.TheVariants.{NeedGrain, NeedUnit, Done}
+use Rattle.script_machine.specs.declared.machine.Pause.TheVariants.{NeedGrain, NeedUnit}
 use Rattle.script_machine.specs.Machines.{pause_for, rest}
 use Rattle.promise_spec.specs.Serial.{depth_of}
 use Rattle.promise_spec.specs.Gotten.{Got, GotLock, GotRaise, GotChild, and_given, given_by, got_in}
@@ -40,7 +39,7 @@ use Rattle.txn_agent.specs.declared.work.Work.{Work}
 use Rattle.txn_agent.specs.Working.{IsAtWork, IsEffectOf, found_by, source_of}
 use Rattle.txn_agent.specs.Linked.{IsPaused}
 use Rattle.txn_agent.specs.Stepping.{IsDueFor}
-use Rattle.txn_agent.proofs.Trails.{contains-any, grain-wants, unit-wants, over-wants, next-own}
+use Rattle.txn_agent.proofs.Trails.{contains-any, grain-wants, unit-wants, next-own}
 
 -- ---- what is one with itself
 
@@ -218,6 +217,6 @@ module _ (types : ProgramTree) (r : Run) (c : Carried) (work : Work) (trail : Li
     can-ended kind =
         let played : Played = play_over types effect.call (depth_of effect.origin) (states_of (map (λ (x : Read). (x.grain, x.state)) effect.reads)) effect.answers in
         let none : (played.reads ≡ []) × (played.writes ≡ []) = plain_runs_lock_nothing_lem types effect.call (depth_of effect.origin) (states_of (map (λ (x : Read). (x.grain, x.state)) effect.reads)) effect.answers
-            (λ t. p.linked.plainly kind (subst (λ (x : Call). IsTransaction types x) is.call t)) in
+        (λ t. p.linked.plainly kind (subst (λ (x : Call). IsTransaction types x) is.call t)) in
         and_from _ _ (and_from (is_running ((ends r).units.phase c.unit)) _ (ap is_running p.given.running) (p.linked.kind ∙ kind))
         (and_from _ _ of-call (and_from _ _ (no-reads effect.reads (sym is.play.reads ∙ none.0)) (ap is_empty (sym is.play.writes ∙ none.1))))

@@ -1,36 +1,33 @@
 -- What a step leaves of what others know, of the promise of one's own entries, and of the unit rule.
-use Rattle.std.proofs.Common.{◌≡◌, ◌⊎◌, ⊎_elim, inl, inr, ℕ, List, [], ◌∷◌, ◌++◌, Bool, true, false, true≢false, refl, sym, ap, ◌∙◌, subst}
-use Rattle.std.proofs.lemmas.Bool.{cases_Bool}
+use Rattle.std.proofs.Common.{◌≡◌, inl, inr, List, [], ◌∷◌, Bool, true, false, refl, sym, ◌∙◌, subst}
 use Rattle.base_types.specs.declared.calls.Origin.TheVariants.{Line, Child}
 use Rattle.cell_model.proofs.Units.{same_unit-true, same_unit-is}
-use Rattle.core_model.specs.CoreState.{UnitNo, Call, GrainId, same_unit}
+use Rattle.core_model.specs.CoreState.{UnitNo, Call, same_unit}
 use Rattle.core_model.specs.declared.events.CoreEvent.{CoreEvent}
 use Rattle.core_model.specs.declared.events.CoreEvent.TheVariants.{Bad, Begin, Grant, Refuse, Finish, EndPlain, EndSnapshot, Release, Take, Vote, Decide, Sealed, NotSealed, Doubt, Learn, Emitted, Halt, Want, Load}
 use Rattle.core_model.specs.declared.events.CoreReply.{CoreReply}
 use Rattle.core_model.specs.declared.events.CoreReply.TheVariants.{Began}
 use Rattle.core_model.specs.Legal.{Run}
-use Rattle.core_model.specs.Laws.{extended}
 use Rattle.script_tree.specs.Programs.{ProgramTree}
 use Rattle.script_meaning.specs.Play.{IsTransaction}
-use Rattle.promise_spec.specs.TurnRule.{Mover, OfLine, OfUnit, OfSettler, mover_of}
+use Rattle.promise_spec.specs.TurnRule.{OfLine, OfUnit, OfSettler, mover_of}
 use Rattle.promise_spec.specs.UnitRule.{Basis, KeepsUnitRule}
 use Rattle.turn_cell.specs.History.{In, entry}
 use Rattle.turn_cell.proofs.Lists.{in_left}
-use Rattle.turn_rules.specs.Going.{with_event, is_own, MayCome}
+use Rattle.turn_rules.specs.Going.{with_event, is_own}
 use Rattle.turn_rules.proofs.Growth.{unit-grows}
 use Rattle.worker_rules.specs.Stories.{Told, is_load, NoneLoads, Quiet, run_after}
 use Rattle.worker_rules.specs.Sharing.{leaves_unit, BeganHere, KeepsPromise}
 use Rattle.worker_rules.proofs.Promising.{alone-quiet, is-harmless, looks-promise, tells-promise}
 use Rattle.core_access.specs.OneHolder.{none_comes}
-use Rattle.core_access.specs.Sights.{Sight, run_seen, saw, told, Looks, Tells, Counts, IsAlone, IfAlone}
+use Rattle.core_access.specs.Sights.{Sight, run_seen, saw, Looks, Tells, Counts, IsAlone, IfAlone}
 use Rattle.core_access.proofs.Sights.{looks-alone, tells-alone, run-alone, run-told, tells-before, told-stays}
-use Rattle.core_access.proofs.Knowing.{looks-knows, tells-knows}
+use Rattle.core_access.proofs.Knowing.{tells-knows}
 use Rattle.txn_agent.specs.declared.work.Carried.{Carried}
-use Rattle.txn_agent.specs.declared.work.Work.{Work}
 use Rattle.txn_agent.specs.declared.work.Doing.{Doing}
 use Rattle.txn_agent.specs.declared.work.Doing.TheVariants.{Asks, Awaits, Frees, Stopped}
 use Rattle.txn_agent.specs.Linked.{IfOwn, IsNew, IsOver, IsPaused, IsSound, IsStopped, IsWaiting, KnowsDoing}
-use Rattle.txn_agent.specs.Stepping.{Acts, IsDueFor, Puts}
+use Rattle.txn_agent.specs.Stepping.{Acts, IsDueFor}
 use Rattle.txn_agent.proofs.Others.{over-on, paused-on, sound-event, stopped-on, waiting-on}
 use Rattle.txn_agent.proofs.Beginning.{new-is}
 use Rattle.txn_agent.proofs.Acting.{over-looks, paused-looks, stopped-looks, waiting-looks}

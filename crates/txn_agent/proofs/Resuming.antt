@@ -6,7 +6,7 @@ use Rattle.std.proofs.lemmas.List.{length-append}
 use Rattle.base_types.specs.declared.calls.Mode.{Mode}
 use Rattle.base_types.specs.declared.calls.Outcome.{Outcome}
 use Rattle.cell_model.specs.Locks.{holds_lock}
-use Rattle.cell_model.proofs.Units.{any-member, any-none, any-true, same_grain-true, same_grain-is}
+use Rattle.cell_model.proofs.Units.{any-member, any-true, same_grain-true, same_grain-is}
 use Rattle.core_model.specs.CoreState.{UnitNo, GrainId, Call, Value, same_grain}
 use Rattle.core_model.specs.declared.events.CoreEvent.{CoreEvent}
 use Rattle.core_model.specs.declared.events.CoreEvent.TheVariants.{Grant, Release}
@@ -28,7 +28,6 @@ use Rattle.script_machine.specs.declared.machine.Pause.TheVariants.{NeedGrain}
 use Rattle.script_machine.specs.Machines.{Answers, Follows, asks_raise, given_by, has_begun, rest}
 use Rattle.promise_spec.specs.Serial.{depth_of}
 use Rattle.promise_spec.specs.Gotten.{given_by as given_in}
-use Rattle.turn_rules.specs.Links.{IsGiven}
 use Rattle.turn_rules.proofs.Linked.{heard}
 use Rattle.worker_rules.specs.Sharing.{leaves_unit}
 use Rattle.core_access.specs.Sights.{Sight, run_seen, saw, Looks, Tells, Counts}
@@ -38,7 +37,7 @@ use Rattle.txn_agent.specs.declared.work.Carried.{Carried}
 use Rattle.txn_agent.specs.declared.work.Work.{Work}
 use Rattle.txn_agent.specs.declared.agent.Advanced.TheVariants as came
 use Rattle.txn_agent.specs.Working.{IsAtWork, IsReady, found_by, source_of}
-use Rattle.txn_agent.specs.Linked.{IfOwn, IsLinked, IsPaused, IsWaiting, IsOver, IsNew, KnowsPaused, KnowsWaiting}
+use Rattle.txn_agent.specs.Linked.{IfOwn, IsPaused, IsOver, IsNew, KnowsPaused, KnowsWaiting}
 use Rattle.txn_agent.specs.Stepping.{Acts, Happened, Puts, without}
 use Rattle.txn_agent.proofs.Trails.{IsResumed, answers-last, exclusive-last, first-answer, grains-last, missing-lock, missing-raise, next-own, raise-answer, reads-last, start-answer, unit-answer}
 use Rattle.txn_agent.proofs.Lowest.{first_grain-none, first_grain-some}
@@ -90,8 +89,8 @@ first_known may types s t c work work' g mode state source pause y counts k l is
       linked = tells-knows (leaves_unit c.unit) (λ r. IsPaused types r c work k.trail) (λ r e h p. paused-on types r e c h work k.trail p) (λ r. IsPaused types r c work' (k.trail ++ (GivenLock g mode state ∷ [])))
           may s t (Grant c.unit g mode) y l counts
           (λ p. first-linked types (run_seen (saw s l.rest)) c work work' k.trail g mode state source p (sym is ∙ l.reply) call
-              (missing-lock types work.call (depth_of c.origin) k.trail k.at_work.follows.named g mode
-              (next-own types work.call (depth_of c.origin) work.machine k.trail k.at_work.follows ∙ gives.2)) sources) k.linked;
+          (missing-lock types work.call (depth_of c.origin) k.trail k.at_work.follows.named g mode
+          (next-own types work.call (depth_of c.origin) work.machine k.trail k.at_work.follows ∙ gives.2)) sources) k.linked;
     }
 
 -- ---- an exclusive lock in place of a shared one
@@ -115,8 +114,8 @@ again_known may types s t c work work' g mode state source pause y counts k l is
       linked = tells-knows (leaves_unit c.unit) (λ r. IsPaused types r c work k.trail) (λ r e h p. paused-on types r e c h work k.trail p) (λ r. IsPaused types r c work' (k.trail ++ (GivenRaise g ∷ [])))
           may s t (Grant c.unit g mode) y l counts
           (λ p. again-linked types (run_seen (saw s l.rest)) c work work' k.trail g mode state source p (sym is ∙ l.reply) call gives.3
-              (missing-raise types work.call (depth_of c.origin) k.trail k.at_work.follows.named g
-              (next-own types work.call (depth_of c.origin) work.machine k.trail k.at_work.follows ∙ gives.2)).0 sources) k.linked;
+          (missing-raise types work.call (depth_of c.origin) k.trail k.at_work.follows.named g
+          (next-own types work.call (depth_of c.origin) work.machine k.trail k.at_work.follows ∙ gives.2)).0 sources) k.linked;
     }
 
 -- ---- a child's outcome

@@ -1,6 +1,6 @@
 -- What stays or only goes one way by every event: the program's types, whether memory has a limit, the next unit's number, and
 -- a doubt or a stop.
-use Rattle.std.proofs.Common.{◌≡◌, ◌≤◌, ℕ, List, [], ◌∷◌, Bool, true, false, true≢false, Option, Some, None, refl, sym, ap, ◌∙◌, subst, arith, le_refl}
+use Rattle.std.proofs.Common.{◌≡◌, ◌≤◌, ℕ, List, [], ◌∷◌, true, true≢false, Option, Some, None, refl, sym, ap, ◌∙◌, subst, arith, le_refl}
 use Rattle.std.specs.Prelude.{is_none}
 use Rattle.std.proofs.lemmas.Bool.{and_parts, cond_both}
 use Rattle.core_model.specs.CoreState.{GrainId, CoreState}

@@ -1,9 +1,8 @@
 -- What a trail grows by, what is missing behind it, and what a machine is given by an input.
-use Rattle.std.proofs.Common.{◌≡◌, ◌<◌, ℕ, zero, suc, ◌+◌, length, get_or, List, [], ◌∷◌, ◌++◌, Bool, true, false, true≢false, ◌⊎◌, inl, inr, refl, sym, ap, ◌∙◌, subst, arith, append-nil}
+use Rattle.std.proofs.Common.{◌≡◌, ◌<◌, ℕ, zero, suc, length, get_or, List, [], ◌∷◌, ◌++◌, Bool, true, false, true≢false, ◌⊎◌, inl, inr, refl, sym, ap, ◌∙◌, subst, arith}
 use Rattle.std.specs.Prelude.{◌||◌}
 use Rattle.std.specs.List.{Contains}
 use Rattle.std.proofs.lemmas.Bool.{cases_Bool}
-use Rattle.std.proofs.lemmas.List.{length-append}
 use Rattle.std.proofs.Math.Bool.{or-false}
 use Rattle.base_types.specs.declared.calls.Mode.{Mode}
 use Rattle.base_types.specs.declared.calls.Mode.TheVariants.{Read, Update}
@@ -16,14 +15,14 @@ use Rattle.script_holding.specs.Limits.{unit_limit}
 use Rattle.script_meaning.specs.Laws.{IsMissing}
 use Rattle.script_meaning.specs.Requests.{Requests, End, AskLock, AskRaise, AskUnit}
 use Rattle.script_meaning.specs.Play.{Found, Want, WantLock, WantRaise, WantUnit, Over, asks, grains_of, next}
-use Rattle.script_meaning.specs.Trails.{Given, GivenLock, GivenRaise, GivenOutcome, IsTrail, answers_of, asked_of, exclusive, exclusive_in, locks_of, reads_of}
+use Rattle.script_meaning.specs.Trails.{Given, GivenLock, GivenRaise, GivenOutcome, IsTrail, answers_of, asked_of, exclusive_in, locks_of, reads_of}
 use Rattle.script_meaning.proofs.Plays.{next_is_missing_lem}
 use Rattle.script_machine.specs.declared.machine.Input.{Input}
 use Rattle.script_machine.specs.declared.machine.Input.TheVariants as input
 use Rattle.script_machine.specs.declared.machine.Machine.{Machine}
 use Rattle.script_machine.specs.declared.machine.Pause.{Pause}
 use Rattle.script_machine.specs.declared.machine.Pause.TheVariants.{NeedGrain, NeedUnit, Done}
-use Rattle.script_machine.specs.Machines.{Answers, Follows, HasRoom, answered_by, asks_raise, given_by, has_begun, is_done, is_over, pause_for, read_by, reads_in, rest}
+use Rattle.script_machine.specs.Machines.{Answers, Follows, HasRoom, asks_raise, given_by, has_begun, is_done, is_over, pause_for, rest}
 
 -- ---- one more was given
 

@@ -1,6 +1,5 @@
 -- What links an agent to its unit in the core. All of it rests on nobody else making an event of the unit.
-use Rattle.std.specs.Prelude.{◌≡◌, ◌+◌, ℕ, List, [], length, map, Bool, true, false, Option, Some, None}
-use Rattle.base_types.specs.declared.calls.Origin.{Origin}
+use Rattle.std.specs.Prelude.{◌≡◌, ◌+◌, ℕ, List, [], length, map, true, false}
 use Rattle.cell_model.specs.Locks.{holds_lock}
 use Rattle.core_model.specs.CoreState.{UnitNo, GrainId, Call, same_grain}
 use Rattle.core_model.specs.declared.effects.Effect.{Effect}

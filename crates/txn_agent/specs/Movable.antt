@@ -1,6 +1,5 @@
 -- What a look tells of whether the unit moves.
-use Rattle.std.specs.Prelude.{◌≡◌, Bool, false, List}
-use Rattle.core_model.specs.CoreState.{GrainId}
+use Rattle.std.specs.Prelude.{◌≡◌, Bool, false}
 use Rattle.core_model.specs.Tests.{is_decided}
 use Rattle.core_model.specs.Legal.{Run, ends}
 use Rattle.script_tree.specs.Programs.{ProgramTree}

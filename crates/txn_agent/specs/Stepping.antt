@@ -1,5 +1,5 @@
 -- What one step of an agent does, and what each of its answers says.
-use Rattle.std.specs.Prelude.{◌≡◌, ◌⊎◌, ℕ, List, length, filter, not, Bool, true, false, Option, Some, None, ⊤}
+use Rattle.std.specs.Prelude.{◌≡◌, ◌⊎◌, ℕ, List, length, filter, not, Bool, true, false, Some, None, ⊤}
 use Rattle.base_types.specs.declared.calls.Mode.{Mode}
 use Rattle.base_types.specs.declared.calls.Origin.TheVariants.{Child}
 use Rattle.core_model.specs.CoreState.{UnitNo, GrainId, Value, Call, same_grain, CoreState}

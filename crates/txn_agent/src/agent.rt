@@ -22,7 +22,10 @@ pub enum Advanced {
     /// when it was put, which only another who makes events, a doubt or a stop can cause.
     Moved,
     /// The unit locked the grain, or made its lock exclusive. The version that it found there is the source's.
-    Granted { grain: GrainId, source: UnitNo },
+    Granted {
+        grain: GrainId,
+        source: UnitNo,
+    },
     /// A unit of its own began, which is to be carried too: its origin has the number of the units that this one had begun
     /// before, and this depth.
     Began {
@@ -31,9 +34,13 @@ pub enum Advanced {
         depth: u16,
     },
     /// The lock that the unit asks for is held by younger units in a mode that conflicts, of which this is the oldest.
-    Waits { holder: UnitNo },
+    Waits {
+        holder: UnitNo,
+    },
     /// The unit's child isn't decided.
-    WaitsFor { child: UnitNo },
+    WaitsFor {
+        child: UnitNo,
+    },
     /// The unit has no event left: it is over and holds no lock, or its end came after a doubt or a stop.
     Ended,
 }

@@ -52,9 +52,7 @@ pub fn grant_first<A: Access>(
             let mut work = work;
             work.held.push(grain)?;
             work.sources.push(source)?;
-            let pause = work
-                .machine
-                .resume(alloc, checked, Input::Grain { state })?;
+            let pause = work.machine.resume(alloc, checked, Input::Grain { state })?;
             Ok((
                 Doing::Asks { work, pause },
                 Advanced::Granted { grain, source },

@@ -1,4 +1,4 @@
-use Rattle.std.proofs.Common.{arith, ◌+◌, ◌≡◌, refl}
+use Rattle.std.proofs.Common.{arith, ◌+◌, refl}
 use Rattle.script_tree.specs.Programs.{program_tree}
 use Rattle.txn_agent.proofs.Acting.{begin_acts, begin_happened, begin_known, begin_moves, begin_stays, few_kids}
 use Rattle.txn_agent.proofs.Replied.{not-began}

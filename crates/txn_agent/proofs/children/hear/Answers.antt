@@ -1,4 +1,4 @@
-use Rattle.std.proofs.Common.{◌≡◌, ◌∙◌, refl, sym}
+use Rattle.std.proofs.Common.{◌∙◌, refl, sym}
 use Rattle.script_tree.specs.Programs.{program_tree}
 use Rattle.txn_agent.proofs.Acting.{waiting-looks}
 use Rattle.txn_agent.proofs.Resuming.{heard_known, known_none}

@@ -1,4 +1,4 @@
-use Rattle.std.proofs.Common.{◌≡◌, refl, ap, ◌∙◌, sym}
+use Rattle.std.proofs.Common.{ap, ◌∙◌, sym}
 use Rattle.std.specs.Prelude.{length}
 use Rattle.promise_spec.specs.Serial.{depth_of}
 use Rattle.script_meaning.specs.Trails.{reads_of, states_of}

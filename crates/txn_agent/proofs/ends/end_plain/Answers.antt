@@ -1,4 +1,4 @@
-use Rattle.std.proofs.Common.{◌≡◌, ◌∙◌, ap, sym}
+use Rattle.std.proofs.Common.{◌∙◌, ap, sym}
 use Rattle.std.specs.Prelude.{length}
 use Rattle.script_tree.specs.Programs.{program_tree}
 use Rattle.txn_agent.proofs.Acting.{end_acts, end_done, end_moves, end_over, end_stopped}

@@ -1,4 +1,4 @@
-use Rattle.std.proofs.Common.{◌≡◌, ◌∙◌, ap, subst, sym}
+use Rattle.std.proofs.Common.{◌∙◌, ap, subst, sym}
 use Rattle.std.specs.Prelude.{List}
 use Rattle.core_model.specs.CoreState.{GrainId}
 use Rattle.core_model.specs.Tests.{first_grain}
@@ -6,7 +6,6 @@ use Rattle.script_tree.specs.Programs.{program_tree}
 use Rattle.txn_agent.specs.declared.work.Doing.TheVariants.{Frees}
 use Rattle.txn_agent.specs.Linked.{KnowsDoing}
 use Rattle.txn_agent.proofs.Resuming.{ended_happened, release_acts, release_done, release_moves, release_over, release_stays}
-use Rattle.txn_agent.proofs.Composed.{looks_self, acts_looked}
 use Rattle.txn_agent.proofs.Replied.{not-done}
 use Rattle.txn_agent.proofs.ends.release.Goals as goal
 

@@ -1,4 +1,4 @@
-use Rattle.std.proofs.Common.{rules, ◌≡◌, refl}
+use Rattle.std.proofs.Common.{refl}
 use Rattle.script_tree.specs.Programs.{program_tree}
 use Rattle.txn_agent.proofs.Acting.{grant_acts, grant_happened, grant_moves, grant_stays}
 use Rattle.txn_agent.proofs.Resuming.{again_known}

@@ -1,7 +1,7 @@
-use Rattle.std.proofs.Common.{rules, ◌≡◌, refl}
+use Rattle.std.proofs.Common.{rules, refl}
 use Rattle.script_tree.specs.Programs.{program_tree}
 use Rattle.txn_agent.proofs.Acting.{grant_acts, grant_happened, grant_moves, grant_stays}
-use Rattle.txn_agent.proofs.Resuming.{first_known, fits_first}
+use Rattle.txn_agent.proofs.Resuming.{first_known}
 use Rattle.txn_agent.proofs.Replied.{not-granted}
 use Rattle.txn_agent.proofs.grants.grant_first.Goals as goal
 

@@ -1,4 +1,3 @@
-use Rattle.std.proofs.Common.{rules, ◌≡◌, refl}
 use Rattle.script_tree.specs.Programs.{program_tree}
 use Rattle.txn_agent.proofs.Acting.{refuse_acts, refuse_done, refuse_moves, refuse_over, refuse_stays}
 use Rattle.txn_agent.proofs.Replied.{not-done}

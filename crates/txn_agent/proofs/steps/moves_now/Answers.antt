@@ -1,4 +1,4 @@
-use Rattle.std.proofs.Common.{◌≡◌, refl}
+use Rattle.std.proofs.Common.{refl}
 use Rattle.script_machine.specs.declared.machine.Pause.TheVariants.{NeedUnit, Done}
 use Rattle.txn_agent.proofs.Composed.{looks_self}
 use Rattle.txn_agent.proofs.Moving.{grain_all, other_all, waiting_all, freeing_all, stopped_all}

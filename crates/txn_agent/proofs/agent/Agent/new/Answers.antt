@@ -1,7 +1,5 @@
-use Rattle.std.proofs.Common.{◌≡◌, refl, sym, ◌∙◌, subst, rules, [], true, false}
+use Rattle.std.proofs.Common.{refl, rules}
 use Rattle.script_tree.specs.Programs.{program_tree}
-use Rattle.script_machine.specs.Machines.{Follows}
-use Rattle.core_model.specs.CoreState.{Call}
 use Rattle.txn_agent.proofs.Resuming.{new_known}
 use Rattle.txn_agent.proofs.agent.Agent.new.Goals as goal
 
