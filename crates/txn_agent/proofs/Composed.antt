@@ -36,7 +36,7 @@ use Rattle.txn_agent.specs.Linked.{IfOwn, IsPaused, IsStopped, KnowsPaused, Know
 use Rattle.txn_agent.specs.Stepping.{Acts, Happened, IsDueFor, Misses, Puts}
 use Rattle.txn_agent.proofs.Trails.{grain-wants, missing-lock, missing-raise, next-own}
 use Rattle.txn_agent.proofs.Shaped.{kinds-ends, here-ends}
-use Rattle.txn_agent.proofs.Ending.{stopped-events}
+use Rattle.txn_agent.proofs.Ending.{has-ended-stopped}
 use Rattle.txn_agent.proofs.Possible.{next-is}
 use Rattle.txn_agent.proofs.Acting.{paused-looks}
 
@@ -208,4 +208,4 @@ waits_for_child may types s t c work child kids l none k = record {
 }
 
 pub stopped_happened : (may : CoreEvent → Bool) (types : ProgramTree) (s t : Sight) (c : Carried) (kids : ℕ) → Looks may s t → IfOwn c t (λ r. IsStopped r c) → Happened may types c.unit kids s t Ended
-stopped_happened may types s t c kids l k = (l, λ alone. stopped-events (run_seen t) c (k alone))
+stopped_happened may types s t c kids l k = (l, λ alone. has-ended-stopped (run_seen t) c (k alone))

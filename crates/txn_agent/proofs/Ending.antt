@@ -10,6 +10,7 @@ use Rattle.cell_model.proofs.Asking.{dropped-none}
 use Rattle.cell_model.proofs.Units.{same_grain-true, same_grain-is, same_unit-true}
 use Rattle.core_model.specs.CoreState.{UnitNo, GrainId, Hold, Mode, same_grain, same_unit, put_grain, CoreState}
 use Rattle.core_model.specs.declared.effects.Effect.{Effect}
+use Rattle.core_model.specs.declared.effects.Read.{Read}
 use Rattle.core_model.specs.declared.phases.Phase.{Phase}
 use Rattle.core_model.specs.declared.phases.Phase.TheVariants.{Unborn, Running, Refused, Finished, Ended}
 use Rattle.core_model.specs.declared.events.CoreEvent.{CoreEvent}
@@ -18,7 +19,7 @@ use Rattle.core_model.specs.declared.events.CoreReply.{CoreReply}
 use Rattle.core_model.specs.declared.events.CoreReply.TheVariants as reply
 use Rattle.core_model.specs.declared.questions.AskAnswer.{AskAnswer}
 use Rattle.core_model.specs.declared.questions.AskAnswer.TheVariants as answer
-use Rattle.core_model.specs.Tests.{any, ask, ask_doom, ask_lock, doomed_by, is_over, is_running}
+use Rattle.core_model.specs.Tests.{all, any, ask, ask_doom, ask_lock, doomed_by, is_over, is_running}
 use Rattle.core_model.specs.Changes.{refusal, refused_by, released, swept, swept_by}
 use Rattle.core_model.specs.Asked.{IsGoing}
 use Rattle.core_model.specs.Events.{applies, can, does, is_after_doubt, is_after_halt, is_allowed, is_free_answer, reply_with, reply_without, reply_to}
@@ -34,7 +35,7 @@ use Rattle.worker_rules.specs.Stories.{is_load}
 use Rattle.txn_agent.specs.declared.work.Carried.{Carried}
 use Rattle.txn_agent.specs.declared.work.Work.{Work}
 use Rattle.txn_agent.specs.Linked.{IsPaused, IsOver, IsStopped}
-use Rattle.txn_agent.specs.Stepping.{HasNoEvent, without}
+use Rattle.txn_agent.specs.Stepping.{HasEnded, without}
 use Rattle.txn_agent.proofs.Others.{sound-event}
 
 -- ---- the reply
@@ -201,8 +202,8 @@ idle-asks : (w : CoreState) (v : UnitNo) (g : GrainId) (mode : Mode) → is_runn
 idle-asks w v g mode idle = ap (λ (b : Bool). if b then ask_doom (doomed_by w v) (ask_lock (w.cells.here g) (locks.ask (w.cells.holds g) v mode)) else answer.NotActive) (and-not (is_running (w.units.phase v)) _ idle)
 
 -- so no event of a unit that is over and holds nothing applies
-pub over-events : (r : Run) (c : Carried) → IsOver r c [] → HasNoEvent (ends r) c.unit
-over-events r c o e own = not-and (is_allowed (ends r) e) (can (ends r) e) (by e own)
+over-none : (r : Run) (c : Carried) → IsOver r c [] → (e : CoreEvent) → is_own c.unit e ≡ true → applies (ends r) e ≡ false
+over-none r c o e own = not-and (is_allowed (ends r) e) (can (ends r) e) (by e own)
   where
     w : CoreState
     w = ends r
@@ -253,8 +254,8 @@ barred : (w : CoreState) (e : CoreEvent) → is_after_doubt e ≡ false → is_a
 barred w e d h n = elim (cases_Bool (is_allowed w e)) [ inl a ↦ absurd (n (going-is w e d h a)) | inr f ↦ f ]
 
 -- so no event of a running unit applies
-pub stopped-events : (r : Run) (c : Carried) → IsStopped r c → HasNoEvent (ends r) c.unit
-stopped-events r c s e own = by e own
+stopped-none : (r : Run) (c : Carried) → IsStopped r c → (e : CoreEvent) → is_own c.unit e ≡ true → applies (ends r) e ≡ false
+stopped-none r c s e own = by e own
   where
     no : (e : CoreEvent) → is_after_doubt e ≡ false → is_after_halt e ≡ false → applies (ends r) e ≡ false
     no e d h = and-not (is_allowed (ends r) e) (can (ends r) e) (barred (ends r) e d h s.stopped)
@@ -280,3 +281,20 @@ stopped-events r c s e own = by e own
     by Emitted q = absurd (true≢false (sym q))
     by Halt q = absurd (true≢false (sym q))
     by (Load g v state) q = absurd (true≢false (sym q))
+
+-- who holds no grain holds none that it read
+free-all : (u : UnitNo) (w : CoreState) (rs : List Read) → ((g : GrainId) → holds_lock u (w.cells.holds g) ≡ false) → all (λ (x : Read). not (holds_lock u (w.cells.holds x.grain))) rs ≡ true
+free-all u w [] none = refl
+free-all u w (x ∷ rs) none = and-both (not (holds_lock u (w.cells.holds x.grain))) _ (ap not (none x.grain)) (free-all u w rs none)
+  where
+    and-both : (a b : Bool) → a ≡ true → b ≡ true → (a && b) ≡ true
+    and-both true b p q = q
+    and-both false b p q = absurd (true≢false (sym p))
+
+-- so a unit that is over and has no lock has ended
+pub has-ended-over : (r : Run) (c : Carried) → IsOver r c [] → HasEnded (ends r) c.unit
+has-ended-over r c o = record { none = over-none r c o; over = λ going. (o.over, free-all c.unit (ends r) ((ends r).units.reads c.unit) o.locks) }
+
+-- and one that was stopped
+pub has-ended-stopped : (r : Run) (c : Carried) → IsStopped r c → HasEnded (ends r) c.unit
+has-ended-stopped r c s = record { none = stopped-none r c s; over = λ going. absurd (s.stopped going) }

@@ -12,4 +12,5 @@ pub mod Acting
 pub mod Resuming
 pub mod Composed
 pub mod Moving
+pub mod Going
 pub mod Promised

@@ -1,5 +1,5 @@
 -- What a step leaves of what others know, of the promise of one's own entries, and of the unit rule.
-use Rattle.std.proofs.Common.{◌≡◌, inl, inr, List, [], ◌∷◌, Bool, true, false, refl, sym, ◌∙◌, subst}
+use Rattle.std.proofs.Common.{◌≡◌, inl, inr, List, [], ◌∷◌, Bool, true, false, true≢false, refl, sym, ◌∙◌, subst}
 use Rattle.base_types.specs.declared.calls.Origin.TheVariants.{Line, Child}
 use Rattle.cell_model.proofs.Units.{same_unit-true, same_unit-is}
 use Rattle.core_model.specs.CoreState.{UnitNo, Call, same_unit}
@@ -18,8 +18,9 @@ use Rattle.turn_rules.specs.Going.{with_event, is_own}
 use Rattle.turn_rules.proofs.Growth.{unit-grows}
 use Rattle.worker_rules.specs.Stories.{Told, is_load, NoneLoads, Quiet, run_after}
 use Rattle.worker_rules.specs.Sharing.{leaves_unit, BeganHere, KeepsPromise}
-use Rattle.worker_rules.proofs.Promising.{alone-quiet, is-harmless, looks-promise, tells-promise}
+use Rattle.worker_rules.proofs.Promising.{alone-quiet, is-harmless, settling-none, looks-promise, tells-promise}
 use Rattle.core_access.specs.OneHolder.{none_comes}
+use Rattle.core_access.specs.Settling.{is_settling}
 use Rattle.core_access.specs.Sights.{Sight, run_seen, saw, Looks, Tells, Counts, IsAlone, IfAlone}
 use Rattle.core_access.proofs.Sights.{looks-alone, tells-alone, run-alone, run-told, tells-before, told-stays}
 use Rattle.core_access.proofs.Knowing.{tells-knows}
@@ -123,6 +124,15 @@ knows-tells may types c (Frees held) s t e r l h n k =
     tells-knows (leaves_unit c.unit) (λ x. IsOver x c held) (λ x f g p. over-on types x f c g held p) (λ x. IsOver x c held) may s t e r l n (λ p. over-on types (run_seen (saw s l.rest)) e c h held p) k
 knows-tells may types c Stopped s t e r l h n k =
     tells-knows (leaves_unit c.unit) (λ x. IsStopped x c) (λ x f g p. stopped-on types x f c g p) (λ x. IsStopped x c) may s t e r l n (λ p. stopped-on types (run_seen (saw s l.rest)) e c h p) k
+
+-- the settler's events load nothing
+settling-loads : (e : CoreEvent) → is_settling e ≡ true → is_load e ≡ false
+settling-loads (Load g u state) q = absurd (true≢false (sym q))
+settling-loads _ q = refl
+
+-- behind an event of the settler's
+pub knows-settles : (may : CoreEvent → Bool) (types : ProgramTree) (c : Carried) (doing : Doing) (s t : Sight) (e : CoreEvent) (r : CoreReply) → Tells may s e r t → is_settling e ≡ true → Counts s → KnowsDoing types s c doing → KnowsDoing types t c doing
+knows-settles may types c doing s t e r l q n k = knows-tells may types c doing s t e r l (is-harmless c.unit e (settling-none e q c.unit) (settling-loads e q)) n k
 
 -- behind another unit's step
 pub knows-steps : (may : CoreEvent → Bool) (types : ProgramTree) (c : Carried) (doing : Doing) (other : UnitNo) (s t : Sight) → Acts may types other s t → (c.unit ≡ other → ⊥) → Counts s → KnowsDoing types s c doing → KnowsDoing types t c doing

@@ -43,7 +43,7 @@ use Rattle.txn_agent.proofs.Trails.{IsResumed, answers-last, exclusive-last, fir
 use Rattle.txn_agent.proofs.Lowest.{first_grain-none, first_grain-some}
 use Rattle.txn_agent.proofs.Others.{paused-on, over-on, over-as}
 use Rattle.txn_agent.proofs.Locking.{first-linked, again-linked, no-lock-alone}
-use Rattle.txn_agent.proofs.Ending.{is_done, missed, done-applied, over-released, over-events}
+use Rattle.txn_agent.proofs.Ending.{is_done, missed, done-applied, over-released, has-ended-over}
 use Rattle.txn_agent.proofs.Acting.{waiting-looks, over-there}
 
 -- ---- the machine goes on
@@ -251,4 +251,4 @@ no-some (Some g) n = absurd (n g refl)
 
 -- a unit that has no lock has ended
 pub ended_happened : (may : CoreEvent → Bool) (types : ProgramTree) (s : Sight) (c : Carried) (held : List GrainId) (kids : ℕ) (first : Option GrainId) → first ≡ first_grain held → ((g : GrainId) → first ≡ Some g → ⊥) → IfOwn c s (λ r. IsOver r c held) → Happened may types c.unit kids s s came.Ended
-ended_happened may types s c held kids first is none k = (looks-none may s, λ alone. over-events (run_seen s) c (subst (λ (l : List GrainId). IsOver (run_seen s) c l) (first_grain-none held (sym is ∙ no-some first none)) (k alone)))
+ended_happened may types s c held kids first is none k = (looks-none may s, λ alone. has-ended-over (run_seen s) c (subst (λ (l : List GrainId). IsOver (run_seen s) c l) (first_grain-none held (sym is ∙ no-some first none)) (k alone)))

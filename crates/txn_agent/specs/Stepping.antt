@@ -9,7 +9,8 @@ use Rattle.core_model.specs.declared.events.CoreReply.{CoreReply}
 use Rattle.core_model.specs.declared.events.CoreReply.TheVariants as reply
 use Rattle.core_model.specs.declared.questions.AskAnswer.TheVariants.{MustWait}
 use Rattle.core_model.specs.Events.{applies, can}
-use Rattle.core_model.specs.Tests.{ask, outcome_of}
+use Rattle.core_model.specs.Asked.{IsGoing}
+use Rattle.core_model.specs.Tests.{ask, is_free, is_over, outcome_of}
 use Rattle.core_model.specs.Legal.{Run, ends}
 use Rattle.core_access.specs.Sights.{Sight, run_seen, saw, Looks, Tells, IfAlone}
 use Rattle.script_tree.specs.Programs.{ProgramTree}
@@ -17,7 +18,7 @@ use Rattle.script_meaning.specs.Trails.{Given}
 use Rattle.promise_spec.specs.Gotten.{got_in, wanted_by, wanted_lock}
 use Rattle.promise_spec.specs.UnitRule.{Basis}
 use Rattle.promise_spec.specs.TurnRule.{OfUnit, mover_of}
-use Rattle.turn_rules.specs.Going.{is_own, MayCome}
+use Rattle.turn_rules.specs.Going.{is_own, with_event, MayCome}
 use Rattle.turn_rules.specs.Links.{IsAwaiting}
 use Rattle.worker_rules.specs.Sharing.{leaves_unit}
 use Rattle.txn_agent.specs.declared.agent.Advanced.{Advanced}
@@ -29,9 +30,10 @@ use Rattle.txn_agent.specs.declared.work.Doing.TheVariants.{Asks, Awaits, Frees,
 abbrev pub IsDueFor : ProgramTree → Run → CoreEvent → Type 0
 IsDueFor types r e = (b : Basis) → b.types ≡ types → MayCome b r e
 
--- no event of the unit applies
-abbrev pub HasNoEvent : CoreState → UnitNo → Type 0
-HasNoEvent w u = (e : CoreEvent) → is_own u e ≡ true → applies w e ≡ false
+-- The unit has no event left that applies: it is over and holds no lock, unless there is a doubt or a stop.
+pub record HasEnded (w : CoreState) (u : UnitNo) : Type 0 where
+  pub none : (e : CoreEvent) → is_own u e ≡ true → applies w e ≡ false
+  pub over : IsGoing w → (is_over (w.units.phase u) ≡ true) × (is_free w u ≡ true)
 
 module _ (may_come : CoreEvent → Bool) (types : ProgramTree) (u : UnitNo) (s : Sight) where
   -- This event of the unit was put, with that reply. It is due there, if nobody else made an event of the unit.
@@ -99,5 +101,21 @@ Happened may types u kids s t (Granted grain source) = (mode : Mode) × ((state 
 Happened may types u kids s t (Began child call depth) = Puts may types u s (event.Begin (Child u kids depth) call false) (reply.Began child) t
 Happened may types u kids s t (Waits holder) = WaitsBehind may types u s holder t
 Happened may types u kids s t (WaitsFor child) = WaitsForChild may types u s child t
-Happened may types u kids s t Ended = Looks may s t × IfAlone (leaves_unit u) t (λ r. HasNoEvent (ends r) u)
+Happened may types u kids s t Ended = Looks may s t × IfAlone (leaves_unit u) t (λ r. HasEnded (ends r) u)
 Happened may types u kids s t Moved = ((e : CoreEvent) × Puts may types u s e reply.Done t) ⊎ (Misses may types u s t ⊎ Strays may types u s t)
+
+-- the answer says that an event of the unit was put
+abbrev pub is_move : Advanced → Bool
+is_move Moved = true
+is_move (Granted grain source) = true
+is_move (Began child call depth) = true
+is_move (Waits holder) = false
+is_move (WaitsFor child) = false
+is_move Ended = false
+
+-- An event of the unit that applies is all by which the run goes on.
+pub record GoesOn (u : UnitNo) (r r' : Run) : Type 0 where
+  pub e : CoreEvent
+  pub own : mover_of e ≡ OfUnit u
+  pub applied : applies (ends r) e ≡ true
+  pub run : r' ≡ with_event r e

@@ -1,4 +1,4 @@
-ghost use Rattle.std.specs.Prelude.{◌≡◌, IfOk};
+ghost use Rattle.std.specs.Prelude.{◌≡◌, IfOk, IsOk};
 ghost use Rattle.core_access.specs.Sights.{Sight, Counts, Looks};
 ghost use Rattle.script_tree.specs.Programs.{ProgramTree, program_tree};
 ghost use Rattle.promise_spec.specs.Serial.{depth_of as depth_in};
@@ -133,12 +133,13 @@ impl Agent {
 
     /// Whether the unit moves, by what was looked at in this call: false where `advance` would answer `Waits`, `WaitsFor` or
     /// `Ended`. `ready` was called since the last move; else a unit whose child is decided by now is told to move, which it
-    /// does by hearing of it.
+    /// does by hearing of it. It takes no memory.
     pub fn can_move<A: Access>(&self, access: &mut A) -> Result<bool, AllocError>
         requires fit { A.is_fit access.old }
         ensures fit { A.is_fit access.new }
         ensures aside { A.aside access.new ≡ A.aside access.old }
         ensures looked { Looks A.may_come (A.sight access.old) (A.sight access.new) }
+        ensures sure { IsOk result }
         ensures moves { IfOk result (λ b. (types : ProgramTree) → Counts (A.sight access.old) → Knows types (A.sight access.old) self.now → IfOwn self.now.carried (A.sight access.new) (λ r. ShowsMove types r self.now.carried self.now.doing b)) }
     {
         let moves = moves_now(access, self.carried, &self.doing)?;

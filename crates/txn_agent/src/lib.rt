@@ -19,6 +19,6 @@ mod work;
 
 pub use agent::{Advanced, Agent};
 pub use laws::{
-    a_new_unit_can_be_carried, a_step_alone_keeps_the_rule, a_step_keeps_the_promise,
-    answers_are_steps, others_leave_an_agent, steps_are_counted,
+    a_new_unit_can_be_carried, a_step_alone_goes_on, a_step_alone_keeps_the_rule,
+    a_step_keeps_the_promise, answers_are_steps, others_leave_an_agent, steps_are_counted,
 };

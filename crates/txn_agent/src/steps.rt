@@ -1,4 +1,4 @@
-ghost use Rattle.std.specs.Prelude.{◌≡◌, IfOk};
+ghost use Rattle.std.specs.Prelude.{◌≡◌, IfOk, IsOk};
 ghost use Rattle.core_access.specs.Sights.{Counts, Looks};
 ghost use Rattle.script_tree.specs.Programs.{ProgramTree, program_tree};
 ghost use Rattle.promise_spec.specs.TurnRule.{is_wait};
@@ -134,6 +134,7 @@ pub fn moves_now<A: Access>(
     ensures fit { A.is_fit access.new }
     ensures aside { A.aside access.new ≡ A.aside access.old }
     ensures looked { Looks A.may_come (A.sight access.old) (A.sight access.new) }
+    ensures sure { IsOk result }
     ensures moves { IfOk result (λ b. (types : ProgramTree) → Counts (A.sight access.old) → KnowsDoing types (A.sight access.old) carried doing.now → IfOwn carried (A.sight access.new) (λ r. ShowsMove types r carried doing.now b)) }
 {
     match doing {
