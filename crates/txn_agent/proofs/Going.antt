@@ -5,18 +5,15 @@ use Rattle.std.proofs.lemmas.Bool.{and_from}
 use Rattle.core_model.specs.CoreState.{UnitNo, CoreState}
 use Rattle.core_model.specs.declared.events.CoreEvent.{CoreEvent}
 use Rattle.core_model.specs.declared.events.CoreReply.{CoreReply}
-use Rattle.core_model.specs.declared.events.CoreReply.TheVariants as reply
 use Rattle.core_model.specs.Asked.{IsGoing}
 use Rattle.core_model.specs.Events.{applies, can, is_after_doubt, is_after_halt, is_allowed, reply_to}
 use Rattle.core_model.specs.Replies.{says_no}
-use Rattle.core_model.specs.Legal.{Run, ends}
+use Rattle.core_model.specs.Legal.{ends}
 use Rattle.core_model.proofs.Replied.{reply-tells}
 use Rattle.script_tree.specs.Programs.{ProgramTree}
-use Rattle.promise_spec.specs.TurnRule.{OfUnit, mover_of}
-use Rattle.turn_rules.specs.Going.{with_event}
 use Rattle.worker_rules.specs.Sharing.{leaves_unit}
 use Rattle.core_access.specs.OneHolder.{none_comes}
-use Rattle.core_access.specs.Sights.{Sight, run_seen, saw, Looks, Tells, IsAlone}
+use Rattle.core_access.specs.Sights.{Sight, run_seen, saw, IsAlone}
 use Rattle.core_access.proofs.Sights.{looks-alone, reply-alone, run-alone}
 use Rattle.txn_agent.specs.declared.agent.Advanced.{Advanced}
 use Rattle.txn_agent.specs.declared.agent.Advanced.TheVariants.{Moved, Granted, Began, Waits, WaitsFor, Ended}
