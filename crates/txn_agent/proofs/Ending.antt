@@ -198,7 +198,7 @@ idle-can : (w : CoreState) (u v : UnitNo) → is_running (w.units.phase u) ≡ f
 idle-can w u v idle q = ap (λ (x : UnitNo). is_running (w.units.phase x)) (same_unit-true v u q) ∙ idle
 
 -- who doesn't run isn't active
-idle-asks : (w : CoreState) (v : UnitNo) (g : GrainId) (mode : Mode) → is_running (w.units.phase v) ≡ false → ask w v g mode ≡ answer.NotActive
+pub idle-asks : (w : CoreState) (v : UnitNo) (g : GrainId) (mode : Mode) → is_running (w.units.phase v) ≡ false → ask w v g mode ≡ answer.NotActive
 idle-asks w v g mode idle = ap (λ (b : Bool). if b then ask_doom (doomed_by w v) (ask_lock (w.cells.here g) (locks.ask (w.cells.holds g) v mode)) else answer.NotActive) (and-not (is_running (w.units.phase v)) _ idle)
 
 -- so no event of a unit that is over and holds nothing applies

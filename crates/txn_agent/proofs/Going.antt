@@ -33,12 +33,16 @@ not-refused w e y f q = by (applies w e) (sym f ∙ ap says_no q ∙ reply-tells
     by true p = refl
     by false p = absurd (true≢false (sym p))
 
--- an event that was put, and not refused
+-- an event that was put, and not refused, applied
+pub puts-applied : (types : ProgramTree) (u : UnitNo) (s t : Sight) (e : CoreEvent) (y : CoreReply) → says_no y ≡ false → Puts none_comes types u s e y t → applies (ends (run_seen s)) e ≡ true
+puts-applied types u s t e y f p = not-refused (ends (run_seen s)) e y f (reply-alone s t e y p.told)
+
+-- and the run goes on by it
 puts-goes : (types : ProgramTree) (u : UnitNo) (s t : Sight) (e : CoreEvent) (y : CoreReply) → says_no y ≡ false → Puts none_comes types u s e y t → GoesOn u (run_seen s) (run_seen t)
-puts-goes types u s t e y f p = record { e = e; own = p.own; applied = not-refused (ends (run_seen s)) e y f (reply-alone s t e y p.told); run = run-alone s t e y p.told }
+puts-goes types u s t e y f p = record { e = e; own = p.own; applied = puts-applied types u s t e y f p; run = run-alone s t e y p.told }
 
 -- an event that was possible and is missed comes after a doubt or a stop
-missed-not : (types : ProgramTree) (u : UnitNo) (s t : Sight) → Misses none_comes types u s t → IsAlone (leaves_unit u) s → IsGoing (ends (run_seen s)) → ⊥
+pub missed-not : (types : ProgramTree) (u : UnitNo) (s t : Sight) → Misses none_comes types u s t → IsAlone (leaves_unit u) s → IsGoing (ends (run_seen s)) → ⊥
 missed-not types u s t m alone going = by m.seen (looks-alone s m.seen m.before) m.shown m.put m.missed
   where
     by : (z : Sight) → z ≡ s → (IsAlone (leaves_unit u) z → can (ends (run_seen z)) m.e ≡ true) → (p : Puts none_comes types u z m.e m.r t) → applies (ends (run_seen (saw z p.told.rest))) m.e ≡ false → ⊥

@@ -13,4 +13,5 @@ pub mod Resuming
 pub mod Composed
 pub mod Moving
 pub mod Going
+pub mod Telling
 pub mod Promised

@@ -37,7 +37,7 @@ use Rattle.txn_agent.proofs.Possible.{next-is}
 use Rattle.txn_agent.proofs.Acting.{paused-looks, waiting-looks, over-looks}
 
 -- a running unit moves where nothing hinders it
-running-moves : (types : ProgramTree) (r : Run) (u : UnitNo) → (ends r).units.phase u ≡ Running → can_move types (ends r) (got_in r) u ≡ is_unhindered (ends r) u (wanted_by types (ends r) u (got_in r u))
+pub running-moves : (types : ProgramTree) (r : Run) (u : UnitNo) → (ends r).units.phase u ≡ Running → can_move types (ends r) (got_in r) u ≡ is_unhindered (ends r) u (wanted_by types (ends r) u (got_in r u))
 running-moves types r u e = ap (λ (p : Phase). if is_running p then is_unhindered (ends r) u (wanted_by types (ends r) u (got_in r u)) else is_over p && not (is_free (ends r) u)) e
 
 module _ (types : ProgramTree) (r : Run) (c : Carried) (work : Work) where
@@ -67,7 +67,7 @@ other-moves w u (WantUnit call depth) pause e f = refl
 other-moves w u (Over o) pause e f = refl
 
 -- who waits for a child that isn't decided was given nothing more
-given-none : (w : CoreState) (call : Call) (d : ℕ) (child : UnitNo) (got : List Got) → outcome_of w child ≡ None → given_by w (got ++ (GotChild call d child ∷ [])) ≡ None
+pub given-none : (w : CoreState) (call : Call) (d : ℕ) (child : UnitNo) (got : List Got) → outcome_of w child ≡ None → given_by w (got ++ (GotChild call d child ∷ [])) ≡ None
 given-none w call d child [] e = ap (λ (x : Option Outcome). option_and_then (λ outcome. and_given (GivenOutcome call d outcome) (Some [])) x) e
 given-none w call d child (GotLock g mode state ∷ got) e = ap (and_given (GivenLock g mode state)) (given-none w call d child got e)
 given-none w call d child (GotRaise g ∷ got) e = ap (and_given (GivenRaise g)) (given-none w call d child got e)
@@ -84,7 +84,7 @@ waiting-moves types r c work trail child call depth w e =
     ∙ ap (is_unhindered (ends r) c.unit) (ap (wanted_by types (ends r) c.unit) w.awaits.got ∙ ap (option_map _) (given-none (ends r) call depth child w.awaits.before e))
 
 -- who is over moves while it has a lock
-over-moves : (p : Phase) (x f : Bool) → is_over p ≡ true → (if is_running p then x else is_over p && not f) ≡ not f
+pub over-moves : (p : Phase) (x f : Bool) → is_over p ≡ true → (if is_running p then x else is_over p && not f) ≡ not f
 over-moves Unborn x f e = absurd (true≢false (sym e))
 over-moves Running x f e = absurd (true≢false (sym e))
 over-moves Finished x f e = refl

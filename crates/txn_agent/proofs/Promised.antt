@@ -13,7 +13,7 @@ use Rattle.script_meaning.specs.Play.{IsTransaction}
 use Rattle.promise_spec.specs.TurnRule.{OfLine, OfUnit, OfSettler, mover_of}
 use Rattle.promise_spec.specs.UnitRule.{Basis, KeepsUnitRule}
 use Rattle.turn_cell.specs.History.{In, entry}
-use Rattle.turn_cell.proofs.Lists.{in_left}
+use Rattle.turn_cell.proofs.Lists.{in_left, in_right}
 use Rattle.turn_rules.specs.Going.{with_event, is_own}
 use Rattle.turn_rules.proofs.Growth.{unit-grows}
 use Rattle.worker_rules.specs.Stories.{Told, is_load, NoneLoads, Quiet, run_after}
@@ -35,16 +35,16 @@ use Rattle.txn_agent.proofs.Acting.{over-looks, paused-looks, stopped-looks, wai
 
 -- ---- whose event it is
 
-unit-is : (u v : UnitNo) → OfUnit u ≡ OfUnit v → u ≡ v
+pub unit-is : (u v : UnitNo) → OfUnit u ≡ OfUnit v → u ≡ v
 unit-is u v e = cc
 
 own-by : (u v w : UnitNo) → OfUnit v ≡ OfUnit u → same_unit v w ≡ true → w ≡ u
 own-by u v w q s = sym (same_unit-true v w s) ∙ unit-is v u q
 
-line-not : {A : Type 0} (u : UnitNo) → OfLine ≡ OfUnit u → A
+pub line-not : {A : Type 0} (u : UnitNo) → OfLine ≡ OfUnit u → A
 line-not u e = absurd cc
 
-settler-not : {A : Type 0} (u : UnitNo) → OfSettler ≡ OfUnit u → A
+pub settler-not : {A : Type 0} (u : UnitNo) → OfSettler ≡ OfUnit u → A
 settler-not u e = absurd cc
 
 -- a unit's event loads nothing, and is one of its own
@@ -174,6 +174,10 @@ acts-rule b u s t (inr (e, (r, p))) alone keeps =
     (unit-grows b (run_seen s) e keeps (subst (λ (x : Sight). IfAlone (leaves_unit u) x (λ z. IsDueFor b.types z e)) same p.due alone b refl))
 
 -- ---- a unit that began
+
+-- it began here
+pub new-began : (may : CoreEvent → Bool) (s t : Sight) (e : CoreEvent) (u : UnitNo) → Tells may s e (Began u) t → BeganHere u t
+new-began may s t e u l = subst (BeganHere u) (sym l.sight) (entry s.number e (Began u), in_right (entry s.number e (Began u)) s.mine (entry s.number e (Began u) ∷ []) (inl refl), refl)
 
 -- the run is legal, where nothing was loaded
 sound-after : (r : Run) (seen : List Told) → IsSound r → ((x : Told) → In x seen → is_load x.event ≡ false) → IsSound (run_after r seen)

@@ -11,6 +11,8 @@ ghost use Rattle.core_access.specs.Settling.{is_settling};
 ghost use Rattle.core_access.specs.Sights.{Sight, run_seen, Looks, Tells, Counts, IsAlone};
 ghost use Rattle.script_tree.specs.Programs.{ProgramTree};
 ghost use Rattle.script_meaning.specs.Play.{IsTransaction};
+ghost use Rattle.promise_spec.specs.Gotten.{got_in};
+ghost use Rattle.promise_spec.specs.TurnRule.{can_move};
 ghost use Rattle.promise_spec.specs.UnitRule.{Basis, KeepsUnitRule};
 ghost use Rattle.worker_rules.specs.Sharing.{leaves_unit, BeganHere, KeepsPromise};
 ghost use Rattle.worker_rules.specs.Stories.{NoneLoads};
@@ -23,7 +25,8 @@ ghost use Rattle.txn_agent.specs.Stepping.{Acts, GoesOn, Happened, is_move};
 /// A unit that began by an event that was put through an access has nothing by then but its call, if nobody else made an event
 /// of it: so it can be carried. No grain was loaded, and what makes no transaction is begun as a plain run.
 pub fn a_new_unit_can_be_carried()
-    ensures { (may : AnEvent → Bool) (types : ProgramTree) (s t : Sight) (c : AUnitAsBegun) (call : ACall) → Tells may s (Begin c.origin call c.plain) (Began c.unit) t
+    ensures began { (may : AnEvent → Bool) (s t : Sight) (e : AnEvent) (u : AUnit) → Tells may s e (Began u) t → BeganHere u t }
+    ensures new { (may : AnEvent → Bool) (types : ProgramTree) (s t : Sight) (c : AUnitAsBegun) (call : ACall) → Tells may s (Begin c.origin call c.plain) (Began c.unit) t
         → Counts s → IsSound s.first → NoneLoads s.mine → (c.plain ≡ true → IsTransaction types call → ⊥) → IfOwn c t (λ r. IsNew types r c call) }
 {}
 
@@ -62,9 +65,13 @@ pub fn a_step_alone_keeps_the_rule()
 {}
 
 /// Where nobody else puts events and there is no doubt and no stop, the core has the program's types and every grain is in
-/// memory, a step that says that it moved went on by an event of the unit that applies; and one that doesn't changed nothing.
+/// memory, a step that says that it moved went on by an event of the unit that applies. It says so exactly where the unit can
+/// move by the turn rule; else it changed nothing.
 pub fn a_step_alone_goes_on()
     ensures moves { (types : ProgramTree) (u : AUnit) (kids : ℕ) (s t : Sight) (a : AnAnswer) → Happened none_comes types u kids s t a → IsAlone (leaves_unit u) s
         → (run_seen s).kinds ≡ length types → (run_seen s).capacity ≡ None → IsGoing (ends (run_seen s)) → is_move a ≡ true → GoesOn u (run_seen s) (run_seen t) }
+    ensures tells { (b : Basis) (u : AUnit) (kids : ℕ) (s t : Sight) (a : AnAnswer) → Happened none_comes b.types u kids s t a → IsAlone (leaves_unit u) s
+        → (run_seen s).kinds ≡ length b.types → (run_seen s).capacity ≡ None → IsGoing (ends (run_seen s)) → IsSound (run_seen s)
+        → is_move a ≡ can_move b.types (ends (run_seen s)) (got_in (run_seen s)) u }
     ensures waits { (types : ProgramTree) (u : AUnit) (kids : ℕ) (s t : Sight) (a : AnAnswer) → Happened none_comes types u kids s t a → is_move a ≡ false → t ≡ s }
 {}
