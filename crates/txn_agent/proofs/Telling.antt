@@ -1,5 +1,5 @@
 -- Where nobody else puts events, a step says that it moved exactly where the unit can move by the turn rule.
-use Rattle.std.proofs.Common.{◌≡◌, ◌⊎◌, inl, inr, ℕ, length, List, Bool, true, false, true≢false, refl, sym, ap, ◌∙◌, subst, Option, Some, None}
+use Rattle.std.proofs.Common.{◌≡◌, inl, inr, ℕ, length, List, Bool, true, false, true≢false, refl, sym, ap, ◌∙◌, subst, Option, Some, None}
 use Rattle.std.specs.Prelude.{if◌then◌else◌, not, is_some, ◌&&◌, option_map}
 use Rattle.std.proofs.lemmas.Bool.{and_parts, cases_Bool}
 use Rattle.base_types.specs.declared.calls.Mode.{Mode}
@@ -8,7 +8,6 @@ use Rattle.base_types.specs.declared.calls.Origin.TheVariants.{Line, Child}
 use Rattle.cell_model.specs.Locks.{holds_lock, is_hold_of}
 use Rattle.cell_model.proofs.Units.{any-true, same_unit-true}
 use Rattle.core_model.specs.CoreState.{UnitNo, GrainId, CoreState}
-use Rattle.core_model.specs.declared.phases.Phase.{Phase}
 use Rattle.core_model.specs.declared.events.CoreEvent.{CoreEvent}
 use Rattle.core_model.specs.declared.events.CoreEvent.TheVariants.{Bad, Begin, Grant, Refuse, Finish, EndPlain, EndSnapshot, Release, Take, Vote, Decide, Sealed, NotSealed, Doubt, Learn, Emitted, Halt, Want as WantGrain, Load}
 use Rattle.core_model.specs.declared.events.CoreReply.{CoreReply}
