@@ -26,7 +26,7 @@ use Rattle.script_tree.specs.Programs.{ProgramTree}
 use Rattle.script_meaning.specs.Play.{Found, IsTransaction, grains_of}
 use Rattle.script_meaning.specs.Trails.{Given, GivenLock, GivenRaise, exclusive_in, reads_of}
 use Rattle.turn_rules.specs.Going.{with_event}
-use Rattle.turn_rules.specs.Links.{IsGiven}
+use Rattle.turn_rules.specs.Links.{HasTrail}
 use Rattle.turn_rules.proofs.Growth.{ends-more}
 use Rattle.turn_rules.proofs.Linked.{locked-first, locked-again}
 use Rattle.txn_agent.specs.declared.work.Carried.{Carried}
@@ -214,7 +214,7 @@ module _ (types : ProgramTree) (r : Run) (c : Carried) (work work' : Work) (trai
             ∙ sym (ap (any (same_grain h)) grains);
         alone = λ h. alone-by mode refl h ∙ sym (ap (any (same_grain h)) (exclusive-last trail given));
       };
-      given = subst (λ (v : List Value). IsGiven (with_event r (Grant c.unit g mode)) c.unit (trail ++ (GivenLock g mode v ∷ []))) (sym told.1)
+      given = subst (λ (v : List Value). HasTrail (with_event r (Grant c.unit g mode)) c.unit (trail ++ (GivenLock g mode v ∷ []))) (sym told.1)
           (locked-first r c.unit g mode trail r.opening (kept-sound r p.linked.sound) told.0 unlocked p.given (ap (λ (f : UnitNo → Phase). f c.unit) i.phase ∙ p.given.running));
     }
 
@@ -257,6 +257,6 @@ module _ (types : ProgramTree) (r : Run) (c : Carried) (work work' : Work) (trai
       given = again-given mode update told-again.0 j;
     }
       where
-        again-given : (m : Mode) → m ≡ Update → applies (ends r) (Grant c.unit g m) ≡ true → IsGranted (ends r) c.unit g m (ends (with_event r (Grant c.unit g m))) → IsGiven (with_event r (Grant c.unit g m)) c.unit (trail ++ (GivenRaise g ∷ []))
-        again-given m q = subst (λ (m : Mode). applies (ends r) (Grant c.unit g m) ≡ true → IsGranted (ends r) c.unit g m (ends (with_event r (Grant c.unit g m))) → IsGiven (with_event r (Grant c.unit g m)) c.unit (trail ++ (GivenRaise g ∷ []))) (sym q)
+        again-given : (m : Mode) → m ≡ Update → applies (ends r) (Grant c.unit g m) ≡ true → IsGranted (ends r) c.unit g m (ends (with_event r (Grant c.unit g m))) → HasTrail (with_event r (Grant c.unit g m)) c.unit (trail ++ (GivenRaise g ∷ []))
+        again-given m q = subst (λ (m : Mode). applies (ends r) (Grant c.unit g m) ≡ true → IsGranted (ends r) c.unit g m (ends (with_event r (Grant c.unit g m))) → HasTrail (with_event r (Grant c.unit g m)) c.unit (trail ++ (GivenRaise g ∷ []))) (sym q)
             (λ a k. locked-again r c.unit g trail r.opening (kept-sound r p.linked.sound) a has p.given (ap (λ (f : UnitNo → Phase). f c.unit) k.phase ∙ p.given.running))

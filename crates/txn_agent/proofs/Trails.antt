@@ -22,7 +22,7 @@ use Rattle.script_machine.specs.declared.machine.Input.TheVariants as input
 use Rattle.script_machine.specs.declared.machine.Machine.{Machine}
 use Rattle.script_machine.specs.declared.machine.Pause.{Pause}
 use Rattle.script_machine.specs.declared.machine.Pause.TheVariants.{NeedGrain, NeedUnit, Done}
-use Rattle.script_machine.specs.Machines.{Answers, Follows, HasRoom, asks_raise, given_by, has_begun, is_done, is_over, pause_for, rest}
+use Rattle.script_machine.specs.Machines.{AnswersRequest, Follows, HasRoom, asks_raise, given_by, has_begun, is_done, is_over, pause_for, rest}
 
 -- ---- one more was given
 
@@ -119,7 +119,7 @@ module _ (types : ProgramTree) (call : Call) (depth : ℕ) (trail : List Given) 
 
 -- a first lock
 pub first-answer : (q : Requests) (g : GrainId) (mode : Mode) (s : List Value) → NeedGrain g mode ≡ pause_for (asks q) → asks_raise q ≡ false →
-    (given_by q (input.Grain s) ≡ GivenLock g mode s ∷ []) × Answers q (input.Grain s) × (asks q ≡ WantLock g mode)
+    (given_by q (input.Grain s) ≡ GivenLock g mode s ∷ []) × AnswersRequest q (input.Grain s) × (asks q ≡ WantLock g mode)
 first-answer (End o has) g mode s e f = absurd cc
 first-answer (AskLock h m go) g mode s e f = (let a : h ≡ g = cc in let b : m ≡ mode = cc in ((λ i. GivenLock (a i) (b i) s ∷ []), tt, (λ i. WantLock (a i) (b i))))
 first-answer (AskRaise h left) g mode s e f = absurd (true≢false f)
@@ -127,7 +127,7 @@ first-answer (AskUnit call depth go) g mode s e f = absurd cc
 
 -- an exclusive lock in place of a shared one
 pub raise-answer : (q : Requests) (g : GrainId) (mode : Mode) → NeedGrain g mode ≡ pause_for (asks q) → asks_raise q ≡ true →
-    (given_by q input.Held ≡ GivenRaise g ∷ []) × Answers q input.Held × (asks q ≡ WantRaise g) × (mode ≡ Update)
+    (given_by q input.Held ≡ GivenRaise g ∷ []) × AnswersRequest q input.Held × (asks q ≡ WantRaise g) × (mode ≡ Update)
 raise-answer (End o has) g mode e f = absurd cc
 raise-answer (AskLock h m go) g mode e f = absurd (true≢false (sym f))
 raise-answer (AskRaise h left) g mode e f = (let a : h ≡ g = cc in let b : mode ≡ Update = cc in ((λ i. GivenRaise (a i) ∷ []), tt, (λ i. WantRaise (a i)), b))
@@ -135,7 +135,7 @@ raise-answer (AskUnit call depth go) g mode e f = absurd cc
 
 -- a child's outcome
 pub unit-answer : (q : Requests) (call : Call) (depth : ℕ) (o : Outcome) → asks q ≡ WantUnit call depth →
-    (given_by q (input.Unit o) ≡ GivenOutcome call depth o ∷ []) × Answers q (input.Unit o)
+    (given_by q (input.Unit o) ≡ GivenOutcome call depth o ∷ []) × AnswersRequest q (input.Unit o)
 unit-answer (End p has) call depth o e = absurd cc
 unit-answer (AskLock h m go) call depth o e = absurd cc
 unit-answer (AskRaise h left) call depth o e = absurd cc

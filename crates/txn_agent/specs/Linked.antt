@@ -15,7 +15,7 @@ use Rattle.script_meaning.specs.Trails.{Given, answers_of, exclusive_in, reads_o
 use Rattle.script_machine.specs.declared.machine.Pause.{Pause}
 use Rattle.script_machine.specs.Machines.{rest}
 use Rattle.promise_spec.specs.Gotten.{got_in}
-use Rattle.turn_rules.specs.Links.{IsGiven, IsAwaiting, Holds}
+use Rattle.turn_rules.specs.Links.{HasTrail, IsAwaiting, HoldsLocks}
 use Rattle.worker_rules.specs.Sharing.{leaves_unit}
 use Rattle.txn_agent.specs.declared.work.Carried.{Carried}
 use Rattle.txn_agent.specs.declared.work.Work.{Work}
@@ -44,7 +44,7 @@ pub record IsLinked (types : ProgramTree) (r : Run) (c : Carried) (work : Work) 
 -- The unit runs, and its machine was given all that the unit was.
 pub record IsPaused (types : ProgramTree) (r : Run) (c : Carried) (work : Work) (trail : List Given) : Type 0 where
   pub linked : IsLinked types r c work trail
-  pub given : IsGiven r c.unit trail
+  pub given : HasTrail r c.unit trail
 
 -- The unit runs, and its machine was given all but the outcome of the unit's last child.
 pub record IsWaiting (types : ProgramTree) (r : Run) (c : Carried) (work : Work) (trail : List Given) (child : UnitNo) (call : Call) (depth : ℕ) : Type 0 where
@@ -55,7 +55,7 @@ pub record IsWaiting (types : ProgramTree) (r : Run) (c : Carried) (work : Work)
 pub record IsOver (r : Run) (c : Carried) (held : List GrainId) : Type 0 where
   pub sound : IsSound r
   pub over : is_over ((ends r).units.phase c.unit) ≡ true
-  pub locks : Holds r c.unit held
+  pub locks : HoldsLocks r c.unit held
 
 -- The unit runs, but there is a doubt, or the run is to stop.
 pub record IsStopped (r : Run) (c : Carried) : Type 0 where
