@@ -35,8 +35,8 @@ use Rattle.txn_agent.specs.declared.work.Carried.{Carried}
 use Rattle.txn_agent.specs.declared.work.Work.{Work}
 use Rattle.txn_agent.specs.declared.agent.Advanced.TheVariants as came
 use Rattle.txn_agent.specs.Working.{IsEffectOf}
-use Rattle.txn_agent.specs.Linked.{IfOwn, IsPaused, IsWaiting, IsOver, IsStopped, KnowsPaused, KnowsWaiting}
-use Rattle.txn_agent.specs.Stepping.{Acts, Happened, Puts}
+use Rattle.txn_agent.specs.Linked.{IfOwn, IsPaused, IsWaiting, IsOver, IsBarred, KnowsPaused, KnowsWaiting}
+use Rattle.txn_agent.specs.Stepping.{Acts, AnswerSays, Puts}
 use Rattle.txn_agent.proofs.Trails.{missing-unit, next-own, unit-wants}
 use Rattle.txn_agent.proofs.Shaped.{going-back}
 use Rattle.txn_agent.proofs.Others.{ends-as, paused-on, waiting-on, over-on, stopped-on, paused-as, sound-event}
@@ -80,8 +80,8 @@ module _ (types : ProgramTree) (s : Sight) (c : Carried) (counts : Counts s) whe
   over-there held rest k = saw-knows (leaves_unit c.unit) (λ r. IsOver r c held) (λ r e h p. over-on types r e c h held p) s rest counts k
 
   -- where it was stopped
-  pub stopped-looks : (may : CoreEvent → Bool) (t : Sight) → Looks may s t → IfOwn c s (λ r. IsStopped r c) → IfOwn c t (λ r. IsStopped r c)
-  stopped-looks may t l k = looks-knows (leaves_unit c.unit) (λ r. IsStopped r c) (λ r e h p. stopped-on types r e c h p) may s t l counts k
+  pub stopped-looks : (may : CoreEvent → Bool) (t : Sight) → Looks may s t → IfOwn c s (λ r. IsBarred r c) → IfOwn c t (λ r. IsBarred r c)
+  stopped-looks may t l k = looks-knows (leaves_unit c.unit) (λ r. IsBarred r c) (λ r e h p. stopped-on types r e c h p) may s t l counts k
 
 -- few units were begun
 pub few_kids : (types : ProgramTree) (s : Sight) (c : Carried) (work : Work) (call : Call) (depth : ℕ) → KnowsPaused types s c work (NeedUnit call depth) → work.kids < unit_limit
@@ -95,7 +95,7 @@ few_kids types s c work call depth k =
 
 -- an end that is possible and doesn't apply comes after a doubt or a stop
 stopped-by : (types : ProgramTree) (r : Run) (c : Carried) (work : Work) (trail : List Given) (e : CoreEvent) → IsPaused types r c work trail → is_load e ≡ false →
-    can (ends r) e ≡ true → applies (ends r) e ≡ false → IsStopped (with_event r e) c
+    can (ends r) e ≡ true → applies (ends r) e ≡ false → IsBarred (with_event r e) c
 stopped-by types r c work trail e p plain possible a = record {
   sound = sound-event r e plain p.linked.sound;
   running = ap (λ (w : CoreState). w.units.phase c.unit) (ends-as r e a) ∙ p.given.running;
@@ -129,7 +129,7 @@ module _ (may : CoreEvent → Bool) (types : ProgramTree) (s t : Sight) (c : Car
     pub grant_acts : Tells may s (Grant c.unit g mode) y t → Acts may types c.unit s t
     grant_acts l = inr (Grant c.unit g mode, (y, grant_puts l))
 
-    pub grant_happened : Tells may s (Grant c.unit g mode) y t → (state : List Value) (source : UnitNo) → y ≡ reply.Granted state source → (kids : ℕ) → Happened may types c.unit kids s t (came.Granted g source)
+    pub grant_happened : Tells may s (Grant c.unit g mode) y t → (state : List Value) (source : UnitNo) → y ≡ reply.Granted state source → (kids : ℕ) → AnswerSays may types c.unit kids s t (came.Granted g source)
     grant_happened l state source is kids = (mode, (state, subst (λ (x : CoreReply). Puts may types c.unit s (Grant c.unit g mode) x t) is (grant_puts l)))
 
     grant_missed : (l : Tells may s (Grant c.unit g mode) y t) → is_granted y ≡ false → applies (ends (run_seen (saw s l.rest))) (Grant c.unit g mode) ≡ false
@@ -138,7 +138,7 @@ module _ (may : CoreEvent → Bool) (types : ProgramTree) (s t : Sight) (c : Car
     pub grant_stays : Tells may s (Grant c.unit g mode) y t → is_granted y ≡ false → KnowsPaused types t c work (NeedGrain g mode)
     grant_stays l f = paused-missed (NeedGrain g mode) (Grant c.unit g mode) y l refl (grant_missed l f) k
 
-    pub grant_moves : Tells may s (Grant c.unit g mode) y t → is_granted y ≡ false → ask (ends (run_seen s)) c.unit g mode ≡ answer.Free → (kids : ℕ) → Happened may types c.unit kids s t came.Moved
+    pub grant_moves : Tells may s (Grant c.unit g mode) y t → is_granted y ≡ false → ask (ends (run_seen s)) c.unit g mode ≡ answer.Free → (kids : ℕ) → AnswerSays may types c.unit kids s t came.Moved
     grant_moves l f free kids = inr (inl record {
       seen = s;
       before = looks-none may s;
@@ -160,7 +160,7 @@ module _ (may : CoreEvent → Bool) (types : ProgramTree) (s t : Sight) (c : Car
     pub refuse_acts : Tells may s (Refuse c.unit g mode) y t → Acts may types c.unit s t
     refuse_acts l = inr (Refuse c.unit g mode, (y, refuse_puts l))
 
-    pub refuse_done : Tells may s (Refuse c.unit g mode) y t → y ≡ reply.Done → (kids : ℕ) → Happened may types c.unit kids s t came.Moved
+    pub refuse_done : Tells may s (Refuse c.unit g mode) y t → y ≡ reply.Done → (kids : ℕ) → AnswerSays may types c.unit kids s t came.Moved
     refuse_done l is kids = inl (Refuse c.unit g mode, subst (λ (x : CoreReply). Puts may types c.unit s (Refuse c.unit g mode) x t) is (refuse_puts l))
 
     refuse_missed : (l : Tells may s (Refuse c.unit g mode) y t) → is_done y ≡ false → applies (ends (run_seen (saw s l.rest))) (Refuse c.unit g mode) ≡ false
@@ -169,7 +169,7 @@ module _ (may : CoreEvent → Bool) (types : ProgramTree) (s t : Sight) (c : Car
     pub refuse_stays : Tells may s (Refuse c.unit g mode) y t → is_done y ≡ false → KnowsPaused types t c work (NeedGrain g mode)
     refuse_stays l f = paused-missed (NeedGrain g mode) (Refuse c.unit g mode) y l refl (refuse_missed l f) k
 
-    pub refuse_moves : Tells may s (Refuse c.unit g mode) y t → is_done y ≡ false → is_some (refusal g (ask (ends (run_seen s)) c.unit g mode)) ≡ true → (kids : ℕ) → Happened may types c.unit kids s t came.Moved
+    pub refuse_moves : Tells may s (Refuse c.unit g mode) y t → is_done y ≡ false → is_some (refusal g (ask (ends (run_seen s)) c.unit g mode)) ≡ true → (kids : ℕ) → AnswerSays may types c.unit kids s t came.Moved
     refuse_moves l f barred kids = inr (inl record {
       seen = s;
       before = looks-none may s;
@@ -196,7 +196,7 @@ module _ (may : CoreEvent → Bool) (types : ProgramTree) (s t : Sight) (c : Car
     pub begin_acts : Tells may s (Begin (Child c.unit work.kids depth) call false) y t → Acts may types c.unit s t
     begin_acts l = inr (Begin (Child c.unit work.kids depth) call false, (y, begin_puts l))
 
-    pub begin_happened : Tells may s (Begin (Child c.unit work.kids depth) call false) y t → (child : UnitNo) (asked : Call) → y ≡ reply.Began child → asked ≡ call → Happened may types c.unit work.kids s t (came.Began child asked depth)
+    pub begin_happened : Tells may s (Begin (Child c.unit work.kids depth) call false) y t → (child : UnitNo) (asked : Call) → y ≡ reply.Began child → asked ≡ call → AnswerSays may types c.unit work.kids s t (came.Began child asked depth)
     begin_happened l child asked is same = subst (λ (x : Call). Puts may types c.unit s (Begin (Child c.unit work.kids depth) x false) (reply.Began child) t) (sym same)
         (subst (λ (x : CoreReply). Puts may types c.unit s (Begin (Child c.unit work.kids depth) call false) x t) is (begin_puts l))
 
@@ -207,7 +207,7 @@ module _ (may : CoreEvent → Bool) (types : ProgramTree) (s t : Sight) (c : Car
     begin_stays l f asked same = subst (λ (x : Call). KnowsPaused types t c work (NeedUnit x depth)) (sym same)
         (paused-missed (NeedUnit call depth) (Begin (Child c.unit work.kids depth) call false) y l refl (begin_missed l f) k)
 
-    pub begin_moves : Tells may s (Begin (Child c.unit work.kids depth) call false) y t → is_began y ≡ false → Happened may types c.unit work.kids s t came.Moved
+    pub begin_moves : Tells may s (Begin (Child c.unit work.kids depth) call false) y t → is_began y ≡ false → AnswerSays may types c.unit work.kids s t came.Moved
     begin_moves l f = inr (inl record {
       seen = s;
       before = looks-none may s;
@@ -249,13 +249,13 @@ module _ (may : CoreEvent → Bool) (types : ProgramTree) (s t : Sight) (c : Car
     pub finish_acts : Tells may s (Finish c.unit effect) y t → Acts may types c.unit s t
     finish_acts l = inr (Finish c.unit effect, (y, finish_puts l))
 
-    pub finish_done : Tells may s (Finish c.unit effect) y t → y ≡ reply.Done → (kids : ℕ) → Happened may types c.unit kids s t came.Moved
+    pub finish_done : Tells may s (Finish c.unit effect) y t → y ≡ reply.Done → (kids : ℕ) → AnswerSays may types c.unit kids s t came.Moved
     finish_done l is kids = inl (Finish c.unit effect, subst (λ (x : CoreReply). Puts may types c.unit s (Finish c.unit effect) x t) is (finish_puts l))
 
     finish_missed : (l : Tells may s (Finish c.unit effect) y t) → is_done y ≡ false → applies (ends (run_seen (saw s l.rest))) (Finish c.unit effect) ≡ false
     finish_missed l f = missed (ends (run_seen (saw s l.rest))) (Finish c.unit effect) y is_done refl l.reply f
 
-    pub finish_moves : Tells may s (Finish c.unit effect) y t → is_done y ≡ false → c.plain ≡ false → (kids : ℕ) → Happened may types c.unit kids s t came.Moved
+    pub finish_moves : Tells may s (Finish c.unit effect) y t → is_done y ≡ false → c.plain ≡ false → (kids : ℕ) → AnswerSays may types c.unit kids s t came.Moved
     finish_moves l f kind kids = inr (inl record {
       seen = s;
       before = looks-none may s;
@@ -270,8 +270,8 @@ module _ (may : CoreEvent → Bool) (types : ProgramTree) (s t : Sight) (c : Car
     finish_over l is held same = tells-knows (leaves_unit c.unit) (λ r. IsPaused types r c work k.trail) (λ r e h p. paused-on types r e c h work k.trail p) (λ r. IsOver r c held)
         may s t (Finish c.unit effect) y l counts (λ p. over-finished types (run_seen (saw s l.rest)) c work k.trail p held (same ∙ k.at_work.held) effect (sym is ∙ l.reply)) k.linked
 
-    pub finish_stopped : Tells may s (Finish c.unit effect) y t → is_done y ≡ false → c.plain ≡ false → IfOwn c t (λ r. IsStopped r c)
-    finish_stopped l f kind = tells-knows (leaves_unit c.unit) (λ r. IsPaused types r c work k.trail) (λ r e h p. paused-on types r e c h work k.trail p) (λ r. IsStopped r c)
+    pub finish_stopped : Tells may s (Finish c.unit effect) y t → is_done y ≡ false → c.plain ≡ false → IfOwn c t (λ r. IsBarred r c)
+    finish_stopped l f kind = tells-knows (leaves_unit c.unit) (λ r. IsPaused types r c work k.trail) (λ r e h p. paused-on types r e c h work k.trail p) (λ r. IsBarred r c)
         may s t (Finish c.unit effect) y l counts
         (λ p. stopped-by types (run_seen (saw s l.rest)) c work k.trail (Finish c.unit effect) p refl (can-finished types (run_seen (saw s l.rest)) c work k.trail _ k.at_work p effect made kind) (finish_missed l f)) k.linked
 
@@ -286,13 +286,13 @@ module _ (may : CoreEvent → Bool) (types : ProgramTree) (s t : Sight) (c : Car
     pub end_acts : Tells may s (EndPlain c.unit effect) y t → Acts may types c.unit s t
     end_acts l = inr (EndPlain c.unit effect, (y, end_puts l))
 
-    pub end_done : Tells may s (EndPlain c.unit effect) y t → y ≡ reply.Done → (kids : ℕ) → Happened may types c.unit kids s t came.Moved
+    pub end_done : Tells may s (EndPlain c.unit effect) y t → y ≡ reply.Done → (kids : ℕ) → AnswerSays may types c.unit kids s t came.Moved
     end_done l is kids = inl (EndPlain c.unit effect, subst (λ (x : CoreReply). Puts may types c.unit s (EndPlain c.unit effect) x t) is (end_puts l))
 
     end_missed : (l : Tells may s (EndPlain c.unit effect) y t) → is_done y ≡ false → applies (ends (run_seen (saw s l.rest))) (EndPlain c.unit effect) ≡ false
     end_missed l f = missed (ends (run_seen (saw s l.rest))) (EndPlain c.unit effect) y is_done refl l.reply f
 
-    pub end_moves : Tells may s (EndPlain c.unit effect) y t → is_done y ≡ false → c.plain ≡ true → (kids : ℕ) → Happened may types c.unit kids s t came.Moved
+    pub end_moves : Tells may s (EndPlain c.unit effect) y t → is_done y ≡ false → c.plain ≡ true → (kids : ℕ) → AnswerSays may types c.unit kids s t came.Moved
     end_moves l f kind kids = inr (inl record {
       seen = s;
       before = looks-none may s;
@@ -307,7 +307,7 @@ module _ (may : CoreEvent → Bool) (types : ProgramTree) (s t : Sight) (c : Car
     end_over l is held same = tells-knows (leaves_unit c.unit) (λ r. IsPaused types r c work k.trail) (λ r e h p. paused-on types r e c h work k.trail p) (λ r. IsOver r c held)
         may s t (EndPlain c.unit effect) y l counts (λ p. over-ended types (run_seen (saw s l.rest)) c work k.trail p held (same ∙ k.at_work.held) effect (sym is ∙ l.reply)) k.linked
 
-    pub end_stopped : Tells may s (EndPlain c.unit effect) y t → is_done y ≡ false → c.plain ≡ true → IfOwn c t (λ r. IsStopped r c)
-    end_stopped l f kind = tells-knows (leaves_unit c.unit) (λ r. IsPaused types r c work k.trail) (λ r e h p. paused-on types r e c h work k.trail p) (λ r. IsStopped r c)
+    pub end_stopped : Tells may s (EndPlain c.unit effect) y t → is_done y ≡ false → c.plain ≡ true → IfOwn c t (λ r. IsBarred r c)
+    end_stopped l f kind = tells-knows (leaves_unit c.unit) (λ r. IsPaused types r c work k.trail) (λ r e h p. paused-on types r e c h work k.trail p) (λ r. IsBarred r c)
         may s t (EndPlain c.unit effect) y l counts
         (λ p. stopped-by types (run_seen (saw s l.rest)) c work k.trail (EndPlain c.unit effect) p refl (can-ended types (run_seen (saw s l.rest)) c work k.trail _ k.at_work p effect made kind) (end_missed l f)) k.linked

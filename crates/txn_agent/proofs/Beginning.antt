@@ -33,7 +33,7 @@ use Rattle.turn_rules.proofs.Linked.{child-began}
 use Rattle.txn_agent.specs.declared.work.Carried.{Carried}
 use Rattle.txn_agent.specs.declared.work.Work.{Work}
 use Rattle.txn_agent.specs.Working.{found_by, source_of}
-use Rattle.txn_agent.specs.Linked.{IsSound, IsPaused, IsWaiting, IsNew}
+use Rattle.txn_agent.specs.Linked.{IsLegalRun, IsPaused, IsWaiting, IsNew}
 use Rattle.txn_agent.proofs.Shaped.{next-grows}
 use Rattle.txn_agent.proofs.Others.{kept-sound, runs-born, sound-event, alone-is}
 
@@ -177,7 +177,7 @@ unborn-got opening (e ∷ es) w u loads k far =
     by false a = refl
 
 -- it has nothing but its call
-pub new-is : (types : ProgramTree) (r : Run) (c : Carried) (call : Call) → IsSound r → reply.Began c.unit ≡ reply_to (ends r) (Begin c.origin call c.plain) → (c.plain ≡ true → IsTransaction types call → ⊥) →
+pub new-is : (types : ProgramTree) (r : Run) (c : Carried) (call : Call) → IsLegalRun r → reply.Began c.unit ≡ reply_to (ends r) (Begin c.origin call c.plain) → (c.plain ≡ true → IsTransaction types call → ⊥) →
     IsNew types (with_event r (Begin c.origin call c.plain)) c call
 new-is types r c call sound replied plainly = subst (λ (u : UnitNo). IsNew types (with_event r (Begin c.origin call c.plain)) (record { unit = u; origin = c.origin; plain = c.plain }) call) (sym told.1) record {
   sound = sound-event r (Begin c.origin call c.plain) refl sound;

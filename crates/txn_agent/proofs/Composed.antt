@@ -32,8 +32,8 @@ use Rattle.txn_agent.specs.declared.work.Carried.{Carried}
 use Rattle.txn_agent.specs.declared.work.Work.{Work}
 use Rattle.txn_agent.specs.declared.agent.Advanced.{Advanced}
 use Rattle.txn_agent.specs.declared.agent.Advanced.TheVariants.{Moved, Granted, Began, Waits, WaitsFor, Ended}
-use Rattle.txn_agent.specs.Linked.{IfOwn, IsPaused, IsStopped, KnowsPaused, KnowsWaiting}
-use Rattle.txn_agent.specs.Stepping.{Acts, Happened, IsDueFor, Misses, Puts}
+use Rattle.txn_agent.specs.Linked.{IfOwn, IsPaused, IsBarred, KnowsPaused, KnowsWaiting}
+use Rattle.txn_agent.specs.Stepping.{Acts, AnswerSays, IsDueFor, Misses, Puts}
 use Rattle.txn_agent.proofs.Trails.{grain-wants, missing-lock, missing-raise, next-own}
 use Rattle.txn_agent.proofs.Shaped.{kinds-ends, here-ends}
 use Rattle.txn_agent.proofs.Ending.{has-ended-stopped}
@@ -60,7 +60,7 @@ module _ (may : CoreEvent → Bool) (types : ProgramTree) (u : UnitNo) (s t v : 
   misses-on m = record { seen = m.seen; before = looks-on may s t m.seen l m.before; e = m.e; r = m.r; put = m.put; shown = m.shown; missed = m.missed }
 
   -- what it says
-  pub happened_on : (kids : ℕ) (a : Advanced) → Happened may types u kids t v a → Happened may types u kids s v a
+  pub happened_on : (kids : ℕ) (a : Advanced) → AnswerSays may types u kids t v a → AnswerSays may types u kids s v a
   happened_on kids (Granted g source) h = (h.0, (h.1.0, puts-on _ _ h.1.1))
   happened_on kids (Began child call depth) h = puts-on _ _ h
   happened_on kids (Waits holder) h = record { looked = looks-on may s t v l h.looked; grain = h.grain; mode = h.mode; wants = h.wants; asked = h.asked }
@@ -71,16 +71,16 @@ module _ (may : CoreEvent → Bool) (types : ProgramTree) (u : UnitNo) (s t v : 
   happened_on kids Moved (inr (inr m)) = inr (inr record { looked = looks-on may s t v l m.looked; never = m.never })
 
   -- where there was memory
-  pub told_on : {D E : Type 0} (kids : ℕ) (r : Result (D × Advanced) E) → IfOk r (λ made. Happened may types u kids t v made.1) → IfOk r (λ made. Happened may types u kids s v made.1)
+  pub told_on : {D E : Type 0} (kids : ℕ) (r : Result (D × Advanced) E) → IfOk r (λ made. AnswerSays may types u kids t v made.1) → IfOk r (λ made. AnswerSays may types u kids s v made.1)
   told_on kids (Ok made) h = happened_on kids made.1 h
   told_on kids (Err e) h = h
 
   -- with as many children
-  pub told_by : {D E : Type 0} (kids count : ℕ) → kids ≡ count → (r : Result (D × Advanced) E) → IfOk r (λ made. Happened may types u kids t v made.1) → IfOk r (λ made. Happened may types u count s v made.1)
-  told_by {D} {E} kids count q r h = subst (λ (n : ℕ). IfOk r (λ made. Happened may types u n s v made.1)) q (told_on kids r h)
+  pub told_by : {D E : Type 0} (kids count : ℕ) → kids ≡ count → (r : Result (D × Advanced) E) → IfOk r (λ made. AnswerSays may types u kids t v made.1) → IfOk r (λ made. AnswerSays may types u count s v made.1)
+  told_by {D} {E} kids count q r h = subst (λ (n : ℕ). IfOk r (λ made. AnswerSays may types u n s v made.1)) q (told_on kids r h)
 
 -- each answer is of a step
-pub happened-acts : (may : CoreEvent → Bool) (types : ProgramTree) (u : UnitNo) (kids : ℕ) (s t : Sight) (a : Advanced) → Happened may types u kids s t a → Acts may types u s t
+pub happened-acts : (may : CoreEvent → Bool) (types : ProgramTree) (u : UnitNo) (kids : ℕ) (s t : Sight) (a : Advanced) → AnswerSays may types u kids s t a → Acts may types u s t
 happened-acts may types u kids s t (Granted g source) h = inr (_, (_, h.1.1))
 happened-acts may types u kids s t (Began child call depth) h = inr (_, (_, h))
 happened-acts may types u kids s t (Waits holder) h = inl h.looked
@@ -114,7 +114,7 @@ module _ (may : CoreEvent → Bool) (types : ProgramTree) (s t : Sight) (c : Car
   there = paused-looks types s c work counts may t (NeedGrain g mode) l k
 
   -- that the unit waits
-  pub waits_happened : (holder : UnitNo) (a : AskAnswer) → a ≡ answer.MustWait holder → a ≡ ask (ends (run_seen t)) c.unit g mode → Happened may types c.unit kids s t (Waits holder)
+  pub waits_happened : (holder : UnitNo) (a : AskAnswer) → a ≡ answer.MustWait holder → a ≡ ask (ends (run_seen t)) c.unit g mode → AnswerSays may types c.unit kids s t (Waits holder)
   waits_happened holder a is asked = record {
     looked = l;
     grain = g;
@@ -178,20 +178,20 @@ module _ (may : CoreEvent → Bool) (types : ProgramTree) (s t : Sight) (c : Car
           or-false false f = f
 
   -- so these answers don't come where one is alone
-  pub inactive_happened : (a : AskAnswer) → a ≡ answer.NotActive → a ≡ ask (ends (run_seen t)) c.unit g mode → Happened may types c.unit kids s t Moved
+  pub inactive_happened : (a : AskAnswer) → a ≡ answer.NotActive → a ≡ ask (ends (run_seen t)) c.unit g mode → AnswerSays may types c.unit kids s t Moved
   inactive_happened a is asked = inr (inr record {
     looked = l;
     never = λ alone kinds here. (let p = there.linked alone in
         never answer.NotActive (sym asked ∙ is) p (p.given.running, (let n = of-types in let q : (ends (run_seen t)).units.kinds ≡ length types = kinds-ends (run_seen t) ∙ kinds in omega (arith, n, q))));
   })
 
-  pub held_happened : (a : AskAnswer) → a ≡ answer.Held → a ≡ ask (ends (run_seen t)) c.unit g mode → Happened may types c.unit kids s t Moved
+  pub held_happened : (a : AskAnswer) → a ≡ answer.Held → a ≡ ask (ends (run_seen t)) c.unit g mode → AnswerSays may types c.unit kids s t Moved
   held_happened a is asked = inr (inr record {
     looked = l;
     never = λ alone kinds here. (let p = there.linked alone in uncovered p (never answer.Held (sym asked ∙ is) p).lock);
   })
 
-  pub absent_happened : (a : AskAnswer) → a ≡ answer.Absent → a ≡ ask (ends (run_seen t)) c.unit g mode → Happened may types c.unit kids s t Moved
+  pub absent_happened : (a : AskAnswer) → a ≡ answer.Absent → a ≡ ask (ends (run_seen t)) c.unit g mode → AnswerSays may types c.unit kids s t Moved
   absent_happened a is asked = inr (inr record {
     looked = l;
     never = λ alone kinds here. (let p = there.linked alone in true≢false (sym (here-ends (run_seen t) here g) ∙ (never answer.Absent (sym asked ∙ is) p).1));
@@ -200,12 +200,12 @@ module _ (may : CoreEvent → Bool) (types : ProgramTree) (s t : Sight) (c : Car
 -- ---- the unit waits for its child, or was stopped
 
 pub waits_for_child : (may : CoreEvent → Bool) (types : ProgramTree) (s t : Sight) (c : Carried) (work : Work) (child : UnitNo) (kids : ℕ) → Looks may s t → outcome_of (ends (run_seen t)) child ≡ None → KnowsWaiting types t c work child →
-    Happened may types c.unit kids s t (WaitsFor child)
+    AnswerSays may types c.unit kids s t (WaitsFor child)
 waits_for_child may types s t c work child kids l none k = record {
   looked = l;
   undecided = none;
   last = λ alone. (k.call, (k.depth, (k.trail, (k.linked alone).awaits)));
 }
 
-pub stopped_happened : (may : CoreEvent → Bool) (types : ProgramTree) (s t : Sight) (c : Carried) (kids : ℕ) → Looks may s t → IfOwn c t (λ r. IsStopped r c) → Happened may types c.unit kids s t Ended
+pub stopped_happened : (may : CoreEvent → Bool) (types : ProgramTree) (s t : Sight) (c : Carried) (kids : ℕ) → Looks may s t → IfOwn c t (λ r. IsBarred r c) → AnswerSays may types c.unit kids s t Ended
 stopped_happened may types s t c kids l k = (l, λ alone. has-ended-stopped (run_seen t) c (k alone))

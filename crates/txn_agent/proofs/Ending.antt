@@ -34,8 +34,8 @@ use Rattle.turn_rules.proofs.Growth.{ends-more}
 use Rattle.worker_rules.specs.Stories.{is_load}
 use Rattle.txn_agent.specs.declared.work.Carried.{Carried}
 use Rattle.txn_agent.specs.declared.work.Work.{Work}
-use Rattle.txn_agent.specs.Linked.{IsPaused, IsOver, IsStopped}
-use Rattle.txn_agent.specs.Stepping.{HasEnded, without}
+use Rattle.txn_agent.specs.Linked.{IsPaused, IsOver, IsBarred}
+use Rattle.txn_agent.specs.Stepping.{HasNoEventLeft, all_but}
 use Rattle.txn_agent.proofs.Others.{sound-event}
 
 -- ---- the reply
@@ -120,13 +120,13 @@ module _ (types : ProgramTree) (r : Run) (c : Carried) (work : Work) (trail : Li
 -- ---- a lock is given back
 
 -- it is none of the others
-any-without : (g : GrainId) (held : List GrainId) → any (same_grain g) (without g held) ≡ false
+any-without : (g : GrainId) (held : List GrainId) → any (same_grain g) (all_but g held) ≡ false
 any-without g [] = refl
 any-without g (x ∷ held) = by (any-without g held) (same_grain x g) refl
   where
-    by : any (same_grain g) (without g held) ≡ false → (b : Bool) → same_grain x g ≡ b → any (same_grain g) (if not b then x ∷ without g held else without g held) ≡ false
+    by : any (same_grain g) (all_but g held) ≡ false → (b : Bool) → same_grain x g ≡ b → any (same_grain g) (if not b then x ∷ all_but g held else all_but g held) ≡ false
     by ih true e = ih
-    by ih false e = or-both (same_grain g x) (any (same_grain g) (without g held)) (back e) ih
+    by ih false e = or-both (same_grain g x) (any (same_grain g) (all_but g held)) (back e) ih
       where
         back : same_grain x g ≡ false → same_grain g x ≡ false
         back e = elim (cases_Bool (same_grain g x)) [ inl t ↦ absurd (true≢false (sym (same_grain-is x g (sym (same_grain-true g x t))) ∙ e)) | inr f ↦ f ]
@@ -136,11 +136,11 @@ any-without g (x ∷ held) = by (any-without g held) (same_grain x g) refl
         or-both false c e f = f
 
 -- the others are there
-any-others : (g h : GrainId) (held : List GrainId) → (h ≡ g → ⊥) → any (same_grain h) (without g held) ≡ any (same_grain h) held
+any-others : (g h : GrainId) (held : List GrainId) → (h ≡ g → ⊥) → any (same_grain h) (all_but g held) ≡ any (same_grain h) held
 any-others g h [] n = refl
 any-others g h (x ∷ held) n = by (any-others g h held n) (same_grain x g) refl
   where
-    by : any (same_grain h) (without g held) ≡ any (same_grain h) held → (b : Bool) → same_grain x g ≡ b → any (same_grain h) (if not b then x ∷ without g held else without g held) ≡ (same_grain h x || any (same_grain h) held)
+    by : any (same_grain h) (all_but g held) ≡ any (same_grain h) held → (b : Bool) → same_grain x g ≡ b → any (same_grain h) (if not b then x ∷ all_but g held else all_but g held) ≡ (same_grain h x || any (same_grain h) held)
     by ih true e = ih ∙ sym (ap (λ (c : Bool). c || any (same_grain h) held) (apart e))
       where
         apart : same_grain x g ≡ true → same_grain h x ≡ false
@@ -160,7 +160,7 @@ released-swept w u g w' i = go w'.cells.capacity
     go (Some m) = record { phase = i.phase; holds = i.holds }
 
 -- the unit has one lock less
-pub over-released : (r : Run) (c : Carried) (g : GrainId) (held : List GrainId) → applies (ends r) (Release c.unit g) ≡ true → IsOver r c held → IsOver (with_event r (Release c.unit g)) c (without g held)
+pub over-released : (r : Run) (c : Carried) (g : GrainId) (held : List GrainId) → applies (ends r) (Release c.unit g) ≡ true → IsOver r c held → IsOver (with_event r (Release c.unit g)) c (all_but g held)
 over-released r c g held a o =
     let i : IsReleased (ends r) c.unit g (ends (with_event r (Release c.unit g))) =
     subst (IsReleased (ends r) c.unit g) (sym (ends-more r (Release c.unit g) ∙ cond-true (applies (ends r) (Release c.unit g)) (swept (does (ends r) (Release c.unit g))) (ends r) a))
@@ -169,8 +169,8 @@ over-released r c g held a o =
       sound = sound-event r (Release c.unit g) refl o.sound;
       over = ap (λ (f : UnitNo → Phase). is_over (f c.unit)) i.phase ∙ o.over;
       locks = λ h. ap (λ (f : GrainId → List Hold). holds_lock c.unit (f h)) i.holds
-          ∙ grain-at (ends r).cells.holds g (dropped ((ends r).cells.holds g) c.unit) (λ (hs : List Hold). holds_lock c.unit hs ≡ any (same_grain h) (without g held)) h
-          (λ q. dropped-none c.unit ((ends r).cells.holds g) ∙ sym (ap (λ (z : GrainId). any (same_grain z) (without g held)) q ∙ any-without g held))
+          ∙ grain-at (ends r).cells.holds g (dropped ((ends r).cells.holds g) c.unit) (λ (hs : List Hold). holds_lock c.unit hs ≡ any (same_grain h) (all_but g held)) h
+          (λ q. dropped-none c.unit ((ends r).cells.holds g) ∙ sym (ap (λ (z : GrainId). any (same_grain z) (all_but g held)) q ∙ any-without g held))
           (λ n. o.locks h ∙ sym (any-others g h held n));
     }
 
@@ -254,7 +254,7 @@ barred : (w : CoreState) (e : CoreEvent) → is_after_doubt e ≡ false → is_a
 barred w e d h n = elim (cases_Bool (is_allowed w e)) [ inl a ↦ absurd (n (going-is w e d h a)) | inr f ↦ f ]
 
 -- so no event of a running unit applies
-stopped-none : (r : Run) (c : Carried) → IsStopped r c → (e : CoreEvent) → is_own c.unit e ≡ true → applies (ends r) e ≡ false
+stopped-none : (r : Run) (c : Carried) → IsBarred r c → (e : CoreEvent) → is_own c.unit e ≡ true → applies (ends r) e ≡ false
 stopped-none r c s e own = by e own
   where
     no : (e : CoreEvent) → is_after_doubt e ≡ false → is_after_halt e ≡ false → applies (ends r) e ≡ false
@@ -292,9 +292,9 @@ free-all u w (x ∷ rs) none = and-both (not (holds_lock u (w.cells.holds x.grai
     and-both false b p q = absurd (true≢false (sym p))
 
 -- so a unit that is over and has no lock has ended
-pub has-ended-over : (r : Run) (c : Carried) → IsOver r c [] → HasEnded (ends r) c.unit
+pub has-ended-over : (r : Run) (c : Carried) → IsOver r c [] → HasNoEventLeft (ends r) c.unit
 has-ended-over r c o = record { none = over-none r c o; over = λ going. (o.over, free-all c.unit (ends r) ((ends r).units.reads c.unit) o.locks) }
 
 -- and one that was stopped
-pub has-ended-stopped : (r : Run) (c : Carried) → IsStopped r c → HasEnded (ends r) c.unit
+pub has-ended-stopped : (r : Run) (c : Carried) → IsBarred r c → HasNoEventLeft (ends r) c.unit
 has-ended-stopped r c s = record { none = stopped-none r c s; over = λ going. absurd (s.stopped going) }

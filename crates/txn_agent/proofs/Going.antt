@@ -17,7 +17,7 @@ use Rattle.core_access.specs.Sights.{Sight, run_seen, saw, IsAlone}
 use Rattle.core_access.proofs.Sights.{looks-alone, reply-alone, run-alone}
 use Rattle.txn_agent.specs.declared.agent.Advanced.{Advanced}
 use Rattle.txn_agent.specs.declared.agent.Advanced.TheVariants.{Moved, Granted, Began, Waits, WaitsFor, Ended}
-use Rattle.txn_agent.specs.Stepping.{GoesOn, Happened, Misses, Puts, is_move}
+use Rattle.txn_agent.specs.Stepping.{GoesByEvent, AnswerSays, Misses, Puts, is_move}
 
 -- what no stop bars, and can come, applies
 going-applies : (w : CoreState) (e : CoreEvent) → IsGoing w → can w e ≡ true → applies w e ≡ true
@@ -38,7 +38,7 @@ pub puts-applied : (types : ProgramTree) (u : UnitNo) (s t : Sight) (e : CoreEve
 puts-applied types u s t e y f p = not-refused (ends (run_seen s)) e y f (reply-alone s t e y p.told)
 
 -- and the run goes on by it
-puts-goes : (types : ProgramTree) (u : UnitNo) (s t : Sight) (e : CoreEvent) (y : CoreReply) → says_no y ≡ false → Puts none_comes types u s e y t → GoesOn u (run_seen s) (run_seen t)
+puts-goes : (types : ProgramTree) (u : UnitNo) (s t : Sight) (e : CoreEvent) (y : CoreReply) → says_no y ≡ false → Puts none_comes types u s e y t → GoesByEvent u (run_seen s) (run_seen t)
 puts-goes types u s t e y f p = record { e = e; own = p.own; applied = puts-applied types u s t e y f p; run = run-alone s t e y p.told }
 
 -- an event that was possible and is missed comes after a doubt or a stop
@@ -53,8 +53,8 @@ missed-not types u s t m alone going = by m.seen (looks-alone s m.seen m.before)
         true≢false (sym (going-applies (ends (run_seen s)) m.e going possible) ∙ subst (λ (x : Sight). applies (ends (run_seen x)) m.e ≡ false) same missed)
 
 -- a step that moves
-pub alone-goes : (types : ProgramTree) (u : UnitNo) (kids : ℕ) (s t : Sight) (a : Advanced) → Happened none_comes types u kids s t a → IsAlone (leaves_unit u) s
-    → (run_seen s).kinds ≡ length types → (run_seen s).capacity ≡ None → IsGoing (ends (run_seen s)) → is_move a ≡ true → GoesOn u (run_seen s) (run_seen t)
+pub alone-goes : (types : ProgramTree) (u : UnitNo) (kids : ℕ) (s t : Sight) (a : Advanced) → AnswerSays none_comes types u kids s t a → IsAlone (leaves_unit u) s
+    → (run_seen s).kinds ≡ length types → (run_seen s).capacity ≡ None → IsGoing (ends (run_seen s)) → is_move a ≡ true → GoesByEvent u (run_seen s) (run_seen t)
 alone-goes types u kids s t (Granted g source) h alone kinds here going m = puts-goes types u s t _ _ refl h.1.1
 alone-goes types u kids s t (Began child call depth) h alone kinds here going m = puts-goes types u s t _ _ refl h
 alone-goes types u kids s t (Waits holder) h alone kinds here going m = absurd (true≢false (sym m))
@@ -67,7 +67,7 @@ alone-goes types u kids s t Moved (inr (inr x)) alone kinds here going m =
     absurd (x.never (subst (IsAlone (leaves_unit u)) (sym same) alone) (ap (λ (z : Sight). (run_seen z).kinds) same ∙ kinds) (ap (λ (z : Sight). (run_seen z).capacity) same ∙ here))
 
 -- one that doesn't
-pub alone-waits : (types : ProgramTree) (u : UnitNo) (kids : ℕ) (s t : Sight) (a : Advanced) → Happened none_comes types u kids s t a → is_move a ≡ false → t ≡ s
+pub alone-waits : (types : ProgramTree) (u : UnitNo) (kids : ℕ) (s t : Sight) (a : Advanced) → AnswerSays none_comes types u kids s t a → is_move a ≡ false → t ≡ s
 alone-waits types u kids s t (Waits holder) h m = looks-alone s t h.looked
 alone-waits types u kids s t (WaitsFor child) h m = looks-alone s t h.looked
 alone-waits types u kids s t Ended h m = looks-alone s t h.0

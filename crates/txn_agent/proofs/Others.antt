@@ -29,7 +29,7 @@ use Rattle.worker_rules.proofs.Promising.{leaves-is}
 use Rattle.txn_agent.specs.declared.work.Carried.{Carried}
 use Rattle.txn_agent.specs.declared.work.Work.{Work}
 use Rattle.txn_agent.specs.Working.{found_by, source_of}
-use Rattle.txn_agent.specs.Linked.{IsSound, IsLinked, IsPaused, IsWaiting, IsOver, IsStopped}
+use Rattle.txn_agent.specs.Linked.{IsLegalRun, IsLinked, IsPaused, IsWaiting, IsOver, IsBarred}
 use Rattle.txn_agent.proofs.Shaped.{going-back}
 
 -- ---- the run stays legal
@@ -56,11 +56,11 @@ loads-more opening [] w e q all = (true-load opening w e q, tt)
 loads-more opening (f ∷ es) w e q all = (all.0, loads-more opening es (step w f) e q all.1)
 
 -- by an event that loads nothing
-pub sound-event : (r : Run) (e : CoreEvent) → is_load e ≡ false → IsSound r → IsSound (with_event r e)
+pub sound-event : (r : Run) (e : CoreEvent) → is_load e ≡ false → IsLegalRun r → IsLegalRun (with_event r e)
 sound-event r e q s = record { above = s.above; effects = plays-more r.events e s.effects; loads = loads-more r.opening r.events (begins r) e q s.loads }
 
 -- what holds of each legal run
-pub kept-sound : (r : Run) → IsSound r → Kept r.opening (ends r)
+pub kept-sound : (r : Run) → IsLegalRun r → Kept r.opening (ends r)
 kept-sound r s = kept-ends (λ (x : Effect). true) r s
 
 -- ---- an event of others
@@ -97,7 +97,7 @@ module _ (types : ProgramTree) (r : Run) (e : CoreEvent) (c : Carried) (leaves :
   other = (leaves-is c.unit e leaves).0
 
   -- and the run is legal behind it
-  sound-on : IsSound r → IsSound (with_event r e)
+  sound-on : IsLegalRun r → IsLegalRun (with_event r e)
   sound-on s = sound-event r e (leaves-is c.unit e leaves).1 s
 
   -- the link
@@ -141,7 +141,7 @@ module _ (types : ProgramTree) (r : Run) (e : CoreEvent) (c : Carried) (leaves :
       }
 
   -- where it was stopped
-  pub stopped-on : IsStopped r c → IsStopped (with_event r e) c
+  pub stopped-on : IsBarred r c → IsBarred (with_event r e) c
   stopped-on o = record {
     sound = sound-on o.sound;
     running = (still-others r.opening r c.unit e (kept-sound r o.sound) (runs-born (ends r) c.unit o.running) other).phase ∙ o.running;

@@ -27,7 +27,7 @@ use Rattle.core_access.proofs.Knowing.{tells-knows}
 use Rattle.txn_agent.specs.declared.work.Carried.{Carried}
 use Rattle.txn_agent.specs.declared.work.Doing.{Doing}
 use Rattle.txn_agent.specs.declared.work.Doing.TheVariants.{Asks, Awaits, Frees, Stopped}
-use Rattle.txn_agent.specs.Linked.{IfOwn, IsNew, IsOver, IsPaused, IsSound, IsStopped, IsWaiting, KnowsDoing}
+use Rattle.txn_agent.specs.Linked.{IfOwn, IsNew, IsOver, IsPaused, IsLegalRun, IsBarred, IsWaiting, KnowsDoing}
 use Rattle.txn_agent.specs.Stepping.{Acts, IsDueFor}
 use Rattle.txn_agent.proofs.Others.{over-on, paused-on, sound-event, stopped-on, waiting-on}
 use Rattle.txn_agent.proofs.Beginning.{new-is}
@@ -123,7 +123,7 @@ knows-tells may types c (Awaits work child) s t e r l h n k = record {
 knows-tells may types c (Frees held) s t e r l h n k =
     tells-knows (leaves_unit c.unit) (λ x. IsOver x c held) (λ x f g p. over-on types x f c g held p) (λ x. IsOver x c held) may s t e r l n (λ p. over-on types (run_seen (saw s l.rest)) e c h held p) k
 knows-tells may types c Stopped s t e r l h n k =
-    tells-knows (leaves_unit c.unit) (λ x. IsStopped x c) (λ x f g p. stopped-on types x f c g p) (λ x. IsStopped x c) may s t e r l n (λ p. stopped-on types (run_seen (saw s l.rest)) e c h p) k
+    tells-knows (leaves_unit c.unit) (λ x. IsBarred x c) (λ x f g p. stopped-on types x f c g p) (λ x. IsBarred x c) may s t e r l n (λ p. stopped-on types (run_seen (saw s l.rest)) e c h p) k
 
 -- the settler's events load nothing
 settling-loads : (e : CoreEvent) → is_settling e ≡ true → is_load e ≡ false
@@ -180,17 +180,17 @@ pub new-began : (may : CoreEvent → Bool) (s t : Sight) (e : CoreEvent) (u : Un
 new-began may s t e u l = subst (BeganHere u) (sym l.sight) (entry s.number e (Began u), in_right (entry s.number e (Began u)) s.mine (entry s.number e (Began u) ∷ []) (inl refl), refl)
 
 -- the run is legal, where nothing was loaded
-sound-after : (r : Run) (seen : List Told) → IsSound r → ((x : Told) → In x seen → is_load x.event ≡ false) → IsSound (run_after r seen)
+sound-after : (r : Run) (seen : List Told) → IsLegalRun r → ((x : Told) → In x seen → is_load x.event ≡ false) → IsLegalRun (run_after r seen)
 sound-after r [] s all = s
 sound-after r (x ∷ seen) s all = sound-after (with_event r x.event) seen (sound-event r x.event (all x (inl refl)) s) (λ y i. all y (inr i))
 
 -- it can be carried
 pub new-carried : (may : CoreEvent → Bool) (types : ProgramTree) (s t : Sight) (c : Carried) (call : Call) → Tells may s (Begin c.origin call c.plain) (Began c.unit) t
-    → Counts s → IsSound s.first → NoneLoads s.mine → (c.plain ≡ true → IsTransaction types call → ⊥) → IfOwn c t (λ r. IsNew types r c call)
+    → Counts s → IsLegalRun s.first → NoneLoads s.mine → (c.plain ≡ true → IsTransaction types call → ⊥) → IfOwn c t (λ r. IsNew types r c call)
 new-carried may types s t c call l n sound plain plainly alone =
     let before : IsAlone (leaves_unit c.unit) (saw s l.rest) = (tells-before (leaves_unit c.unit) may s t n (Begin c.origin call c.plain) (Began c.unit) l alone).2 in
     let quiet : Quiet s.number c.unit (saw s l.rest).seen = alone-quiet c.unit (saw s l.rest) plain before in
-    let legal : IsSound (run_seen (saw s l.rest)) = sound-after s.first (saw s l.rest).seen sound (λ x i. (quiet x i).1) in
+    let legal : IsLegalRun (run_seen (saw s l.rest)) = sound-after s.first (saw s l.rest).seen sound (λ x i. (quiet x i).1) in
     subst (λ (x : Sight). IsNew types (run_seen x) c call) (sym l.sight)
     (subst (λ (r : Run). IsNew types r c call) (sym (run-told (saw s l.rest) (Begin c.origin call c.plain) (Began c.unit)))
     (new-is types (run_seen (saw s l.rest)) c call legal l.reply plainly))

@@ -38,7 +38,7 @@ use Rattle.txn_agent.specs.declared.work.Work.{Work}
 use Rattle.txn_agent.specs.declared.agent.Advanced.TheVariants as came
 use Rattle.txn_agent.specs.Working.{IsAtWork, IsReady, found_by, source_of}
 use Rattle.txn_agent.specs.Linked.{IfOwn, IsPaused, IsOver, IsNew, KnowsPaused, KnowsWaiting}
-use Rattle.txn_agent.specs.Stepping.{Acts, Happened, Puts, without}
+use Rattle.txn_agent.specs.Stepping.{Acts, AnswerSays, Puts, all_but}
 use Rattle.txn_agent.proofs.Trails.{IsResumed, answers-last, exclusive-last, first-answer, grains-last, missing-lock, missing-raise, next-own, raise-answer, reads-last, start-answer, unit-answer}
 use Rattle.txn_agent.proofs.Lowest.{first_grain-none, first_grain-some}
 use Rattle.txn_agent.proofs.Others.{paused-on, over-on, over-as}
@@ -218,13 +218,13 @@ module _ (may : CoreEvent → Bool) (types : ProgramTree) (s t : Sight) (c : Car
   pub release_acts : Tells may s (Release c.unit g) y t → Acts may types c.unit s t
   release_acts l = inr (Release c.unit g, (y, release_puts l))
 
-  pub release_done : Tells may s (Release c.unit g) y t → y ≡ reply.Done → (kids : ℕ) → Happened may types c.unit kids s t came.Moved
+  pub release_done : Tells may s (Release c.unit g) y t → y ≡ reply.Done → (kids : ℕ) → AnswerSays may types c.unit kids s t came.Moved
   release_done l is kids = inl (Release c.unit g, subst (λ (x : CoreReply). Puts may types c.unit s (Release c.unit g) x t) is (release_puts l))
 
   release_missed : (l : Tells may s (Release c.unit g) y t) → is_done y ≡ false → applies (ends (run_seen (saw s l.rest))) (Release c.unit g) ≡ false
   release_missed l f = missed (ends (run_seen (saw s l.rest))) (Release c.unit g) y is_done refl l.reply f
 
-  pub release_moves : Tells may s (Release c.unit g) y t → is_done y ≡ false → (kids : ℕ) → Happened may types c.unit kids s t came.Moved
+  pub release_moves : Tells may s (Release c.unit g) y t → is_done y ≡ false → (kids : ℕ) → AnswerSays may types c.unit kids s t came.Moved
   release_moves l f kids = inr (inl record {
     seen = s;
     before = looks-none may s;
@@ -236,8 +236,8 @@ module _ (may : CoreEvent → Bool) (types : ProgramTree) (s t : Sight) (c : Car
     missed = release_missed l f;
   })
 
-  pub release_over : Tells may s (Release c.unit g) y t → y ≡ reply.Done → IfOwn c t (λ r. IsOver r c (without g held))
-  release_over l is = tells-knows (leaves_unit c.unit) (λ r. IsOver r c held) (λ r e h p. over-on types r e c h held p) (λ r. IsOver r c (without g held))
+  pub release_over : Tells may s (Release c.unit g) y t → y ≡ reply.Done → IfOwn c t (λ r. IsOver r c (all_but g held))
+  release_over l is = tells-knows (leaves_unit c.unit) (λ r. IsOver r c held) (λ r e h p. over-on types r e c h held p) (λ r. IsOver r c (all_but g held))
       may s t (Release c.unit g) y l counts (λ o. over-released (run_seen (saw s l.rest)) c g held (done-applied (ends (run_seen (saw s l.rest))) (Release c.unit g) refl (sym is ∙ l.reply)) o) k
 
   pub release_stays : Tells may s (Release c.unit g) y t → is_done y ≡ false → IfOwn c t (λ r. IsOver r c held)
@@ -250,5 +250,5 @@ no-some None n = refl
 no-some (Some g) n = absurd (n g refl)
 
 -- a unit that has no lock has ended
-pub ended_happened : (may : CoreEvent → Bool) (types : ProgramTree) (s : Sight) (c : Carried) (held : List GrainId) (kids : ℕ) (first : Option GrainId) → first ≡ first_grain held → ((g : GrainId) → first ≡ Some g → ⊥) → IfOwn c s (λ r. IsOver r c held) → Happened may types c.unit kids s s came.Ended
+pub ended_happened : (may : CoreEvent → Bool) (types : ProgramTree) (s : Sight) (c : Carried) (held : List GrainId) (kids : ℕ) (first : Option GrainId) → first ≡ first_grain held → ((g : GrainId) → first ≡ Some g → ⊥) → IfOwn c s (λ r. IsOver r c held) → AnswerSays may types c.unit kids s s came.Ended
 ended_happened may types s c held kids first is none k = (looks-none may s, λ alone. has-ended-over (run_seen s) c (subst (λ (l : List GrainId). IsOver (run_seen s) c l) (first_grain-none held (sym is ∙ no-some first none)) (k alone)))

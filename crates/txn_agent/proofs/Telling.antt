@@ -31,8 +31,8 @@ use Rattle.core_access.specs.Sights.{Sight, run_seen, saw, IsAlone, IfAlone}
 use Rattle.core_access.proofs.Sights.{looks-alone}
 use Rattle.txn_agent.specs.declared.agent.Advanced.{Advanced}
 use Rattle.txn_agent.specs.declared.agent.Advanced.TheVariants.{Moved, Granted, Began, Waits, WaitsFor, Ended}
-use Rattle.txn_agent.specs.Linked.{IsSound}
-use Rattle.txn_agent.specs.Stepping.{Happened, HasEnded, IsDueFor, Puts, WaitsBehind, WaitsForChild, is_move}
+use Rattle.txn_agent.specs.Linked.{IsLegalRun}
+use Rattle.txn_agent.specs.Stepping.{AnswerSays, HasNoEventLeft, IsDueFor, Puts, WaitsBehind, WaitsForChild, is_move}
 use Rattle.txn_agent.proofs.Others.{kept-sound}
 use Rattle.txn_agent.proofs.Ending.{idle-asks}
 use Rattle.txn_agent.proofs.Moving.{given-none, over-moves, running-moves}
@@ -79,7 +79,7 @@ moves-by : (types : ProgramTree) (w : CoreState) (got : UnitNo → List Got) (u 
 moves-by types w got u e = ap (λ (b : Bool). if b then is_unhindered w u (wanted_by types w u (got u)) else is_over (w.units.phase u) && not (is_free w u)) e
 
 -- what is due and applies, moves
-module _ (b : Basis) (r : Run) (sound : IsSound r) where
+module _ (b : Basis) (r : Run) (sound : IsLegalRun r) where
   lock-due : (v : UnitNo) (g : GrainId) (mode : Mode) → wanted_lock (wanted_by b.types (ends r) v (got_in r v)) ≡ Some (g, mode) → (is_wait (ask (ends r) v g mode) ≡ false) × (ask (ends r) v g mode ≡ answer.NotActive → ⊥) → can_move b.types (ends r) (got_in r) v ≡ true
   lock-due v g mode due free =
       moves-by b.types (ends r) (got_in r) v (asks-running (ends r) v g mode free.1)
@@ -124,7 +124,7 @@ module _ (b : Basis) (r : Run) (sound : IsSound r) where
 
 -- ---- by what each answer says
 
-module _ (b : Basis) (u : UnitNo) (s t : Sight) (alone : IsAlone (leaves_unit u) s) (sound : IsSound (run_seen s)) where
+module _ (b : Basis) (u : UnitNo) (s t : Sight) (alone : IsAlone (leaves_unit u) s) (sound : IsLegalRun (run_seen s)) where
   -- an event that was put and applies
   puts-moves : (e : CoreEvent) (y : CoreReply) → Puts none_comes b.types u s e y t → applies (ends (run_seen s)) e ≡ true → true ≡ can_move b.types (ends (run_seen s)) (got_in (run_seen s)) u
   puts-moves e y p a =
@@ -155,12 +155,12 @@ module _ (b : Basis) (u : UnitNo) (s t : Sight) (alone : IsAlone (leaves_unit u)
       ∙ ap (is_unhindered (ends (run_seen t)) u) (ap (wanted_by b.types (ends (run_seen t)) u) a.got ∙ ap (option_map _) (given-none (ends (run_seen t)) l.0 l.1.0 child a.before h.undecided))))
 
   -- the unit has ended
-  ended-moves : HasEnded (ends (run_seen s)) u → IsGoing (ends (run_seen s)) → false ≡ can_move b.types (ends (run_seen s)) (got_in (run_seen s)) u
+  ended-moves : HasNoEventLeft (ends (run_seen s)) u → IsGoing (ends (run_seen s)) → false ≡ can_move b.types (ends (run_seen s)) (got_in (run_seen s)) u
   ended-moves h going = (let o = h.over going in sym (over-moves ((ends (run_seen s)).units.phase u) _ (is_free (ends (run_seen s)) u) o.0 ∙ ap not o.1))
 
 -- so a step tells whether the unit can move
-pub alone-tells : (b : Basis) (u : UnitNo) (kids : ℕ) (s t : Sight) (a : Advanced) → Happened none_comes b.types u kids s t a → IsAlone (leaves_unit u) s
-    → (run_seen s).kinds ≡ length b.types → (run_seen s).capacity ≡ None → IsGoing (ends (run_seen s)) → IsSound (run_seen s)
+pub alone-tells : (b : Basis) (u : UnitNo) (kids : ℕ) (s t : Sight) (a : Advanced) → AnswerSays none_comes b.types u kids s t a → IsAlone (leaves_unit u) s
+    → (run_seen s).kinds ≡ length b.types → (run_seen s).capacity ≡ None → IsGoing (ends (run_seen s)) → IsLegalRun (run_seen s)
     → is_move a ≡ can_move b.types (ends (run_seen s)) (got_in (run_seen s)) u
 alone-tells b u kids s t (Granted g source) h alone kinds here going sound = puts-moves b u s t alone sound _ _ h.1.1 (puts-applied b.types u s t _ _ refl h.1.1)
 alone-tells b u kids s t (Began child call depth) h alone kinds here going sound = puts-moves b u s t alone sound _ _ h (puts-applied b.types u s t _ _ refl h)
@@ -168,7 +168,7 @@ alone-tells b u kids s t (Waits holder) h alone kinds here going sound = waits-m
 alone-tells b u kids s t (WaitsFor child) h alone kinds here going sound = child-moves b u s t alone sound child h
 alone-tells b u kids s t Ended h alone kinds here going sound =
     let same : t ≡ s = looks-alone s t h.0 in
-    ended-moves b u s t alone sound (subst (λ (x : Sight). IfAlone (leaves_unit u) x (λ r. HasEnded (ends r) u)) same h.1 alone) going
+    ended-moves b u s t alone sound (subst (λ (x : Sight). IfAlone (leaves_unit u) x (λ r. HasNoEventLeft (ends r) u)) same h.1 alone) going
 alone-tells b u kids s t Moved (inl (e, p)) alone kinds here going sound = puts-moves b u s t alone sound e _ p (puts-applied b.types u s t e _ refl p)
 alone-tells b u kids s t Moved (inr (inl x)) alone kinds here going sound = absurd (missed-not b.types u s t x alone going)
 alone-tells b u kids s t Moved (inr (inr x)) alone kinds here going sound =

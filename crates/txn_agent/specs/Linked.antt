@@ -25,13 +25,13 @@ use Rattle.txn_agent.specs.declared.agent.Agent.{Agent}
 use Rattle.txn_agent.specs.Working.{IsAtWork, IsReady, found_by, source_of}
 
 -- the core's run is legal, whatever its effects are
-abbrev pub IsSound : Run → Type 0
-IsSound r = IsLegal (λ (e : Effect). true) r
+abbrev pub IsLegalRun : Run → Type 0
+IsLegalRun r = IsLegal (λ (e : Effect). true) r
 
 -- The unit is in the core as the agent has it: its call, where it came from, its reads with their sources, its locks. A
 -- plain run is of a call that makes no transaction.
 pub record IsLinked (types : ProgramTree) (r : Run) (c : Carried) (work : Work) (trail : List Given) : Type 0 where
-  pub sound : IsSound r
+  pub sound : IsLegalRun r
   pub call : (ends r).units.call c.unit ≡ work.call
   pub came : (ends r).units.origin c.unit ≡ c.origin
   pub kind : (ends r).units.plain c.unit ≡ c.plain
@@ -53,19 +53,19 @@ pub record IsWaiting (types : ProgramTree) (r : Run) (c : Carried) (work : Work)
 
 -- The unit is over, and has these locks.
 pub record IsOver (r : Run) (c : Carried) (held : List GrainId) : Type 0 where
-  pub sound : IsSound r
+  pub sound : IsLegalRun r
   pub over : is_over ((ends r).units.phase c.unit) ≡ true
   pub locks : HoldsLocks r c.unit held
 
 -- The unit runs, but there is a doubt, or the run is to stop.
-pub record IsStopped (r : Run) (c : Carried) : Type 0 where
-  pub sound : IsSound r
+pub record IsBarred (r : Run) (c : Carried) : Type 0 where
+  pub sound : IsLegalRun r
   pub running : (ends r).units.phase c.unit ≡ Running
   pub stopped : IsGoing (ends r) → ⊥
 
 -- The unit has just begun.
 pub record IsNew (types : ProgramTree) (r : Run) (c : Carried) (call : Call) : Type 0 where
-  pub sound : IsSound r
+  pub sound : IsLegalRun r
   pub running : (ends r).units.phase c.unit ≡ Running
   pub called : (ends r).units.call c.unit ≡ call
   pub came : (ends r).units.origin c.unit ≡ c.origin
@@ -100,7 +100,7 @@ abbrev pub KnowsDoing : ProgramTree → Sight → Carried → Doing → Type 0
 KnowsDoing types s c (Asks work pause) = KnowsPaused types s c work pause
 KnowsDoing types s c (Awaits work child) = KnowsWaiting types s c work child
 KnowsDoing types s c (Frees held) = IfOwn c s (λ r. IsOver r c held)
-KnowsDoing types s c Stopped = IfOwn c s (λ r. IsStopped r c)
+KnowsDoing types s c Stopped = IfOwn c s (λ r. IsBarred r c)
 
 -- what an agent knows of its unit
 abbrev pub Knows : ProgramTree → Sight → Agent → Type 0

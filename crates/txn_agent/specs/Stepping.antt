@@ -31,7 +31,7 @@ abbrev pub IsDueFor : ProgramTree → Run → CoreEvent → Type 0
 IsDueFor types r e = (b : Basis) → b.types ≡ types → MayCome b r e
 
 -- The unit has no event left that applies: it is over and holds no lock, unless there is a doubt or a stop.
-pub record HasEnded (w : CoreState) (u : UnitNo) : Type 0 where
+pub record HasNoEventLeft (w : CoreState) (u : UnitNo) : Type 0 where
   pub none : (e : CoreEvent) → is_own u e ≡ true → applies w e ≡ false
   pub over : IsGoing w → (is_over (w.units.phase u) ≡ true) × (is_free w u ≡ true)
 
@@ -91,18 +91,18 @@ Hears s (Frees held) = ⊤
 Hears s Stopped = ⊤
 
 -- these grains but for one
-abbrev pub without : GrainId → List GrainId → List GrainId
-without g held = filter (λ h. not (same_grain h g)) held
+abbrev pub all_but : GrainId → List GrainId → List GrainId
+all_but g held = filter (λ h. not (same_grain h g)) held
 
 -- What each answer says, by what was put or seen in the call. A child that began has the number of those that the unit had
 -- begun before it.
-abbrev pub Happened : (CoreEvent → Bool) → ProgramTree → UnitNo → ℕ → Sight → Sight → Advanced → Type 0
-Happened may types u kids s t (Granted grain source) = (mode : Mode) × ((state : List Value) × Puts may types u s (event.Grant u grain mode) (reply.Granted state source) t)
-Happened may types u kids s t (Began child call depth) = Puts may types u s (event.Begin (Child u kids depth) call false) (reply.Began child) t
-Happened may types u kids s t (Waits holder) = WaitsBehind may types u s holder t
-Happened may types u kids s t (WaitsFor child) = WaitsForChild may types u s child t
-Happened may types u kids s t Ended = Looks may s t × IfAlone (leaves_unit u) t (λ r. HasEnded (ends r) u)
-Happened may types u kids s t Moved = ((e : CoreEvent) × Puts may types u s e reply.Done t) ⊎ (Misses may types u s t ⊎ Strays may types u s t)
+abbrev pub AnswerSays : (CoreEvent → Bool) → ProgramTree → UnitNo → ℕ → Sight → Sight → Advanced → Type 0
+AnswerSays may types u kids s t (Granted grain source) = (mode : Mode) × ((state : List Value) × Puts may types u s (event.Grant u grain mode) (reply.Granted state source) t)
+AnswerSays may types u kids s t (Began child call depth) = Puts may types u s (event.Begin (Child u kids depth) call false) (reply.Began child) t
+AnswerSays may types u kids s t (Waits holder) = WaitsBehind may types u s holder t
+AnswerSays may types u kids s t (WaitsFor child) = WaitsForChild may types u s child t
+AnswerSays may types u kids s t Ended = Looks may s t × IfAlone (leaves_unit u) t (λ r. HasNoEventLeft (ends r) u)
+AnswerSays may types u kids s t Moved = ((e : CoreEvent) × Puts may types u s e reply.Done t) ⊎ (Misses may types u s t ⊎ Strays may types u s t)
 
 -- the answer says that an event of the unit was put
 abbrev pub is_move : Advanced → Bool
@@ -114,7 +114,7 @@ is_move (WaitsFor child) = false
 is_move Ended = false
 
 -- An event of the unit that applies is all by which the run goes on.
-pub record GoesOn (u : UnitNo) (r r' : Run) : Type 0 where
+pub record GoesByEvent (u : UnitNo) (r r' : Run) : Type 0 where
   pub e : CoreEvent
   pub own : mover_of e ≡ OfUnit u
   pub applied : applies (ends r) e ≡ true

@@ -3,7 +3,7 @@ ghost use Rattle.core_access.specs.Sights.{Sight, Counts, Looks};
 ghost use Rattle.script_tree.specs.Programs.{ProgramTree, program_tree};
 ghost use Rattle.promise_spec.specs.Serial.{depth_of as depth_in};
 ghost use Rattle.txn_agent.specs.Linked.{IfOwn, IsNew, Knows};
-ghost use Rattle.txn_agent.specs.Stepping.{Acts, Happened, Hears, children_of};
+ghost use Rattle.txn_agent.specs.Stepping.{Acts, AnswerSays, Hears, children_of};
 ghost use Rattle.txn_agent.specs.Movable.{ShowsMove};
 
 use crate::steps::{hear_child, moves_now, step};
@@ -162,7 +162,7 @@ impl Agent {
 
         // What was put stands where memory was wanting too.
         ensures acts { Acts A.may_come (program_tree checked.now) self.old.carried.unit (A.sight access.old) (A.sight access.new) }
-        ensures told { IfOk result (λ advanced. Happened A.may_come (program_tree checked.now) self.old.carried.unit (children_of self.old.doing) (A.sight access.old) (A.sight access.new) advanced) }
+        ensures told { IfOk result (λ advanced. AnswerSays A.may_come (program_tree checked.now) self.old.carried.unit (children_of self.old.doing) (A.sight access.old) (A.sight access.new) advanced) }
         ensures knows { IfOk result (λ _. Knows (program_tree checked.now) (A.sight access.new) self.new) }
     {
         let doing = mem::replace(&mut self.doing, Doing::Stopped);

@@ -3,7 +3,7 @@ ghost use Rattle.core_access.specs.Sights.{Counts, Looks};
 ghost use Rattle.script_tree.specs.Programs.{program_tree};
 ghost use Rattle.script_machine.specs.declared.machine.Pause.TheVariants.{NeedUnit as NeedsUnit};
 ghost use Rattle.txn_agent.specs.Linked.{KnowsPaused, KnowsWaiting, KnowsDoing};
-ghost use Rattle.txn_agent.specs.Stepping.{Acts, Happened, Hears, children_of};
+ghost use Rattle.txn_agent.specs.Stepping.{Acts, AnswerSays, Hears, children_of};
 
 use crate::agent::Advanced;
 use crate::looks::known_of;
@@ -61,7 +61,7 @@ pub fn begin_child<A: Access>(
     ensures fit { A.is_fit access.new }
     ensures aside { A.aside access.new ≡ A.aside access.old }
     ensures acts { Acts A.may_come (program_tree checked.now) carried.unit (A.sight access.old) (A.sight access.new) }
-    ensures told { IfOk result (λ made. Happened A.may_come (program_tree checked.now) carried.unit work.kids (A.sight access.old) (A.sight access.new) made.1) }
+    ensures told { IfOk result (λ made. AnswerSays A.may_come (program_tree checked.now) carried.unit work.kids (A.sight access.old) (A.sight access.new) made.1) }
     ensures doing { IfOk result (λ made. KnowsDoing (program_tree checked.now) (A.sight access.new) carried made.0) }
 {
     let index = work.kids;

@@ -10,7 +10,7 @@ ghost use Rattle.promise_spec.specs.Serial.{depth_of};
 ghost use Rattle.txn_agent.specs.declared.work.Doing.TheVariants.{Frees as FreesAll};
 ghost use Rattle.txn_agent.specs.Working.{IsEffectOf, found_by, source_of};
 ghost use Rattle.txn_agent.specs.Linked.{KnowsPaused, KnowsDoing};
-ghost use Rattle.txn_agent.specs.Stepping.{Acts, Happened, without};
+ghost use Rattle.txn_agent.specs.Stepping.{Acts, AnswerSays, all_but};
 
 use crate::agent::Advanced;
 use crate::work::{Carried, Doing, Work};
@@ -97,7 +97,7 @@ pub fn finish<A: Access>(
     ensures fit { A.is_fit access.new }
     ensures aside { A.aside access.new ≡ A.aside access.old }
     ensures acts { Acts A.may_come (program_tree checked.now) carried.unit (A.sight access.old) (A.sight access.new) }
-    ensures told { IfOk result (λ made. Happened A.may_come (program_tree checked.now) carried.unit work.kids (A.sight access.old) (A.sight access.new) made.1) }
+    ensures told { IfOk result (λ made. AnswerSays A.may_come (program_tree checked.now) carried.unit work.kids (A.sight access.old) (A.sight access.new) made.1) }
     ensures doing { IfOk result (λ made. KnowsDoing (program_tree checked.now) (A.sight access.new) carried made.0) }
 {
     let (effect, held) = effect_of(alloc, carried, work)?;
@@ -130,7 +130,7 @@ pub fn end_plain<A: Access>(
     ensures fit { A.is_fit access.new }
     ensures aside { A.aside access.new ≡ A.aside access.old }
     ensures acts { Acts A.may_come (program_tree checked.now) carried.unit (A.sight access.old) (A.sight access.new) }
-    ensures told { IfOk result (λ made. Happened A.may_come (program_tree checked.now) carried.unit work.kids (A.sight access.old) (A.sight access.new) made.1) }
+    ensures told { IfOk result (λ made. AnswerSays A.may_come (program_tree checked.now) carried.unit work.kids (A.sight access.old) (A.sight access.new) made.1) }
     ensures doing { IfOk result (λ made. KnowsDoing (program_tree checked.now) (A.sight access.new) carried made.0) }
 {
     let (effect, held) = effect_of(alloc, carried, work)?;
@@ -189,7 +189,7 @@ fn differs(one: GrainId, other: GrainId) -> bool
 
 /// These grains but for one.
 fn leave(held: List<GrainId>, grain: GrainId) -> List<GrainId>
-    ensures { result ≡ without grain held }
+    ensures { result ≡ all_but grain held }
 {
     let mut grains = held.into_vec();
     grains.retain(|other| differs(*other, grain));
@@ -209,7 +209,7 @@ pub fn release<A: Access>(
     ensures fit { A.is_fit access.new }
     ensures aside { A.aside access.new ≡ A.aside access.old }
     ensures acts { Acts A.may_come (program_tree checked.now) carried.unit (A.sight access.old) (A.sight access.new) }
-    ensures told { IfOk result (λ made. Happened A.may_come (program_tree checked.now) carried.unit 0 (A.sight access.old) (A.sight access.new) made.1) }
+    ensures told { IfOk result (λ made. AnswerSays A.may_come (program_tree checked.now) carried.unit 0 (A.sight access.old) (A.sight access.new) made.1) }
     ensures doing { IfOk result (λ made. KnowsDoing (program_tree checked.now) (A.sight access.new) carried made.0) }
 {
     let Some(grain) = lowest(held.as_slice()) else {

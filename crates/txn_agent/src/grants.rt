@@ -7,7 +7,7 @@ ghost use Rattle.script_tree.specs.Programs.{program_tree};
 ghost use Rattle.script_machine.specs.Machines.{asks_raise, rest};
 ghost use Rattle.script_machine.specs.declared.machine.Pause.TheVariants.{NeedGrain};
 ghost use Rattle.txn_agent.specs.Linked.{KnowsPaused, KnowsDoing};
-ghost use Rattle.txn_agent.specs.Stepping.{Acts, Happened};
+ghost use Rattle.txn_agent.specs.Stepping.{Acts, AnswerSays};
 
 use crate::agent::Advanced;
 use crate::work::{Carried, Doing, Work};
@@ -36,7 +36,7 @@ pub fn grant_first<A: Access>(
     ensures fit { A.is_fit access.new }
     ensures aside { A.aside access.new ≡ A.aside access.old }
     ensures acts { Acts A.may_come (program_tree checked.now) carried.unit (A.sight access.old) (A.sight access.new) }
-    ensures told { IfOk result (λ made. Happened A.may_come (program_tree checked.now) carried.unit work.kids (A.sight access.old) (A.sight access.new) made.1) }
+    ensures told { IfOk result (λ made. AnswerSays A.may_come (program_tree checked.now) carried.unit work.kids (A.sight access.old) (A.sight access.new) made.1) }
     ensures doing { IfOk result (λ made. KnowsDoing (program_tree checked.now) (A.sight access.new) carried made.0) }
 {
     let reply = match access.put(CoreEvent::Grant {
@@ -83,7 +83,7 @@ pub fn grant_again<A: Access>(
     ensures fit { A.is_fit access.new }
     ensures aside { A.aside access.new ≡ A.aside access.old }
     ensures acts { Acts A.may_come (program_tree checked.now) carried.unit (A.sight access.old) (A.sight access.new) }
-    ensures told { IfOk result (λ made. Happened A.may_come (program_tree checked.now) carried.unit work.kids (A.sight access.old) (A.sight access.new) made.1) }
+    ensures told { IfOk result (λ made. AnswerSays A.may_come (program_tree checked.now) carried.unit work.kids (A.sight access.old) (A.sight access.new) made.1) }
     ensures doing { IfOk result (λ made. KnowsDoing (program_tree checked.now) (A.sight access.new) carried made.0) }
 {
     let reply = match access.put(CoreEvent::Grant {

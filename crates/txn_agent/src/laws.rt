@@ -19,15 +19,15 @@ ghost use Rattle.worker_rules.specs.Stories.{NoneLoads};
 ghost use Rattle.txn_agent.specs.declared.agent.Advanced.{Advanced as AnAnswer};
 ghost use Rattle.txn_agent.specs.declared.agent.Agent.{Agent as AnAgent};
 ghost use Rattle.txn_agent.specs.declared.work.Carried.{Carried as AUnitAsBegun};
-ghost use Rattle.txn_agent.specs.Linked.{IfOwn, IsNew, IsSound, Knows};
-ghost use Rattle.txn_agent.specs.Stepping.{Acts, GoesOn, Happened, is_move};
+ghost use Rattle.txn_agent.specs.Linked.{IfOwn, IsNew, IsLegalRun, Knows};
+ghost use Rattle.txn_agent.specs.Stepping.{Acts, GoesByEvent, AnswerSays, is_move};
 
 /// A unit that began by an event that was put through an access has nothing by then but its call, if nobody else made an event
 /// of it: so it can be carried. No grain was loaded, and what makes no transaction is begun as a plain run.
 pub fn a_new_unit_can_be_carried()
     ensures began { (may : AnEvent → Bool) (s t : Sight) (e : AnEvent) (u : AUnit) → Tells may s e (Began u) t → BeganHere u t }
     ensures new { (may : AnEvent → Bool) (types : ProgramTree) (s t : Sight) (c : AUnitAsBegun) (call : ACall) → Tells may s (Begin c.origin call c.plain) (Began c.unit) t
-        → Counts s → IsSound s.first → NoneLoads s.mine → (c.plain ≡ true → IsTransaction types call → ⊥) → IfOwn c t (λ r. IsNew types r c call) }
+        → Counts s → IsLegalRun s.first → NoneLoads s.mine → (c.plain ≡ true → IsTransaction types call → ⊥) → IfOwn c t (λ r. IsNew types r c call) }
 {}
 
 /// What an agent knows of its unit it knows behind a look, behind an event that isn't the unit's and loads nothing, as each of
@@ -44,7 +44,7 @@ pub fn others_leave_an_agent()
 
 /// What an answer says is what a step does.
 pub fn answers_are_steps()
-    ensures { (may : AnEvent → Bool) (types : ProgramTree) (u : AUnit) (kids : ℕ) (s t : Sight) (a : AnAnswer) → Happened may types u kids s t a → Acts may types u s t }
+    ensures { (may : AnEvent → Bool) (types : ProgramTree) (u : AUnit) (kids : ℕ) (s t : Sight) (a : AnAnswer) → AnswerSays may types u kids s t a → Acts may types u s t }
 {}
 
 /// One's own entries are counted behind a step, and a unit that began by one of them did.
@@ -68,10 +68,10 @@ pub fn a_step_alone_keeps_the_rule()
 /// memory, a step that says that it moved went on by an event of the unit that applies. It says so exactly where the unit can
 /// move by the turn rule; else it changed nothing.
 pub fn a_step_alone_goes_on()
-    ensures moves { (types : ProgramTree) (u : AUnit) (kids : ℕ) (s t : Sight) (a : AnAnswer) → Happened none_comes types u kids s t a → IsAlone (leaves_unit u) s
-        → (run_seen s).kinds ≡ length types → (run_seen s).capacity ≡ None → IsGoing (ends (run_seen s)) → is_move a ≡ true → GoesOn u (run_seen s) (run_seen t) }
-    ensures tells { (b : Basis) (u : AUnit) (kids : ℕ) (s t : Sight) (a : AnAnswer) → Happened none_comes b.types u kids s t a → IsAlone (leaves_unit u) s
-        → (run_seen s).kinds ≡ length b.types → (run_seen s).capacity ≡ None → IsGoing (ends (run_seen s)) → IsSound (run_seen s)
+    ensures moves { (types : ProgramTree) (u : AUnit) (kids : ℕ) (s t : Sight) (a : AnAnswer) → AnswerSays none_comes types u kids s t a → IsAlone (leaves_unit u) s
+        → (run_seen s).kinds ≡ length types → (run_seen s).capacity ≡ None → IsGoing (ends (run_seen s)) → is_move a ≡ true → GoesByEvent u (run_seen s) (run_seen t) }
+    ensures tells { (b : Basis) (u : AUnit) (kids : ℕ) (s t : Sight) (a : AnAnswer) → AnswerSays none_comes b.types u kids s t a → IsAlone (leaves_unit u) s
+        → (run_seen s).kinds ≡ length b.types → (run_seen s).capacity ≡ None → IsGoing (ends (run_seen s)) → IsLegalRun (run_seen s)
         → is_move a ≡ can_move b.types (ends (run_seen s)) (got_in (run_seen s)) u }
-    ensures waits { (types : ProgramTree) (u : AUnit) (kids : ℕ) (s t : Sight) (a : AnAnswer) → Happened none_comes types u kids s t a → is_move a ≡ false → t ≡ s }
+    ensures waits { (types : ProgramTree) (u : AUnit) (kids : ℕ) (s t : Sight) (a : AnAnswer) → AnswerSays none_comes types u kids s t a → is_move a ≡ false → t ≡ s }
 {}

@@ -6,7 +6,7 @@ ghost use Rattle.core_access.specs.Sights.{run_seen, Counts};
 ghost use Rattle.script_tree.specs.Programs.{program_tree};
 ghost use Rattle.script_machine.specs.declared.machine.Pause.TheVariants.{NeedGrain};
 ghost use Rattle.txn_agent.specs.Linked.{KnowsPaused, KnowsDoing};
-ghost use Rattle.txn_agent.specs.Stepping.{Acts, Happened};
+ghost use Rattle.txn_agent.specs.Stepping.{Acts, AnswerSays};
 
 use crate::agent::Advanced;
 use crate::grants::{grant_again, grant_first};
@@ -35,7 +35,7 @@ fn refuse<A: Access>(
     ensures fit { A.is_fit access.new }
     ensures aside { A.aside access.new ≡ A.aside access.old }
     ensures acts { Acts A.may_come (program_tree checked.now) carried.unit (A.sight access.old) (A.sight access.new) }
-    ensures told { IfOk result (λ made. Happened A.may_come (program_tree checked.now) carried.unit work.kids (A.sight access.old) (A.sight access.new) made.1) }
+    ensures told { IfOk result (λ made. AnswerSays A.may_come (program_tree checked.now) carried.unit work.kids (A.sight access.old) (A.sight access.new) made.1) }
     ensures doing { IfOk result (λ made. KnowsDoing (program_tree checked.now) (A.sight access.new) carried made.0) }
 {
     let reply = match access.put(CoreEvent::Refuse {
@@ -71,7 +71,7 @@ pub fn take_grain<A: Access>(
     ensures fit { A.is_fit access.new }
     ensures aside { A.aside access.new ≡ A.aside access.old }
     ensures acts { Acts A.may_come (program_tree checked.now) carried.unit (A.sight access.old) (A.sight access.new) }
-    ensures told { IfOk result (λ made. Happened A.may_come (program_tree checked.now) carried.unit work.kids (A.sight access.old) (A.sight access.new) made.1) }
+    ensures told { IfOk result (λ made. AnswerSays A.may_come (program_tree checked.now) carried.unit work.kids (A.sight access.old) (A.sight access.new) made.1) }
     ensures doing { IfOk result (λ made. KnowsDoing (program_tree checked.now) (A.sight access.new) carried made.0) }
 {
     match ask_for(access, carried.unit, grain, mode)? {
