@@ -56,8 +56,8 @@ use host_trait::{FileId, Host, read_full};
 use silo_opening::open_silo;
 use std::alloc::Global;
 use std::io::{self, ErrorKind};
-use std::time::CpuClock;
 use std::fs;
+use std::time::CpuClock;
 
 // The number behind a word in a file of /proc/self.
 fn figure(rt: &HostRuntime, path: &str, word: &str) -> io::Result<u64> {
@@ -75,26 +75,23 @@ fn reads(rt: &HostRuntime) -> io::Result<u64> {
     figure(rt, "/proc/self/io", "syscr:")
 }
 
-fn file(key: u32) -> FileId {
-    FileId::Grain { slot: 0, grain: GrainId { kind: 0, key } }
-}
-
 // How many of so many records are on a grain.
 fn count_on(key: u32, records: u64) -> u64 {
     let behind = if key == 0 { 0 } else { 1 };
-    (records - key as u64) / 64 + behind
+    (records.wrapping_sub(key as u64) / 64).wrapping_add(behind)
 }
 
 fn one_by_one<H: Host>(alloc: Global, host: &mut H, shape: &Shape, records: u64) -> io::Result<u64> {
-    let mut seen = 0;
+    let mut seen = 0u64;
     for key in 0..64u32 {
         for at in 0..count_on(key, records) {
-            let unit = if key == 0 { 64 * (at + 1) } else { 64 * at + key as u64 };
-            let place = Place { offset: 19 * at, len: 19 };
-            if read_named(alloc, host, file(key), UnitNo(unit), place, shape).is_err() {
+            let first = if key == 0 { 64 } else { key as u64 };
+            let unit = UnitNo(at.wrapping_mul(64).wrapping_add(first));
+            let place = Place { offset: at.wrapping_mul(19), len: 19 };
+            if read_named(alloc, host, FileId::Grain { slot: 0, grain: GrainId { kind: 0, key } }, unit, place, shape).is_err() {
                 return Err(ErrorKind::InvalidData.into());
             }
-            seen += 1;
+            seen = 1u64.wrapping_add(seen);
         }
     }
     Ok(seen)
@@ -111,17 +108,20 @@ fn decode(alloc: Global, bytes: &[u8]) -> io::Result<Version> {
 }
 
 fn in_one_piece<H: Host>(alloc: Global, host: &mut H, records: u64) -> io::Result<u64> {
-    let mut seen = 0;
+    let mut seen = 0u64;
     for key in 0..64u32 {
         let count = count_on(key, records) as usize;
-        let mut whole = vec![in alloc; 0u8; 19 * count]?;
-        if !matches!(read_full(host, file(key), 0, &mut whole), Ok(true)) {
+        let file = FileId::Grain { slot: 0, grain: GrainId { kind: 0, key } };
+        host.ready(file)?;
+        let mut whole = vec![in alloc; 0u8; count.wrapping_mul(19)]?;
+        if !matches!(read_full(host, file, 0, &mut whole), Ok(true)) {
             return Err(ErrorKind::InvalidData.into());
         }
         for at in 0..count {
-            let version = decode(alloc, &whole[19 * at..19 * at + 19])?;
+            let from = at.wrapping_mul(19);
+            let version = decode(alloc, whole.get(from..from.wrapping_add(19)).unwrap_or(&[]))?;
             if version.unit.0 > 0 {
-                seen += 1;
+                seen = 1u64.wrapping_add(seen);
             }
         }
     }
@@ -132,14 +132,14 @@ fn opening(rt: &HostRuntime, folder: &str, records: u64) -> io::Result<()> {
     let alloc = rt.alloc();
     let mut host = FolderHost::new(alloc, rt, rt.reader(), io::writer(rt), folder)?;
     let reads_before = reads(rt)?;
-    let reads_of_asking = reads(rt)? - reads_before;
+    let reads_of_asking = reads(rt)?.wrapping_sub(reads_before);
     let reads_before = reads(rt)?;
     let begun = rt.thread_cpu_time()?;
     let Ok(opened) = open_silo(alloc, &mut host) else {
         return Err(ErrorKind::InvalidData.into());
     };
-    let opening = rt.thread_cpu_time()?.as_micros() - begun.as_micros();
-    let read = reads(rt)? - reads_before - reads_of_asking;
+    let opening = rt.thread_cpu_time()?.as_micros().wrapping_sub(begun.as_micros());
+    let read = reads(rt)?.wrapping_sub(reads_before).wrapping_sub(reads_of_asking);
     let peak = figure(rt, "/proc/self/status", "VmHWM:")?;
     let count = opened.count;
     println!(rt; "opened {count} records in {} ms with {read} reads; peak {peak} kB", opening / 1000)?;
@@ -149,8 +149,8 @@ fn opening(rt: &HostRuntime, folder: &str, records: u64) -> io::Result<()> {
     let between = rt.thread_cpu_time()?;
     let again = in_one_piece(alloc, &mut host, records)?;
     let ended = rt.thread_cpu_time()?;
-    let one = between.as_micros() - begun.as_micros();
-    let piece = ended.as_micros() - between.as_micros();
+    let one = between.as_micros().wrapping_sub(begun.as_micros());
+    let piece = ended.as_micros().wrapping_sub(between.as_micros());
     println!(rt; "  {seen} versions by a read each in {one} us, {again} from one piece a grain in {piece} us")?;
     Ok(())
 }
