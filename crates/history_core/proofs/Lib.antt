@@ -1,0 +1,13 @@
+pub mod Stepping
+pub mod Reached
+pub mod Lists
+pub mod Alike
+pub mod Simple
+pub mod Begun
+pub mod Locking
+pub mod Releases
+pub mod Learns
+pub mod Finishes
+pub mod Endings
+pub mod Takes
+pub mod Votes

@@ -1,0 +1,10 @@
+pub mod Closing
+pub mod Kept
+pub mod Asked
+pub mod Granting
+pub mod Releasing
+pub mod Handing
+pub mod Taking
+pub mod Steps
+pub mod Histories
+pub mod Cores
