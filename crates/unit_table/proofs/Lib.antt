@@ -1,0 +1,5 @@
+pub mod Parts
+pub mod Running
+mod Entries
+mod Tables
+mod Beginning

@@ -1,0 +1,26 @@
+use Rattle.std.proofs.Common.{refl, sym}
+use Rattle.core_model.specs.declared.phases.Phase.TheVariants as phases
+use Rattle.core_model.specs.declared.phases.Verdict.TheVariants as verdicts
+use Rattle.unit_table.specs.Known.{KnownUnit}
+use Rattle.unit_table.specs.Table.{known_in}
+use Rattle.unit_table.proofs.Tables.{over-units, attr-put, attr-kept}
+use Rattle.unit_table.proofs.Running.{running-open}
+use Rattle.unit_table.proofs.table.UnitTable.end.Goals as goal
+
+pub returns-clause-units : goal.returns-clause-units
+returns-clause-units c =
+    over-units c.args.self.now c.close.new.self c.args.unit phases.Ended verdicts.Open c.args.outcome c.close.ensures.known c.close.ensures.wants
+    (record { next = c.close.ensures.next; lines = c.close.ensures.lines; rest = c.close.ensures.rest })
+
+pub returns-clause-verdict : goal.returns-clause-verdict
+returns-clause-verdict c =
+    let t = c.args.self.now in
+    attr-kept (λ (k : KnownUnit). k.verdict) (known_in t) (known_in c.close.new.self) c.args.unit
+    (record (known_in t c.args.unit) { phase = phases.Ended; verdict = verdicts.Open; result = c.args.outcome }) c.close.ensures.known
+    (sym (running-open t c.args.unit c.requires))
+
+pub returns-clause-result : goal.returns-clause-result
+returns-clause-result c =
+    let t = c.args.self.now in
+    attr-put (λ (k : KnownUnit). k.result) (known_in t) (known_in c.close.new.self) c.args.unit
+    (record (known_in t c.args.unit) { phase = phases.Ended; verdict = verdicts.Open; result = c.args.outcome }) c.close.ensures.known
