@@ -1,0 +1,6 @@
+pub mod Steps
+pub mod Planned
+pub mod Named
+pub mod Agreed
+pub mod Linked
+pub mod Stages
