@@ -1,5 +1,5 @@
 -- The state after a unit has begun.
-use Rattle.std.proofs.Common.{◌≡◌, ℕ, ◌+◌, ◌<◌, ◌≤◌, ◌^◌, List, [], ◌∷◌, Bool, true, false, ◌&&◌, refl, sym, ap, ◌∙◌, subst, arith, eqb-true, Option, Some, None, length, map, le_refl}
+use Rattle.std.proofs.Common.{◌≡◌, ℕ, ◌+◌, ◌<◌, ◌≤◌, ◌^◌, List, [], ◌∷◌, Bool, true, false, ◌&&◌, refl, sym, ap, ◌∙◌, subst, arith, eqb-true, Option, Some, None, length, map, is_some, le_refl}
 use Rattle.std.specs.Prelude.{◌==◌}
 use Rattle.std.specs.List.{list_all as all}
 use Rattle.std.proofs.lemmas.Bool.{and_parts}
@@ -9,7 +9,7 @@ use Rattle.core_model.specs.World.{UnitNo, GrainId, Member, Call, Origin, Units,
 use Rattle.core_model.specs.declared.phases.Phase.{Phase}
 use Rattle.core_model.specs.declared.phases.Phase.TheVariants.{Unborn, Running, Finished}
 use Rattle.core_model.specs.declared.effects.Effect.{Effect}
-use Rattle.core_model.specs.Tests.{is_running, is_decided, written, waiting}
+use Rattle.core_model.specs.Tests.{is_running, is_decided, outcome_in, written, waiting}
 use Rattle.core_model.specs.Answers.{effect_of}
 use Rattle.core_model.specs.Changes.{begun, new_unit}
 use Rattle.core_model.specs.Events.{can_begin}
@@ -23,6 +23,7 @@ use Rattle.unit_table.specs.Table.{units_of, verdict_in, result_in, next_in, pha
 use Rattle.unit_table.specs.Rooms.{ParentRuns, LineIsCounted}
 use Rattle.unit_table.specs.declared.table.UnitTable.{UnitTable}
 use Rattle.history_core.specs.declared.parts.Parts.{Parts}
+use Rattle.history_core.specs.Asked.{is_next_child_in, FitsLine}
 use Rattle.history_core.specs.Kept.{Stands, IsReached}
 use Rattle.history_core.specs.Steps.{CanDo, Does}
 use Rattle.history_core.proofs.Stepping.{can-is}
@@ -73,9 +74,15 @@ parent-runs p (Child q i d) call plain c =
 
 -- a line's number is one of 32 bits, so the lines before it are fewer
 pub line-counts : (t : UnitTable) (p : Parts) (origin : Origin) (call : Call) (plain : Bool) → CanDo p (Begin origin call plain) → t.lines ≡ p.units.lines →
-    ((n : ℕ) → origin ≡ Line n → n < 2 ^ 32) → LineIsCounted t origin
+    FitsLine origin → LineIsCounted t origin
 line-counts t p (Line n) call plain c e fits =
     let q : n ≡ c.0.units.lines + 1 = eqb-true _ _ (can-is c.0 (Begin (Line n) call plain) c.3) in
     let l : c.0.units.lines ≡ p.units.lines = ap (λ (us : Units). us.lines) c.1.units in
-    omega (arith, q, l, e, fits n refl)
+    omega (arith, q, l, e, fits)
 line-counts t p (Child q i d) call plain c e fits = tt
+
+-- whether a child can begin is told by what is kept
+pub next-child-is : (p : Parts) (w : World) (q : UnitNo) (index depth : ℕ) → Stands p w → is_next_child_in p q index ≡ can_begin w (Child q index depth)
+next-child-is p w q index depth s = λ i.
+    is_running ((sym s.units i).phase q)
+    && ((index == length ((sym s.units i).kids q)) && all (λ u. is_some (outcome_in ((sym s.units i).phase u) (sym s.verdict i u) (sym s.result i u))) ((sym s.units i).kids q))

@@ -21,7 +21,7 @@ use Rattle.core_model.proofs.Basics.{written-member}
 use Rattle.core_model.proofs.Puts.{put-at, put-is, put-other, put-same, grain-at, grain-is, grain-other}
 use Rattle.core_model.proofs.Orders.{Member-get, take_length}
 use Rattle.core_model.proofs.Plans.{flat-member, member-flat}
-use Rattle.core_lists.specs.Pairs.{is_pair, has_pair, other_pairs}
+use Rattle.core_lists.specs.Pairs.{is_pair, has_pair, without_first, other_pairs}
 use Rattle.core_lists.specs.Room.{PairsInRoom}
 use Rattle.grain_cell.specs.Room.{CellInRoom}
 use Rattle.cell_table.specs.Table.{cell_in, opens_with, cell_at, cell_or, has_cell}
@@ -204,6 +204,31 @@ learnt-nothing t u g commits n none = sym (put-self (cell_in t) g (learned (cell
     by_cell : (o : Option CellInRoom) → is_some o ≡ false → learned (cell_or o (opens_with t g)) u commits ≡ cell_or o (opens_with t g)
     by_cell None e = learned-opened (opens_with t g) u commits n
     by_cell (Some c) e = cc
+
+-- the first pair that goes leaves the others
+pub other-first : (ps : List (UnitNo × GrainId)) (u : UnitNo) (g : GrainId) → other_pairs (without_first ps u g) u g ≡ other_pairs ps u g
+other-first [] u g = refl
+other-first (p ∷ ps) u g = go (is_pair u g p) refl
+  where
+    go : (b : Bool) → is_pair u g p ≡ b → other_pairs (if b then ps else p ∷ without_first ps u g) u g ≡ (if not b then p ∷ other_pairs ps u g else other_pairs ps u g)
+    go true e = refl
+    go false e = ap (λ (b : Bool). if not b then p ∷ other_pairs (without_first ps u g) u g else other_pairs (without_first ps u g) u g) e ∙ ap (λ t. p ∷ t) (other-first ps u g)
+
+pub first-shorter : (ps : List (UnitNo × GrainId)) (u : UnitNo) (g : GrainId) → has_pair ps u g ≡ true → length (without_first ps u g) < length ps
+first-shorter [] u g e = cc
+first-shorter (p ∷ ps) u g e = go (is_pair u g p) e
+  where
+    go : (b : Bool) → (b || has_pair ps u g) ≡ true → length (if b then ps else p ∷ without_first ps u g) < length (p ∷ ps)
+    go true h = omega arith
+    go false h = (let t = first-shorter ps u g h in omega (arith, t))
+
+pub no-pair : (ps : List (UnitNo × GrainId)) (u : UnitNo) (g : GrainId) → has_pair ps u g ≡ false → other_pairs ps u g ≡ ps
+no-pair [] u g e = refl
+no-pair (p ∷ ps) u g e = go (is_pair u g p) refl e
+  where
+    go : (b : Bool) → is_pair u g p ≡ b → (b || has_pair ps u g) ≡ false → (if not b then p ∷ other_pairs ps u g else other_pairs ps u g) ≡ p ∷ ps
+    go true q h = cc
+    go false q h = ap (λ t. p ∷ t) (no-pair ps u g h)
 
 pub does-learn : (p : Parts) (u : UnitNo) (g : GrainId) (new : CellTable) (learn : PairsInRoom) →
     cell_in new ≡ put_grain (cell_in p.cells) g (learned (cell_in p.cells g) u (is_committed (verdict_in p.units u))) →

@@ -11,3 +11,7 @@ pub mod Finishes
 pub mod Endings
 pub mod Takes
 pub mod Votes
+pub mod Fronts
+pub mod Closed
+pub mod Sealing
+pub mod Decides

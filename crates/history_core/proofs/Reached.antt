@@ -12,6 +12,8 @@ use Rattle.core_model.specs.declared.events.CoreEvent.TheVariants.{Bad, Begin, G
 use Rattle.core_model.specs.Serial.{Plays, AllPlay}
 use Rattle.core_model.specs.Legal.{Run, IsLegal, ends}
 use Rattle.core_model.specs.Consistent.{IsConsistent, ClosedBatchesArePrefix}
+use Rattle.core_model.specs.Batches.{BatchesFollow}
+use Rattle.core_model.proofs.Voted.{follows-ends}
 use Rattle.core_model.specs.Holders.{HoldersHaveRead}
 use Rattle.core_model.specs.Loadless.{HoldsWithoutLoads}
 use Rattle.core_model.proofs.Orders.{Member-at, Member-take}
@@ -118,3 +120,7 @@ closes-final w r none x m = (let t = closes w r x m in (steady w r).2 none x t.0
 -- a unit that has finished has its place up to the closed ones or after them
 pub late-not-final : (w : World) → IsReached w → (x : UnitNo) → w.units.phase x ≡ Finished → w.manager.closed < w.manager.place x → is_final (w.manager.verdict x) ≡ false
 late-not-final w r x f lt = (prefixes w r).undecided x f lt
+
+-- the batches follow one another
+pub follows : (w : World) → IsReached w → BatchesFollow w
+follows w r = subst BatchesFollow r.3 (follows-ends any_play r.0 (legal r.0 r.1 r.2))

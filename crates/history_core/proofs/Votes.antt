@@ -16,14 +16,10 @@ use Rattle.open_batch.specs.Taken.{TakenBatch, with_vote}
 use Rattle.open_batch.specs.Shown.{ShowsBatch}
 use Rattle.open_batch.proofs.Stages.{shows-vote, may_vote-link}
 use Rattle.history_core.specs.declared.parts.Parts.{Parts}
+use Rattle.history_core.specs.Batches.{may_vote_in}
 use Rattle.history_core.specs.Kept.{Stands, IsReached, ShowsOpen, AllPlaced, owed_in, writes_in}
 use Rattle.history_core.specs.Steps.{CanDo, Does}
 use Rattle.history_core.proofs.Stepping.{can-is}
-
--- whether the batch may have that vote
-abbrev pub may_vote_in : Option TakenBatch → ℕ → GrainId → Bool
-may_vote_in None n g = false
-may_vote_in (Some x) n g = (x.number == n) && (is_none x.decisions && any (same_grain g) x.unvoted)
 
 pub may-vote-is : (o : Option TakenBatch) (ms : List FinishedUnit) (b : Option Batch) (n : ℕ) (g : GrainId) → ShowsOpen o ms b →
     may_vote_in o n g ≡ is_open n (λ c. is_planned c g && not (any (is_vote_on g) c.votes)) b

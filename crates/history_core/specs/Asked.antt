@@ -1,5 +1,8 @@
 -- What is answered to a unit that asks for a lock, by what is kept.
-use Rattle.std.specs.Prelude.{List, Bool, true, ◌&&◌, not, Option, nat_lt, if◌then◌else◌, filter, map}
+use Rattle.std.specs.Prelude.{◌<◌, ◌^◌, ⊤, ℕ, List, Bool, true, ◌&&◌, not, Option, is_some, nat_lt, ◌==◌, if◌then◌else◌, length, filter, map}
+use Rattle.std.specs.List.{list_all as all}
+use Rattle.base_types.specs.declared.calls.Origin.{Origin}
+use Rattle.base_types.specs.declared.calls.Origin.TheVariants.{Line, Child}
 use Rattle.cell_model.specs.Units.{oldest}
 use Rattle.cell_model.specs.Locks as locks
 use Rattle.core_model.specs.World.{UnitNo, GrainId, Mode, same_unit, top}
@@ -8,7 +11,7 @@ use Rattle.core_model.specs.declared.questions.AskAnswer.{AskAnswer}
 use Rattle.core_model.specs.declared.questions.AskAnswer.TheVariants as answer
 use Rattle.core_model.specs.Tests.{is_running, ask_doom, ask_lock}
 use Rattle.cell_table.specs.Table.{cell_in}
-use Rattle.unit_table.specs.Table.{phase_in, reads_in}
+use Rattle.unit_table.specs.Table.{phase_in, kids_in, reads_in, outcome_known}
 use Rattle.history_core.specs.declared.parts.Parts.{Parts}
 
 -- the unit runs, and the grain's type is known
@@ -29,3 +32,17 @@ ask_in p u g mode =
     if is_active_in p u g
     then ask_doom (gone_in p (reads_in p.units u)) (ask_lock true (locks.ask (cell_in p.cells g).holds u mode))
     else answer.NotActive
+
+-- the unit is decided
+abbrev pub is_decided_in : Parts → UnitNo → Bool
+is_decided_in p u = is_some (outcome_known p.units u)
+
+-- the unit runs, and so many children of it have begun and are decided
+abbrev pub is_next_child_in : Parts → UnitNo → ℕ → Bool
+is_next_child_in p u index =
+    is_running (phase_in p.units u) && ((index == length (kids_in p.units u)) && all (is_decided_in p) (kids_in p.units u))
+
+-- the number of a line has 32 bits
+abbrev pub FitsLine : Origin → Type 0
+FitsLine (Line n) = n < 2 ^ 32
+FitsLine (Child p i d) = ⊤

@@ -1,5 +1,5 @@
 -- What becomes of the units of a batch that closes, and what the grains learn of them.
-use Rattle.std.specs.Prelude.{ℕ, List, [], ◌∷◌, ◌++◌, Bool, true, ◌&&◌, not, Option, Some, None, if◌then◌else◌, filter, map, take}
+use Rattle.std.specs.Prelude.{◌≡◌, ⊤, ℕ, List, [], ◌∷◌, ◌++◌, Bool, true, ◌&&◌, not, Option, Some, None, if◌then◌else◌, filter, map, take}
 use Rattle.core_model.specs.World.{UnitNo, GrainId, Value, Write, put, World}
 use Rattle.core_model.specs.declared.phases.Verdict.{Verdict}
 use Rattle.core_model.specs.Tests.{is_final, is_committed, written}
@@ -36,3 +36,8 @@ grains_with u writes = map (λ (x : Write). (u, x.0)) writes
 abbrev pub mapped : (Verdict → Verdict) → List UnitNo → (UnitNo → Verdict) → UnitNo → Verdict
 mapped f [] verdict = verdict
 mapped f (u ∷ us) verdict = mapped f us (put verdict u (f (verdict u)))
+
+-- each written grain has a place
+abbrev pub ArePlaced : (GrainId → Bool) → List Write → Type 0
+ArePlaced placed [] = ⊤
+ArePlaced placed (x ∷ xs) = (placed x.0 ≡ true) × ArePlaced placed xs

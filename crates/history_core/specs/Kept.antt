@@ -16,7 +16,7 @@ use Rattle.open_batch.specs.Taken.{TakenBatch}
 use Rattle.open_batch.specs.Shown.{ShowsBatch}
 use Rattle.core_lists.specs.States.{last_in, has_place, handed_in}
 use Rattle.history_core.specs.declared.parts.Parts.{Parts}
-use Rattle.history_core.specs.Closing.{last_state, unlearnt}
+use Rattle.history_core.specs.Closing.{last_state, unlearnt, ArePlaced}
 
 -- the model's cells, where every grain is in memory
 abbrev pub cells_of : (GrainId → Cell) → (UnitNo → GrainId → Bool) → Cells
@@ -34,11 +34,6 @@ cells_of cell learnt = record {
 abbrev pub writes_in : List FinishedUnit → ℕ
 writes_in [] = 0
 writes_in (f ∷ fs) = length f.effect.writes + writes_in fs
-
--- each written grain has a place
-abbrev pub ArePlaced : (GrainId → Bool) → List Write → Type 0
-ArePlaced placed [] = ⊤
-ArePlaced placed (x ∷ xs) = (placed x.0 ≡ true) × ArePlaced placed xs
 
 -- so has each that these units wrote
 abbrev pub AllPlaced : (GrainId → Bool) → List FinishedUnit → Type 0

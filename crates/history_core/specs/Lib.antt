@@ -5,6 +5,10 @@ pub mod Granting
 pub mod Releasing
 pub mod Handing
 pub mod Taking
+pub mod Fronts
+pub mod Closes
+pub mod Deciding
+pub mod Batches
 pub mod Steps
 pub mod Histories
 pub mod Cores

@@ -1,13 +1,12 @@
 // A unit begins.
-ghost use Rattle.std.specs.Prelude.{◌≡◌, ℕ, Bool, IfOk, IfErr, OnErr};
+ghost use Rattle.std.specs.Prelude.{◌≡◌, Bool, IfOk, IfErr, OnErr};
 ghost use Rattle.std.specs.List.{list_all};
 ghost use Rattle.base_types.specs.declared.calls.Call.{Call};
-ghost use Rattle.base_types.specs.declared.calls.Origin.TheVariants.{Child};
 ghost use Rattle.core_model.specs.World.{World};
-ghost use Rattle.core_model.specs.Tests.{is_decided};
 ghost use Rattle.core_model.specs.Events.{can_begin};
 ghost use Rattle.core_model.specs.declared.events.CoreEvent.TheVariants.{Begin};
 ghost use Rattle.cell_table.specs.Table.{opens_with};
+ghost use Rattle.history_core.specs.Asked.{is_decided_in, is_next_child_in, FitsLine};
 ghost use Rattle.history_core.specs.Kept.{Stands};
 ghost use Rattle.history_core.specs.Steps.{CanDo, Keeps, Tells, Does};
 
@@ -36,7 +35,7 @@ impl Parts {
 
     // Whether the parent runs, and so many children of it have begun and are decided.
     fn is_next_child(&self, parent: UnitNo, index: u32) -> bool
-        ensures { (w : World) → Stands self.now w → (depth : ℕ) → result ≡ can_begin w (Child parent index depth) }
+        ensures { result ≡ is_next_child_in self.now parent index }
     {
         if !self.units.is_running(parent) {
             return false;
@@ -47,7 +46,7 @@ impl Parts {
 
     // Whether these units are decided.
     pub(crate) fn are_decided(&self, units: &[UnitNo]) -> bool
-        ensures { (w : World) → Stands self.now w → result ≡ list_all (is_decided w) units.now }
+        ensures { result ≡ list_all (is_decided_in self.now) units.now }
     {
         units.iter().all(|unit| self.units.is_decided(*unit))
     }
@@ -75,7 +74,18 @@ impl Parts {
                 },
             ));
         }
+        fits_line(&origin);
         let unit = self.units.begin(origin, call, plain);
         Ok(CoreReply::Began { unit })
+    }
+}
+
+// The number of a line has 32 bits.
+fn fits_line(origin: &Origin)
+    ensures { FitsLine origin.now }
+{
+    match *origin {
+        Origin::Line(line) => prove!(u64::from(line) < 4_294_967_296),
+        Origin::Child { .. } => {}
     }
 }

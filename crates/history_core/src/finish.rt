@@ -6,8 +6,9 @@ ghost use Rattle.core_model.specs.World.{World};
 ghost use Rattle.core_model.specs.declared.events.CoreEvent.TheVariants.{Finish};
 ghost use Rattle.core_model.specs.Tests.{is_running};
 ghost use Rattle.std.specs.List.{list_all};
-ghost use Rattle.core_model.specs.Events.{can_finish, holds_alone};
-ghost use Rattle.cell_table.specs.Table.{opens_with};
+ghost use Rattle.core_model.specs.Events.{can_finish};
+ghost use Rattle.rw_locks.specs.Locked.{holds_alone};
+ghost use Rattle.cell_table.specs.Table.{cell_in, opens_with};
 ghost use Rattle.core_lists.specs.States.{handed_in};
 ghost use Rattle.unit_table.specs.Table.{phase_in};
 ghost use Rattle.history_core.specs.Kept.{Stands};
@@ -47,7 +48,7 @@ impl Parts {
 
     // Whether the unit has each written grain alone.
     fn hold_alone(&self, unit: UnitNo, writes: &[(GrainId, State)]) -> bool
-        ensures { (w : World) → Stands self.now w → result ≡ list_all (λ x. holds_alone w unit x.0) writes.now }
+        ensures { result ≡ list_all (λ x. holds_alone unit (cell_in self.now.cells x.0).holds) writes.now }
     {
         writes
             .iter()

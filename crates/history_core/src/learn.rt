@@ -1,16 +1,18 @@
 // A grain learns the decision of a unit that wrote it.
-ghost use Rattle.std.specs.Prelude.{◌≡◌};
+ghost use Rattle.std.specs.Prelude.{◌≡◌, ◌≤◌};
 ghost use Rattle.cell_model.specs.Units.{nobody};
 ghost use Rattle.cell_model.specs.Cells.{learned};
 ghost use Rattle.core_model.specs.World.{put_grain};
 ghost use Rattle.core_model.specs.Tests.{is_committed};
 ghost use Rattle.core_model.specs.declared.events.CoreEvent.TheVariants.{Learn};
 ghost use Rattle.cell_table.specs.Table.{cell_in, opens_with};
+ghost use Rattle.core_lists.specs.Pairs.{other_pairs};
 ghost use Rattle.history_core.specs.Steps.{CanDo, Tells, Does};
 
 use crate::parts::Parts;
 use base_types::{GrainId, UnitNo};
 use cell_table::CellTable;
+use core_lists::LearnQueue;
 use core_model::{CoreReply, Verdict};
 
 impl Parts {
@@ -29,7 +31,7 @@ impl Parts {
     {
         let committed = is_committed(self.units.verdict(unit));
         learn_in(&mut self.cells, unit, grain, committed);
-        self.learn.remove(unit, grain);
+        forget(&mut self.learn, unit, grain);
         CoreReply::Done
     }
 }
@@ -42,6 +44,16 @@ fn learn_in(cells: &mut CellTable, unit: UnitNo, grain: GrainId, committed: bool
 {
     if cells.has_cell(grain) {
         cells.learn(unit, grain, committed);
+    }
+}
+
+// Takes off each pair of this unit and this grain.
+fn forget(learn: &mut LearnQueue, unit: UnitNo, grain: GrainId)
+    ensures pairs { learn.new.pairs ≡ other_pairs learn.old.pairs unit grain }
+    ensures spare { learn.old.spare ≤ learn.new.spare }
+{
+    while learn.contains(unit, grain) {
+        learn.remove(unit, grain);
     }
 }
 

@@ -7,6 +7,8 @@
 mod asking;
 mod bad;
 mod begin;
+mod closing;
+mod decide;
 mod effects;
 mod emitted;
 mod end_plain;
@@ -19,6 +21,7 @@ mod parts;
 mod refuse;
 mod release;
 mod room;
+mod seal;
 mod stops;
 mod take;
 mod vote;

@@ -1,10 +1,8 @@
 // Whether the versions of the batch are on disk in the grain's file.
 ghost use Rattle.std.specs.Prelude.{◌≡◌, Bool};
-ghost use Rattle.core_model.specs.World.{World};
 ghost use Rattle.core_model.specs.declared.events.CoreEvent.TheVariants.{Vote};
-ghost use Rattle.core_model.specs.Events.{can};
 ghost use Rattle.cell_table.specs.Table.{opens_with};
-ghost use Rattle.history_core.specs.Kept.{Stands};
+ghost use Rattle.history_core.specs.Batches.{may_vote_in};
 ghost use Rattle.history_core.specs.Steps.{CanDo, Tells, Does};
 
 use crate::parts::Parts;
@@ -22,7 +20,7 @@ impl Parts {
 
     // Whether that batch is open and undecided, and planned work on that grain has no vote.
     fn may_vote(&self, number: u64, grain: GrainId) -> bool
-        ensures { (w : World) → Stands self.now w → (kept : Bool) → result ≡ can w (Vote number grain kept) }
+        ensures { result ≡ may_vote_in self.now.batch number grain }
     {
         match &self.batch {
             None => false,

@@ -6,6 +6,7 @@ ghost use Rattle.core_model.specs.World.{World};
 ghost use Rattle.core_model.specs.Events.{can_want};
 ghost use Rattle.core_model.specs.declared.events.CoreEvent.TheVariants.{Want};
 ghost use Rattle.cell_table.specs.Table.{opens_with};
+ghost use Rattle.unit_table.specs.Table.{wants_in};
 ghost use Rattle.history_core.specs.Kept.{Stands};
 ghost use Rattle.history_core.specs.Steps.{CanDo, Keeps, Tells, Does};
 
@@ -31,7 +32,7 @@ impl Parts {
 
     // Whether the unit waits for the grain.
     fn wants(&self, unit: UnitNo, grain: GrainId) -> bool
-        ensures { (w : World) → Stands self.now w → result ≡ list_any (λ t. same_unit t.0 unit && same_grain t.1 grain) w.units.wants }
+        ensures { result ≡ list_any (λ t. same_unit t.0 unit && same_grain t.1 grain) (wants_in self.now.units) }
     {
         self.units
             .wants()
