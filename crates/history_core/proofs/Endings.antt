@@ -1,5 +1,5 @@
 -- The state after a unit was refused, or a plain run has ended.
-use Rattle.std.proofs.Common.{◌≡◌, ℕ, ◌+◌, ◌<◌, ◌≤◌, List, [], ◌∷◌, ◌++◌, Bool, true, false, ◌&&◌, not, inl, inr, refl, sym, ap, ◌∙◌, subst, arith, Option, Some, None, take, map, filter}
+use Rattle.std.proofs.Common.{◌≡◌, ℕ, ◌+◌, ◌<◌, ◌≤◌, List, [], ◌∷◌, ◌++◌, Bool, true, false, ◌&&◌, not, inl, inr, refl, sym, ap, ◌∙◌, subst, arith, Option, Some, None, is_some, take, map, filter}
 use Rattle.std.specs.Prelude.{if◌then◌else◌, flat_map}
 use Rattle.cell_model.specs.Units.{Member}
 use Rattle.cell_model.specs.Locks.{holds_lock}
@@ -24,6 +24,8 @@ use Rattle.unit_table.specs.Parts.{units_over}
 use Rattle.unit_table.specs.Table.{units_of, verdict_in, result_in, phase_in, origin_in}
 use Rattle.unit_table.specs.declared.table.UnitTable.{UnitTable}
 use Rattle.history_core.specs.declared.parts.Parts.{Parts}
+use Rattle.history_core.specs.Asked.{ask_in}
+use Rattle.history_core.proofs.Locking.{ask-is}
 use Rattle.history_core.specs.Closing.{unlearnt, last_state}
 use Rattle.history_core.specs.Kept.{Stands, IsReached, owed_in}
 use Rattle.history_core.specs.Steps.{CanDo, Does}
@@ -129,3 +131,13 @@ snapshot-runs w u at o a = go (does w (EndSnapshot u at o)) (decode w (EndSnapsh
 
 pub can-snapshot-runs : (p : Parts) (u : UnitNo) (at : ℕ) (o : Outcome) → CanDo p (EndSnapshot u at o) → is_running (phase_in p.units u) ≡ true
 can-snapshot-runs p u at o c = (λ i. is_running ((sym c.1.units i).phase u)) ∙ ap is_running (snapshot-runs c.0 u at o c.3)
+
+some-is : {A : Type 0} (o : Option A) → is_some o ≡ true → (x : A) × (o ≡ Some x)
+some-is None e = cc
+some-is (Some x) e = (x, refl)
+
+-- there is a cause
+pub refuse-some : (p : Parts) (u : UnitNo) (g : GrainId) (mode : Mode) → CanDo p (Refuse u g mode) → (why : Settled) × (refusal g (ask_in p u g mode) ≡ Some why)
+refuse-some p u g mode c =
+    let t = some-is (refusal g (ask c.0 u g mode)) (can-is c.0 (Refuse u g mode) c.3) in
+    (t.0, ap (refusal g) (ask-is p c.0 u g mode c.1) ∙ t.1)

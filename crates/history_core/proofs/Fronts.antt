@@ -128,30 +128,30 @@ last-append v ws g (u ∷ us) vs before = last-append v ws g us vs (state_after 
 -- ---- lists
 
 pub take-more : {A : Type 0} (n m : ℕ) (xs : List A) → take (n + m) xs ≡ take n xs ++ take m (drop n xs)
-take-more zero m xs = refl
-take-more (suc n) m [] = none m
+take-more zero m xs = (let e : 0 + m ≡ m = omega arith in ap (λ k. take k xs) e)
+take-more (suc n) m [] = (let e : suc n + m ≡ suc (n + m) = omega arith in ap (λ k. take k []) e ∙ none m)
   where
     none : {A : Type 0} (k : ℕ) → ◌≡◌ {A = List A} [] (take k [])
     none zero = refl
     none (suc k) = refl
-take-more (suc n) m (x ∷ xs) = ap (λ t. x ∷ t) (take-more n m xs)
+take-more (suc n) m (x ∷ xs) = (let e : suc n + m ≡ suc (n + m) = omega arith in ap (λ k. take k (x ∷ xs)) e ∙ ap (λ t. x ∷ t) (take-more n m xs))
 
 pub drop-more : {A : Type 0} (n m : ℕ) (xs : List A) → drop m (drop n xs) ≡ drop (n + m) xs
-drop-more zero m xs = refl
-drop-more (suc n) m [] = none m
+drop-more zero m xs = (let e : m ≡ 0 + m = omega arith in ap (λ k. drop k xs) e)
+drop-more (suc n) m [] = (let e : suc (n + m) ≡ suc n + m = omega arith in none m ∙ ap (λ k. drop k []) e)
   where
     none : {A : Type 0} (k : ℕ) → ◌≡◌ {A = List A} (drop k []) []
     none zero = refl
     none (suc k) = refl
-drop-more (suc n) m (x ∷ xs) = drop-more n m xs
+drop-more (suc n) m (x ∷ xs) = (let e : suc (n + m) ≡ suc n + m = omega arith in drop-more n m xs ∙ ap (λ k. drop k (x ∷ xs)) e)
 
 pub filter-append : {A : Type 0} (p : A → Bool) (xs ys : List A) → filter p (xs ++ ys) ≡ filter p xs ++ filter p ys
 filter-append p [] ys = refl
-filter-append p (x ∷ xs) ys = by_test (p x)
+filter-append p (x ∷ xs) ys = by_test (filter-append p xs ys) (p x)
   where
-    by_test : (b : Bool) → (if b then x ∷ filter p (xs ++ ys) else filter p (xs ++ ys)) ≡ (if b then x ∷ filter p xs else filter p xs) ++ filter p ys
-    by_test true = ap (λ t. x ∷ t) (filter-append p xs ys)
-    by_test false = filter-append p xs ys
+    by_test : filter p (xs ++ ys) ≡ filter p xs ++ filter p ys → (b : Bool) → (if b then x ∷ filter p (xs ++ ys) else filter p (xs ++ ys)) ≡ (if b then x ∷ filter p xs else filter p xs) ++ filter p ys
+    by_test rest true = ap (λ t. x ∷ t) rest
+    by_test rest false = rest
 
 pub append-thrice : {A : Type 0} (xs ys zs : List A) → xs ++ (ys ++ zs) ≡ (xs ++ ys) ++ zs
 append-thrice [] ys zs = refl

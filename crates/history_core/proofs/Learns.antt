@@ -45,11 +45,11 @@ same-tests false false f g = refl
 written-some : (x : Write) (xs : List Write) → Member x xs → is_some (written x.0 xs) ≡ true
 written-some x [] m = absurd m
 written-some x (y ∷ ys) (inl e) = (let t : same_grain y.0 x.0 ≡ true = same_grain-is y.0 x.0 (ap (λ (z : Write). z.0) (sym e)) in ap (λ (b : Bool). is_some (if b then Some y.1 else written x.0 ys)) t)
-written-some x (y ∷ ys) (inr m) = go (same_grain y.0 x.0)
+written-some x (y ∷ ys) (inr m) = go (written-some x ys m) (same_grain y.0 x.0)
   where
-    go : (b : Bool) → is_some (if b then Some y.1 else written x.0 ys) ≡ true
-    go true = refl
-    go false = written-some x ys m
+    go : is_some (written x.0 ys) ≡ true → (b : Bool) → is_some (if b then Some y.1 else written x.0 ys) ≡ true
+    go rest true = refl
+    go rest false = rest
 
 wrote : (o : Option (List Value)) → is_some o ≡ true → (v : List Value) × (o ≡ Some v)
 wrote None e = cc
@@ -60,7 +60,7 @@ grain-in u [] t m = absurd m
 grain-in u (y ∷ ys) t (inl e) = (y, inl refl, e)
 grain-in u (y ∷ ys) t (inr m) = (let k = grain-in u ys t m in (k.0, inr k.1, k.2))
 
-in-grains : (u : UnitNo) (xs : List Write) (x : Write) → Member x xs → Member (u, x.0) (map (λ (z : Write). (u, z.0)) xs)
+in-grains : (u : UnitNo) (xs : List Write) (x : Write) → Member x xs → Member {A = UnitNo × GrainId} (u, x.0) (map (λ (z : Write). (u, z.0)) xs)
 in-grains u [] x m = absurd m
 in-grains u (y ∷ ys) x (inl e) = inl (λ i. (u, (e i).0))
 in-grains u (y ∷ ys) x (inr m) = inr (in-grains u ys x m)
@@ -138,12 +138,12 @@ somebody p u g c e =
 -- what has learnt is no longer to learn
 filter-filter : {A : Type 0} (p q : A → Bool) (xs : List A) → filter p (filter q xs) ≡ filter (λ x. q x && p x) xs
 filter-filter p q [] = refl
-filter-filter p q (x ∷ xs) = go (q x) (p x) refl refl
+filter-filter p q (x ∷ xs) = go (filter-filter p q xs) (q x) (p x) refl refl
   where
-    go : (a b : Bool) → q x ≡ a → p x ≡ b → filter p (if a then x ∷ filter q xs else filter q xs) ≡ (if (a && b) then x ∷ filter (λ y. q y && p y) xs else filter (λ y. q y && p y) xs)
-    go true true e f = (λ i. if f i then x ∷ filter p (filter q xs) else filter p (filter q xs)) ∙ ap (λ t. x ∷ t) (filter-filter p q xs)
-    go true false e f = (λ i. if f i then x ∷ filter p (filter q xs) else filter p (filter q xs)) ∙ filter-filter p q xs
-    go false b e f = filter-filter p q xs
+    go : filter p (filter q xs) ≡ filter (λ y. q y && p y) xs → (a b : Bool) → q x ≡ a → p x ≡ b → filter p (if a then x ∷ filter q xs else filter q xs) ≡ (if (a && b) then x ∷ filter (λ y. q y && p y) xs else filter (λ y. q y && p y) xs)
+    go rest true true e f = (λ i. if f i then x ∷ filter p (filter q xs) else filter p (filter q xs)) ∙ ap (λ t. x ∷ t) rest
+    go rest true false e f = (λ i. if f i then x ∷ filter p (filter q xs) else filter p (filter q xs)) ∙ rest
+    go rest false b e f = rest
 
 pub unlearnt-less : (w : World) (u : UnitNo) (g : GrainId) →
     other_pairs (unlearnt w) u g ≡ filter (λ (t : UnitNo × GrainId). not (put w.cells.learnt u (put_grain (w.cells.learnt u) g true) t.0 t.1)) (to_learn w)
@@ -208,27 +208,27 @@ learnt-nothing t u g commits n none = sym (put-self (cell_in t) g (learned (cell
 -- the first pair that goes leaves the others
 pub other-first : (ps : List (UnitNo × GrainId)) (u : UnitNo) (g : GrainId) → other_pairs (without_first ps u g) u g ≡ other_pairs ps u g
 other-first [] u g = refl
-other-first (p ∷ ps) u g = go (is_pair u g p) refl
+other-first (p ∷ ps) u g = go (other-first ps u g) (is_pair u g p) refl
   where
-    go : (b : Bool) → is_pair u g p ≡ b → other_pairs (if b then ps else p ∷ without_first ps u g) u g ≡ (if not b then p ∷ other_pairs ps u g else other_pairs ps u g)
-    go true e = refl
-    go false e = ap (λ (b : Bool). if not b then p ∷ other_pairs (without_first ps u g) u g else other_pairs (without_first ps u g) u g) e ∙ ap (λ t. p ∷ t) (other-first ps u g)
+    go : other_pairs (without_first ps u g) u g ≡ other_pairs ps u g → (b : Bool) → is_pair u g p ≡ b → other_pairs (if b then ps else p ∷ without_first ps u g) u g ≡ (if not b then p ∷ other_pairs ps u g else other_pairs ps u g)
+    go rest true e = refl
+    go rest false e = ap (λ (b : Bool). if not b then p ∷ other_pairs (without_first ps u g) u g else other_pairs (without_first ps u g) u g) e ∙ ap (λ t. p ∷ t) rest
 
 pub first-shorter : (ps : List (UnitNo × GrainId)) (u : UnitNo) (g : GrainId) → has_pair ps u g ≡ true → length (without_first ps u g) < length ps
 first-shorter [] u g e = cc
-first-shorter (p ∷ ps) u g e = go (is_pair u g p) e
+first-shorter (p ∷ ps) u g e = go (λ h. first-shorter ps u g h) (is_pair u g p) e
   where
-    go : (b : Bool) → (b || has_pair ps u g) ≡ true → length (if b then ps else p ∷ without_first ps u g) < length (p ∷ ps)
-    go true h = omega arith
-    go false h = (let t = first-shorter ps u g h in omega (arith, t))
+    go : (has_pair ps u g ≡ true → length (without_first ps u g) < length ps) → (b : Bool) → (b || has_pair ps u g) ≡ true → length (if b then ps else p ∷ without_first ps u g) < length (p ∷ ps)
+    go rest true h = omega arith
+    go rest false h = (let t = rest h in omega (arith, t))
 
 pub no-pair : (ps : List (UnitNo × GrainId)) (u : UnitNo) (g : GrainId) → has_pair ps u g ≡ false → other_pairs ps u g ≡ ps
 no-pair [] u g e = refl
-no-pair (p ∷ ps) u g e = go (is_pair u g p) refl e
+no-pair (p ∷ ps) u g e = go (λ h. no-pair ps u g h) (is_pair u g p) refl e
   where
-    go : (b : Bool) → is_pair u g p ≡ b → (b || has_pair ps u g) ≡ false → (if not b then p ∷ other_pairs ps u g else other_pairs ps u g) ≡ p ∷ ps
-    go true q h = cc
-    go false q h = ap (λ t. p ∷ t) (no-pair ps u g h)
+    go : (has_pair ps u g ≡ false → other_pairs ps u g ≡ ps) → (b : Bool) → is_pair u g p ≡ b → (b || has_pair ps u g) ≡ false → (if not b then p ∷ other_pairs ps u g else other_pairs ps u g) ≡ p ∷ ps
+    go rest true q h = cc
+    go rest false q h = ap (λ t. p ∷ t) (rest h)
 
 pub does-learn : (p : Parts) (u : UnitNo) (g : GrainId) (new : CellTable) (learn : PairsInRoom) →
     cell_in new ≡ put_grain (cell_in p.cells) g (learned (cell_in p.cells g) u (is_committed (verdict_in p.units u))) →

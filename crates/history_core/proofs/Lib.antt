@@ -15,3 +15,4 @@ pub mod Fronts
 pub mod Closed
 pub mod Sealing
 pub mod Decides
+pub mod Effects

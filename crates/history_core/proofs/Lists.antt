@@ -21,12 +21,12 @@ filter-agree f h (u ∷ us) e = (let one = e u (inl refl) in let rest = filter-a
 
 pub filter-in : {A : Type 0} (f : A → Bool) (us : List A) (x : A) → Member x (filter f us) → Member x us
 filter-in f [] x m = m
-filter-in f (u ∷ us) x m = by_test (f u) m
+filter-in f (u ∷ us) x m = by_test (λ k. filter-in f us x k) (f u) m
   where
-    by_test : (b : Bool) → Member x (if b then u ∷ filter f us else filter f us) → Member x (u ∷ us)
-    by_test true (inl e) = inl e
-    by_test true (inr k) = inr (filter-in f us x k)
-    by_test false k = inr (filter-in f us x k)
+    by_test : (Member x (filter f us) → Member x us) → (b : Bool) → Member x (if b then u ∷ filter f us else filter f us) → Member x (u ∷ us)
+    by_test rest true (inl e) = inl e
+    by_test rest true (inr k) = inr (rest k)
+    by_test rest false k = inr (rest k)
 
 pub map-last : {A B : Type 0} (f : A → B) (us : List A) (u : A) → map f (us ++ u ∷ []) ≡ map f us ++ f u ∷ []
 map-last f [] u = refl

@@ -1,8 +1,9 @@
 -- The state after a grant.
-use Rattle.std.proofs.Common.{◌≡◌, ℕ, List, [], ◌∷◌, ◌++◌, Bool, true, false, ◌&&◌, ◌||◌, not, nat_lt, refl, sym, ap, ◌∙◌, subst, Option, Some, None, find, map, inl, inr, ◌⊎◌}
+use Rattle.std.proofs.Common.{◌≡◌, ℕ, List, [], ◌∷◌, ◌++◌, Bool, true, false, ◌&&◌, ◌||◌, not, nat_lt, refl, sym, ap, ◌∙◌, subst, Option, Some, None, find, map, filter, inl, inr, ◌⊎◌}
 use Rattle.std.specs.Prelude.{if◌then◌else◌}
 use Rattle.std.proofs.lemmas.Bool.{cond-true, cond-false, and_parts}
-use Rattle.cell_model.specs.Units.{same_unit, nobody, Member}
+use Rattle.cell_model.specs.Units.{same_unit, nobody, Member, oldest}
+use Rattle.cell_model.specs.declared.locks.Ask.TheVariants.{Free}
 use Rattle.cell_model.specs.Stacks.{top, cut, removed}
 use Rattle.cell_model.specs.Sources.{with_source}
 use Rattle.cell_model.specs.Locks as locks
@@ -16,7 +17,7 @@ use Rattle.core_model.specs.World.{UnitNo, GrainId, Version, Mode, Cells, Units,
 use Rattle.core_model.specs.declared.effects.Read.{Read}
 use Rattle.core_model.specs.declared.phases.Phase.TheVariants.{Running, Finished}
 use Rattle.core_model.specs.declared.effects.Effect.{Effect}
-use Rattle.core_model.specs.Tests.{is_running, is_aborted, is_committed, waiting, written}
+use Rattle.core_model.specs.Tests.{is_running, is_aborted, is_committed, ask, ask_doom, ask_lock, waiting, written}
 use Rattle.core_model.specs.Answers.{effect_of}
 use Rattle.core_model.specs.Changes.{granted, raised, locked, restacked, cleaned, touched, read_of, is_sure, deps_with, without_want}
 use Rattle.core_model.specs.Events.{applies, read_reply}
@@ -31,12 +32,14 @@ use Rattle.grain_cell.proofs.Writers.{found-cleans, none-cleans}
 use Rattle.cell_table.specs.Table.{cell_in}
 use Rattle.cell_table.specs.declared.table.CellTable.{CellTable}
 use Rattle.unit_table.specs.Parts.{units_read, deps_after}
-use Rattle.unit_table.specs.Table.{units_of, verdict_in, result_in, deps_in}
+use Rattle.unit_table.specs.Table.{units_of, verdict_in, result_in, deps_in, phase_in}
 use Rattle.unit_table.specs.declared.table.UnitTable.{UnitTable}
 use Rattle.history_core.specs.declared.parts.Parts.{Parts}
 use Rattle.history_core.specs.Kept.{Stands, IsReached, cells_of}
 use Rattle.history_core.specs.Granting.{Cleans, cell_without, is_sure_in}
-use Rattle.history_core.specs.Steps.{Does}
+use Rattle.history_core.specs.Steps.{CanDo, Does}
+use Rattle.history_core.specs.Asked.{ask_in}
+use Rattle.core_model.specs.declared.questions.AskAnswer.TheVariants as answer
 use Rattle.history_core.proofs.Stepping.{can-is}
 use Rattle.history_core.proofs.Lists.{map-agree}
 use Rattle.history_core.proofs.Reached.{waits, waits-not}
@@ -226,3 +229,18 @@ does-lock p u g m aborted new units found read depends e held is top_is read_is 
   where
     apart : (w : World) → IsReached w → applies w (Grant u g m) ≡ true → (x : UnitNo) → Member x (waiting w) → x ≡ u → ⊥
     apart w r a x k = runs-not w u g m a x (waits w r x k).0
+
+-- the lock is free by what is kept
+pub free-here : (p : Parts) (u : UnitNo) (g : GrainId) (m : Mode) → CanDo p (Grant u g m) → locks.ask (cell_in p.cells g).holds u m ≡ Free
+free-here p u g m c = (λ i. locks.ask ((sym c.1.cells i).holds g) u m) ∙ (ask-granted c.0 u g m (can-is c.0 (Grant u g m) c.3)).2
+
+pub grant-here : (p : Parts) (u : UnitNo) (g : GrainId) (m : Mode) → CanDo p (Grant u g m) → is_running (phase_in p.units u) ≡ true
+grant-here p u g m c = (λ i. is_running ((sym c.1.units i).phase u)) ∙ ap is_running (grant-runs c.0 u g m c.3)
+
+-- what is answered to a unit that asks
+pub ask-is : (p : Parts) (w : World) (u : UnitNo) (g : GrainId) (m : Mode) → Stands p w → ask_in p u g m ≡ ask w u g m
+ask-is p w u g m s = λ i.
+    if (is_running ((sym s.units i).phase u) && nat_lt g.kind (sym s.units i).kinds)
+    then ask_doom (oldest (map (λ (r : Read). r.source) (filter (λ (r : Read). not (same_unit (top ((sym s.cells i).stack r.grain)).unit r.source)) ((sym s.units i).reads u))))
+    (ask_lock ((sym s.cells i).here g) (locks.ask ((sym s.cells i).holds g) u m))
+    else answer.NotActive

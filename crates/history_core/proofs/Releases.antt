@@ -47,15 +47,15 @@ given-is p w u g s r h = ap (λ ph. if_finished ph (handed_in p.handed u g)) (λ
     go Ended e = none Ended e (λ z. cc)
 
 some-wrote : (o : Option (List Value)) → IsSome o → (v : List Value) × (o ≡ Some v)
-some-wrote None h = absurd h
+some-wrote None h = cc
 some-wrote (Some v) h = (v, refl)
 
 is-finished : (ph : Phase) (kept : Option (List Value)) → IsSome (if_finished ph kept) → ph ≡ Finished
-is-finished Unborn kept h = absurd h
-is-finished Running kept h = absurd h
+is-finished Unborn kept h = cc
+is-finished Running kept h = cc
 is-finished Finished kept h = refl
-is-finished Refused kept h = absurd h
-is-finished Ended kept h = absurd h
+is-finished Refused kept h = cc
+is-finished Ended kept h = cc
 
 released-held : (p : Parts) (w : World) (u : UnitNo) (g : GrainId) → Stands p w → is_over (w.units.phase u) && holds_lock u (w.cells.holds g) ≡ true → holds_lock u (w.cells.holds g) ≡ true
 released-held p w u g s e = (and_parts (is_over (w.units.phase u)) (holds_lock u (w.cells.holds g)) e).1

@@ -31,13 +31,13 @@ unapplied p w e a s = subst (Stands p) (sym (cond-false (applies w e) (swept (do
 
 -- an event that applies
 pub takes-done : (p q : Parts) (e : CoreEvent) (told : Bool) (reply : CoreReply) → Tells p e told → told ≡ true → Does p e reply q → Takes p e reply q
-takes-done p q e told reply t yes d = λ w s r. (let a = sym (t w s r) ∙ yes in let now = d w s r a in
+takes-done p q e told reply t here d = λ w s r. (let a = sym (t w s r) ∙ here in let now = d w s r a in
     (applied q w e a now.0, now.1 ∙ sym (cond-true (applies w e) (reply_with w e) (reply_without w e) a)))
 
 -- one that doesn't
 pub takes-not : (p : Parts) (e : CoreEvent) (told : Bool) (reply : CoreReply) → Tells p e told → told ≡ false →
     ((w : World) → Stands p w → IsReached w → applies w e ≡ false → reply ≡ reply_without w e) → Takes p e reply p
-takes-not p e told reply t no d = λ w s r. (let a = sym (t w s r) ∙ no in
+takes-not p e told reply t gone d = λ w s r. (let a = sym (t w s r) ∙ gone in
     (unapplied p w e a s, d w s r a ∙ sym (cond-false (applies w e) (reply_with w e) (reply_without w e) a)))
 
 -- what stands for the state after one event more stands for that of the longer run

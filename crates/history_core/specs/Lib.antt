@@ -9,6 +9,7 @@ pub mod Fronts
 pub mod Closes
 pub mod Deciding
 pub mod Batches
+pub mod Effects
 pub mod Steps
 pub mod Histories
 pub mod Cores

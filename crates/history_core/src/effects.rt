@@ -1,10 +1,9 @@
 // Whether what a unit says that it did is what it did.
-ghost use Rattle.std.specs.Prelude.{◌≡◌, ◌&&◌, true};
-ghost use Rattle.core_model.specs.World.{World, same_unit};
-ghost use Rattle.core_model.specs.Equality.{same_origin, same_call, same_outcome};
-ghost use Rattle.core_model.specs.Tests.{answered_by, is_answer, is_over};
+ghost use Rattle.std.specs.Prelude.{◌≡◌, true};
+ghost use Rattle.core_model.specs.Equality.{same_outcome};
+ghost use Rattle.core_model.specs.Tests.{is_answer, is_over};
 ghost use Rattle.unit_table.specs.Table.{outcome_known, phase_in, result_in};
-ghost use Rattle.history_core.specs.Kept.{Stands};
+ghost use Rattle.history_core.specs.Effects.{is_of_call_in, answered_in};
 
 use crate::parts::Parts;
 use base_types::{Outcome, UnitNo};
@@ -15,7 +14,7 @@ use unit_table::RunningUnit;
 impl Parts {
     // Whether the effect is of the unit's call, with its children's outcomes.
     pub(crate) fn is_of_call(&self, unit: UnitNo, running: &RunningUnit, effect: &Effect) -> bool
-        ensures { (w : World) → Stands self.now w → result ≡ (same_unit effect.now.unit unit && (same_origin effect.now.origin running.now.origin && (same_call effect.now.call running.now.call && answered_by w running.now.kids.items effect.now.answers))) }
+        ensures { result ≡ is_of_call_in self.now unit running.now effect.now }
     {
         effect.unit == unit
             && effect.origin.is_same(&running.origin)
@@ -25,7 +24,7 @@ impl Parts {
 
     // Whether these units are decided, with these outcomes.
     fn are_answers(&self, units: &[UnitNo], answers: &[Outcome]) -> bool
-        ensures { (w : World) → Stands self.now w → result ≡ answered_by w units.now answers.now }
+        ensures { result ≡ answered_in (outcome_known self.now.units) units.now answers.now }
     {
         if units.len() != answers.len() {
             return false;

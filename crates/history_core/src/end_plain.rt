@@ -5,7 +5,7 @@ ghost use Rattle.core_model.specs.World.{World};
 ghost use Rattle.core_model.specs.Changes.{ended};
 ghost use Rattle.core_model.specs.declared.events.CoreEvent.TheVariants.{EndPlain};
 ghost use Rattle.core_model.specs.Tests.{is_running};
-ghost use Rattle.core_model.specs.Events.{can_end_plain};
+ghost use Rattle.history_core.specs.Effects.{can_end_plain_in};
 ghost use Rattle.cell_table.specs.Table.{opens_with};
 ghost use Rattle.unit_table.specs.Table.{phase_in};
 ghost use Rattle.history_core.specs.Kept.{Stands, IsReached, owed_in};
@@ -27,7 +27,7 @@ impl Parts {
 
     // Whether that is the effect of a running plain run, without reads and writes.
     fn has_ended(&self, unit: UnitNo, effect: &Effect) -> bool
-        ensures { (w : World) → Stands self.now w → result ≡ can_end_plain w unit effect.now }
+        ensures { result ≡ can_end_plain_in self.now unit effect.now }
     {
         match self.units.running(unit) {
             None => false,

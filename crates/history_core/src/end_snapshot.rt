@@ -1,10 +1,8 @@
 // A plain run that read a snapshot has come to its end.
 ghost use Rattle.std.specs.Prelude.{◌≡◌, ℕ, IfOk, IfErr, OnErr};
-ghost use Rattle.core_model.specs.World.{World};
 ghost use Rattle.core_model.specs.declared.events.CoreEvent.TheVariants.{EndSnapshot};
-ghost use Rattle.core_model.specs.Events.{can_end_snapshot};
+ghost use Rattle.history_core.specs.Effects.{can_end_snapshot_in};
 ghost use Rattle.cell_table.specs.Table.{opens_with};
-ghost use Rattle.history_core.specs.Kept.{Stands};
 ghost use Rattle.history_core.specs.Steps.{CanDo, Keeps, Tells, Does};
 
 use crate::parts::Parts;
@@ -23,7 +21,7 @@ impl Parts {
 
     // Whether that is a running plain run without children, and the outcome no abort.
     fn may_end_snapshot(&self, unit: UnitNo, outcome: &Outcome) -> bool
-        ensures { (w : World) → Stands self.now w → result ≡ can_end_snapshot w unit outcome.now }
+        ensures { result ≡ can_end_snapshot_in self.now unit outcome.now }
     {
         match self.units.running(unit) {
             None => false,

@@ -2,16 +2,14 @@
 ghost use Rattle.std.specs.Prelude.{◌≡◌, ◌<◌, ◌&&◌, true, not, ℕ, vec_len, vec_capacity, IfOk, IfErr, OnOk, OnErr};
 ghost use Rattle.base_types.specs.declared.calls.UnitNo.{UnitNo};
 ghost use Rattle.base_types.specs.declared.calls.GrainId.{GrainId};
-ghost use Rattle.core_model.specs.World.{World};
 ghost use Rattle.core_model.specs.declared.events.CoreEvent.TheVariants.{Finish};
 ghost use Rattle.core_model.specs.Tests.{is_running};
 ghost use Rattle.std.specs.List.{list_all};
-ghost use Rattle.core_model.specs.Events.{can_finish};
 ghost use Rattle.rw_locks.specs.Locked.{holds_alone};
 ghost use Rattle.cell_table.specs.Table.{cell_in, opens_with};
 ghost use Rattle.core_lists.specs.States.{handed_in};
 ghost use Rattle.unit_table.specs.Table.{phase_in};
-ghost use Rattle.history_core.specs.Kept.{Stands};
+ghost use Rattle.history_core.specs.Effects.{can_finish_in};
 ghost use Rattle.history_core.specs.Handing.{cleared, with_writes};
 ghost use Rattle.history_core.specs.Steps.{CanDo, Keeps, Tells, Does};
 
@@ -33,7 +31,7 @@ impl Parts {
 
     // Whether that is the effect of a running transaction.
     fn has_finished(&self, unit: UnitNo, effect: &Effect) -> bool
-        ensures { (w : World) → Stands self.now w → result ≡ can_finish w unit effect.now }
+        ensures { result ≡ can_finish_in self.now unit effect.now }
     {
         match self.units.running(unit) {
             None => false,

@@ -48,6 +48,7 @@ fn learn_in(cells: &mut CellTable, unit: UnitNo, grain: GrainId, committed: bool
 }
 
 // Takes off each pair of this unit and this grain.
+
 fn forget(learn: &mut LearnQueue, unit: UnitNo, grain: GrainId)
     ensures pairs { learn.new.pairs ≡ other_pairs learn.old.pairs unit grain }
     ensures spare { learn.old.spare ≤ learn.new.spare }
