@@ -24,7 +24,8 @@ use Rattle.history_core.specs.Closing.{last_among, last_state, unlearnt, grains_
 use Rattle.history_core.specs.Closes.{Closes}
 use Rattle.history_core.specs.Fronts.{ends_as, told_as, verdicts_after, entries_after, pairs_after, last_after}
 use Rattle.cell_table.specs.Table.{cell_in}
-use Rattle.history_core.specs.Kept.{Stands, IsReached, ShowsOpen, AllPlaced, cells_of, owed_in, writes_in}
+use Rattle.history_core.specs.Kept.{Stands, IsReached, ShowsOpen, IsShown, AllPlaced, EachPlaced, cells_of, owed_in, writes_in}
+use Rattle.history_core.proofs.Shows.{to-cases, from-cases, each-placed, placed-each}
 use Rattle.history_core.proofs.Lists.{filter-agree, last-agree}
 use Rattle.history_core.proofs.Fronts.{ends-open, ends-final, mapped-is, verdicts-link, entries-link, pairs-link, last-link, last-append, take-more, drop-more, filter-append, flat-append, filter-whole}
 use Rattle.history_core.proofs.Takes.{are-units}
@@ -131,7 +132,7 @@ stands-closed h p q w b ds s c k doubt =
       result = s.result ∙ sym k.result;
       effects = ap (map effect_in) k.waiting ∙ left.effects ∙ ap (map (effect_of w)) rest;
       sources = ap (map sources_in) k.waiting ∙ left.sources ∙ ap (map w.units.deps) rest;
-      batch = subst (λ o. ShowsOpen o q.waiting.items None) (sym k.batch) tt;
+      batch = from-cases q.batch q.waiting.items None (subst (λ o. ShowsOpen o q.waiting.items None) (sym k.batch) tt);
       batches = s.batches ∙ sym k.batches;
       doubt = s.doubt ∙ sym doubt;
       settled = (λ i. s.settled i ++ entries-closed h p w b ds s c i) ∙ sym k.entries;
@@ -142,6 +143,6 @@ stands-closed h p q w b ds s c k doubt =
       room = record {
         entries = subst (λ o. owed_in o ≤ q.entries.spare) (sym k.batch) (omega arith);
         learn = subst (λ o. writes_in (take (owed_in o) q.waiting.items) ≤ q.learn.spare) (sym k.batch) (omega arith);
-        places = subst (λ o. AllPlaced (has_place q.last) (take (owed_in o) q.waiting.items)) (sym k.batch) tt;
+        places = subst (λ o. EachPlaced (has_place q.last) (take (owed_in o) q.waiting.items)) (sym k.batch) (λ m i x j. absurd i);
       };
     }

@@ -39,8 +39,9 @@ use Rattle.history_core.specs.Closes.{Closes, IsReady, decisions_in}
 use Rattle.history_core.specs.Deciding.{judged_after, decisions_now, IsUndecided}
 use Rattle.history_core.specs.Closing.{unlearnt, last_state}
 use Rattle.history_core.specs.Fronts.{AreOver}
-use Rattle.history_core.specs.Kept.{Stands, IsReached, HasRoom, ShowsOpen, AllPlaced, cells_of, owed_in, writes_in}
+use Rattle.history_core.specs.Kept.{Stands, IsReached, HasRoom, ShowsOpen, IsShown, AllPlaced, EachPlaced, cells_of, owed_in, writes_in}
 use Rattle.history_core.specs.Steps.{CanDo, Does}
+use Rattle.history_core.proofs.Shows.{to-cases, from-cases, each-placed, placed-each}
 use Rattle.history_core.proofs.Stepping.{can-is, allowed-is, allowed-going}
 use Rattle.history_core.proofs.Closed.{CanClose, stands-closed}
 use Rattle.history_core.proofs.Lists.{filter-agree, last-agree}
@@ -49,7 +50,8 @@ use Rattle.history_core.proofs.Takes.{are-units}
 use Rattle.history_core.proofs.Sealing.{is-ready, are-over, size-within, members-length, members-fresh}
 use Rattle.history_core.proofs.Reached.{rests, waits, closes, closes-final}
 
--- --pub may-decide-is : (o : Option TakenBatch) (ms : List FinishedUnit) (b : Option Batch) (n : ℕ) → ShowsOpen o ms b → may_decide_in o n ≡ is_open n is_voted b
+-- whether it can be decided
+pub may-decide-is : (o : Option TakenBatch) (ms : List FinishedUnit) (b : Option Batch) (n : ℕ) → ShowsOpen o ms b → may_decide_in o n ≡ is_open n is_voted b
 may-decide-is None ms None n s = refl
 may-decide-is None ms (Some b) n s = absurd s
 may-decide-is (Some x) ms None n s = absurd s
@@ -68,7 +70,7 @@ going-known w n a = none-true w.manager.doubt (and_parts (is_none w.manager.doub
 
 -- what is kept of it
 pub shown-open : (p : Parts) (w : World) (b : Batch) → Stands p w → w.manager.batch ≡ Some b → (x : TakenBatch) × (p.batch ≡ Some x) × ShowsBatch x (take b.size p.waiting.items) b
-shown-open p w b s q = go p.batch refl (subst (ShowsOpen p.batch p.waiting.items) q s.batch)
+shown-open p w b s q = go p.batch refl (subst (ShowsOpen p.batch p.waiting.items) q (to-cases p.batch p.waiting.items w.manager.batch s.batch))
   where
     go : (o : Option TakenBatch) → p.batch ≡ o → ShowsOpen p.batch p.waiting.items (Some b) → (x : TakenBatch) × (p.batch ≡ Some x) × ShowsBatch x (take b.size p.waiting.items) b
     go None e t = absurd (subst (λ z. ShowsOpen z p.waiting.items (Some b)) e t)
@@ -93,7 +95,7 @@ undecided p n c =
     let x = k.0 in
     let same = decisions-now p w b x s k.2 in
     let len : length (decisions_now p x) ≡ x.size = ap (λ (ds : List Decision). length ds) same ∙ decisions-length w b r t.1 ∙ sym k.2.size in
-    let within = owed-within p.batch p.waiting.items w.manager.batch s.batch in
+    let within = owed-within p.batch p.waiting.items w.manager.batch (to-cases p.batch p.waiting.items w.manager.batch s.batch) in
     (
       x,
       k.1,
@@ -163,9 +165,9 @@ stands-judged p q w b x s r e o k j =
       result = s.result ∙ sym j.result;
       effects = ap (λ (v : Vec FinishedUnit Global). map effect_in v.items) j.waiting ∙ s.effects;
       sources = ap (λ (v : Vec FinishedUnit Global). map sources_in v.items) j.waiting ∙ s.sources;
-      batch = subst (λ y. ShowsOpen y q.waiting.items (Some (record b { decisions = Some ds }))) (sym j.batch)
+      batch = from-cases q.batch q.waiting.items (Some (record b { decisions = Some ds })) (subst (λ y. ShowsOpen y q.waiting.items (Some (record b { decisions = Some ds }))) (sym j.batch)
           (subst (λ ms. ShowsBatch (taken.with_decisions x (decisions_now p x)) ms (record b { decisions = Some ds })) (ap (λ (v : Vec FinishedUnit Global). take b.size v.items) (sym j.waiting))
-          (subst (λ y. ShowsBatch (taken.with_decisions x y) (take b.size p.waiting.items) (record b { decisions = Some ds })) (sym same) (shows-decided x (take b.size p.waiting.items) b ds k)));
+          (subst (λ y. ShowsBatch (taken.with_decisions x y) (take b.size p.waiting.items) (record b { decisions = Some ds })) (sym same) (shows-decided x (take b.size p.waiting.items) b ds k))));
       batches = s.batches ∙ sym j.batches;
       doubt = s.doubt ∙ sym j.doubt;
       settled = s.settled ∙ ap (λ (t : EntriesInRoom). t.entries) (sym j.entries);
@@ -184,8 +186,8 @@ stands-judged p q w b x s r e o k j =
       entries = subst (λ (t : EntriesInRoom). owed_in q.batch ≤ t.spare) (sym j.entries) (subst (λ n. n ≤ p.entries.spare) (sym size) s.room.entries);
       learn = subst (λ (t : PairsInRoom). writes_in (take (owed_in q.batch) q.waiting.items) ≤ t.spare) (sym j.learn)
           (subst (λ n. writes_in (take n q.waiting.items) ≤ p.learn.spare) (sym size) (subst (λ (v : Vec FinishedUnit Global). writes_in (take (owed_in p.batch) v.items) ≤ p.learn.spare) (sym j.waiting) s.room.learn));
-      places = subst (λ t. AllPlaced (has_place t) (take (owed_in q.batch) q.waiting.items)) (sym j.last)
-          (subst (λ n. AllPlaced (has_place p.last) (take n q.waiting.items)) (sym size) (subst (λ (v : Vec FinishedUnit Global). AllPlaced (has_place p.last) (take (owed_in p.batch) v.items)) (sym j.waiting) s.room.places));
+      places = subst (λ t. EachPlaced (has_place t) (take (owed_in q.batch) q.waiting.items)) (sym j.last)
+          (subst (λ n. EachPlaced (has_place p.last) (take n q.waiting.items)) (sym size) (subst (λ (v : Vec FinishedUnit Global). EachPlaced (has_place p.last) (take (owed_in p.batch) v.items)) (sym j.waiting) s.room.places));
     }
 
 decided-closes : (w : World) (b : Batch) → IsReached w → w.manager.doubt ≡ None → w.manager.batch ≡ Some b → b.decisions ≡ None → CanClose (with_decisions w b (decisions_of w b)) b (decisions_of w b)

@@ -33,9 +33,10 @@ use Rattle.open_batch.specs.Shown.{ShowsBatch}
 use Rattle.history_core.specs.declared.parts.Parts.{Parts}
 use Rattle.history_core.specs.Closing.{unlearnt, last_state, last_among}
 use Rattle.history_core.specs.Handing.{put_handed, cleared, with_writes}
-use Rattle.history_core.specs.Kept.{Stands, IsReached, ShowsOpen, HasRoom, AllPlaced, owed_in, members_in, writes_in}
+use Rattle.history_core.specs.Kept.{Stands, IsReached, ShowsOpen, IsShown, HasRoom, AllPlaced, EachPlaced, owed_in, members_in, writes_in}
 use Rattle.history_core.specs.Steps.{CanDo, Keeps, Does}
 use Rattle.history_core.proofs.Stepping.{can-is}
+use Rattle.history_core.proofs.Shows.{to-cases, from-cases, each-placed, placed-each}
 use Rattle.history_core.proofs.Lists.{map-agree, flat-agree, filter-in, map-last, drop-last, take-last, last-agree}
 use Rattle.history_core.proofs.Reached.{rests, waits, waits-not, closes-not, closed-within}
 
@@ -185,7 +186,7 @@ keeps-handed p waiting handed u runs same others = λ w s. record {
   result = s.result;
   effects = ap (map effect_in) same ∙ s.effects;
   sources = ap (map sources_in) same ∙ s.sources;
-  batch = subst (λ ms. ShowsOpen p.batch ms w.manager.batch) (sym same) s.batch;
+  batch = subst (λ ms. IsShown p.batch ms w.manager.batch) (sym same) s.batch;
   batches = s.batches;
   doubt = s.doubt;
   settled = s.settled;
@@ -196,7 +197,7 @@ keeps-handed p waiting handed u runs same others = λ w s. record {
   room = record {
     entries = s.room.entries;
     learn = subst (λ (ms : List FinishedUnit). writes_in (take (owed_in p.batch) ms) ≤ p.learn.spare) (sym same) s.room.learn;
-    places = subst (λ (ms : List FinishedUnit). AllPlaced (has_place p.last) (take (owed_in p.batch) ms)) (sym same) s.room.places;
+    places = subst (λ (ms : List FinishedUnit). EachPlaced (has_place p.last) (take (owed_in p.batch) ms)) (sym same) s.room.places;
   };
 }
   where
@@ -218,7 +219,7 @@ does-finish p u e units waiting m f us v o effect deps items hands = λ w s r a.
     result = ap (λ (x : UnitNo → Outcome). put x u e.result) s.result ∙ sym o;
     effects = ap (map effect_in) items ∙ effects-more w u e p.waiting.items m r t.0 t.1 t.2 effect s.effects;
     sources = ap (map sources_in) items ∙ sources-more w u e p.waiting.items m r (deps ∙ (λ i. (sym s.units i).deps u)) s.sources;
-    batch = subst (λ ms. ShowsOpen p.batch ms w.manager.batch) (sym items) (shows-more p.batch p.waiting.items m w.manager.batch s.batch);
+    batch = subst (λ ms. IsShown p.batch ms w.manager.batch) (sym items) (from-cases p.batch (p.waiting.items ++ m ∷ []) w.manager.batch (shows-more p.batch p.waiting.items m w.manager.batch (to-cases p.batch p.waiting.items w.manager.batch s.batch)));
     batches = s.batches;
     doubt = s.doubt;
     settled = s.settled;
@@ -234,11 +235,18 @@ does-finish p u e units waiting m f us v o effect deps items hands = λ w s r a.
     room = record {
       entries = s.room.entries;
       learn = subst (λ (ms : List FinishedUnit). writes_in ms ≤ p.learn.spare) (sym (front w s)) s.room.learn;
-      places = subst (λ (ms : List FinishedUnit). AllPlaced (has_place p.last) ms) (sym (front w s)) s.room.places;
+      places = subst (λ (ms : List FinishedUnit). EachPlaced (has_place p.last) ms) (sym (front w s)) s.room.places;
     };
   }),
   refl,
 )
   where
     front : (w : World) → Stands p w → take (owed_in p.batch) waiting.items ≡ members_in p
-    front w s = ap (take (owed_in p.batch)) items ∙ take-last (owed_in p.batch) p.waiting.items m (owed-within p.batch p.waiting.items w.manager.batch s.batch)
+    front w s = ap (take (owed_in p.batch)) items ∙ take-last (owed_in p.batch) p.waiting.items m (owed-within p.batch p.waiting.items w.manager.batch (to-cases p.batch p.waiting.items w.manager.batch s.batch))
+
+-- the room and the copies of a finish change nothing
+pub keeps-prepared : (p q : Parts) (u : UnitNo) → is_running (phase_in p.units u) ≡ true → q.units ≡ p.units → q.cells ≡ p.cells → q.waiting.items ≡ p.waiting.items → q.batches ≡ p.batches → q.batch ≡ p.batch → q.doubt ≡ p.doubt →
+    q.entries ≡ p.entries → q.learn ≡ p.learn → q.last ≡ p.last → ((x : UnitNo) (g : GrainId) → (x ≡ u → ⊥) → handed_in q.handed x g ≡ handed_in p.handed x g) → Keeps p q
+keeps-prepared p q u runs units cells waiting batches batch doubt entries learn last others =
+    subst (Keeps p) (λ i. record { units = sym units i; cells = sym cells i; waiting = q.waiting; batches = sym batches i; batch = sym batch i; doubt = sym doubt i; entries = sym entries i; learn = sym learn i; last = sym last i; handed = q.handed })
+    (keeps-handed p q.waiting q.handed u runs waiting others)

@@ -121,7 +121,7 @@ can-learn-is w r u g = same-tests (has_pair (unlearnt w) u g) (can_learn w u g) 
         let x = written-member g v.0 (w.manager.writes u) v.1 in
         let m = decided-closed w r u (wrote-finished w r u g p.0) q.0 in
         let f = filter-stays (λ (z : UnitNo). is_final (w.manager.verdict z)) (take w.manager.closed w.manager.order) u m q.0 in
-        let i : Member (u, g) (map (λ (z : Write). (u, z.0)) (w.manager.writes u)) = subst (λ k. Member (u, k) (map (λ (z : Write). (u, z.0)) (w.manager.writes u))) x.2 (in-grains u (w.manager.writes u) x.0 x.1) in
+        let i : Member {A = UnitNo × GrainId} (u, g) (map (λ (z : Write). (u, z.0)) (w.manager.writes u)) = subst (λ k. Member {A = UnitNo × GrainId} (u, k) (map (λ (z : Write). (u, z.0)) (w.manager.writes u))) x.2 (in-grains u (w.manager.writes u) x.0 x.1) in
         let l = member-flat (λ (z : UnitNo). map (λ (y : Write). (z, y.0)) (w.manager.writes z)) (filter (λ z. is_final (w.manager.verdict z)) (take w.manager.closed w.manager.order)) (u, g) u f i in
         let n = filter-stays (λ (z : UnitNo × GrainId). not (w.cells.learnt z.0 z.1)) (to_learn w) (u, g) l q.1 in
         any-member (is_pair u g) (unlearnt w) (u, g) n (and_from (same_unit u u) (same_grain g g) (same_unit-is u u refl) (same_grain-is g g refl))

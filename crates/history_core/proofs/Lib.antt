@@ -2,6 +2,7 @@ pub mod Stepping
 pub mod Reached
 pub mod Lists
 pub mod Alike
+pub mod Shows
 pub mod Simple
 pub mod Begun
 pub mod Locking
@@ -15,4 +16,7 @@ pub mod Fronts
 pub mod Closed
 pub mod Sealing
 pub mod Decides
-pub mod Effects
+pub mod Brought
+pub mod Opens
+pub mod Ways
+pub mod Loops

@@ -31,8 +31,9 @@ use Rattle.history_core.specs.Closing.{ArePlaced}
 use Rattle.history_core.specs.Batches.{is_judged_in}
 use Rattle.history_core.specs.Closes.{Closes, Ready, IsReady, decisions_in}
 use Rattle.history_core.specs.Fronts.{ends_as, told_as, writes_after, AreOver, PlacedAfter}
-use Rattle.history_core.specs.Kept.{Stands, IsReached, ShowsOpen, AllPlaced, owed_in, writes_in, members_in}
+use Rattle.history_core.specs.Kept.{Stands, IsReached, ShowsOpen, IsShown, AllPlaced, EachPlaced, owed_in, writes_in, members_in}
 use Rattle.history_core.specs.Steps.{CanDo, Does}
+use Rattle.history_core.proofs.Shows.{to-cases, from-cases, each-placed, placed-each}
 use Rattle.history_core.proofs.Stepping.{can-is, allowed-is, allowed-answer}
 use Rattle.history_core.proofs.Closed.{CanClose, stands-closed}
 use Rattle.history_core.proofs.Finishes.{owed-within}
@@ -43,7 +44,7 @@ use Rattle.history_core.proofs.Reached.{rests, waits, closes-final, late-not-fin
 -- what is kept of the batch shows the open one
 pub shown : (p : Parts) (w : World) (b : Batch) → Stands p w → w.manager.batch ≡ Some b →
     (x : TakenBatch) × (p.batch ≡ Some x) × (x.size ≡ b.size) × (x.decisions ≡ b.decisions)
-shown p w b s q = go p.batch refl (subst (ShowsOpen p.batch p.waiting.items) q s.batch)
+shown p w b s q = go p.batch refl (subst (ShowsOpen p.batch p.waiting.items) q (to-cases p.batch p.waiting.items w.manager.batch s.batch))
   where
     go : (o : Option TakenBatch) → p.batch ≡ o → ShowsOpen p.batch p.waiting.items (Some b) → (x : TakenBatch) × (p.batch ≡ Some x) × (x.size ≡ b.size) × (x.decisions ≡ b.decisions)
     go None e t = absurd (subst (λ z. ShowsOpen z p.waiting.items (Some b)) e t)
@@ -61,7 +62,7 @@ judged-is (Some x) ms (Some b) n s = λ i. (s.number i == n) && (ap (λ d. not (
 
 -- ---- what it takes to close
 
-are-over : (over : UnitNo → Bool) (ds : List Decision) (w : World) (us : List UnitNo) → ((u : UnitNo) → Member u us → over u ≡ true) → AreOver over ds (map (effect_of w) us)
+pub are-over : (over : UnitNo → Bool) (ds : List Decision) (w : World) (us : List UnitNo) → ((u : UnitNo) → Member u us → over u ≡ true) → AreOver over ds (map (effect_of w) us)
 are-over over [] w us e = tt
 are-over over (d ∷ ds) w [] e = tt
 are-over over (d ∷ ds) w (u ∷ us) e = (e u (inl refl), are-over over ds w us (λ x m. e x (inr m)))
@@ -78,12 +79,12 @@ front-placed placed (d ∷ ds) (m ∷ ms) h = (h.0, front-placed placed ds ms h.
 
 pub is-ready : (p : Parts) (w : World) (ds : List Decision) → Stands p w → ((u : UnitNo) → Member u (waiting w) → w.units.phase u ≡ Finished) → length ds ≡ owed_in p.batch → Ready p ds
 is-ready p w ds s finished e = record {
-  within = (let t = owed-within p.batch p.waiting.items w.manager.batch s.batch in omega (arith, e, t));
+  within = (let t = owed-within p.batch p.waiting.items w.manager.batch (to-cases p.batch p.waiting.items w.manager.batch s.batch) in omega (arith, e, t));
   over = subst (AreOver (λ u. is_over (phase_in p.units u)) ds) (sym s.effects)
       (are-over (λ u. is_over (phase_in p.units u)) ds w (waiting w) (λ u m. (λ i. is_over ((sym s.units i).phase u)) ∙ ap is_over (finished u m)));
   entries = subst (λ n. n ≤ p.entries.spare) (sym e) s.room.entries;
   learn = subst (λ n. n ≤ p.learn.spare) (sym (front-writes ds p.waiting.items)) (subst (λ n. writes_in (take n p.waiting.items) ≤ p.learn.spare) (sym e) s.room.learn);
-  placed = front-placed (has_place p.last) ds p.waiting.items (subst (λ n. AllPlaced (has_place p.last) (take n p.waiting.items)) (sym e) s.room.places);
+  placed = front-placed (has_place p.last) ds p.waiting.items (placed-each (has_place p.last) (take (length ds) p.waiting.items) (subst (λ n. EachPlaced (has_place p.last) (take n p.waiting.items)) (sym e) s.room.places));
 }
 
 -- ---- a batch that is decided closes

@@ -27,9 +27,10 @@ use Rattle.open_batch.specs.Shown.{AreUnits, ShowsBatch}
 use Rattle.open_batch.proofs.Linked.{units-taken}
 use Rattle.open_batch.proofs.Stages.{shows-taken}
 use Rattle.history_core.specs.declared.parts.Parts.{Parts}
-use Rattle.history_core.specs.Kept.{Stands, IsReached, ShowsOpen, HasRoom, AllPlaced, owed_in, members_in, writes_in}
+use Rattle.history_core.specs.Kept.{Stands, IsReached, ShowsOpen, IsShown, HasRoom, AllPlaced, EachPlaced, owed_in, members_in, writes_in}
 use Rattle.history_core.specs.Taking.{is_free_by, front_by}
 use Rattle.history_core.specs.Steps.{CanDo, Keeps, Does}
+use Rattle.history_core.proofs.Shows.{to-cases, from-cases, each-placed, placed-each}
 use Rattle.history_core.proofs.Stepping.{can-is}
 
 pub are-units : (p : Parts) (w : World) → Stands p w → AreUnits p.waiting.items w (waiting w)
@@ -69,13 +70,13 @@ keeps-room p entries learn last none es em pairs same = λ w s. record {
   room = record {
     entries = subst (λ o. owed_in o ≤ entries.spare) (sym none) (omega arith);
     learn = subst (λ o. writes_in (take (owed_in o) p.waiting.items) ≤ learn.spare) (sym none) (omega arith);
-    places = subst (λ o. AllPlaced (has_place last) (take (owed_in o) p.waiting.items)) (sym none) tt;
+    places = subst (λ o. EachPlaced (has_place last) (take (owed_in o) p.waiting.items)) (sym none) (λ m i x j. absurd i);
   };
 }
 
 -- no batch is open where a take applies
 pub none-open : (p : Parts) → CanDo p Take → p.batch ≡ None
-none-open p c = go p.batch c.0.manager.batch refl c.1.batch (none-true c.0.manager.batch (and_parts (is_none c.0.manager.batch) (nat_lt 0 (batch_size c.0)) (can-is c.0 Take c.3)).0)
+none-open p c = go p.batch c.0.manager.batch refl (to-cases p.batch p.waiting.items c.0.manager.batch c.1.batch) (none-true c.0.manager.batch (and_parts (is_none c.0.manager.batch) (nat_lt 0 (batch_size c.0)) (can-is c.0 Take c.3)).0)
   where
     go : (o : Option TakenBatch) (b : Option Batch) → p.batch ≡ o → ShowsOpen p.batch p.waiting.items b → b ≡ None → p.batch ≡ None
     go None b e s n = e
@@ -96,7 +97,7 @@ does-take p size number x is within n made entries learn places = λ w s r a. (
     result = s.result;
     effects = s.effects;
     sources = s.sources;
-    batch = shows w s;
+    batch = from-cases (Some x) p.waiting.items (Some (new_batch w (batch_size w))) (shows w s);
     batches = ap (λ k. k + 1) s.batches ∙ sym n;
     doubt = s.doubt;
     settled = s.settled;
@@ -107,7 +108,7 @@ does-take p size number x is within n made entries learn places = λ w s r a. (
     room = record {
       entries = subst (λ k. k ≤ p.entries.spare) (sym len) entries;
       learn = subst (λ k. writes_in (take k p.waiting.items) ≤ p.learn.spare) (sym len) learn;
-      places = subst (λ k. AllPlaced (has_place p.last) (take k p.waiting.items)) (sym len) places;
+      places = subst (λ k. EachPlaced (has_place p.last) (take k p.waiting.items)) (sym len) (each-placed (has_place p.last) (take size p.waiting.items) places);
     };
   },
   ap reply.Taken (n ∙ ap (λ k. k + 1) (sym s.batches)),
@@ -127,3 +128,13 @@ does-take p size number x is within n made entries learn places = λ w s r a. (
         (shows-taken (verdict_in p.units) number (batch_size w) (take (batch_size w) p.waiting.items) w s.verdict (n ∙ ap (λ k. k + 1) (sym s.batches))
         (ap (λ k. length (take k p.waiting.items)) (sym (is w s)) ∙ front_length size p.waiting.items within ∙ is w s)
         (units-taken (batch_size w) p.waiting.items w (waiting w) (are-units p w s)))
+
+pub front-short : {A : Type 0} (n : ℕ) (xs : List A) → length (take n xs) ≤ n
+front-short zero xs = omega arith
+front-short (suc n) [] = omega arith
+front-short (suc n) (x ∷ xs) = (let t = front-short n xs in omega (arith, t))
+
+pub front-within : {A : Type 0} (n : ℕ) (xs : List A) → length (take n xs) ≤ length xs
+front-within zero xs = omega arith
+front-within (suc n) [] = omega arith
+front-within (suc n) (x ∷ xs) = (let t = front-within n xs in omega (arith, t))

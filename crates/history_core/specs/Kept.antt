@@ -1,5 +1,6 @@
 -- What is kept, and which states of the model it stands for.
 use Rattle.std.specs.Prelude.{◌≡◌, ◌<◌, ◌≤◌, ◌+◌, ℕ, List, [], ◌∷◌, Bool, true, Option, Some, None, is_some, length, map, take, ⊤}
+use Rattle.cell_model.specs.Units.{Member}
 use Rattle.cell_model.specs.Cells.{Cell}
 use Rattle.cell_model.specs.Locks.{holds_lock}
 use Rattle.core_model.specs.World.{UnitNo, GrainId, Write, Batch, Cells, World}
@@ -56,11 +57,20 @@ owed_in (Some x) = x.size
 abbrev pub members_in : Parts → List FinishedUnit
 members_in p = take (owed_in p.batch) p.waiting.items
 
+-- what is kept of the open batch shows it, in one way at most
+pub record IsShown (o : Option TakenBatch) (waiting : List FinishedUnit) (b : Option Batch) : Type 0 where
+  pub same : is_some o ≡ is_some b
+  pub shows : (x : TakenBatch) (c : Batch) → o ≡ Some x → b ≡ Some c → ShowsBatch x (take c.size waiting) c
+
+-- each grain that these units wrote has a place
+abbrev pub EachPlaced : (GrainId → Bool) → List FinishedUnit → Type 0
+EachPlaced placed members = (m : FinishedUnit) → Member m members → (x : Write) → Member x m.effect.writes → placed x.0 ≡ true
+
 -- The room of the entries of the open batch, of the states that its units wrote, and of what the grains have to learn of them.
 pub record HasRoom (p : Parts) : Type 0 where
   pub entries : owed_in p.batch ≤ p.entries.spare
   pub learn : writes_in (members_in p) ≤ p.learn.spare
-  pub places : AllPlaced (has_place p.last) (members_in p)
+  pub places : EachPlaced (has_place p.last) (members_in p)
 
 -- What is kept stands for the state: units, cells, verdicts, results and entries as they are; the finished units that wait
 -- with their effects and their dependencies; the open batch; of what the grains have learnt what they still have to learn;
@@ -72,7 +82,7 @@ pub record Stands (p : Parts) (w : World) : Type 0 where
   pub result : w.manager.result ≡ result_in p.units
   pub effects : map effect_in p.waiting.items ≡ map (effect_of w) (waiting w)
   pub sources : map sources_in p.waiting.items ≡ map w.units.deps (waiting w)
-  pub batch : ShowsOpen p.batch p.waiting.items w.manager.batch
+  pub batch : IsShown p.batch p.waiting.items w.manager.batch
   pub batches : w.manager.batches ≡ p.batches
   pub doubt : is_some w.manager.doubt ≡ p.doubt
   pub settled : w.manager.settled ≡ p.entries.entries

@@ -1,6 +1,10 @@
 -- What a call makes of what is kept.
 use Rattle.std.specs.Prelude.{◌≡◌, Bool, true, false, ◌&&◌, not, is_none}
+use Rattle.std.specs.declared.result.Result.{Result}
+use Rattle.std.specs.declared.result.Result.TheVariants.{Ok, Err}
+use Rattle.std.specs.declared.alloc.AllocError.{AllocError}
 use Rattle.core_model.specs.World.{World}
+use Rattle.core_model.specs.declared.events.CoreEvent.TheVariants.{Bad, Begin, Grant, Refuse, Finish, EndPlain, EndSnapshot, Take, Want}
 use Rattle.core_model.specs.Events.{applies, does, step, reply_to, reply_with, reply_without}
 use Rattle.core_model.specs.declared.events.CoreEvent.{CoreEvent}
 use Rattle.core_model.specs.declared.events.CoreReply.{CoreReply}
@@ -34,3 +38,25 @@ Takes p e reply q = (w : World) → Stands p w → IsReached w → Stands q (ste
 -- whatever state is stood for, where the event doesn't apply the reply is the one to that
 abbrev pub Refuses : Parts → CoreEvent → CoreReply → Type 0
 Refuses p e reply = (w : World) → Stands p w → applies w e ≡ false → reply ≡ reply_without w e
+
+-- the event may want memory: no earlier one made its room
+abbrev pub takes_memory : CoreEvent → Bool
+takes_memory (Bad line why) = true
+takes_memory (Begin origin call plain) = true
+takes_memory (Grant u g mode) = true
+takes_memory (Refuse u g mode) = true
+takes_memory (Finish u effect) = true
+takes_memory (EndPlain u effect) = true
+takes_memory (EndSnapshot u at outcome) = true
+takes_memory Take = true
+takes_memory (Want u g) = true
+takes_memory _ = false
+
+-- whatever state is stood for, it still is; and the event may want memory
+abbrev pub Leaves : Parts → CoreEvent → Parts → Type 0
+Leaves p e q = Keeps p q × (takes_memory e ≡ true)
+
+-- the answer of a call, with the event that comes back where there is no memory
+abbrev pub with_event : Result CoreReply AllocError → CoreEvent → Result CoreReply (AllocError × CoreEvent)
+with_event (Ok reply) e = Ok reply
+with_event (Err error) e = Err (error, e)

@@ -45,9 +45,10 @@ impl Parts {
         ensures opens { opens_with self.new.cells ≡ opens_with self.old.cells }
     {
         let commits = self.judge();
-        if commits == 0 {
-            self.close(Closing::Sealed);
+        if commits > 0 {
+            return CoreReply::Decided { commits };
         }
+        self.close(Closing::Sealed);
         CoreReply::Decided { commits }
     }
 

@@ -121,8 +121,9 @@ fn hand(
     let mut at = writes.len();
     while at > 0 {
         at -= 1;
-        let state = writes[at].1.copy()?;
-        handed.keep(unit, writes[at].0, state)?;
+        let write = &writes[at];
+        let state = write.1.copy()?;
+        handed.keep(unit, write.0, state)?;
     }
     Ok(())
 }

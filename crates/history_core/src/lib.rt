@@ -17,6 +17,8 @@ mod finish;
 mod grant;
 mod halt;
 mod learn;
+mod looks;
+mod opening;
 mod parts;
 mod refuse;
 mod release;
@@ -28,5 +30,5 @@ mod vote;
 mod want;
 mod whole;
 
-pub use parts::Parts;
+pub use opening::Opening;
 pub use whole::Core;

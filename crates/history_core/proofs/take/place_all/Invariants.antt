@@ -1,4 +1,4 @@
-use Rattle.std.proofs.Common.{◌≡◌, drop}
+use Rattle.std.proofs.Common.{◌≡◌, drop, true, Bool}
 use Rattle.base_types.specs.declared.calls.GrainId.{GrainId}
 use Rattle.core_lists.specs.States.{last_in, has_place, KeepsPlaces}
 use Rattle.history_core.specs.Kept.{AllPlaced}
@@ -8,5 +8,5 @@ abbrev pub invariant-loop-member : goal.invariant-loop-member
 invariant-loop-member l = record {
   same : (g : GrainId) → last_in l.last g ≡ last_in l.initial.last g;
   places : KeepsPlaces l.initial.last l.last;
-  placed : AllPlaced (has_place l.last) (drop l.member-index l.members) → AllPlaced (has_place l.last) l.members;
+  placed : (test : GrainId → Bool) → ((g : GrainId) → has_place l.last g ≡ true → test g ≡ true) → AllPlaced test (drop l.member-index l.members) → AllPlaced test l.members;
 }

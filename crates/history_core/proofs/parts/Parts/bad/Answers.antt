@@ -11,4 +11,4 @@ returns-clause-ok c =
     c.bad_line.ensures.units c.bad_line.ensures.verdict c.bad_line.ensures.result
     (c.push.ensures.entries ∙ ap (λ (xs : List Entry). xs ++ x ∷ []) c.reserve.ensures.entries)
     (c.push.ensures.emitted ∙ c.reserve.ensures.emitted)
-    (omega (arith, c.push.ensures.spare, c.in_ok-reserve.ensures.ok, c.owed.ensures.size))
+    (omega (arith, c.push.ensures.spare, c.in_ok-reserve.ensures.ok, c.owed-room.ensures.size))

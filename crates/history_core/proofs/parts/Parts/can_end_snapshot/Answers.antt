@@ -1,7 +1,7 @@
 use Rattle.std.proofs.Common.{◌∙◌, sym, ap, refl, ◌&&◌}
 use Rattle.core_model.specs.declared.events.CoreEvent.TheVariants.{EndSnapshot}
 use Rattle.history_core.specs.Effects.{can_end_snapshot_in}
-use Rattle.history_core.proofs.Effects.{can-snapshot-is}
+use Rattle.history_core.proofs.Brought.{can-snapshot-is}
 use Rattle.history_core.proofs.Stepping.{tells-going}
 use Rattle.history_core.proofs.parts.Parts.can_end_snapshot.Goals as goal
 

@@ -1,7 +1,7 @@
 use Rattle.std.proofs.Common.{◌∙◌, sym, ap, refl, ◌&&◌}
 use Rattle.core_model.specs.declared.events.CoreEvent.TheVariants.{Finish}
 use Rattle.history_core.specs.Effects.{can_finish_in}
-use Rattle.history_core.proofs.Effects.{can-finish-is}
+use Rattle.history_core.proofs.Brought.{can-finish-is}
 use Rattle.history_core.proofs.Stepping.{tells-going}
 use Rattle.history_core.proofs.parts.Parts.can_finish.Goals as goal
 

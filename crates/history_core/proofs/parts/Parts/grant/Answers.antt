@@ -57,7 +57,7 @@ returns-clause-ok c =
     ∙ ap (λ (v : UnitNo → Verdict). find (λ u. is_aborted (v u)) (writers (cell_in mid.cells c.args.grain).stack)) (sym c.reserve_read.ensures.same.verdict) in
     keeps-does old mid (λ w s. keeps-units first c.reserve_read.new.self c.reserve_read.ensures.same w (keeps-cells old c.make_room.new.self c.make_room.ensures.same w s))
     (Grant c.args.unit c.args.grain c.args.mode) (reply.Granted found.state found.unit) new
-    (does-lock mid c.args.unit c.args.grain c.args.mode c.first_aborted-aborted.result c.lock_over-2.new.cells c.note_read.new.self found read (not c.is_sure.result) cleans
+    (does-lock mid c.args.unit c.args.grain c.args.mode c.first_aborted-aborted.result c.lock_over-2.new.cells c.note_read.new.self found read (not c.is_sure-depends.result) cleans
     (sym c.is_held_by.ensures ∙ c.if-is_held_by.false) c.lock_over-2.ensures.locks c.in_ok-found.ensures
     (λ i. record { grain = c.args.grain; state = c.in_ok-copy.ensures i; source = c.in_ok-found.found.source })
-    (ap not c.is_sure.ensures) c.note_read.ensures.units c.note_read.ensures.verdict c.note_read.ensures.result)
+    (ap not c.is_sure-depends.ensures) c.note_read.ensures.units c.note_read.ensures.verdict c.note_read.ensures.result)

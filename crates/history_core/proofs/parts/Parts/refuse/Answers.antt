@@ -27,4 +27,4 @@ returns-clause-ok c =
     (λ w s. c.origin-origin.ensures ∙ (λ i. (sym s.units i).origin c.args.unit))
     c.refuse.ensures.units c.refuse.ensures.verdict c.refuse.ensures.result
     c.settle.ensures.entries c.settle.ensures.emitted
-    (omega (arith, c.settle.ensures.spare, c.in_ok-reserve.ensures.ok, c.owed.ensures.size)))
+    (omega (arith, c.settle.ensures.spare, c.in_ok-reserve.ensures.ok, c.owed-room.ensures.size)))

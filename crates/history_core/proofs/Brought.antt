@@ -20,17 +20,17 @@ use Rattle.history_core.specs.declared.parts.Parts.{Parts}
 use Rattle.history_core.specs.Effects.{answered_in, finishes_as, can_finish_in, ends_as_plain, can_end_plain_in, ends_as_snapshot, can_end_snapshot_in}
 use Rattle.history_core.specs.Kept.{Stands}
 
-answered-of : (w : World) (ks : List UnitNo) (as : List Outcome) → answered_in (outcome_of w) ks as ≡ answered_by w ks as
+answered-of : (w : World) (ks : List UnitNo) (os : List Outcome) → answered_in (outcome_of w) ks os ≡ answered_by w ks os
 answered-of w [] [] = refl
 answered-of w (k ∷ ks) (a ∷ rest) = ap (λ b. is_answer (outcome_of w k) a && b) (answered-of w ks rest)
 answered-of w [] (a ∷ rest) = refl
 answered-of w (k ∷ ks) [] = refl
 
-pub answered-is : (p : Parts) (w : World) (ks : List UnitNo) (as : List Outcome) → Stands p w → answered_in (outcome_known p.units) ks as ≡ answered_by w ks as
-answered-is p w ks as s = (λ i. answered_in (λ u. outcome_in ((sym s.units i).phase u) (sym s.verdict i u) (sym s.result i u)) ks as) ∙ answered-of w ks as
+pub answered-is : (p : Parts) (w : World) (ks : List UnitNo) (os : List Outcome) → Stands p w → answered_in (outcome_known p.units) ks os ≡ answered_by w ks os
+answered-is p w ks os s = (λ i. answered_in (λ u. outcome_in ((sym s.units i).phase u) (sym s.verdict i u) (sym s.result i u)) ks os) ∙ answered-of w ks os
 
 -- as many answers as children
-pub answered-each : (known : UnitNo → Option Outcome) (ks : List UnitNo) (as : List Outcome) → (length ks ≡ length as → ⊥) → false ≡ answered_in known ks as
+pub answered-each : (known : UnitNo → Option Outcome) (ks : List UnitNo) (os : List Outcome) → (length ks ≡ length as → ⊥) → false ≡ answered_in known ks os
 answered-each known [] [] n = absurd (n refl)
 answered-each known (k ∷ ks) (a ∷ rest) n = go (is_answer (known k) a) (answered-each known ks rest (λ e. n (ap suc e)))
   where

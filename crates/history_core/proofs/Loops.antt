@@ -1,0 +1,64 @@
+-- Steps of loops over what was written and read.
+use Rattle.std.proofs.Common.{◌≡◌, ℕ, zero, suc, ◌+◌, ◌<◌, ◌≤◌, List, [], ◌∷◌, ◌++◌, Bool, true, false, ◌&&◌, ◌⊎◌, inl, inr, refl, sym, ap, ◌∙◌, subst, arith, Option, Some, None, length, drop, get_or}
+use Rattle.std.specs.Prelude.{if◌then◌else◌}
+use Rattle.std.proofs.lemmas.Bool.{cases_Bool}
+use Rattle.cell_model.proofs.Units.{cases_unit, cases_grain, same_grain-true, same_grain-is}
+use Rattle.core_model.specs.World.{UnitNo, GrainId, Value, Write, same_grain}
+use Rattle.core_model.specs.Tests.{written}
+use Rattle.core_lists.specs.States.{last_in, has_place, handed_in, PutsHanded, PutsLast, KeepsPlaces}
+use Rattle.core_lists.specs.declared.handed_states.HandedStates.{HandedStates}
+use Rattle.core_lists.specs.declared.last_states.LastStates.{LastStates}
+use Rattle.open_batch.specs.declared.members.FinishedUnit.{FinishedUnit}
+use Rattle.history_core.specs.Closing.{ArePlaced, or_else}
+use Rattle.history_core.specs.Handing.{put_handed}
+use Rattle.history_core.specs.Kept.{AllPlaced}
+use Rattle.history_core.proofs.Finishes.{put-handed-is, put-handed-grain, put-handed-unit}
+
+-- the item at an index, and those behind it
+pub drop-at : {A : Type 0} (xs : List A) (i : ℕ) (x : A) → i < length xs → x ≡ get_or xs i x → drop i xs ≡ x ∷ drop (i + 1) xs
+drop-at [] i x h e = absurd (omega arith)
+drop-at (y ∷ ys) zero x h e = λ k. sym e k ∷ ys
+drop-at (y ∷ ys) (suc i) x h e = (let q : suc (i + 1) ≡ suc i + 1 = omega arith in drop-at ys i x (omega arith) e ∙ ap (λ k. x ∷ drop k (y ∷ ys)) q)
+
+-- one unit's state of one grain was replaced
+pub puts-is : (old new : HandedStates) (u : UnitNo) (g : GrainId) (s : Option (List Value)) → PutsHanded old new u g s → handed_in new ≡ put_handed (handed_in old) u g s
+puts-is old new u g s p = λ i x k. at x k i
+  where
+    both : (x : UnitNo) (k : GrainId) → ((x ≡ u) ⊎ (x ≡ u → ⊥)) → ((k ≡ g) ⊎ (k ≡ g → ⊥)) → handed_in new x k ≡ put_handed (handed_in old) u g s x k
+    both x k (inl e) (inl q) = (λ i. handed_in new (e i) (q i)) ∙ p.put ∙ sym (put-handed-is (handed_in old) u g s) ∙ (λ i. put_handed (handed_in old) u g s (sym e i) (sym q i))
+    both x k (inl e) (inr n) = p.others x k (λ t. n t.1) ∙ ap (λ z. handed_in old z k) e ∙ sym (put-handed-grain (handed_in old) u g s k n) ∙ ap (λ z. put_handed (handed_in old) u g s z k) (sym e)
+    both x k (inr n) q = p.others x k (λ t. n t.0) ∙ sym (put-handed-unit (handed_in old) u g s x k n)
+
+    at : (x : UnitNo) (k : GrainId) → handed_in new x k ≡ put_handed (handed_in old) u g s x k
+    at x k = both x k (cases_unit x u) (cases_grain k g)
+
+-- ---- places
+
+pub placed-more : (p q : GrainId → Bool) (xs : List Write) → ((g : GrainId) → p g ≡ true → q g ≡ true) → ArePlaced p xs → ArePlaced q xs
+placed-more p q [] f h = tt
+placed-more p q (x ∷ xs) f h = (f x.0 h.0, placed-more p q xs f h.1)
+
+pub placed-last : (p : GrainId → Bool) (xs : List Write) (x : Write) → ArePlaced p (xs ++ x ∷ []) → ArePlaced p xs × (p x.0 ≡ true)
+placed-last p [] x h = (tt, h.0)
+placed-last p (y ∷ ys) x h = (let t = placed-last p ys x h.1 in ((h.0, t.0), t.1))
+
+-- ---- last states
+
+pub written-last : (g : GrainId) (xs : List Write) (x : Write) (before : Option (List Value)) → or_else (written g (xs ++ x ∷ [])) before ≡ or_else (written g xs) (if same_grain x.0 g then Some x.1 else before)
+written-last g [] x before = one (same_grain x.0 g)
+  where
+    one : (b : Bool) → or_else (if b then Some x.1 else None) before ≡ (if b then Some x.1 else before)
+    one true = refl
+    one false = refl
+written-last g (y ∷ ys) x before = go (written-last g ys x before) (same_grain y.0 g)
+  where
+    go : or_else (written g (ys ++ x ∷ [])) before ≡ or_else (written g ys) (if same_grain x.0 g then Some x.1 else before) → (b : Bool) →
+        or_else (if b then Some y.1 else written g (ys ++ x ∷ [])) before ≡ or_else (if b then Some y.1 else written g ys) (if same_grain x.0 g then Some x.1 else before)
+    go rest true = refl
+    go rest false = rest
+
+pub last-put : (old new : LastStates) (k : GrainId) (s : List Value) → PutsLast old new k s → (g : GrainId) → last_in new g ≡ (if same_grain k g then Some s else last_in old g)
+last-put old new k s p g = elim (cases_Bool (same_grain k g)) [
+  | inl t ↦ (let e = same_grain-true k g t in ap (last_in new) (sym e) ∙ p.put ∙ sym (ap (λ (b : Bool). if b then Some s else last_in old g) t))
+  | inr t ↦ p.others g (λ q. (let z : true ≡ false = sym (same_grain-is k g (sym q)) ∙ t in cc)) ∙ sym (ap (λ (b : Bool). if b then Some s else last_in old g) t)
+]
