@@ -3,7 +3,10 @@ use Rattle.std.proofs.Common.{◌≡◌, ℕ, zero, suc, ◌+◌, ◌<◌, ◌�
 use Rattle.std.specs.Prelude.{if◌then◌else◌}
 use Rattle.std.proofs.lemmas.Bool.{cases_Bool}
 use Rattle.cell_model.proofs.Units.{cases_unit, cases_grain, same_grain-true, same_grain-is}
-use Rattle.core_model.specs.World.{UnitNo, GrainId, Value, Write, same_grain}
+use Rattle.std.specs.List.{remove}
+use Rattle.core_model.specs.World.{UnitNo, GrainId, Value, Write, Decision, same_grain}
+use Rattle.core_model.specs.declared.effects.Effect.{Effect}
+use Rattle.history_core.specs.Fronts.{AreOver, PlacedAfter}
 use Rattle.core_model.specs.Tests.{written}
 use Rattle.core_lists.specs.States.{last_in, has_place, handed_in, PutsHanded, PutsLast, KeepsPlaces}
 use Rattle.core_lists.specs.declared.handed_states.HandedStates.{HandedStates}
@@ -19,6 +22,13 @@ pub drop-at : {A : Type 0} (xs : List A) (i : ℕ) (x : A) → i < length xs →
 drop-at [] i x h e = absurd (omega arith)
 drop-at (y ∷ ys) zero x h e = λ k. sym e k ∷ ys
 drop-at (y ∷ ys) (suc i) x h e = (let q : suc (i + 1) ≡ suc i + 1 = omega arith in drop-at ys i x (omega arith) e ∙ ap (λ k. x ∷ drop k (y ∷ ys)) q)
+
+-- nothing stands behind the end
+pub drop-end : {A : Type 0} (xs : List A) (i : ℕ) → length xs ≤ i → drop i xs ≡ []
+drop-end [] zero h = refl
+drop-end [] (suc i) h = refl
+drop-end (y ∷ ys) zero h = absurd (omega arith)
+drop-end (y ∷ ys) (suc i) h = drop-end ys i (omega arith)
 
 -- one unit's state of one grain was replaced
 pub puts-is : (old new : HandedStates) (u : UnitNo) (g : GrainId) (s : Option (List Value)) → PutsHanded old new u g s → handed_in new ≡ put_handed (handed_in old) u g s
@@ -62,3 +72,19 @@ last-put old new k s p g = elim (cases_Bool (same_grain k g)) [
   | inl t ↦ (let e = same_grain-true k g t in ap (last_in new) (sym e) ∙ p.put ∙ sym (ap (λ (b : Bool). if b then Some s else last_in old g) t))
   | inr t ↦ p.others g (λ q. (let z : true ≡ false = sym (same_grain-is k g (sym q)) ∙ t in cc)) ∙ sym (ap (λ (b : Bool). if b then Some s else last_in old g) t)
 ]
+
+-- ---- the front of those that wait
+
+pub front-removed : {A : Type 0} (ws new : List A) (x : A) → 0 < length ws → x ≡ get_or ws 0 x → new ≡ remove ws 0 → ws ≡ x ∷ new
+front-removed [] new x h e q = absurd (omega arith)
+front-removed (y ∷ ys) new x h e q = λ i. sym e i ∷ sym q i
+
+pub placed-after-more : (p q : GrainId → Bool) (ds : List Decision) (es : List Effect) → ((g : GrainId) → p g ≡ true → q g ≡ true) → PlacedAfter p ds es → PlacedAfter q ds es
+placed-after-more p q [] es f h = tt
+placed-after-more p q (d ∷ ds) [] f h = tt
+placed-after-more p q (d ∷ ds) (e ∷ es) f h = (placed-more p q e.writes f h.0, placed-after-more p q ds es f h.1)
+
+pub over-same : (f h : UnitNo → Bool) (ds : List Decision) (es : List Effect) → ((u : UnitNo) → f u ≡ h u) → AreOver f ds es → AreOver h ds es
+over-same f h [] es e k = tt
+over-same f h (d ∷ ds) [] e k = tt
+over-same f h (d ∷ ds) (x ∷ es) e k = (sym (e x.unit) ∙ k.0, over-same f h ds es e k.1)

@@ -13,7 +13,7 @@ use Rattle.core_model.specs.declared.events.CoreReply.TheVariants as reply
 use Rattle.core_model.specs.Tests.{is_free, free_prefix, waiting, is_bad}
 use Rattle.core_model.specs.Answers.{effect_of}
 use Rattle.core_model.specs.Changes.{new_batch}
-use Rattle.core_model.specs.Events.{batch_size, applies}
+use Rattle.core_model.specs.Events.{batch_size, applies, does, reply_with}
 use Rattle.core_model.proofs.Decoded.{none-true}
 use Rattle.core_lists.specs.Room.{EntriesInRoom, PairsInRoom}
 use Rattle.core_lists.specs.States.{last_in, has_place}
@@ -85,11 +85,11 @@ none-open p c = go p.batch c.0.manager.batch refl (to-cases p.batch p.waiting.it
         by_shows : ShowsOpen (Some x) p.waiting.items b → b ≡ None → ⊥
         by_shows t q = subst (λ z. ShowsOpen (Some x) p.waiting.items z) q t
 
-pub does-take : (p : Parts) (size number : ℕ) (x : TakenBatch) → ((w : World) → Stands p w → size ≡ batch_size w) → size ≤ length p.waiting.items → number ≡ p.batches + 1 →
+pub takes-at : (p : Parts) (size number : ℕ) (x : TakenBatch) (w : World) → Stands p w → size ≡ batch_size w → size ≤ length p.waiting.items → number ≡ p.batches + 1 →
     x ≡ first_batch number (λ u. is_bad (verdict_in p.units u)) (take size p.waiting.items) →
     size ≤ p.entries.spare → writes_in (take size p.waiting.items) ≤ p.learn.spare → AllPlaced (has_place p.last) (take size p.waiting.items) →
-    Does p Take (reply.Taken number) (record p { batches = number; batch = Some x })
-does-take p size number x is within n made entries learn places = λ w s r a. (
+    Stands (record p { batches = number; batch = Some x }) (does w Take) × (reply.Taken number ≡ reply_with w Take)
+takes-at p size number x w s is within n made entries learn places = (
   record {
     units = s.units;
     cells = s.cells;
@@ -97,7 +97,7 @@ does-take p size number x is within n made entries learn places = λ w s r a. (
     result = s.result;
     effects = s.effects;
     sources = s.sources;
-    batch = from-cases (Some x) p.waiting.items (Some (new_batch w (batch_size w))) (shows w s);
+    batch = from-cases (Some x) p.waiting.items (Some (new_batch w (batch_size w))) shows;
     batches = ap (λ k. k + 1) s.batches ∙ sym n;
     doubt = s.doubt;
     settled = s.settled;
@@ -122,11 +122,11 @@ does-take p size number x is within n made entries learn places = λ w s r a. (
     len : x.size ≡ size
     len = ap (λ (z : TakenBatch). z.size) made ∙ front_length size p.waiting.items within
 
-    shows : (w : World) → Stands p w → ShowsBatch x (take (batch_size w) p.waiting.items) (new_batch w (batch_size w))
-    shows w s =
-        subst (λ z. ShowsBatch z (take (batch_size w) p.waiting.items) (new_batch w (batch_size w))) (sym (made ∙ ap (λ k. first_batch number (λ u. is_bad (verdict_in p.units u)) (take k p.waiting.items)) (is w s)))
+    shows : ShowsBatch x (take (batch_size w) p.waiting.items) (new_batch w (batch_size w))
+    shows =
+        subst (λ z. ShowsBatch z (take (batch_size w) p.waiting.items) (new_batch w (batch_size w))) (sym (made ∙ ap (λ k. first_batch number (λ u. is_bad (verdict_in p.units u)) (take k p.waiting.items)) is))
         (shows-taken (verdict_in p.units) number (batch_size w) (take (batch_size w) p.waiting.items) w s.verdict (n ∙ ap (λ k. k + 1) (sym s.batches))
-        (ap (λ k. length (take k p.waiting.items)) (sym (is w s)) ∙ front_length size p.waiting.items within ∙ is w s)
+        (ap (λ k. length (take k p.waiting.items)) (sym is) ∙ front_length size p.waiting.items within ∙ is)
         (units-taken (batch_size w) p.waiting.items w (waiting w) (are-units p w s)))
 
 pub front-short : {A : Type 0} (n : ℕ) (xs : List A) → length (take n xs) ≤ n

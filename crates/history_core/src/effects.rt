@@ -3,6 +3,7 @@ ghost use Rattle.std.specs.Prelude.{◌≡◌, true};
 ghost use Rattle.core_model.specs.Equality.{same_outcome};
 ghost use Rattle.core_model.specs.Tests.{is_answer, is_over};
 ghost use Rattle.unit_table.specs.Table.{outcome_known, phase_in, result_in};
+ghost use Rattle.unit_table.specs.Known.{known_running};
 ghost use Rattle.history_core.specs.Effects.{is_of_call_in, answered_in};
 
 use crate::parts::Parts;
@@ -14,7 +15,7 @@ use unit_table::RunningUnit;
 impl Parts {
     // Whether the effect is of the unit's call, with its children's outcomes.
     pub(crate) fn is_of_call(&self, unit: UnitNo, running: &RunningUnit, effect: &Effect) -> bool
-        ensures { result ≡ is_of_call_in self.now unit running.now effect.now }
+        ensures { result ≡ is_of_call_in self.now unit effect.now (known_running running.now) }
     {
         effect.unit == unit
             && effect.origin.is_same(&running.origin)

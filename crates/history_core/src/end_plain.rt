@@ -5,9 +5,10 @@ ghost use Rattle.core_model.specs.World.{World};
 ghost use Rattle.core_model.specs.Changes.{ended};
 ghost use Rattle.core_model.specs.declared.events.CoreEvent.TheVariants.{EndPlain};
 ghost use Rattle.core_model.specs.Tests.{is_running};
-ghost use Rattle.history_core.specs.Effects.{can_end_plain_in};
+ghost use Rattle.unit_table.specs.Known.{known_running};
+ghost use Rattle.history_core.specs.Effects.{ends_as_plain};
 ghost use Rattle.cell_table.specs.Table.{opens_with};
-ghost use Rattle.unit_table.specs.Table.{phase_in};
+ghost use Rattle.unit_table.specs.Table.{known_in, phase_in};
 ghost use Rattle.history_core.specs.Kept.{Stands, IsReached, owed_in};
 ghost use Rattle.history_core.specs.Steps.{CanDo, Keeps, Tells, Does};
 
@@ -16,6 +17,7 @@ use crate::refuse::settle;
 use base_types::{Outcome, Settled, UnitNo};
 use core_model::{CoreEvent, CoreReply, Effect};
 use std::alloc::AllocError;
+use unit_table::RunningUnit;
 
 impl Parts {
     // Whether that is the effect of a running plain run, and no stop stands.
@@ -27,17 +29,22 @@ impl Parts {
 
     // Whether that is the effect of a running plain run, without reads and writes.
     fn has_ended(&self, unit: UnitNo, effect: &Effect) -> bool
-        ensures { result ≡ can_end_plain_in self.now unit effect.now }
+        ensures { result ≡ ends_as_plain self.now unit effect.now (known_in self.now.units unit) }
     {
         match self.units.running(unit) {
             None => false,
-            Some(running) => {
-                running.plain
-                    && self.is_of_call(unit, running, effect)
-                    && effect.reads.is_empty()
-                    && effect.writes.is_empty()
-            }
+            Some(running) => self.ends(unit, running, effect),
         }
+    }
+
+    // Whether that is the effect of a unit that runs, and a plain run.
+    fn ends(&self, unit: UnitNo, running: &RunningUnit, effect: &Effect) -> bool
+        ensures { result ≡ ends_as_plain self.now unit effect.now (known_running running.now) }
+    {
+        running.plain
+            && self.is_of_call(unit, running, effect)
+            && effect.reads.is_empty()
+            && effect.writes.is_empty()
     }
 
     // The plain run has ended, and its line is settled.

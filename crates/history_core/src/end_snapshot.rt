@@ -1,7 +1,9 @@
 // A plain run that read a snapshot has come to its end.
 ghost use Rattle.std.specs.Prelude.{◌≡◌, ℕ, IfOk, IfErr, OnErr};
 ghost use Rattle.core_model.specs.declared.events.CoreEvent.TheVariants.{EndSnapshot};
-ghost use Rattle.history_core.specs.Effects.{can_end_snapshot_in};
+ghost use Rattle.unit_table.specs.Known.{known_running};
+ghost use Rattle.unit_table.specs.Table.{known_in};
+ghost use Rattle.history_core.specs.Effects.{ends_as_snapshot};
 ghost use Rattle.cell_table.specs.Table.{opens_with};
 ghost use Rattle.history_core.specs.Steps.{CanDo, Keeps, Tells, Does};
 
@@ -10,6 +12,7 @@ use base_types::{Outcome, UnitNo};
 use core_equality::Same;
 use core_model::{CoreEvent, CoreReply};
 use std::alloc::AllocError;
+use unit_table::RunningUnit;
 
 impl Parts {
     // Whether a running plain run without children may end so, and no stop stands.
@@ -21,13 +24,11 @@ impl Parts {
 
     // Whether that is a running plain run without children, and the outcome no abort.
     fn may_end_snapshot(&self, unit: UnitNo, outcome: &Outcome) -> bool
-        ensures { result ≡ can_end_snapshot_in self.now unit outcome.now }
+        ensures { result ≡ ends_as_snapshot outcome.now (known_in self.now.units unit) }
     {
         match self.units.running(unit) {
             None => false,
-            Some(running) => {
-                running.plain && running.kids.is_empty() && !outcome.is_same(&Outcome::Aborted)
-            }
+            Some(running) => may_end(running, outcome),
         }
     }
 
@@ -59,4 +60,11 @@ impl Parts {
             }
         }
     }
+}
+
+// Whether that is a plain run without children, and the outcome no abort.
+fn may_end(running: &RunningUnit, outcome: &Outcome) -> bool
+    ensures { result ≡ ends_as_snapshot outcome.now (known_running running.now) }
+{
+    running.plain && running.kids.is_empty() && !outcome.is_same(&Outcome::Aborted)
 }

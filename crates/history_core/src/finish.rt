@@ -8,8 +8,9 @@ ghost use Rattle.std.specs.List.{list_all};
 ghost use Rattle.rw_locks.specs.Locked.{holds_alone};
 ghost use Rattle.cell_table.specs.Table.{cell_in, opens_with};
 ghost use Rattle.core_lists.specs.States.{handed_in};
-ghost use Rattle.unit_table.specs.Table.{phase_in};
-ghost use Rattle.history_core.specs.Effects.{can_finish_in};
+ghost use Rattle.unit_table.specs.Table.{known_in, phase_in};
+ghost use Rattle.unit_table.specs.Known.{known_running};
+ghost use Rattle.history_core.specs.Effects.{finishes_as};
 ghost use Rattle.history_core.specs.Handing.{cleared, with_writes};
 ghost use Rattle.history_core.specs.Steps.{CanDo, Keeps, Tells, Does};
 
@@ -20,6 +21,7 @@ use core_lists::HandedStates;
 use core_model::{CoreEvent, CoreReply, Effect, Read};
 use open_batch::FinishedUnit;
 use std::alloc::AllocError;
+use unit_table::RunningUnit;
 
 impl Parts {
     // Whether that is the effect of a running transaction, and no stop stands.
@@ -31,17 +33,22 @@ impl Parts {
 
     // Whether that is the effect of a running transaction.
     fn has_finished(&self, unit: UnitNo, effect: &Effect) -> bool
-        ensures { result ≡ can_finish_in self.now unit effect.now }
+        ensures { result ≡ finishes_as self.now unit effect.now (known_in self.now.units unit) }
     {
         match self.units.running(unit) {
             None => false,
-            Some(running) => {
-                !running.plain
-                    && self.is_of_call(unit, running, effect)
-                    && same_items(effect.reads.as_slice(), running.reads.as_slice())
-                    && self.hold_alone(unit, effect.writes.as_slice())
-            }
+            Some(running) => self.finishes(unit, running, effect),
         }
+    }
+
+    // Whether that is the effect of a unit that runs, and a transaction.
+    fn finishes(&self, unit: UnitNo, running: &RunningUnit, effect: &Effect) -> bool
+        ensures { result ≡ finishes_as self.now unit effect.now (known_running running.now) }
+    {
+        !running.plain
+            && self.is_of_call(unit, running, effect)
+            && same_items(effect.reads.as_slice(), running.reads.as_slice())
+            && self.hold_alone(unit, effect.writes.as_slice())
     }
 
     // Whether the unit has each written grain alone.

@@ -4,6 +4,7 @@
 //! applies, and what it does. `Core` has the history of its events, for contracts alone.
 #![tactic(auto)]
 
+mod applying;
 mod asking;
 mod bad;
 mod begin;
@@ -24,6 +25,7 @@ mod refuse;
 mod release;
 mod room;
 mod seal;
+mod steps;
 mod stops;
 mod take;
 mod vote;

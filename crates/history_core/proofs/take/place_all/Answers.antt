@@ -4,7 +4,7 @@ use Rattle.core_lists.specs.States.{has_place}
 use Rattle.open_batch.specs.declared.members.FinishedUnit.{FinishedUnit}
 use Rattle.history_core.specs.Closing.{ArePlaced}
 use Rattle.history_core.specs.Kept.{AllPlaced}
-use Rattle.history_core.proofs.Loops.{drop-at, placed-more}
+use Rattle.history_core.proofs.Loops.{drop-at, drop-end, placed-more}
 use Rattle.history_core.proofs.take.place_all.Goals as goal
 
 pub loop-member-preserved : goal.loop-member-preserved
@@ -16,3 +16,6 @@ loop-member-preserved c =
           (subst (AllPlaced test) (sym (drop-at c.args.members.now c.loop-member.member-index x c.loop-member-test.true c.member-item.is))
           (placed-more (has_place c.place.new.last) test x.effect.writes f (subst (ArePlaced (has_place c.place.new.last)) c.as_slice.ensures c.in_ok-place.ensures.placed), h));
     }
+
+pub returns-clause-placed : goal.returns-clause-placed
+returns-clause-placed c = c.loop-member.invariant.placed (has_place c.loop-member.last) (λ g q. q) (subst (AllPlaced (has_place c.loop-member.last)) (sym (drop-end c.args.members.now c.loop-member.member-index c.loop-member-test.false)) tt)
