@@ -23,6 +23,12 @@ drop-at [] i x h e = absurd (omega arith)
 drop-at (y ∷ ys) zero x h e = λ k. sym e k ∷ ys
 drop-at (y ∷ ys) (suc i) x h e = (let q : suc (i + 1) ≡ suc i + 1 = omega arith in drop-at ys i x (omega arith) e ∙ ap (λ k. x ∷ drop k (y ∷ ys)) q)
 
+-- the same of an item that is its default behind the end
+pub drop-at-or : {A : Type 0} (xs : List A) (i : ℕ) (x : A) → i < length xs → drop i xs ≡ get_or xs i x ∷ drop (i + 1) xs
+drop-at-or [] i x h = absurd (omega arith)
+drop-at-or (y ∷ ys) zero x h = refl
+drop-at-or (y ∷ ys) (suc i) x h = (let q : suc (i + 1) ≡ suc i + 1 = omega arith in drop-at-or ys i x (omega arith) ∙ ap (λ k. get_or ys i x ∷ drop k (y ∷ ys)) q)
+
 -- nothing stands behind the end
 pub drop-end : {A : Type 0} (xs : List A) (i : ℕ) → length xs ≤ i → drop i xs ≡ []
 drop-end [] zero h = refl

@@ -11,7 +11,7 @@ mod reading;
 mod table;
 mod waits;
 
-pub use entry::{Ending, OverUnit, RunningUnit, UnitEntry};
+pub use entry::RunningUnit;
 pub use table::UnitTable;
 
 #[cfg(test)]

@@ -11,7 +11,7 @@ returns-then-not-applies-clause-ok c =
 pub apply-requires : goal.apply-requires
 apply-requires c =
     let k = c.requires.kept in
-    (k.0, k.1, k.2, sym (c.applies.ensures k.0 k.1 k.2) ∙ c.if-not-applies.false)
+    record { can = (k.0, k.1, k.2, sym (c.applies.ensures k.0 k.1 k.2) ∙ c.if-not-applies.false) }
 
 pub returns-clause-ok : goal.returns-clause-ok
 returns-clause-ok c =

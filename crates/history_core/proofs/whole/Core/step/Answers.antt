@@ -8,7 +8,7 @@ use Rattle.history_core.proofs.whole.Core.step.Goals as goal
 pub step-requires : goal.step-requires
 step-requires c =
     let old = c.args.self.now in
-    (ends (run_of old), old.stands, reached-core old.parts old.base old.kinds old.history.events old.above)
+    record { kept = (ends (run_of old), old.stands, reached-core old.parts old.base old.kinds old.history.events old.above) }
 
 pub invariant_of-self : goal.invariant_of-self
 invariant_of-self c =
@@ -28,8 +28,8 @@ returns-in-Ok-clause-taken c =
       (c.in-Ok.ensures.ok w old.stands (reached-core old.parts old.base old.kinds old.history.events old.above)).1,
     )
 
-pub invariant_of-self-2 : goal.invariant_of-self-2
-invariant_of-self-2 c =
+pub invariant_of-self-in-Err-1 : goal.invariant_of-self-in-Err-1
+invariant_of-self-in-Err-1 c =
     let old = c.args.self.now in
     let w : World = ends (run_of old) in
     record {
