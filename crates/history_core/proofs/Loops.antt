@@ -1,17 +1,18 @@
 -- Steps of loops over what was written and read.
-use Rattle.std.proofs.Common.{◌≡◌, ℕ, zero, suc, ◌+◌, ◌<◌, ◌≤◌, List, [], ◌∷◌, ◌++◌, Bool, true, false, ◌&&◌, ◌⊎◌, inl, inr, refl, sym, ap, ◌∙◌, subst, arith, Option, Some, None, length, drop, get_or}
+use Rattle.std.proofs.Common.{◌≡◌, ℕ, zero, suc, ◌+◌, ◌<◌, ◌≤◌, List, [], ◌∷◌, ◌++◌, Bool, true, false, ◌&&◌, ◌⊎◌, inl, inr, refl, sym, ap, ◌∙◌, subst, arith, Option, Some, None, length, drop, get_or, map, length-drop}
 use Rattle.std.specs.Prelude.{if◌then◌else◌}
 use Rattle.std.proofs.lemmas.Bool.{cases_Bool}
 use Rattle.cell_model.proofs.Units.{cases_unit, cases_grain, same_grain-true, same_grain-is}
 use Rattle.std.specs.List.{remove}
 use Rattle.core_model.specs.World.{UnitNo, GrainId, Value, Write, Decision, same_grain}
 use Rattle.core_model.specs.declared.effects.Effect.{Effect}
-use Rattle.history_core.specs.Fronts.{AreOver, PlacedAfter}
+use Rattle.history_core.specs.Fronts.{AreOver, PlacedAfter, writes_after}
 use Rattle.core_model.specs.Tests.{written}
 use Rattle.core_lists.specs.States.{last_in, has_place, handed_in, PutsHanded, PutsLast, KeepsPlaces}
 use Rattle.core_lists.specs.declared.handed_states.HandedStates.{HandedStates}
 use Rattle.core_lists.specs.declared.last_states.LastStates.{LastStates}
 use Rattle.open_batch.specs.declared.members.FinishedUnit.{FinishedUnit}
+use Rattle.open_batch.specs.Members.{effect_in}
 use Rattle.history_core.specs.Closing.{ArePlaced, or_else}
 use Rattle.history_core.specs.Handing.{put_handed}
 use Rattle.history_core.specs.Kept.{AllPlaced}
@@ -84,6 +85,20 @@ last-put old new k s p g = elim (cases_Bool (same_grain k g)) [
 pub front-removed : {A : Type 0} (ws new : List A) (x : A) → 0 < length ws → x ≡ get_or ws 0 x → new ≡ remove ws 0 → ws ≡ x ∷ new
 front-removed [] new x h e q = absurd (omega arith)
 front-removed (y ∷ ys) new x h e q = λ i. sym e i ∷ sym q i
+
+-- the first of those that wait, where a decision is left
+pub first-waits : {A B : Type 0} (ds : List A) (i : ℕ) (ws new : List B) (x : B) → length (drop i ds) ≤ length ws → i < length ds → x ≡ get_or ws 0 x → new ≡ remove ws 0 → ws ≡ x ∷ new
+first-waits ds i ws new x within lt is gone = (let l = length-drop i ds in front-removed ws new x (omega (arith, within, lt, l)) is gone)
+
+-- what is asked of all, of the first and of the others
+pub over-front : (f : UnitNo → Bool) {ds rest : List Decision} {d : Decision} {ws new : List FinishedUnit} {x : FinishedUnit} → ds ≡ d ∷ rest → ws ≡ x ∷ new → AreOver f ds (map effect_in ws) → (f x.effect.unit ≡ true) × AreOver f rest (map effect_in new)
+over-front f {rest = rest} {d = d} {ws = ws} p q h = subst (λ (vs : List FinishedUnit). AreOver f (d ∷ rest) (map effect_in vs)) q (subst (λ (xs : List Decision). AreOver f xs (map effect_in ws)) p h)
+
+pub placed-front : (f : GrainId → Bool) {ds rest : List Decision} {d : Decision} {ws new : List FinishedUnit} {x : FinishedUnit} → ds ≡ d ∷ rest → ws ≡ x ∷ new → PlacedAfter f ds (map effect_in ws) → ArePlaced f x.effect.writes × PlacedAfter f rest (map effect_in new)
+placed-front f {rest = rest} {d = d} {ws = ws} p q h = subst (λ (vs : List FinishedUnit). PlacedAfter f (d ∷ rest) (map effect_in vs)) q (subst (λ (xs : List Decision). PlacedAfter f xs (map effect_in ws)) p h)
+
+pub room-front : (n : ℕ) {ds rest : List Decision} {d : Decision} {ws new : List FinishedUnit} {x : FinishedUnit} → ds ≡ d ∷ rest → ws ≡ x ∷ new → writes_after ds (map effect_in ws) ≤ n → length x.effect.writes + writes_after rest (map effect_in new) ≤ n
+room-front n {rest = rest} {d = d} {ws = ws} p q h = subst (λ (vs : List FinishedUnit). writes_after (d ∷ rest) (map effect_in vs) ≤ n) q (subst (λ (xs : List Decision). writes_after xs (map effect_in ws) ≤ n) p h)
 
 pub placed-after-more : (p q : GrainId → Bool) (ds : List Decision) (es : List Effect) → ((g : GrainId) → p g ≡ true → q g ≡ true) → PlacedAfter p ds es → PlacedAfter q ds es
 placed-after-more p q [] es f h = tt

@@ -23,10 +23,13 @@ loop-at-preserved c =
     let es = map effect_in (drop (at + 1) c.args.members.now) in
     let phases : (u : UnitNo) → is_over (phase_in c.set_verdict.new.self u) ≡ is_over (phase_in c.loop-at.units u) = λ u. ap (λ (us : Units). is_over (us.phase u)) (c.set_verdict.ensures.units (λ x. None)) in record {
       rest =
-          ap (judged_after rest es) (c.set_verdict.ensures.verdict ∙ ap (put (verdict_in c.loop-at.units) m.effect.unit) c.verdict_of-verdict.ensures)
+          ap (judged_after rest es)
+          (c.set_verdict.ensures.verdict
+          ∙ ap (put (verdict_in c.loop-at.units) (get_or c.args.members.now at m).effect.unit) c.verdict_of-verdict.ensures
+          ∙ ap (λ (x : FinishedUnit). put (verdict_in c.loop-at.units) x.effect.unit (verdict_of d)) (sym c.index-members-at.is))
           ∙ (λ i. judged_after (sym ds i) (map effect_in (sym ms i)) (verdict_in c.loop-at.units))
           ∙ c.loop-at.invariant.rest;
       units = λ seen. c.set_verdict.ensures.units seen ∙ c.loop-at.invariant.units seen;
       result = c.set_verdict.ensures.result ∙ c.loop-at.invariant.result;
-      over = over-same (λ u. is_over (phase_in c.loop-at.units u)) (λ u. is_over (phase_in c.set_verdict.new.self u)) rest es (λ u. sym (phases u)) (subst (λ (xs : List FinishedUnit). AreOver (λ u. is_over (phase_in c.loop-at.units u)) (d ∷ rest) (map effect_in xs)) ms (subst (λ (xs : List Decision). AreOver (λ u. is_over (phase_in c.loop-at.units u)) xs (map effect_in (drop at c.args.members.now))) ds c.loop-at.invariant.over)).1);
+      over = over-same (λ u. is_over (phase_in c.loop-at.units u)) (λ u. is_over (phase_in c.set_verdict.new.self u)) rest es (λ u. sym (phases u)) (subst (λ (xs : List FinishedUnit). AreOver (λ u. is_over (phase_in c.loop-at.units u)) (d ∷ rest) (map effect_in xs)) ms (subst (λ (xs : List Decision). AreOver (λ u. is_over (phase_in c.loop-at.units u)) xs (map effect_in (drop at c.args.members.now))) ds c.loop-at.invariant.over)).1;
     }
