@@ -95,8 +95,7 @@ undecided p n c =
     let x = k.0 in
     let same = decisions-now p w b x s k.2 in
     let len : length (decisions_now p x) ≡ x.size = ap (λ (ds : List Decision). length ds) same ∙ decisions-length w b r t.1 ∙ sym k.2.size in
-    let within = owed-within p.batch p.waiting.items w.manager.batch (to-cases p.batch p.waiting.items w.manager.batch s.batch) in
-    (
+    let within = owed-within p.batch p.waiting.items w.manager.batch (to-cases p.batch p.waiting.items w.manager.batch s.batch) in (
       x,
       k.1,
       k.2.decisions ∙ t.2,
@@ -259,8 +258,7 @@ ready-decided p m n c j =
     let k = shown-open p w b s t.1 in
     let x = k.0 in
     let mid = stands-judged p m w b x s r t.1 k.1 k.2 (j x k.1) in
-    let len : length (decisions_now p x) ≡ x.size = ap (λ (ds : List Decision). length ds) (decisions-now p w b x s k.2) ∙ decisions-length w b r t.1 ∙ sym k.2.size in
-    (
+    let len : length (decisions_now p x) ≡ x.size = ap (λ (ds : List Decision). length ds) (decisions-now p w b x s k.2) ∙ decisions-length w b r t.1 ∙ sym k.2.size in (
       taken.with_decisions x (decisions_now p x),
       decisions_now p x,
       (j x k.1).batch,

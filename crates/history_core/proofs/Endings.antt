@@ -61,24 +61,24 @@ pub does-refuse : (p : Parts) (u : UnitNo) (g : GrainId) (mode : Mode) (why : Se
     Does p (Refuse u g mode) reply.Done (record p { units = units; entries = entries })
 does-refuse p u g mode why origin units entries cause from us v o es em room = λ w s r a. (
   subst (λ c. Stands (record p { units = units; entries = entries }) (refused_by w u c)) (cause w s)
-  (let runs = refuse-runs w u g mode a in
-  record {
-    units = ap (λ (x : Units). units_over x u Refused) s.units ∙ sym (us w.units.seen_at);
-    cells = s.cells;
-    verdict = ap (λ (x : UnitNo → Verdict). put x u Aborted) s.verdict ∙ sym v;
-    result = s.result ∙ sym o;
-    effects = s.effects;
-    sources = s.sources;
-    batch = s.batch;
-    batches = s.batches;
-    doubt = s.doubt;
-    settled = (λ i. s.settled i ++ entry_for (sym (from w s) i) u why) ∙ sym es;
-    emitted = s.emitted ∙ sym em;
-    learn = s.learn ∙ unlearnt-refused w u why r runs;
-    handed = λ x k. put-from w.units.phase u Refused (λ ph. ph ≡ Finished) (holds_lock x (w.cells.holds k) ≡ true → handed_in p.handed x k ≡ written k (w.manager.writes x)) x (λ q h. cc) (λ n h. s.handed x k h);
-    last = λ k. s.last k ∙ last-refused w u why k r runs;
-    room = record { entries = room; learn = s.room.learn; places = s.room.places };
-  }),
+      (let runs = refuse-runs w u g mode a in
+      record {
+        units = ap (λ (x : Units). units_over x u Refused) s.units ∙ sym (us w.units.seen_at);
+        cells = s.cells;
+        verdict = ap (λ (x : UnitNo → Verdict). put x u Aborted) s.verdict ∙ sym v;
+        result = s.result ∙ sym o;
+        effects = s.effects;
+        sources = s.sources;
+        batch = s.batch;
+        batches = s.batches;
+        doubt = s.doubt;
+        settled = (λ i. s.settled i ++ entry_for (sym (from w s) i) u why) ∙ sym es;
+        emitted = s.emitted ∙ sym em;
+        learn = s.learn ∙ unlearnt-refused w u why r runs;
+        handed = λ x k. put-from w.units.phase u Refused (λ ph. ph ≡ Finished) (holds_lock x (w.cells.holds k) ≡ true → handed_in p.handed x k ≡ written k (w.manager.writes x)) x (λ q h. cc) (λ n h. s.handed x k h);
+        last = λ k. s.last k ∙ last-refused w u why k r runs;
+        room = record { entries = room; learn = s.room.learn; places = s.room.places };
+      }),
   refl,
 )
 

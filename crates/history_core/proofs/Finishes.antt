@@ -212,32 +212,32 @@ pub does-finish : (p : Parts) (u : UnitNo) (e : Effect) (units : UnitTable) (wai
     Does p (Finish u e) reply.Done (record p { units = units; waiting = waiting })
 does-finish p u e units waiting m f us v o effect deps items hands = λ w s r a. (
   (let t = finish-parts w u e a in
-  record {
-    units = ap (λ (x : Units). units_over x u Finished) s.units ∙ sym (us w.units.seen_at);
-    cells = s.cells;
-    verdict = s.verdict ∙ sym v;
-    result = ap (λ (x : UnitNo → Outcome). put x u e.result) s.result ∙ sym o;
-    effects = ap (map effect_in) items ∙ effects-more w u e p.waiting.items m r t.0 t.1 t.2 effect s.effects;
-    sources = ap (map sources_in) items ∙ sources-more w u e p.waiting.items m r (deps ∙ (λ i. (sym s.units i).deps u)) s.sources;
-    batch = subst (λ ms. IsShown p.batch ms w.manager.batch) (sym items) (from-cases p.batch (p.waiting.items ++ m ∷ []) w.manager.batch (shows-more p.batch p.waiting.items m w.manager.batch (to-cases p.batch p.waiting.items w.manager.batch s.batch)));
-    batches = s.batches;
-    doubt = s.doubt;
-    settled = s.settled;
-    emitted = s.emitted;
-    learn = s.learn ∙ unlearnt-same w u e r t.0;
-    handed = λ x g ph h. elim (cases_unit x u) [
-      | inl q ↦
-        (let held : holds_lock u (w.cells.holds g) ≡ true = ap (λ y. holds_lock y (w.cells.holds g)) (sym q) ∙ h in
-        (λ i. hands i (q i) g) ∙ handed-new w u g f e r t.2 held ∙ ap (written g) (sym (put-is w.manager.writes u e.writes x q)))
-      | inr n ↦ s.handed x g (sym (put-other w.units.phase u Finished x n) ∙ ph) h ∙ ap (written g) (sym (put-other w.manager.writes u e.writes x n))
-    ];
-    last = λ g. s.last g ∙ last-same w u e g r t.0;
-    room = record {
-      entries = s.room.entries;
-      learn = subst (λ (ms : List FinishedUnit). writes_in ms ≤ p.learn.spare) (sym (front w s)) s.room.learn;
-      places = subst (λ (ms : List FinishedUnit). EachPlaced (has_place p.last) ms) (sym (front w s)) s.room.places;
-    };
-  }),
+      record {
+        units = ap (λ (x : Units). units_over x u Finished) s.units ∙ sym (us w.units.seen_at);
+        cells = s.cells;
+        verdict = s.verdict ∙ sym v;
+        result = ap (λ (x : UnitNo → Outcome). put x u e.result) s.result ∙ sym o;
+        effects = ap (map effect_in) items ∙ effects-more w u e p.waiting.items m r t.0 t.1 t.2 effect s.effects;
+        sources = ap (map sources_in) items ∙ sources-more w u e p.waiting.items m r (deps ∙ (λ i. (sym s.units i).deps u)) s.sources;
+        batch = subst (λ ms. IsShown p.batch ms w.manager.batch) (sym items) (from-cases p.batch (p.waiting.items ++ m ∷ []) w.manager.batch (shows-more p.batch p.waiting.items m w.manager.batch (to-cases p.batch p.waiting.items w.manager.batch s.batch)));
+        batches = s.batches;
+        doubt = s.doubt;
+        settled = s.settled;
+        emitted = s.emitted;
+        learn = s.learn ∙ unlearnt-same w u e r t.0;
+        handed = λ x g ph h. elim (cases_unit x u) [
+          | inl q ↦
+              (let held : holds_lock u (w.cells.holds g) ≡ true = ap (λ y. holds_lock y (w.cells.holds g)) (sym q) ∙ h in
+              (λ i. hands i (q i) g) ∙ handed-new w u g f e r t.2 held ∙ ap (written g) (sym (put-is w.manager.writes u e.writes x q)))
+          | inr n ↦ s.handed x g (sym (put-other w.units.phase u Finished x n) ∙ ph) h ∙ ap (written g) (sym (put-other w.manager.writes u e.writes x n))
+        ];
+        last = λ g. s.last g ∙ last-same w u e g r t.0;
+        room = record {
+          entries = s.room.entries;
+          learn = subst (λ (ms : List FinishedUnit). writes_in ms ≤ p.learn.spare) (sym (front w s)) s.room.learn;
+          places = subst (λ (ms : List FinishedUnit). EachPlaced (has_place p.last) ms) (sym (front w s)) s.room.places;
+        };
+      }),
   refl,
 )
   where

@@ -174,25 +174,25 @@ pub does-raise : (p : Parts) (u : UnitNo) (g : GrainId) (m : Mode) (aborted : Op
     found ≡ top (without_aborted aborted (cell_in p.cells g).stack) → Does p (Grant u g m) (reply.Granted found.state found.unit) (record p { cells = new })
 does-raise p u g m aborted new found e held is top_is = λ w s r a. (
   subst (Stands (record p { cells = new })) (sym (cond-true (holds_lock u (w.cells.holds g)) (raised (restacked w g (cleaned w g)) u g m) (locked (restacked w g (cleaned w g)) u g m) ((λ i. holds_lock u ((s.cells i).holds g)) ∙ held)))
-  (record {
-    units = s.units;
-    cells = raised-cells p new w u g m aborted s e is;
-    verdict = s.verdict;
-    result = s.result;
-    effects = s.effects;
-    sources = s.sources;
-    batch = s.batch;
-    batches = s.batches;
-    doubt = s.doubt;
-    settled = s.settled;
-    emitted = s.emitted;
-    learn = s.learn;
-    handed = λ x k f. grain-from w.cells.holds g (locks.granted (w.cells.holds g) u m) (λ hs. holds_lock x hs ≡ true) (handed_in p.handed x k ≡ written k (w.manager.writes x)) k
-        (λ q h. s.handed x k f (ap (λ j. holds_lock x (w.cells.holds j)) q ∙ held-before (w.cells.holds g) u m x (runs-not w u g m a x f) h))
-        (λ q h. s.handed x k f h);
-    last = s.last;
-    room = record { entries = s.room.entries; learn = s.room.learn; places = s.room.places };
-  }),
+      (record {
+        units = s.units;
+        cells = raised-cells p new w u g m aborted s e is;
+        verdict = s.verdict;
+        result = s.result;
+        effects = s.effects;
+        sources = s.sources;
+        batch = s.batch;
+        batches = s.batches;
+        doubt = s.doubt;
+        settled = s.settled;
+        emitted = s.emitted;
+        learn = s.learn;
+        handed = λ x k f. grain-from w.cells.holds g (locks.granted (w.cells.holds g) u m) (λ hs. holds_lock x hs ≡ true) (handed_in p.handed x k ≡ written k (w.manager.writes x)) k
+            (λ q h. s.handed x k f (ap (λ j. holds_lock x (w.cells.holds j)) q ∙ held-before (w.cells.holds g) u m x (runs-not w u g m a x f) h))
+            (λ q h. s.handed x k f h);
+        last = s.last;
+        room = record { entries = s.room.entries; learn = s.room.learn; places = s.room.places };
+      }),
   ap read_reply (top_is ∙ sym (ap top (cleaned-is p w g aborted s e))),
 )
 
@@ -203,27 +203,27 @@ pub does-lock : (p : Parts) (u : UnitNo) (g : GrainId) (m : Mode) (aborted : Opt
     Does p (Grant u g m) (reply.Granted found.state found.unit) (record p { cells = new; units = units })
 does-lock p u g m aborted new units found read depends e held is top_is read_is more us v o = λ w s r a. (
   subst (Stands (record p { cells = new; units = units })) (sym (cond-false (holds_lock u (w.cells.holds g)) (raised (restacked w g (cleaned w g)) u g m) (locked (restacked w g (cleaned w g)) u g m) ((λ i. holds_lock u ((s.cells i).holds g)) ∙ held)))
-  (record {
-    units = locked-units p w u g m aborted read depends s e (read_is ∙ ap (read_of g) top_is) more ∙ sym (us w.units.seen_at);
-    cells = locked-cells p new w u g m aborted s e is;
-    verdict = s.verdict ∙ sym v;
-    result = s.result ∙ sym o;
-    effects = s.effects ∙ map-agree (effect_of w) (effect_of (locked (restacked w g (cleaned w g)) u g m)) (waiting w)
-        (λ x k i. record (effect_of w x) { reads = sym (put-other w.units.reads u (w.units.reads u ++ read_of g (top (put_grain w.cells.stack g (cleaned w g) g)) ∷ []) x (apart w r a x k)) i });
-    sources = s.sources ∙ map-agree w.units.deps (locked (restacked w g (cleaned w g)) u g m).units.deps (waiting w)
-        (λ x k. sym (put-other w.units.deps u (deps_with w (w.units.deps u) (top (put_grain w.cells.stack g (cleaned w g) g)).unit) x (apart w r a x k)));
-    batch = s.batch;
-    batches = s.batches;
-    doubt = s.doubt;
-    settled = s.settled;
-    emitted = s.emitted;
-    learn = s.learn;
-    handed = λ x k f. grain-from w.cells.holds g (locks.granted (w.cells.holds g) u m) (λ hs. holds_lock x hs ≡ true) (handed_in p.handed x k ≡ written k (w.manager.writes x)) k
-        (λ q h. s.handed x k f (ap (λ j. holds_lock x (w.cells.holds j)) q ∙ held-before (w.cells.holds g) u m x (runs-not w u g m a x f) h))
-        (λ q h. s.handed x k f h);
-    last = s.last;
-    room = record { entries = s.room.entries; learn = s.room.learn; places = s.room.places };
-  }),
+      (record {
+        units = locked-units p w u g m aborted read depends s e (read_is ∙ ap (read_of g) top_is) more ∙ sym (us w.units.seen_at);
+        cells = locked-cells p new w u g m aborted s e is;
+        verdict = s.verdict ∙ sym v;
+        result = s.result ∙ sym o;
+        effects = s.effects ∙ map-agree (effect_of w) (effect_of (locked (restacked w g (cleaned w g)) u g m)) (waiting w)
+            (λ x k i. record (effect_of w x) { reads = sym (put-other w.units.reads u (w.units.reads u ++ read_of g (top (put_grain w.cells.stack g (cleaned w g) g)) ∷ []) x (apart w r a x k)) i });
+        sources = s.sources ∙ map-agree w.units.deps (locked (restacked w g (cleaned w g)) u g m).units.deps (waiting w)
+            (λ x k. sym (put-other w.units.deps u (deps_with w (w.units.deps u) (top (put_grain w.cells.stack g (cleaned w g) g)).unit) x (apart w r a x k)));
+        batch = s.batch;
+        batches = s.batches;
+        doubt = s.doubt;
+        settled = s.settled;
+        emitted = s.emitted;
+        learn = s.learn;
+        handed = λ x k f. grain-from w.cells.holds g (locks.granted (w.cells.holds g) u m) (λ hs. holds_lock x hs ≡ true) (handed_in p.handed x k ≡ written k (w.manager.writes x)) k
+            (λ q h. s.handed x k f (ap (λ j. holds_lock x (w.cells.holds j)) q ∙ held-before (w.cells.holds g) u m x (runs-not w u g m a x f) h))
+            (λ q h. s.handed x k f h);
+        last = s.last;
+        room = record { entries = s.room.entries; learn = s.room.learn; places = s.room.places };
+      }),
   ap read_reply (top_is ∙ sym (ap top (cleaned-is p w g aborted s e))),
 )
   where

@@ -93,31 +93,31 @@ pub does-release : (p : Parts) (u : UnitNo) (g : GrainId) (new : CellTable) (han
     Does p (Release u g) reply.Done (record p { cells = new; handed = handed })
 does-release p u g new handed puts is = λ w s r a. (
   (let held : holds_lock u (w.cells.holds g) ≡ true = released-held p w u g s (can-is w (Release u g) a) in
-  let gives = given-is p w u g s r held in
-  record {
-    units = s.units;
-    cells =
-        (λ i. record (s.cells i) {
-          stack = put_grain (s.cells i).stack g (stacked ((s.cells i).readings g) ((s.cells i).stack g) u (sym gives i));
-          holds = put_grain (s.cells i).holds g (dropped ((s.cells i).holds g) u);
-          readings = put_grain (s.cells i).readings g (without_reading ((s.cells i).readings g) u);
-        })
-        ∙ put-cells (cell_in p.cells) w.cells.learnt g (cells.released (cell_in p.cells g) u (if_finished (phase_in p.units u) (handed_in p.handed u g)))
-        ∙ ap (λ (C : GrainId → Cell). cells_of C w.cells.learnt) (sym is);
-    verdict = s.verdict;
-    result = s.result;
-    effects = s.effects;
-    sources = s.sources;
-    batch = s.batch;
-    batches = s.batches;
-    doubt = s.doubt;
-    settled = s.settled;
-    emitted = s.emitted;
-    learn = s.learn;
-    handed = λ x k f h. still w s x k f h (cases_unit x u) (cases_grain k g);
-    last = s.last;
-    room = record { entries = s.room.entries; learn = s.room.learn; places = s.room.places };
-  }),
+      let gives = given-is p w u g s r held in
+      record {
+        units = s.units;
+        cells =
+            (λ i. record (s.cells i) {
+              stack = put_grain (s.cells i).stack g (stacked ((s.cells i).readings g) ((s.cells i).stack g) u (sym gives i));
+              holds = put_grain (s.cells i).holds g (dropped ((s.cells i).holds g) u);
+              readings = put_grain (s.cells i).readings g (without_reading ((s.cells i).readings g) u);
+            })
+            ∙ put-cells (cell_in p.cells) w.cells.learnt g (cells.released (cell_in p.cells g) u (if_finished (phase_in p.units u) (handed_in p.handed u g)))
+            ∙ ap (λ (C : GrainId → Cell). cells_of C w.cells.learnt) (sym is);
+        verdict = s.verdict;
+        result = s.result;
+        effects = s.effects;
+        sources = s.sources;
+        batch = s.batch;
+        batches = s.batches;
+        doubt = s.doubt;
+        settled = s.settled;
+        emitted = s.emitted;
+        learn = s.learn;
+        handed = λ x k f h. still w s x k f h (cases_unit x u) (cases_grain k g);
+        last = s.last;
+        room = record { entries = s.room.entries; learn = s.room.learn; places = s.room.places };
+      }),
   refl,
 )
   where

@@ -172,18 +172,18 @@ decided-here p w b ds s q d = (let t = shown p w b s q in ap decisions_in t.1 �
 pub does-seal : (p q : Parts) (n : ℕ) → ((ds : List Decision) → decisions_in p.batch ≡ Some ds → Closes how.Sealed ds p q) → q.doubt ≡ p.doubt → Does p (Sealed n) reply.Done q
 does-seal p q n k doubt = λ w s r a. (
   (let t = seal-parts w n a in
-  let b = t.1.0 in let ds = t.1.1 in
-  subst (Stands q) (sym (on-decided w (sealed w) b ds t.1.2 t.1.3))
-  (stands-closed how.Sealed p q w b ds s (can-close w b ds r t.0 t.1.2 t.1.3) (k ds (decided-here p w b ds s t.1.2 t.1.3)) doubt)),
+      let b = t.1.0 in let ds = t.1.1 in
+      subst (Stands q) (sym (on-decided w (sealed w) b ds t.1.2 t.1.3))
+      (stands-closed how.Sealed p q w b ds s (can-close w b ds r t.0 t.1.2 t.1.3) (k ds (decided-here p w b ds s t.1.2 t.1.3)) doubt)),
   refl,
 )
 
 pub does-spoil : (p q : Parts) (n : ℕ) → ((ds : List Decision) → decisions_in p.batch ≡ Some ds → Closes how.NotSealed ds p q) → q.doubt ≡ p.doubt → Does p (NotSealed n) reply.Done q
 does-spoil p q n k doubt = λ w s r a. (
   (let t = spoil-parts w n a in
-  let b = t.1.0 in let ds = t.1.1 in
-  subst (Stands q) (sym (on-decided w (spoiled w) b ds t.1.2 t.1.3))
-  (stands-closed how.NotSealed p q w b ds s (can-close w b ds r t.0 t.1.2 t.1.3) (k ds (decided-here p w b ds s t.1.2 t.1.3)) doubt)),
+      let b = t.1.0 in let ds = t.1.1 in
+      subst (Stands q) (sym (on-decided w (spoiled w) b ds t.1.2 t.1.3))
+      (stands-closed how.NotSealed p q w b ds s (can-close w b ds r t.0 t.1.2 t.1.3) (k ds (decided-here p w b ds s t.1.2 t.1.3)) doubt)),
   refl,
 )
 
@@ -210,9 +210,9 @@ stands-doubted p w at s = record {
 pub does-doubt : (p q : Parts) (n : ℕ) → ((ds : List Decision) → decisions_in p.batch ≡ Some ds → Closes how.Doubt ds p q) → q.doubt ≡ p.doubt → Does p (Doubt n) reply.Done (record q { doubt = true })
 does-doubt p q n k doubt = λ w s r a. (
   (let t = doubt-parts w n a in
-  let b = t.1.0 in let ds = t.1.1 in
-  subst (Stands (record q { doubt = true })) (sym (on-decided w (in_doubt w) b ds t.1.2 t.1.3))
-  (stands-doubted q (closed w leave (λ u. settled.InDoubt) b ds) w.manager.closed
-  (stands-closed how.Doubt p q w b ds s (can-close w b ds r t.0 t.1.2 t.1.3) (k ds (decided-here p w b ds s t.1.2 t.1.3)) doubt))),
+      let b = t.1.0 in let ds = t.1.1 in
+      subst (Stands (record q { doubt = true })) (sym (on-decided w (in_doubt w) b ds t.1.2 t.1.3))
+      (stands-doubted q (closed w leave (λ u. settled.InDoubt) b ds) w.manager.closed
+      (stands-closed how.Doubt p q w b ds s (can-close w b ds r t.0 t.1.2 t.1.3) (k ds (decided-here p w b ds s t.1.2 t.1.3)) doubt))),
   refl,
 )

@@ -71,7 +71,11 @@ impl Parts {
                 let done = self.bad(line, why);
                 back(done, CoreEvent::Bad { line, why })
             }
-            CoreEvent::Begin { origin, call, plain } => self.begin(origin, call, plain),
+            CoreEvent::Begin {
+                origin,
+                call,
+                plain,
+            } => self.begin(origin, call, plain),
             CoreEvent::Grant { unit, grain, mode } => {
                 let done = self.grant(unit, grain, mode);
                 back(done, CoreEvent::Grant { unit, grain, mode })
@@ -106,7 +110,10 @@ impl Parts {
 }
 
 // The answer of a call, with the event that comes back where there is no memory.
-fn back(done: Result<CoreReply, AllocError>, event: CoreEvent) -> Result<CoreReply, (AllocError, CoreEvent)>
+fn back(
+    done: Result<CoreReply, AllocError>,
+    event: CoreEvent,
+) -> Result<CoreReply, (AllocError, CoreEvent)>
     ensures { result ≡ with_event done event }
 {
     match done {

@@ -119,7 +119,12 @@ fn close_one(
     let verdict = ends_as(how, units.verdict(unit));
     units.set_verdict(unit, verdict);
     teach(learn, unit, effect.writes.as_slice(), is_final(verdict));
-    settle(entries, effect.origin, unit, told(how, effect.result, decision));
+    settle(
+        entries,
+        effect.origin,
+        unit,
+        told(how, effect.result, decision),
+    );
     keep(last, effect.writes, is_committed(verdict));
 }
 

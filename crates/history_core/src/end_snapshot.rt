@@ -46,14 +46,7 @@ impl Parts {
         ensures opens { opens_with self.new.cells ≡ opens_with self.old.cells }
     {
         match self.prepare_end(&outcome) {
-            Err(error) => Err((
-                error,
-                CoreEvent::EndSnapshot {
-                    unit,
-                    at,
-                    outcome,
-                },
-            )),
+            Err(error) => Err((error, CoreEvent::EndSnapshot { unit, at, outcome })),
             Ok(kept) => {
                 self.end(unit, outcome, kept);
                 Ok(CoreReply::Done)

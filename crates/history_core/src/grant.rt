@@ -9,7 +9,6 @@ ghost use Rattle.core_model.specs.Tests.{is_aborted};
 ghost use Rattle.core_model.specs.Events as events;
 ghost use Rattle.core_model.specs.Events.{is_free_answer};
 ghost use Rattle.core_model.specs.declared.events.CoreEvent.TheVariants.{Grant};
-
 ghost use Rattle.cell_table.specs.Table.{cell_in, has_cell, spare_in, opens_with};
 ghost use Rattle.unit_table.specs.Table.{verdict_in};
 ghost use Rattle.history_core.specs.Granting.{cell_without, is_sure_in};

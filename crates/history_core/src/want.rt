@@ -27,7 +27,9 @@ impl Parts {
     fn may_want(&self, unit: UnitNo, grain: GrainId) -> bool
         ensures { (w : World) → Stands self.now w → result ≡ can_want w unit grain }
     {
-        self.is_active(unit, grain) && !self.cells.is_held_by(unit, grain) && !self.wants(unit, grain)
+        self.is_active(unit, grain)
+            && !self.cells.is_held_by(unit, grain)
+            && !self.wants(unit, grain)
     }
 
     // Whether the unit waits for the grain.
