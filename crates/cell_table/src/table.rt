@@ -81,6 +81,13 @@ impl CellTable {
         }
     }
 
+    /// Whether the grain has a cell: it is made with the room of the grain's first lock.
+    pub fn has_cell(&self, grain: GrainId) -> bool
+        ensures { result ≡ has_cell self.now grain }
+    {
+        self.cells.contains_key(&grain)
+    }
+
     /// The versions of a grain that has a cell, oldest first.
     pub fn versions(&self, grain: GrainId) -> &[Version]
         requires { has_cell self.now grain ≡ true }

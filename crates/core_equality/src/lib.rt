@@ -6,7 +6,7 @@ mod calls;
 mod lists;
 mod values;
 
-pub use lists::Same;
+pub use lists::{Same, same_items};
 
 #[cfg(test)]
 mod tests;

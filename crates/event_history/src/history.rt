@@ -35,8 +35,8 @@ impl History {
         *self = History::with(self, event);
     }
 
-    // The history with one event more.
-    fn with(_before: &History, _event: &CoreEvent) -> History
+    /// The history with one event more. Takes no memory, and reads nothing of the event when it runs.
+    pub fn with(_before: &History, _event: &CoreEvent) -> History
         ensures { result.events ≡ _before.now.events ++ _event.now ∷ [] }
     {
         History {}

@@ -1,0 +1,14 @@
+use Rattle.std.proofs.Common.{◌≡◌, ◌∙◌, ◌++◌, ◌∷◌, [], List, sym, ap, arith}
+use Rattle.base_types.specs.declared.entries.Settled.TheVariants as settled
+use Rattle.core_model.specs.World.{Entry, nobody}
+use Rattle.history_core.proofs.Simple.{does-bad}
+use Rattle.history_core.proofs.parts.Parts.bad.Goals as goal
+
+pub returns-clause-ok : goal.returns-clause-ok
+returns-clause-ok c =
+    let x : Entry = record { line = c.args.line; unit = nobody; what = settled.Bad c.args.why } in
+    does-bad c.args.self.now c.args.line c.args.why c.bad_line.new.self c.push.new.self
+    c.bad_line.ensures.units c.bad_line.ensures.verdict c.bad_line.ensures.result
+    (c.push.ensures.entries ∙ ap (λ (xs : List Entry). xs ++ x ∷ []) c.reserve.ensures.entries)
+    (c.push.ensures.emitted ∙ c.reserve.ensures.emitted)
+    (omega (arith, c.push.ensures.spare, c.in_ok-reserve.ensures.ok, c.owed-room.ensures.size))

@@ -1,0 +1,5 @@
+use Rattle.history_core.proofs.Simple.{does-halt}
+use Rattle.history_core.proofs.parts.Parts.halt.Goals as goal
+
+pub returns-clause-ok : goal.returns-clause-ok
+returns-clause-ok c = does-halt c.args.self.now c.halt.new.self c.halt.ensures.units c.halt.ensures.verdict c.halt.ensures.result

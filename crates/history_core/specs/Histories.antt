@@ -1,0 +1,10 @@
+-- The run of a core, by what it keeps.
+use Rattle.std.specs.Prelude.{ℕ, List, None}
+use Rattle.core_model.specs.declared.events.CoreEvent.{CoreEvent}
+use Rattle.core_model.specs.Legal.{Run}
+use Rattle.cell_table.specs.Table.{opens_with}
+use Rattle.cell_table.specs.declared.table.CellTable.{CellTable}
+
+-- the run with these events, of a core that keeps these cells
+abbrev pub run_with : ℕ → ℕ → CellTable → List CoreEvent → Run
+run_with base kinds cells events = record { base = base; kinds = kinds; capacity = None; opening = opens_with cells; events = events }

@@ -1,0 +1,15 @@
+pub mod Closing
+pub mod Kept
+pub mod Asked
+pub mod Granting
+pub mod Releasing
+pub mod Handing
+pub mod Taking
+pub mod Fronts
+pub mod Closes
+pub mod Deciding
+pub mod Batches
+pub mod Effects
+pub mod Steps
+pub mod Histories
+pub mod Cores

@@ -1,0 +1,91 @@
+// A unit begins.
+ghost use Rattle.std.specs.Prelude.{◌≡◌, Bool, IfOk, IfErr, OnErr};
+ghost use Rattle.std.specs.List.{list_all};
+ghost use Rattle.base_types.specs.declared.calls.Call.{Call};
+ghost use Rattle.core_model.specs.World.{World};
+ghost use Rattle.core_model.specs.Events.{can_begin};
+ghost use Rattle.core_model.specs.declared.events.CoreEvent.TheVariants.{Begin};
+ghost use Rattle.cell_table.specs.Table.{opens_with};
+ghost use Rattle.history_core.specs.Asked.{is_decided_in, is_next_child_in, FitsLine};
+ghost use Rattle.history_core.specs.Kept.{Stands};
+ghost use Rattle.history_core.specs.Steps.{CanDo, Keeps, Tells, Does};
+
+use crate::parts::Parts;
+use base_types::{Call, Origin, UnitNo};
+use core_model::{CoreEvent, CoreReply};
+use std::alloc::AllocError;
+
+impl Parts {
+    // Whether a unit can begin there, and no stop stands.
+    pub(crate) fn can_begin(&self, origin: &Origin) -> bool
+        ensures { (call : Call) (plain : Bool) → Tells self.now (Begin origin.now call plain) result }
+    {
+        self.is_going() && self.is_next(origin)
+    }
+
+    // Whether it is the next line, or the next child of a running unit whose children are decided.
+    fn is_next(&self, origin: &Origin) -> bool
+        ensures { (w : World) → Stands self.now w → result ≡ can_begin w origin.now }
+    {
+        match *origin {
+            Origin::Line(line) => self.is_next_line(line),
+            Origin::Child { parent, index, .. } => self.is_next_child(parent, index),
+        }
+    }
+
+    // Whether the parent runs, and so many children of it have begun and are decided.
+    fn is_next_child(&self, parent: UnitNo, index: u32) -> bool
+        ensures { result ≡ is_next_child_in self.now parent index }
+    {
+        if !self.units.is_running(parent) {
+            return false;
+        }
+        let kids = self.units.kids(parent);
+        u64::from(index) == kids.len() as u64 && self.are_decided(kids)
+    }
+
+    // Whether these units are decided.
+    pub(crate) fn are_decided(&self, units: &[UnitNo]) -> bool
+        ensures { result ≡ list_all (is_decided_in self.now) units.now }
+    {
+        units.iter().all(|unit| self.units.is_decided(*unit))
+    }
+
+    // The next number becomes a running unit.
+    pub(crate) fn begin(
+        &mut self,
+        origin: Origin,
+        call: Call,
+        plain: bool,
+    ) -> Result<CoreReply, (AllocError, CoreEvent)>
+        requires can { CanDo self.old (Begin origin call plain) }
+        ensures ok { IfOk result (λ reply. Does self.old (Begin origin call plain) reply self.new) }
+        ensures back { IfErr result (λ e. e.1 ≡ Begin origin call plain) }
+        ensures err { OnErr result (Keeps self.old self.new) }
+        ensures opens { opens_with self.new.cells ≡ opens_with self.old.cells }
+    {
+        if let Err(error) = self.units.reserve_begin(&origin) {
+            return Err((
+                error,
+                CoreEvent::Begin {
+                    origin,
+                    call,
+                    plain,
+                },
+            ));
+        }
+        fits_line(&origin);
+        let unit = self.units.begin(origin, call, plain);
+        Ok(CoreReply::Began { unit })
+    }
+}
+
+// The number of a line has 32 bits.
+fn fits_line(origin: &Origin)
+    ensures { FitsLine origin.now }
+{
+    match *origin {
+        Origin::Line(line) => prove!(u64::from(line) < 4_294_967_296),
+        Origin::Child { .. } => {}
+    }
+}

@@ -1,0 +1,67 @@
+// Whether what a unit says that it did is what it did.
+ghost use Rattle.std.specs.Prelude.{◌≡◌, true};
+ghost use Rattle.core_model.specs.Equality.{same_outcome};
+ghost use Rattle.core_model.specs.Tests.{is_answer, is_over};
+ghost use Rattle.unit_table.specs.Table.{outcome_known, phase_in, result_in};
+ghost use Rattle.unit_table.specs.Known.{known_running};
+ghost use Rattle.history_core.specs.Effects.{is_of_call_in, answered_in};
+
+use crate::parts::Parts;
+use base_types::{Outcome, UnitNo};
+use core_equality::Same;
+use core_model::{Effect, Phase, Verdict};
+use unit_table::RunningUnit;
+
+impl Parts {
+    // Whether the effect is of the unit's call, with its children's outcomes.
+    pub(crate) fn is_of_call(&self, unit: UnitNo, running: &RunningUnit, effect: &Effect) -> bool
+        ensures { result ≡ is_of_call_in self.now unit effect.now (known_running running.now) }
+    {
+        effect.unit == unit
+            && effect.origin.is_same(&running.origin)
+            && effect.call.is_same(&running.call)
+            && self.are_answers(running.kids.as_slice(), effect.answers.as_slice())
+    }
+
+    // Whether these units are decided, with these outcomes.
+    fn are_answers(&self, units: &[UnitNo], answers: &[Outcome]) -> bool
+        ensures { result ≡ answered_in (outcome_known self.now.units) units.now answers.now }
+    {
+        if units.len() != answers.len() {
+            return false;
+        }
+        for at in 0..units.len() {
+            if !self.is_answer(units[at], &answers[at]) {
+                return false;
+            }
+        }
+        true
+    }
+
+    // Whether the unit is decided, with that outcome.
+    fn is_answer(&self, unit: UnitNo, answer: &Outcome) -> bool
+        ensures { result ≡ is_answer (outcome_known self.now.units unit) answer.now }
+    {
+        match self.units.phase(unit) {
+            Phase::Unborn | Phase::Running => false,
+            Phase::Refused => Outcome::Aborted.is_same(answer),
+            Phase::Ended => self.has_result(unit, answer),
+            Phase::Finished => match self.units.verdict(unit) {
+                Verdict::Open | Verdict::Chosen | Verdict::Condemned => false,
+                Verdict::Committed => self.has_result(unit, answer),
+                Verdict::Aborted => Outcome::Aborted.is_same(answer),
+            },
+        }
+    }
+
+    // Whether a unit that is over has that result.
+    fn has_result(&self, unit: UnitNo, answer: &Outcome) -> bool
+        requires { is_over (phase_in self.now.units unit) ≡ true }
+        ensures { result ≡ same_outcome (result_in self.now.units unit) answer.now }
+    {
+        match self.units.result(unit) {
+            Some(result) => result.is_same(answer),
+            None => false,
+        }
+    }
+}

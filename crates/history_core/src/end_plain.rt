@@ -1,0 +1,96 @@
+// A plain run has come to its end.
+ghost use Rattle.std.specs.Prelude.{◌≡◌, ◌<◌, ◌≤◌, ℕ, List as AList, Option as AnOption, true, IfOk, IfErr, OnOk, OnErr};
+ghost use Rattle.base_types.specs.declared.calls.Outcome.{Outcome as AnOutcome};
+ghost use Rattle.core_model.specs.World.{World};
+ghost use Rattle.core_model.specs.Changes.{ended};
+ghost use Rattle.core_model.specs.declared.events.CoreEvent.TheVariants.{EndPlain};
+ghost use Rattle.core_model.specs.Tests.{is_running};
+ghost use Rattle.unit_table.specs.Known.{known_running};
+ghost use Rattle.history_core.specs.Effects.{ends_as_plain};
+ghost use Rattle.cell_table.specs.Table.{opens_with};
+ghost use Rattle.unit_table.specs.Table.{known_in, phase_in};
+ghost use Rattle.history_core.specs.Kept.{Stands, IsReached, owed_in};
+ghost use Rattle.history_core.specs.Steps.{CanDo, Keeps, Tells, Does};
+
+use crate::parts::Parts;
+use crate::refuse::settle;
+use base_types::{Outcome, Settled, UnitNo};
+use core_model::{CoreEvent, CoreReply, Effect};
+use std::alloc::AllocError;
+use unit_table::RunningUnit;
+
+impl Parts {
+    // Whether that is the effect of a running plain run, and no stop stands.
+    pub(crate) fn can_end_plain(&self, unit: UnitNo, effect: &Effect) -> bool
+        ensures { Tells self.now (EndPlain unit effect.now) result }
+    {
+        self.is_going() && self.has_ended(unit, effect)
+    }
+
+    // Whether that is the effect of a running plain run, without reads and writes.
+    fn has_ended(&self, unit: UnitNo, effect: &Effect) -> bool
+        ensures { result ≡ ends_as_plain self.now unit effect.now (known_in self.now.units unit) }
+    {
+        match self.units.running(unit) {
+            None => false,
+            Some(running) => self.ends(unit, running, effect),
+        }
+    }
+
+    // Whether that is the effect of a unit that runs, and a plain run.
+    fn ends(&self, unit: UnitNo, running: &RunningUnit, effect: &Effect) -> bool
+        ensures { result ≡ ends_as_plain self.now unit effect.now (known_running running.now) }
+    {
+        running.plain
+            && self.is_of_call(unit, running, effect)
+            && effect.reads.is_empty()
+            && effect.writes.is_empty()
+    }
+
+    // The plain run has ended, and its line is settled.
+    pub(crate) fn end_plain(
+        &mut self,
+        unit: UnitNo,
+        effect: Effect,
+    ) -> Result<CoreReply, (AllocError, CoreEvent)>
+        requires can { CanDo self.old (EndPlain unit effect) }
+        ensures ok { IfOk result (λ reply. Does self.old (EndPlain unit effect) reply self.new) }
+        ensures back { IfErr result (λ e. e.1 ≡ EndPlain unit effect) }
+        ensures err { OnErr result (Keeps self.old self.new) }
+        ensures opens { opens_with self.new.cells ≡ opens_with self.old.cells }
+    {
+        match self.prepare_end(&effect.result) {
+            Err(error) => Err((error, CoreEvent::EndPlain { unit, effect })),
+            Ok(kept) => {
+                self.end(unit, effect.result, kept);
+                Ok(CoreReply::Done)
+            }
+        }
+    }
+
+    // Makes the room of one entry, and a copy of the result.
+    pub(crate) fn prepare_end(&mut self, outcome: &Outcome) -> Result<Outcome, AllocError>
+        ensures copied { IfOk result (λ made. made ≡ outcome.now) }
+        ensures room { OnOk result (owed_in self.new.batch < self.new.entries.spare) }
+        ensures keeps { Keeps self.old self.new }
+        ensures units { self.new.units ≡ self.old.units }
+        ensures opens { opens_with self.new.cells ≡ opens_with self.old.cells }
+    {
+        let room = self.owed() + 1;
+        self.entries.reserve(room)?;
+        outcome.copy()
+    }
+
+    // The running unit has ended with that result, and its line is settled. Takes no memory.
+    pub(crate) fn end(&mut self, unit: UnitNo, told: Outcome, kept: Outcome)
+        requires runs { is_running (phase_in self.old.units unit) ≡ true }
+        requires room { owed_in self.old.batch < self.old.entries.spare }
+        requires same { kept ≡ told }
+        ensures ended { (w : World) → Stands self.old w → IsReached w → (answers : AList AnOutcome) (at : AnOption ℕ) → Stands self.new (ended w unit answers told at) }
+        ensures opens { opens_with self.new.cells ≡ opens_with self.old.cells }
+    {
+        let origin = self.origin(unit);
+        settle(&mut self.entries, origin, unit, Settled::Done(told));
+        self.units.end(unit, kept);
+    }
+}

@@ -1,0 +1,136 @@
+// A transaction has run to its end.
+ghost use Rattle.std.specs.Prelude.{◌≡◌, ◌<◌, ◌&&◌, true, not, ℕ, vec_len, vec_capacity, IfOk, IfErr, OnOk, OnErr};
+ghost use Rattle.base_types.specs.declared.calls.UnitNo.{UnitNo};
+ghost use Rattle.base_types.specs.declared.calls.GrainId.{GrainId};
+ghost use Rattle.core_model.specs.declared.events.CoreEvent.TheVariants.{Finish};
+ghost use Rattle.core_model.specs.Tests.{is_running};
+ghost use Rattle.std.specs.List.{list_all};
+ghost use Rattle.rw_locks.specs.Locked.{holds_alone};
+ghost use Rattle.cell_table.specs.Table.{cell_in, opens_with};
+ghost use Rattle.core_lists.specs.States.{handed_in};
+ghost use Rattle.unit_table.specs.Table.{known_in, phase_in};
+ghost use Rattle.unit_table.specs.Known.{known_running};
+ghost use Rattle.history_core.specs.Effects.{finishes_as};
+ghost use Rattle.history_core.specs.Handing.{cleared, with_writes};
+ghost use Rattle.history_core.specs.Steps.{CanDo, Keeps, Tells, Does};
+
+use crate::parts::Parts;
+use base_types::{GrainId, Outcome, State, UnitNo};
+use core_equality::same_items;
+use core_lists::HandedStates;
+use core_model::{CoreEvent, CoreReply, Effect, Read};
+use open_batch::FinishedUnit;
+use std::alloc::AllocError;
+use unit_table::RunningUnit;
+
+impl Parts {
+    // Whether that is the effect of a running transaction, and no stop stands.
+    pub(crate) fn can_finish(&self, unit: UnitNo, effect: &Effect) -> bool
+        ensures { Tells self.now (Finish unit effect.now) result }
+    {
+        self.is_going() && self.has_finished(unit, effect)
+    }
+
+    // Whether that is the effect of a running transaction.
+    fn has_finished(&self, unit: UnitNo, effect: &Effect) -> bool
+        ensures { result ≡ finishes_as self.now unit effect.now (known_in self.now.units unit) }
+    {
+        match self.units.running(unit) {
+            None => false,
+            Some(running) => self.finishes(unit, running, effect),
+        }
+    }
+
+    // Whether that is the effect of a unit that runs, and a transaction.
+    fn finishes(&self, unit: UnitNo, running: &RunningUnit, effect: &Effect) -> bool
+        ensures { result ≡ finishes_as self.now unit effect.now (known_running running.now) }
+    {
+        !running.plain
+            && self.is_of_call(unit, running, effect)
+            && same_items(effect.reads.as_slice(), running.reads.as_slice())
+            && self.hold_alone(unit, effect.writes.as_slice())
+    }
+
+    // Whether the unit has each written grain alone.
+    fn hold_alone(&self, unit: UnitNo, writes: &[(GrainId, State)]) -> bool
+        ensures { result ≡ list_all (λ x. holds_alone unit (cell_in self.now.cells x.0).holds) writes.now }
+    {
+        writes
+            .iter()
+            .all(|write| self.cells.is_held_alone_by(unit, write.0))
+    }
+
+    // The transaction takes the last place in the finish order, and what it wrote is kept until its locks are given back.
+    pub(crate) fn finish(
+        &mut self,
+        unit: UnitNo,
+        effect: Effect,
+    ) -> Result<CoreReply, (AllocError, CoreEvent)>
+        requires can { CanDo self.old (Finish unit effect) }
+        ensures ok { IfOk result (λ reply. Does self.old (Finish unit effect) reply self.new) }
+        ensures back { IfErr result (λ e. e.1 ≡ Finish unit effect) }
+        ensures err { OnErr result (Keeps self.old self.new) }
+        ensures opens { opens_with self.new.cells ≡ opens_with self.old.cells }
+    {
+        match self.prepare_finish(unit, &effect) {
+            Err(error) => Err((error, CoreEvent::Finish { unit, effect })),
+            Ok(outcome) => {
+                let deps = self.units.finish(unit, outcome);
+                self.waiting.push_reserved(FinishedUnit { effect, deps });
+                Ok(CoreReply::Done)
+            }
+        }
+    }
+
+    // Makes the room of a finished unit, the copies of what it wrote, and one of its result.
+    fn prepare_finish(&mut self, unit: UnitNo, effect: &Effect) -> Result<Outcome, AllocError>
+        ensures copied { IfOk result (λ made. made ≡ effect.now.result) }
+        ensures room { OnOk result (vec_len self.new.waiting < vec_capacity self.new.waiting) }
+        ensures waiting { self.new.waiting.items ≡ self.old.waiting.items }
+        ensures handed { OnOk result (handed_in self.new.handed ≡ with_writes (cleared (handed_in self.old.handed) unit effect.now.reads) unit effect.now.writes) }
+        ensures others { (x : UnitNo) (g : GrainId) → (x ≡ unit → ⊥) → handed_in self.new.handed x g ≡ handed_in self.old.handed x g }
+        ensures units { self.new.units ≡ self.old.units }
+        ensures cells { self.new.cells ≡ self.old.cells }
+        ensures batches { self.new.batches ≡ self.old.batches }
+        ensures batch { self.new.batch ≡ self.old.batch }
+        ensures doubt { self.new.doubt ≡ self.old.doubt }
+        ensures entries { self.new.entries ≡ self.old.entries }
+        ensures learn { self.new.learn ≡ self.old.learn }
+        ensures last { self.new.last ≡ self.old.last }
+    {
+        self.waiting.reserve(1)?;
+        let outcome = effect.result.copy()?;
+        clear(&mut self.handed, unit, effect.reads.as_slice());
+        hand(&mut self.handed, unit, effect.writes.as_slice())?;
+        Ok(outcome)
+    }
+}
+
+// Lets go what is kept of the unit for the grains that it read.
+fn clear(handed: &mut HandedStates, unit: UnitNo, reads: &[Read])
+    ensures cleared { handed_in handed.new ≡ cleared (handed_in handed.old) unit reads.now }
+    ensures others { (x : UnitNo) (g : GrainId) → (x ≡ unit → ⊥) → handed_in handed.new x g ≡ handed_in handed.old x g }
+{
+    for read in reads {
+        drop(handed.take(unit, read.grain));
+    }
+}
+
+// Keeps copies of what the unit wrote.
+fn hand(
+    handed: &mut HandedStates,
+    unit: UnitNo,
+    writes: &[(GrainId, State)],
+) -> Result<(), AllocError>
+    ensures handed { OnOk result (handed_in handed.new ≡ with_writes (handed_in handed.old) unit writes.now) }
+    ensures others { (x : UnitNo) (g : GrainId) → (x ≡ unit → ⊥) → handed_in handed.new x g ≡ handed_in handed.old x g }
+{
+    let mut at = writes.len();
+    while at > 0 {
+        at -= 1;
+        let write = &writes[at];
+        let state = write.1.copy()?;
+        handed.keep(unit, write.0, state)?;
+    }
+    Ok(())
+}

@@ -1,0 +1,168 @@
+// A unit locks a grain, or raises its lock.
+ghost use Rattle.std.specs.Prelude.{◌≡◌, ◌<◌, true, not, find, map, IfOk, OnErr};
+ghost use Rattle.base_types.specs.declared.stores.Version.{Version as AVersion};
+ghost use Rattle.cell_model.specs.declared.locks.Ask.TheVariants.{Free};
+ghost use Rattle.cell_model.specs.Locks.{ask};
+ghost use Rattle.cell_model.specs.Cells.{granted};
+ghost use Rattle.core_model.specs.World.{put_grain};
+ghost use Rattle.core_model.specs.Tests.{is_aborted};
+ghost use Rattle.core_model.specs.Events as events;
+ghost use Rattle.core_model.specs.Events.{is_free_answer};
+ghost use Rattle.core_model.specs.declared.events.CoreEvent.TheVariants.{Grant};
+ghost use Rattle.cell_table.specs.Table.{cell_in, has_cell, spare_in, opens_with};
+ghost use Rattle.unit_table.specs.Table.{verdict_in};
+ghost use Rattle.history_core.specs.Granting.{cell_without, is_sure_in};
+ghost use Rattle.history_core.specs.Steps.{CanDo, Keeps, Tells, Does, Refuses};
+
+use crate::parts::Parts;
+use base_types::{GrainId, Mode, UnitNo, Version};
+use cell_model::Ask;
+use cell_table::CellTable;
+use core_model::{AskAnswer, CoreReply, Read, Verdict};
+use std::alloc::AllocError;
+
+impl Parts {
+    // Whether the lock can be had, and no stop stands.
+    pub(crate) fn can_grant(&self, unit: UnitNo, grain: GrainId, mode: Mode) -> bool
+        ensures { Tells self.now (Grant unit grain mode) result }
+    {
+        self.is_going() && is_free(self.ask(unit, grain, mode))
+    }
+
+    // Why the unit doesn't get the lock.
+    pub(crate) fn not_granted(&self, unit: UnitNo, grain: GrainId, mode: Mode) -> CoreReply
+        ensures { Refuses self.now (Grant unit grain mode) result }
+    {
+        if !self.is_going() {
+            return CoreReply::Unapplied;
+        }
+        not_granted(self.ask(unit, grain, mode))
+    }
+
+    // The unit locks the grain, or raises its lock: first all room and all copies, then what is aborted goes off the
+    // stack, then the lock is given.
+    pub(crate) fn grant(
+        &mut self,
+        unit: UnitNo,
+        grain: GrainId,
+        mode: Mode,
+    ) -> Result<CoreReply, AllocError>
+        requires can { CanDo self.old (Grant unit grain mode) }
+        ensures ok { IfOk result (λ reply. Does self.old (Grant unit grain mode) reply self.new) }
+        ensures err { OnErr result (Keeps self.old self.new) }
+        ensures opens { opens_with self.new.cells ≡ opens_with self.old.cells }
+    {
+        self.cells.make_room(grain)?;
+        let aborted = self.first_aborted(self.cells.versions(grain));
+        let found = self.cells.top_over(grain, aborted)?;
+        if self.cells.is_held_by(unit, grain) {
+            lock_over(&mut self.cells, unit, grain, mode, aborted);
+            return Ok(CoreReply::Granted {
+                state: found.state,
+                source: found.source,
+            });
+        }
+        let read = Read {
+            grain,
+            state: found.state.copy()?,
+            source: found.source,
+        };
+        self.units.reserve_read(unit)?;
+        let depends = !self.is_sure(found.source);
+        lock_over(&mut self.cells, unit, grain, mode, aborted);
+        self.units.note_read(unit, read, depends);
+        Ok(CoreReply::Granted {
+            state: found.state,
+            source: found.source,
+        })
+    }
+
+    // The first of these versions' units that is aborted.
+    fn first_aborted(&self, versions: &[Version]) -> Option<UnitNo>
+        ensures { result ≡ find (λ u. is_aborted (verdict_in self.now.units u)) (map (λ (v : AVersion). v.unit) versions.now) }
+    {
+        for version in versions {
+            if self.is_aborted(version.unit) {
+                return Some(version.unit);
+            }
+        }
+        None
+    }
+
+    // Whether the unit is aborted.
+    fn is_aborted(&self, unit: UnitNo) -> bool
+        ensures { result ≡ is_aborted (verdict_in self.now.units unit) }
+    {
+        match self.units.verdict(unit) {
+            Verdict::Aborted => true,
+            Verdict::Open | Verdict::Chosen | Verdict::Condemned | Verdict::Committed => false,
+        }
+    }
+
+    // Whether the unit is nobody or committed.
+    fn is_sure(&self, unit: UnitNo) -> bool
+        ensures { result ≡ is_sure_in self.now unit }
+    {
+        if unit.0 == 0 {
+            return true;
+        }
+        match self.units.verdict(unit) {
+            Verdict::Committed => true,
+            Verdict::Open | Verdict::Chosen | Verdict::Condemned | Verdict::Aborted => false,
+        }
+    }
+}
+
+// Takes the aborted unit's version, where one is named, and all above it off the grain's stack, and gives the lock.
+// Takes no memory.
+fn lock_over(
+    cells: &mut CellTable,
+    unit: UnitNo,
+    grain: GrainId,
+    mode: Mode,
+    aborted: Option<UnitNo>,
+)
+    requires cell { has_cell cells.old grain ≡ true }
+    requires free { ask (cell_in cells.old grain).holds unit mode ≡ Free }
+    requires room { 0 < spare_in cells.old grain }
+    ensures locks { cell_in cells.new ≡ put_grain (cell_in cells.old) grain (granted (cell_without (cell_in cells.old grain) aborted) unit mode) }
+    ensures opens { opens_with cells.new ≡ opens_with cells.old }
+{
+    match aborted {
+        None => cells.lock(unit, grain, mode),
+        Some(gone) => {
+            cells.learn(gone, grain, false);
+            cells.lock(unit, grain, mode);
+        }
+    }
+}
+
+// Whether the answer is that the lock can be had.
+fn is_free(answer: AskAnswer) -> bool
+    ensures { result ≡ is_free_answer answer }
+{
+    match answer {
+        AskAnswer::Free => true,
+        AskAnswer::NotActive
+        | AskAnswer::Doomed { .. }
+        | AskAnswer::Held
+        | AskAnswer::MustDie { .. }
+        | AskAnswer::MustWait { .. }
+        | AskAnswer::Absent => false,
+    }
+}
+
+// The reply to a grant, where the lock can't be had.
+fn not_granted(answer: AskAnswer) -> CoreReply
+    ensures { result ≡ events.not_granted answer }
+{
+    match answer {
+        AskAnswer::Free => CoreReply::Unapplied,
+        AskAnswer::NotActive => CoreReply::NotActive,
+        AskAnswer::Doomed { source } => CoreReply::Doomed { source },
+        AskAnswer::Held => CoreReply::NotGranted(Ask::Held),
+        AskAnswer::MustDie { holder } => CoreReply::NotGranted(Ask::MustDie { holder }),
+        AskAnswer::MustWait { holder } => CoreReply::NotGranted(Ask::MustWait { holder }),
+        AskAnswer::Absent => CoreReply::NotLoaded,
+    }
+}

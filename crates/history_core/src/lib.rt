@@ -1,0 +1,36 @@
+//! The core in code: each of its steps is a step of the model, on what is kept of the model's state.
+//!
+//! `Parts` is what is kept, and `Stands` says for which states it stands. Each event has a file of its own: whether it
+//! applies, and what it does. `Core` has the history of its events, for contracts alone.
+#![tactic(auto)]
+
+mod applying;
+mod asking;
+mod bad;
+mod begin;
+mod closing;
+mod decide;
+mod effects;
+mod emitted;
+mod end_plain;
+mod end_snapshot;
+mod finish;
+mod grant;
+mod halt;
+mod learn;
+mod looks;
+mod opening;
+mod parts;
+mod refuse;
+mod release;
+mod room;
+mod seal;
+mod steps;
+mod stops;
+mod take;
+mod vote;
+mod want;
+mod whole;
+
+pub use opening::Opening;
+pub use whole::Core;

@@ -1,0 +1,34 @@
+// The step of a core.
+ghost use Rattle.std.specs.Prelude.{◌≡◌, ◌∷◌, [], true, IfOk, IfErr};
+ghost use Rattle.core_model.specs.Legal.{ends};
+ghost use Rattle.core_model.specs.Laws.{extended};
+ghost use Rattle.core_model.specs.Events.{reply_to};
+ghost use Rattle.history_core.specs.Steps.{takes_memory};
+ghost use Rattle.history_core.specs.Cores.{run_of};
+
+use crate::whole::Core;
+use core_model::{CoreEvent, CoreReply};
+use event_history::History;
+use std::alloc::AllocError;
+
+impl Core {
+    /// Carries an event: the run has one event more, and the reply is the model's. One that doesn't apply changes nothing
+    /// but the run's events.
+    ///
+    /// Where there is no memory the event comes back and nothing has changed. That is never so of an event whose room
+    /// earlier ones made: a release, a vote, a decision, the three answers of a seal, what a grain learns, a written entry,
+    /// and a halt.
+    pub fn step(&mut self, event: CoreEvent) -> Result<CoreReply, (AllocError, CoreEvent)>
+        ensures taken { IfOk result (λ reply. (run_of self.new ≡ extended (run_of self.old) (event ∷ [])) × (reply ≡ reply_to (ends (run_of self.old)) event)) }
+        ensures refused { IfErr result (λ e. (run_of self.new ≡ run_of self.old) × (e.1 ≡ event) × (takes_memory event ≡ true)) }
+    {
+        let after = History::with(&self.history, &event);
+        match self.parts.step(event) {
+            Ok(reply) => {
+                self.history = after;
+                Ok(reply)
+            }
+            Err(refused) => Err(refused),
+        }
+    }
+}
