@@ -4,6 +4,11 @@ use base_types::{Call, GrainId, List, Mode, Origin, Outcome, State, UnitNo, Valu
 use core_model::{CoreEvent, Effect, Read};
 use std::alloc::{AllocError, Global};
 
+/// The number, where it has 32 bits.
+pub fn short(number: u64) -> u32 {
+    u32::try_from(number).unwrap_or(0)
+}
+
 /// A call on that grain.
 pub fn call(alloc: Global, grain: GrainId, method: u16) -> Call {
     Call {
@@ -16,7 +21,7 @@ pub fn call(alloc: Global, grain: GrainId, method: u16) -> Call {
 /// The next line begins.
 pub fn line(plain: &Plain, grain: GrainId, is_plain: bool) -> CoreEvent {
     CoreEvent::Begin {
-        origin: Origin::Line(plain.lines.wrapping_add(1).min(4294967295) as u32),
+        origin: Origin::Line(short(plain.lines.wrapping_add(1))),
         call: call(plain.alloc, grain, 1),
         plain: is_plain,
     }

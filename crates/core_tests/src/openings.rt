@@ -1,3 +1,5 @@
+ghost use Rattle.std.specs.Prelude.{◌≡◌, IfOk};
+
 use base_types::{GrainId, List, Shape, State, Store, Text, TypeShape, UnitNo, Value};
 use history_core::Opening;
 use std::alloc::{AllocError, Global};
@@ -11,9 +13,7 @@ pub const KEPT: GrainId = GrainId { kind: 0, key: 0 };
 /// The state of one number.
 pub fn number_state(alloc: Global, number: i64) -> Result<State, AllocError> {
     let mut state = State::new(alloc);
-    if state.len() < 16 {
-        state.push(Value::Int(number))?;
-    }
+    state.push(Value::Int(number))?;
     Ok(state)
 }
 
@@ -40,7 +40,9 @@ fn type_shape(alloc: Global, name: &str, initial: State) -> Result<TypeShape, Al
 }
 
 /// An opening whose first unit has that number.
-pub fn opening(alloc: Global, next_unit: u64) -> Result<Opening, AllocError> {
+pub fn opening(alloc: Global, next_unit: u64) -> Result<Opening, AllocError>
+    ensures { IfOk result (λ made. made.next_unit.0 ≡ next_unit) }
+{
     let mut types = Vec::new(alloc);
     types.push(type_shape(alloc, "account", number_state(alloc, 0)?)?)?;
     types.push(type_shape(alloc, "probe", State::new(alloc))?)?;

@@ -83,7 +83,10 @@ fn put_again(
             assert_eq!(rt; ours.as_str(), theirs.as_str());
             Ok(reply)
         }
-        Err((error, _)) => Err(error),
+        Err((error, _)) => {
+            assert!(rt; false, "memory was wanted twice");
+            Err(error)
+        }
     }
 }
 

@@ -1,4 +1,4 @@
-use crate::drafts::{add_write, child, effect, line};
+use crate::drafts::{add_write, child, effect, line, short};
 use crate::openings::opening;
 use crate::plain::Plain;
 use crate::random::carry;
@@ -118,7 +118,7 @@ fn unit_event(plain: &Plain, step: Step) -> Result<CoreEvent, AllocError> {
 fn event(plain: &Plain, step: Step) -> Result<CoreEvent, AllocError> {
     match step {
         Bad => Ok(CoreEvent::Bad {
-            line: plain.lines.wrapping_add(1).min(4294967295) as u32,
+            line: short(plain.lines.wrapping_add(1)),
             why: BadRequest::Args,
         }),
         Take => Ok(CoreEvent::Take),
