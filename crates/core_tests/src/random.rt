@@ -75,8 +75,11 @@ fn guided_grant(plain: &Plain, number: &mut u64) -> Result<CoreEvent, AllocError
         grain = any_grain(number);
         mode = any_mode(number);
         if plain.ask(unit, grain, mode) == AskAnswer::Free {
-            break;
+            return Ok(CoreEvent::Grant { unit, grain, mode });
         }
+    }
+    if unit.0 == 0 || draw(number, 3) == 0 {
+        return Ok(line(plain, grain, false));
     }
     Ok(CoreEvent::Grant { unit, grain, mode })
 }
@@ -90,18 +93,15 @@ fn is_refusal(answer: AskAnswer) -> bool {
 
 // A refusal that applies, where some tries find one.
 fn guided_refusal(plain: &Plain, number: &mut u64) -> Result<CoreEvent, AllocError> {
-    let mut unit = UnitNo(0);
-    let mut grain = GRAINS[0];
-    let mut mode = Mode::Read;
     for _ in 0..12 {
-        unit = any_running(plain, number, false, false)?;
-        grain = any_grain(number);
-        mode = any_mode(number);
+        let unit = any_running(plain, number, false, false)?;
+        let grain = any_grain(number);
+        let mode = any_mode(number);
         if is_refusal(plain.ask(unit, grain, mode)) {
-            break;
+            return Ok(CoreEvent::Refuse { unit, grain, mode });
         }
     }
-    Ok(CoreEvent::Refuse { unit, grain, mode })
+    guided_grant(plain, number)
 }
 
 // Writes of most grains that the unit holds alone; now and then one that it doesn't hold, or one twice.
@@ -139,6 +139,9 @@ fn any_outcome(alloc: Global, number: &mut u64) -> Result<Outcome, AllocError> {
 
 fn guided_finish(plain: &Plain, number: &mut u64) -> Result<CoreEvent, AllocError> {
     let unit = any_running(plain, number, false, true)?;
+    if unit.0 == 0 {
+        return Ok(line(plain, GRAINS[1], false));
+    }
     let writes = any_writes(plain, number, unit)?;
     let mut effect = effect(plain, unit, writes, 0)?;
     effect.result = any_outcome(plain.alloc, number)?;
@@ -147,6 +150,9 @@ fn guided_finish(plain: &Plain, number: &mut u64) -> Result<CoreEvent, AllocErro
 
 fn guided_end(plain: &Plain, number: &mut u64) -> Result<CoreEvent, AllocError> {
     let unit = any_running(plain, number, true, true)?;
+    if unit.0 == 0 {
+        return guided_release(plain, number);
+    }
     let outcome = any_outcome(plain.alloc, number)?;
     if draw(number, 2) == 0 {
         let at = u64::from(draw(number, 9));
@@ -297,8 +303,8 @@ pub fn next_event(
     past: &[CoreEvent],
 ) -> Result<CoreEvent, AllocError> {
     match draw(number, 100) {
-        0..=9 => new_unit(plain, number),
-        10..=30 => guided_grant(plain, number),
+        0..=13 => new_unit(plain, number),
+        14..=30 => guided_grant(plain, number),
         31..=34 => guided_refusal(plain, number),
         35..=44 => guided_finish(plain, number),
         45..=46 => guided_end(plain, number),
@@ -394,7 +400,7 @@ fn compare_all(rt: &impl Abort, alloc: Global, from: u64) -> Result<(), AllocErr
         applied = applied.wrapping_add(count.applied);
         closed = closed.wrapping_add(count.closed);
     }
-    assert!(rt; applied > 2000, "only {applied} events apply");
+    assert!(rt; applied > 2000, "only {applied} events apply, {closed} units closed");
     assert!(rt; closed > 150, "only {closed} units stand in closed batches");
     Ok(())
 }

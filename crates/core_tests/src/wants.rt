@@ -91,7 +91,7 @@ fn put_again(
 }
 
 fn carry_all(rt: &impl Abort, alloc: Global, seed: u64) -> Result<(), AllocError> {
-    let events = events(alloc, seed, 60)?;
+    let events = events(alloc, seed, 80)?;
     let mut core = Core::new(alloc, opening(alloc, 1)?);
     for (at, event) in events.as_slice().iter().enumerate() {
         if let Err((_, back)) = core.step(event_copy(event)?)
