@@ -103,8 +103,8 @@ fn carry_all(rt: &impl Abort, alloc: Global, seed: u64) -> Result<(), AllocError
     are_alike(rt, &core, &after(alloc, events.as_slice())?)
 }
 
-// Where memory is there this shows nothing new: it is for runs in which one allocation fails. One that the test itself
-// needed ends it.
+// Where memory is there this shows nothing new: `bench/memory.sh` runs it with each allocation refused in turn. One that the
+// test itself needed ends it.
 #[test]
 fn want_of_memory_leaves_all_as_it_was(rt: HostRuntime) -> Result<(), Fail> {
     let alloc = rt.alloc();
