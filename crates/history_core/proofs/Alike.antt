@@ -1,7 +1,7 @@
 -- What stands for the same.
 use Rattle.std.proofs.Common.{◌≡◌, ℕ, ◌≤◌, List, Bool, true, refl, sym, ap, ◌∙◌, subst, arith, Option, Some, None, length, Result, Ok, Err, OnOk, OnErr, IfOk}
 use Rattle.cell_model.specs.Cells.{Cell}
-use Rattle.core_model.specs.World.{UnitNo, GrainId, Units, World}
+use Rattle.core_model.specs.CoreState.{UnitNo, GrainId, Units, CoreState}
 use Rattle.core_lists.specs.Room.{EntriesInRoom, PairsInRoom}
 use Rattle.cell_table.specs.Table.{cell_in}
 use Rattle.cell_table.specs.declared.table.CellTable.{CellTable}

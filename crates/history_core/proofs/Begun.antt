@@ -5,11 +5,11 @@ use Rattle.std.specs.List.{list_all as all}
 use Rattle.std.proofs.lemmas.Bool.{and_parts}
 use Rattle.base_types.specs.declared.calls.Origin.TheVariants.{Line, Child}
 use Rattle.cell_model.specs.Locks.{holds_lock}
-use Rattle.core_model.specs.World.{UnitNo, GrainId, Member, Call, Origin, Units, World, put}
+use Rattle.core_model.specs.CoreState.{UnitNo, GrainId, Member, Call, Origin, Units, CoreState, put}
 use Rattle.core_model.specs.declared.phases.Phase.{Phase}
 use Rattle.core_model.specs.declared.phases.Phase.TheVariants.{Unborn, Running, Finished}
 use Rattle.core_model.specs.declared.effects.Effect.{Effect}
-use Rattle.core_model.specs.Tests.{is_running, is_decided, outcome_in, written, waiting}
+use Rattle.core_model.specs.Tests.{is_running, is_decided, outcome_in, state_written, waiting}
 use Rattle.core_model.specs.Answers.{effect_of}
 use Rattle.core_model.specs.Changes.{begun, new_unit}
 use Rattle.core_model.specs.Events.{can_begin}
@@ -31,10 +31,10 @@ use Rattle.history_core.proofs.Lists.{map-agree}
 use Rattle.history_core.proofs.Reached.{rests, waits}
 
 -- a finished unit isn't the one that begins
-finished-not : (w : World) → IsReached w → (x : UnitNo) → w.units.phase x ≡ Finished → x ≡ new_unit w → ⊥
+finished-not : (w : CoreState) → IsReached w → (x : UnitNo) → w.units.phase x ≡ Finished → x ≡ new_unit w → ⊥
 finished-not w r x f e = (let t : Finished ≡ Unborn = sym f ∙ ap w.units.phase e ∙ (rests w r).fresh (new_unit w) (le_refl w.units.next) in cc)
 
-effect-begun : (w : World) (origin : Origin) (call : Call) (plain : Bool) (x : UnitNo) → (x ≡ new_unit w → ⊥) → effect_of w x ≡ effect_of (begun w origin call plain) x
+effect-begun : (w : CoreState) (origin : Origin) (call : Call) (plain : Bool) (x : UnitNo) → (x ≡ new_unit w → ⊥) → effect_of w x ≡ effect_of (begun w origin call plain) x
 effect-begun w origin call plain x n = λ i. record (effect_of w x) {
   origin = sym (put-other w.units.origin (new_unit w) origin x n) i;
   call = sym (put-other w.units.call (new_unit w) call x n) i;
@@ -58,7 +58,7 @@ does-begin p origin call plain unit units u v o number = λ w s r a. (
     settled = s.settled;
     emitted = s.emitted;
     learn = s.learn;
-    handed = λ x g. put-from w.units.phase (new_unit w) Running (λ ph. ph ≡ Finished) (holds_lock x (w.cells.holds g) ≡ true → _ ≡ written g (w.manager.writes x)) x (λ e h. cc) (λ n h. s.handed x g h);
+    handed = λ x g. put-from w.units.phase (new_unit w) Running (λ ph. ph ≡ Finished) (holds_lock x (w.cells.holds g) ≡ true → _ ≡ state_written g (w.manager.writes x)) x (λ e h. cc) (λ n h. s.handed x g h);
     last = s.last;
     room = record { entries = s.room.entries; learn = s.room.learn; places = s.room.places };
   },
@@ -82,7 +82,7 @@ line-counts t p (Line n) call plain c e fits =
 line-counts t p (Child q i d) call plain c e fits = tt
 
 -- whether a child can begin is told by what is kept
-pub next-child-is : (p : Parts) (w : World) (q : UnitNo) (index depth : ℕ) → Stands p w → is_next_child_in p q index ≡ can_begin w (Child q index depth)
+pub next-child-is : (p : Parts) (w : CoreState) (q : UnitNo) (index depth : ℕ) → Stands p w → is_next_child_in p q index ≡ can_begin w (Child q index depth)
 next-child-is p w q index depth s = λ i.
     is_running ((sym s.units i).phase q)
     && ((index == length ((sym s.units i).kids q)) && all (λ u. is_some (outcome_in ((sym s.units i).phase u) (sym s.verdict i u) (sym s.result i u))) ((sym s.units i).kids q))

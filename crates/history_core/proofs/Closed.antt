@@ -3,11 +3,11 @@ use Rattle.std.proofs.Common.{◌≡◌, ℕ, zero, suc, ◌+◌, ◌<◌, ◌�
 use Rattle.std.specs.Prelude.{if◌then◌else◌, flat_map}
 use Rattle.cell_model.specs.Units.{Member}
 use Rattle.cell_model.proofs.Units.{filter-member}
-use Rattle.core_model.specs.World.{UnitNo, GrainId, Value, Write, Outcome, Entry, Settled, Batch, Decision, World}
+use Rattle.core_model.specs.CoreState.{UnitNo, GrainId, Value, Write, Outcome, Entry, Settled, Batch, Decision, CoreState}
 use Rattle.core_model.specs.declared.effects.Effect.{Effect}
 use Rattle.core_model.specs.declared.phases.Verdict.{Verdict}
 use Rattle.core_model.specs.declared.phases.Verdict.TheVariants.{Open}
-use Rattle.core_model.specs.Tests.{is_final, is_committed, members, waiting, written}
+use Rattle.core_model.specs.Tests.{is_final, is_committed, members, waiting, state_written}
 use Rattle.core_model.specs.Told.{IsSteady}
 use Rattle.core_model.specs.Learning.{to_learn}
 use Rattle.core_model.specs.Answers.{effect_of}
@@ -32,7 +32,7 @@ use Rattle.history_core.proofs.Takes.{are-units}
 
 -- What a batch needs that closes: one decision for each unit, and units within the finish order. Who isn't of it is steady,
 -- who stands before it is decided for good, and no grain has learnt anything of its units.
-pub record CanClose (w : World) (b : Batch) (ds : List Decision) : Type 0 where
+pub record CanClose (w : CoreState) (b : Batch) (ds : List Decision) : Type 0 where
   pub each : length ds ≡ b.size
   pub within : w.manager.closed + b.size ≤ length w.manager.order
   pub others : (x : UnitNo) → Member x (members w b) ⊎ IsSteady (w.manager.verdict x)
@@ -44,14 +44,14 @@ steady-stays h v (inl e) = ap (ends_as h) e ∙ ends-open h ∙ sym e
 steady-stays h v (inr f) = ends-final h v f
 
 -- the closed units after it
-closed-order : (w : World) (b : Batch) → take (w.manager.closed + b.size) w.manager.order ≡ take w.manager.closed w.manager.order ++ members w b
+closed-order : (w : CoreState) (b : Batch) → take (w.manager.closed + b.size) w.manager.order ≡ take w.manager.closed w.manager.order ++ members w b
 closed-order w b = take-more w.manager.closed b.size w.manager.order
 
-front-is : (w : World) (b : Batch) (ds : List Decision) → CanClose w b ds → take (length ds) (waiting w) ≡ members w b
+front-is : (w : CoreState) (b : Batch) (ds : List Decision) → CanClose w b ds → take (length ds) (waiting w) ≡ members w b
 front-is w b ds c = ap (λ n. take n (waiting w)) c.each
 
 -- the verdicts after it
-verdicts-closed : (h : Closing) (p : Parts) (w : World) (b : Batch) (ds : List Decision) → Stands p w → CanClose w b ds →
+verdicts-closed : (h : Closing) (p : Parts) (w : CoreState) (b : Batch) (ds : List Decision) → Stands p w → CanClose w b ds →
     ◌≡◌ {A = UnitNo → Verdict} (λ x. ends_as h (w.manager.verdict x)) (verdicts_after (ends_as h) ds (map effect_in p.waiting.items) (verdict_in p.units))
 verdicts-closed h p w b ds s c =
     sym (mapped-is h (members w b) w.manager.verdict (λ x. elim (c.others x) [ inl m ↦ inl m | inr t ↦ inr (steady-stays h (w.manager.verdict x) t) ]))
@@ -59,7 +59,7 @@ verdicts-closed h p w b ds s c =
     ∙ sym (verdicts-link (ends_as h) ds w (waiting w) w.manager.verdict)
     ∙ (λ i. verdicts_after (ends_as h) ds (sym s.effects i) (s.verdict i))
 
-entries-closed : (h : Closing) (p : Parts) (w : World) (b : Batch) (ds : List Decision) → Stands p w → CanClose w b ds →
+entries-closed : (h : Closing) (p : Parts) (w : CoreState) (b : Batch) (ds : List Decision) → Stands p w → CanClose w b ds →
     entries_in w (λ u. told_as h (w.manager.result u)) (members w b) ds ≡ entries_after h ds (map effect_in p.waiting.items)
 entries-closed h p w b ds s c =
     ap (λ us. entries_in w (λ u. told_as h (w.manager.result u)) us ds) (sym (front-is w b ds c))
@@ -67,7 +67,7 @@ entries-closed h p w b ds s c =
     ∙ ap (entries_after h ds) (sym s.effects)
 
 -- what the grains have to learn after it
-unlearnt-closed : (h : Closing) (p : Parts) (w : World) (b : Batch) (ds : List Decision) (answer : UnitNo → Settled) → Stands p w → CanClose w b ds →
+unlearnt-closed : (h : Closing) (p : Parts) (w : CoreState) (b : Batch) (ds : List Decision) (answer : UnitNo → Settled) → Stands p w → CanClose w b ds →
     unlearnt w ++ pairs_after (ends_as h) ds (map effect_in p.waiting.items) (verdict_in p.units) ≡ unlearnt (closed w (ends_as h) answer b ds)
 unlearnt-closed h p w b ds answer s c =
     (λ i. unlearnt w ++ news i)
@@ -107,7 +107,7 @@ unlearnt-closed h p w b ds answer s c =
         let e = in-grains k.0 (w.manager.writes k.0) t k.2 in
         ap not (ap (λ z. w.cells.learnt z t.1) e ∙ c.unlearnt k.0 t.1 u.0))))
 
-last-closed : (h : Closing) (p : Parts) (w : World) (b : Batch) (ds : List Decision) (answer : UnitNo → Settled) (g : GrainId) → Stands p w → CanClose w b ds →
+last-closed : (h : Closing) (p : Parts) (w : CoreState) (b : Batch) (ds : List Decision) (answer : UnitNo → Settled) (g : GrainId) → Stands p w → CanClose w b ds →
     last_after (ends_as h) g ds (map effect_in p.waiting.items) (verdict_in p.units) (last_in p.last g) ≡ last_state (closed w (ends_as h) answer b ds) g
 last-closed h p w b ds answer g s c =
     (λ i. last_after (ends_as h) g ds (s.effects i) (sym s.verdict i) (s.last g i))
@@ -120,7 +120,7 @@ last-closed h p w b ds answer g s c =
     olds = last-agree w.manager.verdict (λ x. ends_as h (w.manager.verdict x)) w.manager.writes w.manager.writes g (take w.manager.closed w.manager.order) None
         (λ x m. ap is_committed (sym (ends-final h (w.manager.verdict x) (c.final x m)))) (λ x m. refl)
 
-pub stands-closed : (h : Closing) (p q : Parts) (w : World) (b : Batch) (ds : List Decision) → Stands p w → CanClose w b ds → Closes h ds p q → q.doubt ≡ p.doubt →
+pub stands-closed : (h : Closing) (p q : Parts) (w : CoreState) (b : Batch) (ds : List Decision) → Stands p w → CanClose w b ds → Closes h ds p q → q.doubt ≡ p.doubt →
     Stands q (closed w (ends_as h) (λ u. told_as h (w.manager.result u)) b ds)
 stands-closed h p q w b ds s c k doubt =
     let left = units-left (length ds) p.waiting.items w (waiting w) (are-units p w s) in

@@ -7,7 +7,7 @@ use Rattle.std.proofs.lemmas.List.{length-map}
 use Rattle.cell_model.specs.Units.{Member}
 use Rattle.cell_model.specs.Decisions.{is_commit}
 use Rattle.cell_model.proofs.Decisions.{decided-length}
-use Rattle.core_model.specs.World.{UnitNo, GrainId, Write, Batch, Decision, World, put}
+use Rattle.core_model.specs.CoreState.{UnitNo, GrainId, Write, Batch, Decision, CoreState, put}
 use Rattle.core_model.specs.declared.effects.Effect.{Effect}
 use Rattle.core_model.specs.declared.phases.Verdict.{Verdict}
 use Rattle.core_model.specs.declared.events.CoreEvent.TheVariants.{Decide}
@@ -58,18 +58,18 @@ may-decide-is (Some x) ms None n s = absurd s
 may-decide-is (Some x) ms (Some b) n s = λ i. (s.number i == n) && (is_none (s.decisions i) && voted-link x (take b.size ms) b s i)
 
 -- the batch that is decided
-pub decide-parts : (w : World) (n : ℕ) → applies w (Decide n) ≡ true → (b : Batch) × (w.manager.batch ≡ Some b) × (b.decisions ≡ None)
+pub decide-parts : (w : CoreState) (n : ℕ) → applies w (Decide n) ≡ true → (b : Batch) × (w.manager.batch ≡ Some b) × (b.decisions ≡ None)
 decide-parts w n a = go (does w (Decide n)) (decode w (Decide n) (can-is w (Decide n) a))
   where
-    go : (w' : World) → Change w (Decide n) w' → (b : Batch) × (w.manager.batch ≡ Some b) × (b.decisions ≡ None)
+    go : (w' : CoreState) → Change w (Decide n) w' → (b : Batch) × (w.manager.batch ≡ Some b) × (b.decisions ≡ None)
     go w' (decide_some n b q number d voted some) = (b, q, d)
     go w' (decide_none n b q number d voted none) = (b, q, d)
 
-going-known : (w : World) (n : ℕ) → applies w (Decide n) ≡ true → w.manager.doubt ≡ None
+going-known : (w : CoreState) (n : ℕ) → applies w (Decide n) ≡ true → w.manager.doubt ≡ None
 going-known w n a = none-true w.manager.doubt (and_parts (is_none w.manager.doubt) (not w.units.halt) (sym (allowed-going w (Decide n) refl refl) ∙ allowed-is w (Decide n) a)).0
 
 -- what is kept of it
-pub shown-open : (p : Parts) (w : World) (b : Batch) → Stands p w → w.manager.batch ≡ Some b → (x : TakenBatch) × (p.batch ≡ Some x) × ShowsBatch x (take b.size p.waiting.items) b
+pub shown-open : (p : Parts) (w : CoreState) (b : Batch) → Stands p w → w.manager.batch ≡ Some b → (x : TakenBatch) × (p.batch ≡ Some x) × ShowsBatch x (take b.size p.waiting.items) b
 shown-open p w b s q = go p.batch refl (subst (ShowsOpen p.batch p.waiting.items) q (to-cases p.batch p.waiting.items w.manager.batch s.batch))
   where
     go : (o : Option TakenBatch) → p.batch ≡ o → ShowsOpen p.batch p.waiting.items (Some b) → (x : TakenBatch) × (p.batch ≡ Some x) × ShowsBatch x (take b.size p.waiting.items) b
@@ -77,12 +77,12 @@ shown-open p w b s q = go p.batch refl (subst (ShowsOpen p.batch p.waiting.items
     go (Some x) e t = (x, e, subst (λ z. ShowsOpen z p.waiting.items (Some b)) e t)
 
 -- its decisions are the model's
-pub decisions-now : (p : Parts) (w : World) (b : Batch) (x : TakenBatch) → Stands p w → ShowsBatch x (take b.size p.waiting.items) b → decisions_now p x ≡ decisions_of w b
+pub decisions-now : (p : Parts) (w : CoreState) (b : Batch) (x : TakenBatch) → Stands p w → ShowsBatch x (take b.size p.waiting.items) b → decisions_now p x ≡ decisions_of w b
 decisions-now p w b x s k =
     (λ i. decisions_by (λ u. is_bad (verdict_in p.units u)) (k.votes i) (take (k.size i) p.waiting.items))
     ∙ decisions-link (verdict_in p.units) (take b.size p.waiting.items) w b s.verdict (units-taken b.size p.waiting.items w (waiting w) (are-units p w s))
 
-decisions-length : (w : World) (b : Batch) → IsReached w → w.manager.batch ≡ Some b → length (decisions_of w b) ≡ b.size
+decisions-length : (w : CoreState) (b : Batch) → IsReached w → w.manager.batch ≡ Some b → length (decisions_of w b) ≡ b.size
 decisions-length w b r q =
     decided-length (λ u. is_bad (w.manager.verdict u)) (map (prepared w b) (members w b)) ∙ length-map (members w b) (prepared w b) ∙ members-length w b r q
 
@@ -108,7 +108,7 @@ undecided p n c =
 
 -- ---- the verdicts
 
-judged-link : (ds : List Decision) (w : World) (us : List UnitNo) (v : UnitNo → Verdict) → judged_after ds (map (effect_of w) us) v ≡ judged (take (length ds) us) ds v
+judged-link : (ds : List Decision) (w : CoreState) (us : List UnitNo) (v : UnitNo → Verdict) → judged_after ds (map (effect_of w) us) v ≡ judged (take (length ds) us) ds v
 judged-link [] w us v = refl
 judged-link (d ∷ ds) w [] v = refl
 judged-link (d ∷ ds) w (u ∷ us) v = judged-link ds w us (put v u (verdict_of d))
@@ -129,25 +129,25 @@ pub record Judges (p q : Parts) (x : TakenBatch) : Type 0 where
   pub handed : q.handed ≡ p.handed
 
 -- who stands before the batch isn't judged
-apart : (w : World) (b : Batch) → IsReached w → (x : UnitNo) → Member x (take w.manager.closed w.manager.order) → Member x (members w b) → ⊥
+apart : (w : CoreState) (b : Batch) → IsReached w → (x : UnitNo) → Member x (take w.manager.closed w.manager.order) → Member x (members w b) → ⊥
 apart w b r x m k = (let t = closes w r x m in let z = waits w r x (Member-take b.size x (waiting w) k) in omega (arith, t.1, z.1))
 
-judged-before : (w : World) (b : Batch) (ds : List Decision) → IsReached w → (x : UnitNo) → Member x (take w.manager.closed w.manager.order) → judged (members w b) ds w.manager.verdict x ≡ w.manager.verdict x
+judged-before : (w : CoreState) (b : Batch) (ds : List Decision) → IsReached w → (x : UnitNo) → Member x (take w.manager.closed w.manager.order) → judged (members w b) ds w.manager.verdict x ≡ w.manager.verdict x
 judged-before w b ds r x m = judged-other (members w b) ds w.manager.verdict x (apart w b r x m)
 
-unlearnt-judged : (w : World) (b : Batch) (ds : List Decision) → IsReached w → unlearnt w ≡ unlearnt (with_decisions w b ds)
+unlearnt-judged : (w : CoreState) (b : Batch) (ds : List Decision) → IsReached w → unlearnt w ≡ unlearnt (with_decisions w b ds)
 unlearnt-judged w b ds r =
     ap (λ us. filter (λ (t : UnitNo × GrainId). not (w.cells.learnt t.0 t.1)) (flat_map (λ x. map (λ (y : Write). (x, y.0)) (w.manager.writes x)) us))
     (filter-agree (λ x. is_final (w.manager.verdict x)) (λ x. is_final (judged (members w b) ds w.manager.verdict x)) (take w.manager.closed w.manager.order)
     (λ x m. ap is_final (sym (judged-before w b ds r x m))))
 
-last-judged : (w : World) (b : Batch) (ds : List Decision) (g : GrainId) → IsReached w → last_state w g ≡ last_state (with_decisions w b ds) g
+last-judged : (w : CoreState) (b : Batch) (ds : List Decision) (g : GrainId) → IsReached w → last_state w g ≡ last_state (with_decisions w b ds) g
 last-judged w b ds g r =
     last-agree w.manager.verdict (judged (members w b) ds w.manager.verdict) w.manager.writes w.manager.writes g (take w.manager.closed w.manager.order) None
     (λ x m. ap is_committed (sym (judged-before w b ds r x m))) (λ x m. refl)
 
 -- the batch is decided
-stands-judged : (p q : Parts) (w : World) (b : Batch) (x : TakenBatch) → Stands p w → IsReached w → w.manager.batch ≡ Some b → p.batch ≡ Some x → ShowsBatch x (take b.size p.waiting.items) b → Judges p q x →
+stands-judged : (p q : Parts) (w : CoreState) (b : Batch) (x : TakenBatch) → Stands p w → IsReached w → w.manager.batch ≡ Some b → p.batch ≡ Some x → ShowsBatch x (take b.size p.waiting.items) b → Judges p q x →
     Stands q (with_decisions w b (decisions_of w b))
 stands-judged p q w b x s r e o k j =
     let ds = decisions_of w b in
@@ -189,7 +189,7 @@ stands-judged p q w b x s r e o k j =
           (subst (λ n. EachPlaced (has_place p.last) (take n q.waiting.items)) (sym size) (subst (λ (v : Vec FinishedUnit Global). EachPlaced (has_place p.last) (take (owed_in p.batch) v.items)) (sym j.waiting) s.room.places));
     }
 
-decided-closes : (w : World) (b : Batch) → IsReached w → w.manager.doubt ≡ None → w.manager.batch ≡ Some b → b.decisions ≡ None → CanClose (with_decisions w b (decisions_of w b)) b (decisions_of w b)
+decided-closes : (w : CoreState) (b : Batch) → IsReached w → w.manager.doubt ≡ None → w.manager.batch ≡ Some b → b.decisions ≡ None → CanClose (with_decisions w b (decisions_of w b)) b (decisions_of w b)
 decided-closes w b r none q d = record {
   each = decisions-length w b r q;
   within = size-within w b r q;
@@ -209,13 +209,13 @@ decided-closes w b r none q d = record {
         decisions_if (Some z) = z.decisions
 
 -- the state by the decisions
-decide-is : (w : World) (b : Batch) (n : ℕ) → w.manager.batch ≡ Some b → does w (Decide n) ≡ decided_by w b (decisions_of w b)
+decide-is : (w : CoreState) (b : Batch) (n : ℕ) → w.manager.batch ≡ Some b → does w (Decide n) ≡ decided_by w b (decisions_of w b)
 decide-is w b n q = ap (on_batch w (decided w)) q
 
-commits-is : (p : Parts) (w : World) (b : Batch) (x : TakenBatch) (commits : ℕ) → Stands p w → ShowsBatch x (take b.size p.waiting.items) b → commits ≡ commits_in (Some (decisions_now p x)) → nat_lt 0 commits ≡ any is_commit (decisions_of w b)
+commits-is : (p : Parts) (w : CoreState) (b : Batch) (x : TakenBatch) (commits : ℕ) → Stands p w → ShowsBatch x (take b.size p.waiting.items) b → commits ≡ commits_in (Some (decisions_now p x)) → nat_lt 0 commits ≡ any is_commit (decisions_of w b)
 commits-is p w b x commits s k e = ap (nat_lt 0) e ∙ commits-some (decisions_now p x) ∙ ap (any is_commit) (decisions-now p w b x s k)
 
-reply-is : (p : Parts) (w : World) (b : Batch) (x : TakenBatch) (commits : ℕ) → Stands p w → w.manager.batch ≡ Some b → ShowsBatch x (take b.size p.waiting.items) b → commits ≡ commits_in (Some (decisions_now p x)) → reply.Decided commits ≡ decided_reply w w.manager.batch
+reply-is : (p : Parts) (w : CoreState) (b : Batch) (x : TakenBatch) (commits : ℕ) → Stands p w → w.manager.batch ≡ Some b → ShowsBatch x (take b.size p.waiting.items) b → commits ≡ commits_in (Some (decisions_now p x)) → reply.Decided commits ≡ decided_reply w w.manager.batch
 reply-is p w b x commits s q k e =
     ap reply.Decided (e ∙ ap (λ ds. length (filter is_commit ds)) (decisions-now p w b x s k)) ∙ sym (ap (decided_reply w) q)
 

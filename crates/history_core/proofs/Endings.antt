@@ -4,14 +4,14 @@ use Rattle.std.specs.Prelude.{if◌then◌else◌, flat_map}
 use Rattle.cell_model.specs.Units.{Member}
 use Rattle.cell_model.specs.Locks.{holds_lock}
 use Rattle.base_types.specs.declared.entries.Settled.TheVariants as settled
-use Rattle.core_model.specs.World.{UnitNo, GrainId, Mode, Write, Outcome, Origin, Entry, Settled, Units, World, put}
+use Rattle.core_model.specs.CoreState.{UnitNo, GrainId, Mode, Write, Outcome, Origin, Entry, Settled, Units, CoreState, put}
 use Rattle.core_model.specs.declared.effects.Effect.{Effect}
 use Rattle.core_model.specs.declared.phases.Phase.TheVariants.{Running, Finished, Refused, Ended}
 use Rattle.core_model.specs.declared.phases.Verdict.{Verdict}
 use Rattle.core_model.specs.declared.phases.Verdict.TheVariants.{Aborted}
 use Rattle.core_model.specs.declared.events.CoreEvent.TheVariants.{Refuse, EndPlain, EndSnapshot}
 use Rattle.core_model.specs.declared.events.CoreReply.TheVariants as reply
-use Rattle.core_model.specs.Tests.{is_running, is_final, is_committed, ask, waiting, written}
+use Rattle.core_model.specs.Tests.{is_running, is_final, is_committed, ask, waiting, state_written}
 use Rattle.core_model.specs.Answers.{effect_of}
 use Rattle.core_model.specs.Changes.{refused, refused_by, refusal, ended, entry_for}
 use Rattle.core_model.specs.Events.{applies, does}
@@ -33,29 +33,29 @@ use Rattle.history_core.proofs.Stepping.{can-is}
 use Rattle.history_core.proofs.Lists.{map-agree, filter-agree, last-agree}
 use Rattle.history_core.proofs.Reached.{waits-not, closes-not}
 
-unlearnt-refused : (w : World) (u : UnitNo) (why : Settled) → IsReached w → w.units.phase u ≡ Running → unlearnt w ≡ unlearnt (refused w u why)
+unlearnt-refused : (w : CoreState) (u : UnitNo) (why : Settled) → IsReached w → w.units.phase u ≡ Running → unlearnt w ≡ unlearnt (refused w u why)
 unlearnt-refused w u why r p =
     ap (λ us. filter (λ (t : UnitNo × GrainId). not (w.cells.learnt t.0 t.1)) (flat_map (λ x. map (λ (y : Write). (x, y.0)) (w.manager.writes x)) us))
     (filter-agree (λ x. is_final (w.manager.verdict x)) (λ x. is_final (put w.manager.verdict u Aborted x)) (take w.manager.closed w.manager.order)
     (λ x m. ap is_final (sym (put-other w.manager.verdict u Aborted x (closes-not w r u p x m)))))
 
-last-refused : (w : World) (u : UnitNo) (why : Settled) (g : GrainId) → IsReached w → w.units.phase u ≡ Running → last_state w g ≡ last_state (refused w u why) g
+last-refused : (w : CoreState) (u : UnitNo) (why : Settled) (g : GrainId) → IsReached w → w.units.phase u ≡ Running → last_state w g ≡ last_state (refused w u why) g
 last-refused w u why g r p =
     last-agree w.manager.verdict (put w.manager.verdict u Aborted) w.manager.writes w.manager.writes g (take w.manager.closed w.manager.order) None
     (λ x m. ap is_committed (sym (put-other w.manager.verdict u Aborted x (closes-not w r u p x m)))) (λ x m. refl)
 
 -- the unit that is refused runs
-pub refuse-runs : (w : World) (u : UnitNo) (g : GrainId) (mode : Mode) → applies w (Refuse u g mode) ≡ true → w.units.phase u ≡ Running
+pub refuse-runs : (w : CoreState) (u : UnitNo) (g : GrainId) (mode : Mode) → applies w (Refuse u g mode) ≡ true → w.units.phase u ≡ Running
 refuse-runs w u g mode a = go (does w (Refuse u g mode)) (decode w (Refuse u g mode) (can-is w (Refuse u g mode) a))
   where
-    go : (w' : World) → Change w (Refuse u g mode) w' → w.units.phase u ≡ Running
+    go : (w' : CoreState) → Change w (Refuse u g mode) w' → w.units.phase u ≡ Running
     go w' (refuse u g mode why running q) = running
 
 pub can-refuse-runs : (p : Parts) (u : UnitNo) (g : GrainId) (mode : Mode) → CanDo p (Refuse u g mode) → is_running (phase_in p.units u) ≡ true
 can-refuse-runs p u g mode c = (λ i. is_running ((sym c.1.units i).phase u)) ∙ ap is_running (refuse-runs c.0 u g mode c.3)
 
 pub does-refuse : (p : Parts) (u : UnitNo) (g : GrainId) (mode : Mode) (why : Settled) (origin : Origin) (units : UnitTable) (entries : EntriesInRoom) →
-    ((w : World) → Stands p w → Some why ≡ refusal g (ask w u g mode)) → ((w : World) → Stands p w → origin ≡ w.units.origin u) →
+    ((w : CoreState) → Stands p w → Some why ≡ refusal g (ask w u g mode)) → ((w : CoreState) → Stands p w → origin ≡ w.units.origin u) →
     ((seen : UnitNo → Option ℕ) → units_of units seen ≡ units_over (units_of p.units seen) u Refused) → verdict_in units ≡ put (verdict_in p.units) u Aborted → result_in units ≡ result_in p.units →
     entries.entries ≡ p.entries.entries ++ entry_for origin u why → entries.emitted ≡ p.entries.emitted → owed_in p.batch ≤ entries.spare →
     Does p (Refuse u g mode) reply.Done (record p { units = units; entries = entries })
@@ -75,20 +75,20 @@ does-refuse p u g mode why origin units entries cause from us v o es em room = �
         settled = (λ i. s.settled i ++ entry_for (sym (from w s) i) u why) ∙ sym es;
         emitted = s.emitted ∙ sym em;
         learn = s.learn ∙ unlearnt-refused w u why r runs;
-        handed = λ x k. put-from w.units.phase u Refused (λ ph. ph ≡ Finished) (holds_lock x (w.cells.holds k) ≡ true → handed_in p.handed x k ≡ written k (w.manager.writes x)) x (λ q h. cc) (λ n h. s.handed x k h);
+        handed = λ x k. put-from w.units.phase u Refused (λ ph. ph ≡ Finished) (holds_lock x (w.cells.holds k) ≡ true → handed_in p.handed x k ≡ state_written k (w.manager.writes x)) x (λ q h. cc) (λ n h. s.handed x k h);
         last = λ k. s.last k ∙ last-refused w u why k r runs;
         room = record { entries = room; learn = s.room.learn; places = s.room.places };
       }),
   refl,
 )
 
-effect-ended : (w : World) (u : UnitNo) (answers : List Outcome) (result : Outcome) (at : Option ℕ) (x : UnitNo) → (x ≡ u → ⊥) → effect_of w x ≡ effect_of (ended w u answers result at) x
+effect-ended : (w : CoreState) (u : UnitNo) (answers : List Outcome) (result : Outcome) (at : Option ℕ) (x : UnitNo) → (x ≡ u → ⊥) → effect_of w x ≡ effect_of (ended w u answers result at) x
 effect-ended w u answers result at x n = λ i. record (effect_of w x) {
   answers = sym (put-other w.manager.answers u answers x n) i;
   result = sym (put-other w.manager.result u result x n) i;
 }
 
-pub stands-ended : (p : Parts) (w : World) (u : UnitNo) (answers : List Outcome) (result : Outcome) (at : Option ℕ) (origin : Origin) (units : UnitTable) (entries : EntriesInRoom) →
+pub stands-ended : (p : Parts) (w : CoreState) (u : UnitNo) (answers : List Outcome) (result : Outcome) (at : Option ℕ) (origin : Origin) (units : UnitTable) (entries : EntriesInRoom) →
     Stands p w → IsReached w → is_running (phase_in p.units u) ≡ true → origin ≡ origin_in p.units u →
     ((seen : UnitNo → Option ℕ) → units_of units seen ≡ units_over (units_of p.units seen) u Ended) → verdict_in units ≡ verdict_in p.units → result_in units ≡ put (result_in p.units) u result →
     entries.entries ≡ p.entries.entries ++ entry_for origin u (settled.Done result) → entries.emitted ≡ p.entries.emitted → owed_in p.batch ≤ entries.spare →
@@ -108,25 +108,25 @@ stands-ended p w u answers result at origin units entries s r running from us v 
       settled = (λ i. s.settled i ++ entry_for ((((λ k. (s.units k).origin u) ∙ sym from)) i) u (settled.Done result)) ∙ sym es;
       emitted = s.emitted ∙ sym em;
       learn = s.learn;
-      handed = λ x k. put-from w.units.phase u Ended (λ ph. ph ≡ Finished) (holds_lock x (w.cells.holds k) ≡ true → handed_in p.handed x k ≡ written k (w.manager.writes x)) x (λ q h. cc) (λ n h. s.handed x k h);
+      handed = λ x k. put-from w.units.phase u Ended (λ ph. ph ≡ Finished) (holds_lock x (w.cells.holds k) ≡ true → handed_in p.handed x k ≡ state_written k (w.manager.writes x)) x (λ q h. cc) (λ n h. s.handed x k h);
       last = s.last;
       room = record { entries = room; learn = s.room.learn; places = s.room.places };
     }
 
 -- the unit that ends runs
-pub plain-runs : (w : World) (u : UnitNo) (e : Effect) → applies w (EndPlain u e) ≡ true → w.units.phase u ≡ Running
+pub plain-runs : (w : CoreState) (u : UnitNo) (e : Effect) → applies w (EndPlain u e) ≡ true → w.units.phase u ≡ Running
 plain-runs w u e a = go (does w (EndPlain u e)) (decode w (EndPlain u e) (can-is w (EndPlain u e) a))
   where
-    go : (w' : World) → Change w (EndPlain u e) w' → w.units.phase u ≡ Running
+    go : (w' : CoreState) → Change w (EndPlain u e) w' → w.units.phase u ≡ Running
     go w' (end_plain u e running plain of_call bare) = running
 
 pub can-plain-runs : (p : Parts) (u : UnitNo) (e : Effect) → CanDo p (EndPlain u e) → is_running (phase_in p.units u) ≡ true
 can-plain-runs p u e c = (λ i. is_running ((sym c.1.units i).phase u)) ∙ ap is_running (plain-runs c.0 u e c.3)
 
-pub snapshot-runs : (w : World) (u : UnitNo) (at : ℕ) (o : Outcome) → applies w (EndSnapshot u at o) ≡ true → w.units.phase u ≡ Running
+pub snapshot-runs : (w : CoreState) (u : UnitNo) (at : ℕ) (o : Outcome) → applies w (EndSnapshot u at o) ≡ true → w.units.phase u ≡ Running
 snapshot-runs w u at o a = go (does w (EndSnapshot u at o)) (decode w (EndSnapshot u at o) (can-is w (EndSnapshot u at o) a))
   where
-    go : (w' : World) → Change w (EndSnapshot u at o) w' → w.units.phase u ≡ Running
+    go : (w' : CoreState) → Change w (EndSnapshot u at o) w' → w.units.phase u ≡ Running
     go w' (end_snapshot u at o running plain kids answer) = running
 
 pub can-snapshot-runs : (p : Parts) (u : UnitNo) (at : ℕ) (o : Outcome) → CanDo p (EndSnapshot u at o) → is_running (phase_in p.units u) ≡ true

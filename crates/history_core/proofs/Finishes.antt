@@ -6,13 +6,13 @@ use Rattle.cell_model.specs.Units.{Member, same_unit, same_grain}
 use Rattle.cell_model.specs.Locks.{holds_lock, is_hold_of}
 use Rattle.cell_model.specs.declared.locks.Hold.{Hold}
 use Rattle.cell_model.proofs.Units.{any-true, same_unit-true, same_unit-is, same_unit-not, same_grain-true, same_grain-is, cases_unit, cases_grain, Member-append}
-use Rattle.core_model.specs.World.{UnitNo, GrainId, Value, Write, Outcome, Batch, Units, World, put}
+use Rattle.core_model.specs.CoreState.{UnitNo, GrainId, Value, Write, Outcome, Batch, Units, CoreState, put}
 use Rattle.core_model.specs.declared.effects.Read.{Read}
 use Rattle.core_model.specs.declared.effects.Effect.{Effect}
 use Rattle.core_model.specs.declared.phases.Phase.TheVariants.{Running, Finished}
 use Rattle.core_model.specs.declared.events.CoreEvent.TheVariants.{Finish}
 use Rattle.core_model.specs.declared.events.CoreReply.TheVariants as reply
-use Rattle.core_model.specs.Tests.{is_final, is_committed, is_running, waiting, written}
+use Rattle.core_model.specs.Tests.{is_final, is_committed, is_running, waiting, state_written}
 use Rattle.core_model.specs.Learning.{to_learn}
 use Rattle.core_model.specs.Answers.{effect_of}
 use Rattle.core_model.specs.Changes.{finished}
@@ -73,15 +73,15 @@ cleared-is f u [] r m = absurd m
 cleared-is f u (x ∷ rs) r (inl e) = cleared-stays (put_handed f u x.grain None) u rs r.grain (ap (λ (y : Read). put_handed f u x.grain None u y.grain) e ∙ put-handed-is f u x.grain None)
 cleared-is f u (x ∷ rs) r (inr m) = cleared-is (put_handed f u x.grain None) u rs r m
 
-writes-is : (f : UnitNo → GrainId → Option (List Value)) (u : UnitNo) (xs : List Write) (g : GrainId) → f u g ≡ None → with_writes f u xs u g ≡ written g xs
+writes-is : (f : UnitNo → GrainId → Option (List Value)) (u : UnitNo) (xs : List Write) (g : GrainId) → f u g ≡ None → with_writes f u xs u g ≡ state_written g xs
 writes-is f u [] g e = e
 writes-is f u (x ∷ xs) g e = elim (cases_Bool (same_grain x.0 g)) [
   | inl t ↦ (let q = same_grain-true x.0 g t in
       ap (put_handed (with_writes f u xs) u x.0 (Some x.1) u) (sym q) ∙ put-handed-is (with_writes f u xs) u x.0 (Some x.1)
-      ∙ sym (ap (λ (b : Bool). if b then Some x.1 else written g xs) t))
+      ∙ sym (ap (λ (b : Bool). if b then Some x.1 else state_written g xs) t))
   | inr t ↦ (let n : g ≡ x.0 → ⊥ = λ q. (let z : true ≡ false = sym (same_grain-is x.0 g (sym q)) ∙ t in cc) in
       put-handed-grain (with_writes f u xs) u x.0 (Some x.1) g n ∙ writes-is f u xs g e
-      ∙ sym (ap (λ (b : Bool). if b then Some x.1 else written g xs) t))
+      ∙ sym (ap (λ (b : Bool). if b then Some x.1 else state_written g xs) t))
 ]
 
 -- ---- what stands behind the queue
@@ -104,7 +104,7 @@ shows-more (Some x) ms m (Some b) s =
 
 -- ---- the state after
 
-effect-others : (w : World) (u : UnitNo) (e : Effect) (x : UnitNo) → (x ≡ u → ⊥) → effect_of w x ≡ effect_of (finished w u e) x
+effect-others : (w : CoreState) (u : UnitNo) (e : Effect) (x : UnitNo) → (x ≡ u → ⊥) → effect_of w x ≡ effect_of (finished w u e) x
 effect-others w u e x n = λ i. record (effect_of w x) {
   answers = sym (put-other w.manager.answers u e.answers x n) i;
   writes = sym (put-other w.manager.writes u e.writes x n) i;
@@ -112,7 +112,7 @@ effect-others w u e x n = λ i. record (effect_of w x) {
 }
 
 -- the effect that the unit brings is what the state shows of it
-effect-brought : (w : World) (u : UnitNo) (e : Effect) → (e.unit ≡ u) × (e.origin ≡ w.units.origin u) × (e.call ≡ w.units.call u) → e.reads ≡ w.units.reads u → effect_of (finished w u e) u ≡ e
+effect-brought : (w : CoreState) (u : UnitNo) (e : Effect) → (e.unit ≡ u) × (e.origin ≡ w.units.origin u) × (e.call ≡ w.units.call u) → e.reads ≡ w.units.reads u → effect_of (finished w u e) u ≡ e
 effect-brought w u e h reads = λ i. record {
   unit = sym h.0 i;
   origin = sym h.1 i;
@@ -123,7 +123,7 @@ effect-brought w u e h reads = λ i. record {
   result = put-same w.manager.result u e.result i;
 }
 
-effects-more : (w : World) (u : UnitNo) (e : Effect) (ms : List FinishedUnit) (m : FinishedUnit) → IsReached w → w.units.phase u ≡ Running →
+effects-more : (w : CoreState) (u : UnitNo) (e : Effect) (ms : List FinishedUnit) (m : FinishedUnit) → IsReached w → w.units.phase u ≡ Running →
     (e.unit ≡ u) × (e.origin ≡ w.units.origin u) × (e.call ≡ w.units.call u) → e.reads ≡ w.units.reads u → m.effect ≡ e → map effect_in ms ≡ map (effect_of w) (waiting w) →
     map effect_in (ms ++ m ∷ []) ≡ map (effect_of (finished w u e)) (waiting (finished w u e))
 effects-more w u e ms m r p h reads is s =
@@ -132,7 +132,7 @@ effects-more w u e ms m r p h reads is s =
     ∙ sym (map-last (effect_of (finished w u e)) (waiting w) u)
     ∙ ap (map (effect_of (finished w u e))) (sym (drop-last w.manager.closed w.manager.order u (closed-within w r)))
 
-sources-more : (w : World) (u : UnitNo) (e : Effect) (ms : List FinishedUnit) (m : FinishedUnit) → IsReached w → m.deps.sources ≡ w.units.deps u → map sources_in ms ≡ map w.units.deps (waiting w) →
+sources-more : (w : CoreState) (u : UnitNo) (e : Effect) (ms : List FinishedUnit) (m : FinishedUnit) → IsReached w → m.deps.sources ≡ w.units.deps u → map sources_in ms ≡ map w.units.deps (waiting w) →
     map sources_in (ms ++ m ∷ []) ≡ map w.units.deps (waiting (finished w u e))
 sources-more w u e ms m r is s =
     map-last sources_in ms m
@@ -141,21 +141,21 @@ sources-more w u e ms m r is s =
     ∙ ap (map w.units.deps) (sym (drop-last w.manager.closed w.manager.order u (closed-within w r)))
 
 -- what the grains have to learn doesn't rest on it
-unlearnt-same : (w : World) (u : UnitNo) (e : Effect) → IsReached w → w.units.phase u ≡ Running → unlearnt w ≡ unlearnt (finished w u e)
+unlearnt-same : (w : CoreState) (u : UnitNo) (e : Effect) → IsReached w → w.units.phase u ≡ Running → unlearnt w ≡ unlearnt (finished w u e)
 unlearnt-same w u e r p = ap (filter (λ (t : UnitNo × GrainId). not (w.cells.learnt t.0 t.1)))
     (flat-agree (λ x. map (λ (y : Write). (x, y.0)) (w.manager.writes x)) (λ x. map (λ (y : Write). (x, y.0)) (put w.manager.writes u e.writes x)) (filter (λ x. is_final (w.manager.verdict x)) (take w.manager.closed w.manager.order))
     (λ x m. ap (map (λ (y : Write). (x, y.0))) (sym (put-other w.manager.writes u e.writes x (closes-not w r u p x (filter-in (λ x. is_final (w.manager.verdict x)) (take w.manager.closed w.manager.order) x m)))))
     ∙ ap (λ us. flat_map (λ x. map (λ (y : Write). (x, y.0)) (put w.manager.writes u e.writes x)) (filter (λ x. is_final (w.manager.verdict x)) us)) (sym (take-last w.manager.closed w.manager.order u (closed-within w r))))
 
-last-same : (w : World) (u : UnitNo) (e : Effect) (g : GrainId) → IsReached w → w.units.phase u ≡ Running → last_state w g ≡ last_state (finished w u e) g
+last-same : (w : CoreState) (u : UnitNo) (e : Effect) (g : GrainId) → IsReached w → w.units.phase u ≡ Running → last_state w g ≡ last_state (finished w u e) g
 last-same w u e g r p =
     last-agree w.manager.verdict w.manager.verdict w.manager.writes (put w.manager.writes u e.writes) g (take w.manager.closed w.manager.order) None
     (λ x m. refl) (λ x m. sym (put-other w.manager.writes u e.writes x (closes-not w r u p x m)))
     ∙ ap (λ us. last_among w.manager.verdict (put w.manager.writes u e.writes) g us None) (sym (take-last w.manager.closed w.manager.order u (closed-within w r)))
 
 -- what the unit holds it has read, and what it wrote there is kept
-handed-new : (w : World) (u : UnitNo) (g : GrainId) (f : UnitNo → GrainId → Option (List Value)) (e : Effect) → IsReached w → e.reads ≡ w.units.reads u → holds_lock u (w.cells.holds g) ≡ true →
-    with_writes (cleared f u e.reads) u e.writes u g ≡ written g e.writes
+handed-new : (w : CoreState) (u : UnitNo) (g : GrainId) (f : UnitNo → GrainId → Option (List Value)) (e : Effect) → IsReached w → e.reads ≡ w.units.reads u → holds_lock u (w.cells.holds g) ≡ true →
+    with_writes (cleared f u e.reads) u e.writes u g ≡ state_written g e.writes
 handed-new w u g f e r reads held =
     let t = any-true (is_hold_of u) (w.cells.holds g) held in
     let s = (rests w r).reading g t.0 t.1 in
@@ -166,11 +166,11 @@ handed-new w u g f e r reads held =
     writes-is (cleared f u e.reads) u e.writes g (subst (λ j. cleared f u e.reads u j ≡ None) d.2 (cleared-is f u e.reads d.0 k))
 
 -- what the tests of the event say
-pub finish-parts : (w : World) (u : UnitNo) (e : Effect) → applies w (Finish u e) ≡ true →
+pub finish-parts : (w : CoreState) (u : UnitNo) (e : Effect) → applies w (Finish u e) ≡ true →
     (w.units.phase u ≡ Running) × ((e.unit ≡ u) × (e.origin ≡ w.units.origin u) × (e.call ≡ w.units.call u)) × (e.reads ≡ w.units.reads u)
 finish-parts w u e a = go (does w (Finish u e)) (decode w (Finish u e) (can-is w (Finish u e) a))
   where
-    go : (w' : World) → Change w (Finish u e) w' → (w.units.phase u ≡ Running) × ((e.unit ≡ u) × (e.origin ≡ w.units.origin u) × (e.call ≡ w.units.call u)) × (e.reads ≡ w.units.reads u)
+    go : (w' : CoreState) → Change w (Finish u e) w' → (w.units.phase u ≡ Running) × ((e.unit ≡ u) × (e.origin ≡ w.units.origin u) × (e.call ≡ w.units.call u)) × (e.reads ≡ w.units.reads u)
     go w' (finish u e running plain of_call reads alone) = (let t = parts-of w u e of_call in (running, (t.0, t.1, t.2), reads))
 
 pub finish-runs : (p : Parts) (u : UnitNo) (e : Effect) → CanDo p (Finish u e) → is_running (phase_in p.units u) ≡ true
@@ -201,7 +201,7 @@ keeps-handed p waiting handed u runs same others = λ w s. record {
   };
 }
   where
-    not-running : (w : World) → Stands p w → (x : UnitNo) → w.units.phase x ≡ Finished → x ≡ u → ⊥
+    not-running : (w : CoreState) → Stands p w → (x : UnitNo) → w.units.phase x ≡ Finished → x ≡ u → ⊥
     not-running w s x f e =
         (let t : w.units.phase u ≡ Running = is_running-true _ ((λ i. is_running ((s.units i).phase u)) ∙ runs) in
         let z : Finished ≡ Running = sym f ∙ ap w.units.phase e ∙ t in cc)
@@ -228,8 +228,8 @@ does-finish p u e units waiting m f us v o effect deps items hands = λ w s r a.
         handed = λ x g ph h. elim (cases_unit x u) [
           | inl q ↦
               (let held : holds_lock u (w.cells.holds g) ≡ true = ap (λ y. holds_lock y (w.cells.holds g)) (sym q) ∙ h in
-              (λ i. hands i (q i) g) ∙ handed-new w u g f e r t.2 held ∙ ap (written g) (sym (put-is w.manager.writes u e.writes x q)))
-          | inr n ↦ s.handed x g (sym (put-other w.units.phase u Finished x n) ∙ ph) h ∙ ap (written g) (sym (put-other w.manager.writes u e.writes x n))
+              (λ i. hands i (q i) g) ∙ handed-new w u g f e r t.2 held ∙ ap (state_written g) (sym (put-is w.manager.writes u e.writes x q)))
+          | inr n ↦ s.handed x g (sym (put-other w.units.phase u Finished x n) ∙ ph) h ∙ ap (state_written g) (sym (put-other w.manager.writes u e.writes x n))
         ];
         last = λ g. s.last g ∙ last-same w u e g r t.0;
         room = record {
@@ -241,7 +241,7 @@ does-finish p u e units waiting m f us v o effect deps items hands = λ w s r a.
   refl,
 )
   where
-    front : (w : World) → Stands p w → take (owed_in p.batch) waiting.items ≡ members_in p
+    front : (w : CoreState) → Stands p w → take (owed_in p.batch) waiting.items ≡ members_in p
     front w s = ap (take (owed_in p.batch)) items ∙ take-last (owed_in p.batch) p.waiting.items m (owed-within p.batch p.waiting.items w.manager.batch (to-cases p.batch p.waiting.items w.manager.batch s.batch))
 
 -- the room and the copies of a finish change nothing

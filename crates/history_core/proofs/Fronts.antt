@@ -3,11 +3,11 @@ use Rattle.std.proofs.Common.{◌≡◌, ℕ, zero, suc, ◌+◌, ◌<◌, ◌�
 use Rattle.std.specs.Prelude.{if◌then◌else◌, flat_map}
 use Rattle.cell_model.specs.Units.{Member}
 use Rattle.cell_model.proofs.Units.{cases_unit}
-use Rattle.core_model.specs.World.{UnitNo, GrainId, Value, Write, Outcome, Entry, Decision, World, put}
+use Rattle.core_model.specs.CoreState.{UnitNo, GrainId, Value, Write, Outcome, Entry, Decision, CoreState, put}
 use Rattle.core_model.specs.declared.effects.Effect.{Effect}
 use Rattle.core_model.specs.declared.phases.Verdict.{Verdict}
 use Rattle.core_model.specs.declared.phases.Verdict.TheVariants.{Open, Chosen, Condemned, Committed, Aborted}
-use Rattle.core_model.specs.Tests.{is_final, is_committed, is_over, written}
+use Rattle.core_model.specs.Tests.{is_final, is_committed, is_over, state_written}
 use Rattle.core_model.specs.Answers.{effect_of}
 use Rattle.core_model.specs.Changes.{entries_in, entry_for, told, seal, spoil, leave}
 use Rattle.core_model.proofs.Puts.{put-at, put-is, put-other}
@@ -81,21 +81,21 @@ mapped-is h us v e = λ i x. at x i
       | inr q ↦ mapped-out h us v x q ∙ sym q
     ]
 
-pub verdicts-link : (f : Verdict → Verdict) (ds : List Decision) (w : World) (us : List UnitNo) (v : UnitNo → Verdict) → verdicts_after f ds (map (effect_of w) us) v ≡ mapped f (take (length ds) us) v
+pub verdicts-link : (f : Verdict → Verdict) (ds : List Decision) (w : CoreState) (us : List UnitNo) (v : UnitNo → Verdict) → verdicts_after f ds (map (effect_of w) us) v ≡ mapped f (take (length ds) us) v
 verdicts-link f [] w us v = refl
 verdicts-link f (d ∷ ds) w [] v = refl
 verdicts-link f (d ∷ ds) w (u ∷ us) v = verdicts-link f ds w us (put v u (f (v u)))
 
 -- ---- entries
 
-pub entries-link : (h : Closing) (ds : List Decision) (w : World) (us : List UnitNo) → entries_after h ds (map (effect_of w) us) ≡ entries_in w (λ u. told_as h (w.manager.result u)) (take (length ds) us) ds
+pub entries-link : (h : Closing) (ds : List Decision) (w : CoreState) (us : List UnitNo) → entries_after h ds (map (effect_of w) us) ≡ entries_in w (λ u. told_as h (w.manager.result u)) (take (length ds) us) ds
 entries-link h [] w us = refl
 entries-link h (d ∷ ds) w [] = refl
 entries-link h (d ∷ ds) w (u ∷ us) = ap (λ t. entry_for (w.units.origin u) u (told (told_as h (w.manager.result u)) d) ++ t) (entries-link h ds w us)
 
 -- ---- what is to learn
 
-pub pairs-link : (h : Closing) (ds : List Decision) (w : World) (us : List UnitNo) (v now : UnitNo → Verdict) → ((x : UnitNo) → ends_as h (now x) ≡ ends_as h (v x)) →
+pub pairs-link : (h : Closing) (ds : List Decision) (w : CoreState) (us : List UnitNo) (v now : UnitNo → Verdict) → ((x : UnitNo) → ends_as h (now x) ≡ ends_as h (v x)) →
     pairs_after (ends_as h) ds (map (effect_of w) us) now ≡ flat_map (λ x. grains_with x (w.manager.writes x)) (filter (λ x. is_final (ends_as h (v x))) (take (length ds) us))
 pairs-link h [] w us v now e = refl
 pairs-link h (d ∷ ds) w [] v now e = refl
@@ -113,17 +113,17 @@ pairs-link h (d ∷ ds) w (u ∷ us) v now e =
 
 -- ---- last states
 
-pub last-link : (h : Closing) (g : GrainId) (ds : List Decision) (w : World) (us : List UnitNo) (v now : UnitNo → Verdict) (before : Option (List Value)) → ((x : UnitNo) → ends_as h (now x) ≡ ends_as h (v x)) →
+pub last-link : (h : Closing) (g : GrainId) (ds : List Decision) (w : CoreState) (us : List UnitNo) (v now : UnitNo → Verdict) (before : Option (List Value)) → ((x : UnitNo) → ends_as h (now x) ≡ ends_as h (v x)) →
     last_after (ends_as h) g ds (map (effect_of w) us) now before ≡ last_among (λ x. ends_as h (v x)) w.manager.writes g (take (length ds) us) before
 last-link h g [] w us v now before e = refl
 last-link h g (d ∷ ds) w [] v now before e = refl
 last-link h g (d ∷ ds) w (u ∷ us) v now before e =
-    last-link h g ds w us v (put now u (ends_as h (now u))) (state_after (is_committed (ends_as h (now u))) (written g (w.manager.writes u)) before) (put-mapped h v now u e)
-    ∙ ap (λ y. last_among (λ x. ends_as h (v x)) w.manager.writes g (take (length ds) us) (state_after (is_committed y) (written g (w.manager.writes u)) before)) (e u)
+    last-link h g ds w us v (put now u (ends_as h (now u))) (state_after (is_committed (ends_as h (now u))) (state_written g (w.manager.writes u)) before) (put-mapped h v now u e)
+    ∙ ap (λ y. last_among (λ x. ends_as h (v x)) w.manager.writes g (take (length ds) us) (state_after (is_committed y) (state_written g (w.manager.writes u)) before)) (e u)
 
 pub last-append : (v : UnitNo → Verdict) (ws : UnitNo → List Write) (g : GrainId) (us vs : List UnitNo) (before : Option (List Value)) → last_among v ws g (us ++ vs) before ≡ last_among v ws g vs (last_among v ws g us before)
 last-append v ws g [] vs before = refl
-last-append v ws g (u ∷ us) vs before = last-append v ws g us vs (state_after (is_committed (v u)) (written g (ws u)) before)
+last-append v ws g (u ∷ us) vs before = last-append v ws g us vs (state_after (is_committed (v u)) (state_written g (ws u)) before)
 
 -- ---- lists
 

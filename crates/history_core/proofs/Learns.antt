@@ -8,11 +8,11 @@ use Rattle.cell_model.specs.Stacks as stacks
 use Rattle.cell_model.specs.Stacks.{is_of, removed}
 use Rattle.cell_model.specs.Cells.{Cell, opened, learned, learnt}
 use Rattle.cell_model.proofs.Units.{any-true, any-member, filter-member, filter-stays, same_unit-true, same_unit-is, same_unit-not, same_grain-true, same_grain-is, cases_unit, cases_grain}
-use Rattle.core_model.specs.World.{UnitNo, GrainId, Value, Version, Write, Cells, World, put, put_grain}
+use Rattle.core_model.specs.CoreState.{UnitNo, GrainId, Value, Version, Write, Cells, CoreState, put, put_grain}
 use Rattle.core_model.specs.declared.phases.Phase.{Phase}
 use Rattle.core_model.specs.declared.phases.Phase.TheVariants.{Unborn, Running, Finished, Refused, Ended}
 use Rattle.core_model.specs.declared.phases.Verdict.{Verdict}
-use Rattle.core_model.specs.Tests.{is_final, is_committed, written}
+use Rattle.core_model.specs.Tests.{is_final, is_committed, state_written}
 use Rattle.core_model.specs.Learning.{to_learn}
 use Rattle.core_model.specs.Events.{can_learn}
 use Rattle.core_model.specs.declared.events.CoreEvent.TheVariants.{Learn}
@@ -42,12 +42,12 @@ same-tests true b f g = sym (f refl)
 same-tests false true f g = g refl
 same-tests false false f g = refl
 
-written-some : (x : Write) (xs : List Write) → Member x xs → is_some (written x.0 xs) ≡ true
+written-some : (x : Write) (xs : List Write) → Member x xs → is_some (state_written x.0 xs) ≡ true
 written-some x [] m = absurd m
-written-some x (y ∷ ys) (inl e) = (let t : same_grain y.0 x.0 ≡ true = same_grain-is y.0 x.0 (ap (λ (z : Write). z.0) (sym e)) in ap (λ (b : Bool). is_some (if b then Some y.1 else written x.0 ys)) t)
+written-some x (y ∷ ys) (inl e) = (let t : same_grain y.0 x.0 ≡ true = same_grain-is y.0 x.0 (ap (λ (z : Write). z.0) (sym e)) in ap (λ (b : Bool). is_some (if b then Some y.1 else state_written x.0 ys)) t)
 written-some x (y ∷ ys) (inr m) = go (written-some x ys m) (same_grain y.0 x.0)
   where
-    go : is_some (written x.0 ys) ≡ true → (b : Bool) → is_some (if b then Some y.1 else written x.0 ys) ≡ true
+    go : is_some (state_written x.0 ys) ≡ true → (b : Bool) → is_some (if b then Some y.1 else state_written x.0 ys) ≡ true
     go rest true = refl
     go rest false = rest
 
@@ -73,14 +73,14 @@ finished-or Refused = inr (λ z. cc)
 finished-or Ended = inr (λ z. cc)
 
 -- a unit that wrote has finished
-pub wrote-finished : (w : World) → IsReached w → (u : UnitNo) (g : GrainId) → is_some (written g (w.manager.writes u)) ≡ true → w.units.phase u ≡ Finished
+pub wrote-finished : (w : CoreState) → IsReached w → (u : UnitNo) (g : GrainId) → is_some (state_written g (w.manager.writes u)) ≡ true → w.units.phase u ≡ Finished
 wrote-finished w r u g e = elim (finished-or (w.units.phase u)) [
   | inl f ↦ f
-  | inr n ↦ (let z : false ≡ true = sym (ap (λ xs. is_some (written g xs)) (unwritten w r u n)) ∙ e in cc)
+  | inr n ↦ (let z : false ≡ true = sym (ap (λ xs. is_some (state_written g xs)) (unwritten w r u n)) ∙ e in cc)
 ]
 
 -- and stands in a closed batch where it is decided for good
-decided-closed : (w : World) → IsReached w → (u : UnitNo) → w.units.phase u ≡ Finished → is_final (w.manager.verdict u) ≡ true → Member u (take w.manager.closed w.manager.order)
+decided-closed : (w : CoreState) → IsReached w → (u : UnitNo) → w.units.phase u ≡ Finished → is_final (w.manager.verdict u) ≡ true → Member u (take w.manager.closed w.manager.order)
 decided-closed w r u f final =
     let t = (rests w r).ordered.placed u f in
     let le : w.manager.place u ≤ w.manager.closed = elim (cases_lt w.manager.closed (w.manager.place u)) [
@@ -93,7 +93,7 @@ decided-closed w r u f final =
     (Member-get (take w.manager.closed w.manager.order) t.0 (omega (arith, len, lt)))
 
 -- the pair is among what is to learn exactly where the event applies
-pub can-learn-is : (w : World) → IsReached w → (u : UnitNo) (g : GrainId) → has_pair (unlearnt w) u g ≡ can_learn w u g
+pub can-learn-is : (w : CoreState) → IsReached w → (u : UnitNo) (g : GrainId) → has_pair (unlearnt w) u g ≡ can_learn w u g
 can-learn-is w r u g = same-tests (has_pair (unlearnt w) u g) (can_learn w u g) there back
   where
     there : has_pair (unlearnt w) u g ≡ true → can_learn w u g ≡ true
@@ -108,16 +108,16 @@ can-learn-is w r u g = same-tests (has_pair (unlearnt w) u g) (can_learn w u g) 
         let grain : t.0.1 ≡ g = same_grain-true _ _ p.1 in
         let vu : v.0 ≡ u = sym (ap (λ (z : UnitNo × GrainId). z.0) x.2) ∙ unit in
         let xg : x.0.0 ≡ g = sym (ap (λ (z : UnitNo × GrainId). z.1) x.2) ∙ grain in
-        let some : is_some (written g (w.manager.writes u)) ≡ true = subst (λ z. is_some (written g (w.manager.writes z)) ≡ true) vu (subst (λ z. is_some (written z (w.manager.writes v.0)) ≡ true) xg (written-some x.0 (w.manager.writes v.0) x.1)) in
+        let some : is_some (state_written g (w.manager.writes u)) ≡ true = subst (λ z. is_some (state_written g (w.manager.writes z)) ≡ true) vu (subst (λ z. is_some (state_written z (w.manager.writes v.0)) ≡ true) xg (written-some x.0 (w.manager.writes v.0) x.1)) in
         let final : is_final (w.manager.verdict u) ≡ true = subst (λ z. is_final (w.manager.verdict z) ≡ true) vu f.1 in
         let fresh : not (w.cells.learnt u g) ≡ true = (λ i. not (w.cells.learnt (sym unit i) (sym grain i))) ∙ k.1 in
-        and_from (is_some (written g (w.manager.writes u))) (is_final (w.manager.verdict u) && not (w.cells.learnt u g)) some (and_from (is_final (w.manager.verdict u)) (not (w.cells.learnt u g)) final fresh)
+        and_from (is_some (state_written g (w.manager.writes u))) (is_final (w.manager.verdict u) && not (w.cells.learnt u g)) some (and_from (is_final (w.manager.verdict u)) (not (w.cells.learnt u g)) final fresh)
 
     back : can_learn w u g ≡ true → has_pair (unlearnt w) u g ≡ true
     back e =
-        let p = and_parts (is_some (written g (w.manager.writes u))) (is_final (w.manager.verdict u) && not (w.cells.learnt u g)) e in
+        let p = and_parts (is_some (state_written g (w.manager.writes u))) (is_final (w.manager.verdict u) && not (w.cells.learnt u g)) e in
         let q = and_parts (is_final (w.manager.verdict u)) (not (w.cells.learnt u g)) p.1 in
-        let v = wrote (written g (w.manager.writes u)) p.0 in
+        let v = wrote (state_written g (w.manager.writes u)) p.0 in
         let x = written-member g v.0 (w.manager.writes u) v.1 in
         let m = decided-closed w r u (wrote-finished w r u g p.0) q.0 in
         let f = filter-stays (λ (z : UnitNo). is_final (w.manager.verdict z)) (take w.manager.closed w.manager.order) u m q.0 in
@@ -131,7 +131,7 @@ pub somebody : (p : Parts) (u : UnitNo) (g : GrainId) → CanDo p (Learn u g) �
 somebody p u g c e =
     let w = c.0 in
     let r = c.2 in
-    let q = and_parts (is_some (written g (w.manager.writes u))) (is_final (w.manager.verdict u) && not (w.cells.learnt u g)) (can-is w (Learn u g) c.3) in
+    let q = and_parts (is_some (state_written g (w.manager.writes u))) (is_final (w.manager.verdict u) && not (w.cells.learnt u g)) (can-is w (Learn u g) c.3) in
     let t : Finished ≡ Unborn = sym (wrote-finished w r u g q.0) ∙ ap w.units.phase e ∙ (steady w r).0.0.outside in
     cc
 
@@ -145,7 +145,7 @@ filter-filter p q (x ∷ xs) = go (filter-filter p q xs) (q x) (p x) refl refl
     go rest true false e f = (λ i. if f i then x ∷ filter p (filter q xs) else filter p (filter q xs)) ∙ rest
     go rest false b e f = rest
 
-pub unlearnt-less : (w : World) (u : UnitNo) (g : GrainId) →
+pub unlearnt-less : (w : CoreState) (u : UnitNo) (g : GrainId) →
     other_pairs (unlearnt w) u g ≡ filter (λ (t : UnitNo × GrainId). not (put w.cells.learnt u (put_grain (w.cells.learnt u) g true) t.0 t.1)) (to_learn w)
 unlearnt-less w u g =
     filter-filter (λ (t : UnitNo × GrainId). not (is_pair u g t)) (λ (t : UnitNo × GrainId). not (w.cells.learnt t.0 t.1)) (to_learn w)

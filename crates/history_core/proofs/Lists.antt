@@ -1,9 +1,9 @@
 -- Lists of units: functions that agree on them, what is added at the end, and what is taken from the front.
 use Rattle.std.proofs.Common.{◌≡◌, ℕ, zero, suc, ◌+◌, ◌<◌, ◌≤◌, List, [], ◌∷◌, ◌++◌, Bool, true, false, inl, inr, refl, sym, ap, ◌∙◌, arith, Option, Some, None, length, take, drop, map, filter}
 use Rattle.std.specs.Prelude.{if◌then◌else◌, flat_map}
-use Rattle.core_model.specs.World.{UnitNo, GrainId, Member, Value, Write, put}
+use Rattle.core_model.specs.CoreState.{UnitNo, GrainId, Member, Value, Write, put}
 use Rattle.core_model.specs.declared.phases.Verdict.{Verdict}
-use Rattle.core_model.specs.Tests.{is_committed, is_final, written}
+use Rattle.core_model.specs.Tests.{is_committed, is_final, state_written}
 use Rattle.history_core.specs.Closing.{last_among, state_after}
 
 -- functions that agree on a list map it alike
@@ -51,5 +51,5 @@ pub last-agree : (v v' : UnitNo → Verdict) (ws ws' : UnitNo → List Write) (g
     ((x : UnitNo) → Member x us → is_committed (v x) ≡ is_committed (v' x)) → ((x : UnitNo) → Member x us → ws x ≡ ws' x) → last_among v ws g us before ≡ last_among v' ws' g us before
 last-agree v v' ws ws' g [] before e h = refl
 last-agree v v' ws ws' g (u ∷ us) before e h =
-    last-agree v v' ws ws' g us (state_after (is_committed (v u)) (written g (ws u)) before) (λ x m. e x (inr m)) (λ x m. h x (inr m))
-    ∙ (let one = e u (inl refl) in let two = h u (inl refl) in λ i. last_among v' ws' g us (state_after (one i) (written g (two i)) before))
+    last-agree v v' ws ws' g us (state_after (is_committed (v u)) (state_written g (ws u)) before) (λ x m. e x (inr m)) (λ x m. h x (inr m))
+    ∙ (let one = e u (inl refl) in let two = h u (inl refl) in λ i. last_among v' ws' g us (state_after (one i) (state_written g (two i)) before))

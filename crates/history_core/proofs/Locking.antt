@@ -13,11 +13,11 @@ use Rattle.cell_model.specs.Cells.{Cell, with_reading}
 use Rattle.cell_model.specs.declared.locks.Hold.{Hold}
 use Rattle.cell_model.proofs.Asking.{granted-member}
 use Rattle.cell_model.proofs.Units.{any-true, any-member, same_unit-true, same_unit-is}
-use Rattle.core_model.specs.World.{UnitNo, GrainId, Version, Mode, Cells, Units, World, put, put_grain}
+use Rattle.core_model.specs.CoreState.{UnitNo, GrainId, Version, Mode, Cells, Units, CoreState, put, put_grain}
 use Rattle.core_model.specs.declared.effects.Read.{Read}
 use Rattle.core_model.specs.declared.phases.Phase.TheVariants.{Running, Finished}
 use Rattle.core_model.specs.declared.effects.Effect.{Effect}
-use Rattle.core_model.specs.Tests.{is_running, is_aborted, is_committed, ask, ask_doom, ask_lock, waiting, written}
+use Rattle.core_model.specs.Tests.{is_running, is_aborted, is_committed, ask, ask_doom, ask_lock, waiting, state_written}
 use Rattle.core_model.specs.Answers.{effect_of}
 use Rattle.core_model.specs.Changes.{granted, raised, locked, restacked, cleaned, touched, read_of, is_sure, deps_with, without_want}
 use Rattle.core_model.specs.Events.{applies, read_reply}
@@ -49,7 +49,7 @@ left-cleans : (test : UnitNo → Bool) (stack : List Version) (aborted : Option 
 left-cleans test stack None e = sym (none-cleans test stack (sym e))
 left-cleans test stack (Some unit) e = found-cleans test stack unit (sym e)
 
-cleaned-is : (p : Parts) (w : World) (g : GrainId) (aborted : Option UnitNo) → Stands p w → Cleans p g aborted → cleaned w g ≡ without_aborted aborted (cell_in p.cells g).stack
+cleaned-is : (p : Parts) (w : CoreState) (g : GrainId) (aborted : Option UnitNo) → Stands p w → Cleans p g aborted → cleaned w g ≡ without_aborted aborted (cell_in p.cells g).stack
 cleaned-is p w g aborted s e =
     (λ i. cut (λ x. is_aborted (s.verdict i x.unit)) ((s.cells i).stack g))
     ∙ sym (left-cleans (λ u. is_aborted (verdict_in p.units u)) (cell_in p.cells g).stack aborted e)
@@ -81,7 +81,7 @@ put-twice f g x y = λ i q. at q i
     at q = grain-at f g y (λ z. put_grain (put_grain f g x) g y q ≡ z) q (λ e. grain-is (put_grain f g x) g y q e) (λ n. grain-other (put_grain f g x) g y q n ∙ grain-other f g x q n)
 
 -- the cells after the grant
-locked-cells : (p : Parts) (new : CellTable) (w : World) (u : UnitNo) (g : GrainId) (m : Mode) (aborted : Option UnitNo) → Stands p w → Cleans p g aborted →
+locked-cells : (p : Parts) (new : CellTable) (w : CoreState) (u : UnitNo) (g : GrainId) (m : Mode) (aborted : Option UnitNo) → Stands p w → Cleans p g aborted →
     cell_in new ≡ put_grain (cell_in p.cells) g (cells.granted (cell_without (cell_in p.cells g) aborted) u m) →
     (locked (restacked w g (cleaned w g)) u g m).cells ≡ cells_of (cell_in new) w.cells.learnt
 locked-cells p new w u g m aborted s e is =
@@ -100,7 +100,7 @@ locked-cells p new w u g m aborted s e is =
     zs : put_grain w.cells.stack g (cleaned w g) g ≡ without_aborted aborted (cell_in p.cells g).stack
     zs = grain-same w.cells.stack g (cleaned w g) ∙ ys
 
-raised-cells : (p : Parts) (new : CellTable) (w : World) (u : UnitNo) (g : GrainId) (m : Mode) (aborted : Option UnitNo) → Stands p w → Cleans p g aborted →
+raised-cells : (p : Parts) (new : CellTable) (w : CoreState) (u : UnitNo) (g : GrainId) (m : Mode) (aborted : Option UnitNo) → Stands p w → Cleans p g aborted →
     cell_in new ≡ put_grain (cell_in p.cells) g (cells.granted (cell_without (cell_in p.cells g) aborted) u m) →
     (raised (restacked w g (cleaned w g)) u g m).cells ≡ cells_of (cell_in new) w.cells.learnt
 raised-cells p new w u g m aborted s e is =
@@ -118,7 +118,7 @@ raised-cells p new w u g m aborted s e is =
     zs : put_grain w.cells.stack g (cleaned w g) g ≡ without_aborted aborted (cell_in p.cells g).stack
     zs = grain-same w.cells.stack g (cleaned w g) ∙ ys
 
-sure-is : (p : Parts) (w : World) → Stands p w → (u : UnitNo) → is_sure w u ≡ is_sure_in p u
+sure-is : (p : Parts) (w : CoreState) → Stands p w → (u : UnitNo) → is_sure w u ≡ is_sure_in p u
 sure-is p w s u = λ i. same_unit u nobody || is_committed (s.verdict i u)
 
 if-not : {A : Type 0} (b : Bool) (x y : A) → (if b then x else y) ≡ (if not b then y else x)
@@ -126,7 +126,7 @@ if-not true x y = refl
 if-not false x y = refl
 
 -- the units after a first lock: what was read is the version on top, and a source that isn't sure is a dependency
-locked-units : (p : Parts) (w : World) (u : UnitNo) (g : GrainId) (m : Mode) (aborted : Option UnitNo) (read : Read) (depends : Bool) → Stands p w → Cleans p g aborted →
+locked-units : (p : Parts) (w : CoreState) (u : UnitNo) (g : GrainId) (m : Mode) (aborted : Option UnitNo) (read : Read) (depends : Bool) → Stands p w → Cleans p g aborted →
     read ≡ read_of g (top (without_aborted aborted (cell_in p.cells g).stack)) → depends ≡ not (is_sure_in p read.source) →
     (locked (restacked w g (cleaned w g)) u g m).units ≡ units_read (units_of p.units w.units.seen_at) u read depends
 locked-units p w u g m aborted read depends s e is more =
@@ -162,11 +162,11 @@ held-before holds u m x n h =
     ]
 
 -- the asker runs
-pub grant-runs : (w : World) (u : UnitNo) (g : GrainId) (m : Mode) → applies w (Grant u g m) ≡ true → w.units.phase u ≡ Running
+pub grant-runs : (w : CoreState) (u : UnitNo) (g : GrainId) (m : Mode) → applies w (Grant u g m) ≡ true → w.units.phase u ≡ Running
 grant-runs w u g m a = is_running-true _ (and_parts (is_running (w.units.phase u)) (nat_lt g.kind w.units.kinds) (ask-granted w u g m (can-is w (Grant u g m) a)).0).0
 
 -- so it isn't one that has finished
-runs-not : (w : World) (u : UnitNo) (g : GrainId) (m : Mode) → applies w (Grant u g m) ≡ true → (x : UnitNo) → w.units.phase x ≡ Finished → x ≡ u → ⊥
+runs-not : (w : CoreState) (u : UnitNo) (g : GrainId) (m : Mode) → applies w (Grant u g m) ≡ true → (x : UnitNo) → w.units.phase x ≡ Finished → x ≡ u → ⊥
 runs-not w u g m a x f e = (let t : Finished ≡ Running = sym f ∙ ap w.units.phase e ∙ grant-runs w u g m a in cc)
 
 pub does-raise : (p : Parts) (u : UnitNo) (g : GrainId) (m : Mode) (aborted : Option UnitNo) (new : CellTable) (found : Version) → Cleans p g aborted →
@@ -187,7 +187,7 @@ does-raise p u g m aborted new found e held is top_is = λ w s r a. (
         settled = s.settled;
         emitted = s.emitted;
         learn = s.learn;
-        handed = λ x k f. grain-from w.cells.holds g (locks.granted (w.cells.holds g) u m) (λ hs. holds_lock x hs ≡ true) (handed_in p.handed x k ≡ written k (w.manager.writes x)) k
+        handed = λ x k f. grain-from w.cells.holds g (locks.granted (w.cells.holds g) u m) (λ hs. holds_lock x hs ≡ true) (handed_in p.handed x k ≡ state_written k (w.manager.writes x)) k
             (λ q h. s.handed x k f (ap (λ j. holds_lock x (w.cells.holds j)) q ∙ held-before (w.cells.holds g) u m x (runs-not w u g m a x f) h))
             (λ q h. s.handed x k f h);
         last = s.last;
@@ -218,7 +218,7 @@ does-lock p u g m aborted new units found read depends e held is top_is read_is 
         settled = s.settled;
         emitted = s.emitted;
         learn = s.learn;
-        handed = λ x k f. grain-from w.cells.holds g (locks.granted (w.cells.holds g) u m) (λ hs. holds_lock x hs ≡ true) (handed_in p.handed x k ≡ written k (w.manager.writes x)) k
+        handed = λ x k f. grain-from w.cells.holds g (locks.granted (w.cells.holds g) u m) (λ hs. holds_lock x hs ≡ true) (handed_in p.handed x k ≡ state_written k (w.manager.writes x)) k
             (λ q h. s.handed x k f (ap (λ j. holds_lock x (w.cells.holds j)) q ∙ held-before (w.cells.holds g) u m x (runs-not w u g m a x f) h))
             (λ q h. s.handed x k f h);
         last = s.last;
@@ -227,7 +227,7 @@ does-lock p u g m aborted new units found read depends e held is top_is read_is 
   ap read_reply (top_is ∙ sym (ap top (cleaned-is p w g aborted s e))),
 )
   where
-    apart : (w : World) → IsReached w → applies w (Grant u g m) ≡ true → (x : UnitNo) → Member x (waiting w) → x ≡ u → ⊥
+    apart : (w : CoreState) → IsReached w → applies w (Grant u g m) ≡ true → (x : UnitNo) → Member x (waiting w) → x ≡ u → ⊥
     apart w r a x k = runs-not w u g m a x (waits w r x k).0
 
 -- the lock is free by what is kept
@@ -238,7 +238,7 @@ pub grant-here : (p : Parts) (u : UnitNo) (g : GrainId) (m : Mode) → CanDo p (
 grant-here p u g m c = (λ i. is_running ((sym c.1.units i).phase u)) ∙ ap is_running (grant-runs c.0 u g m c.3)
 
 -- what is answered to a unit that asks
-pub ask-is : (p : Parts) (w : World) (u : UnitNo) (g : GrainId) (m : Mode) → Stands p w → ask_in p u g m ≡ ask w u g m
+pub ask-is : (p : Parts) (w : CoreState) (u : UnitNo) (g : GrainId) (m : Mode) → Stands p w → ask_in p u g m ≡ ask w u g m
 ask-is p w u g m s = λ i.
     if (is_running ((sym s.units i).phase u) && nat_lt g.kind (sym s.units i).kinds)
     then ask_doom (oldest (map (λ (r : Read). r.source) (filter (λ (r : Read). not (same_unit (top ((sym s.cells i).stack r.grain)).unit r.source)) ((sym s.units i).reads u))))

@@ -4,10 +4,10 @@ use Rattle.std.specs.Prelude.{if◌then◌else◌}
 use Rattle.std.proofs.lemmas.Bool.{cases_Bool}
 use Rattle.cell_model.proofs.Units.{cases_unit, cases_grain, same_grain-true, same_grain-is}
 use Rattle.std.specs.List.{remove}
-use Rattle.core_model.specs.World.{UnitNo, GrainId, Value, Write, Decision, same_grain}
+use Rattle.core_model.specs.CoreState.{UnitNo, GrainId, Value, Write, Decision, same_grain}
 use Rattle.core_model.specs.declared.effects.Effect.{Effect}
 use Rattle.history_core.specs.Fronts.{AreOver, PlacedAfter, writes_after}
-use Rattle.core_model.specs.Tests.{written}
+use Rattle.core_model.specs.Tests.{state_written}
 use Rattle.core_lists.specs.States.{last_in, has_place, handed_in, PutsHanded, PutsLast, KeepsPlaces}
 use Rattle.core_lists.specs.declared.handed_states.HandedStates.{HandedStates}
 use Rattle.core_lists.specs.declared.last_states.LastStates.{LastStates}
@@ -61,7 +61,7 @@ placed-last p (y ∷ ys) x h = (let t = placed-last p ys x h.1 in ((h.0, t.0), t
 
 -- ---- last states
 
-pub written-last : (g : GrainId) (xs : List Write) (x : Write) (before : Option (List Value)) → or_else (written g (xs ++ x ∷ [])) before ≡ or_else (written g xs) (if same_grain x.0 g then Some x.1 else before)
+pub written-last : (g : GrainId) (xs : List Write) (x : Write) (before : Option (List Value)) → or_else (state_written g (xs ++ x ∷ [])) before ≡ or_else (state_written g xs) (if same_grain x.0 g then Some x.1 else before)
 written-last g [] x before = one (same_grain x.0 g)
   where
     one : (b : Bool) → or_else (if b then Some x.1 else None) before ≡ (if b then Some x.1 else before)
@@ -69,8 +69,8 @@ written-last g [] x before = one (same_grain x.0 g)
     one false = refl
 written-last g (y ∷ ys) x before = go (written-last g ys x before) (same_grain y.0 g)
   where
-    go : or_else (written g (ys ++ x ∷ [])) before ≡ or_else (written g ys) (if same_grain x.0 g then Some x.1 else before) → (b : Bool) →
-        or_else (if b then Some y.1 else written g (ys ++ x ∷ [])) before ≡ or_else (if b then Some y.1 else written g ys) (if same_grain x.0 g then Some x.1 else before)
+    go : or_else (state_written g (ys ++ x ∷ [])) before ≡ or_else (state_written g ys) (if same_grain x.0 g then Some x.1 else before) → (b : Bool) →
+        or_else (if b then Some y.1 else state_written g (ys ++ x ∷ [])) before ≡ or_else (if b then Some y.1 else state_written g ys) (if same_grain x.0 g then Some x.1 else before)
     go rest true = refl
     go rest false = rest
 

@@ -2,7 +2,7 @@
 use Rattle.std.proofs.Common.{◌≡◌, ℕ, ◌≤◌, List, [], ◌∷◌, Bool, true, false, refl, sym, ap, ◌∙◌, arith, Option, Some, None, length, map, take, subst}
 use Rattle.base_types.specs.declared.calls.Outcome.TheVariants.{Aborted as aborted}
 use Rattle.cell_model.specs.Cells.{Cell, opened}
-use Rattle.core_model.specs.World.{UnitNo, GrainId, Value, Outcome}
+use Rattle.core_model.specs.CoreState.{UnitNo, GrainId, Value, Outcome}
 use Rattle.core_model.specs.declared.phases.Verdict.{Verdict}
 use Rattle.core_model.specs.declared.phases.Verdict.TheVariants.{Open}
 use Rattle.core_model.specs.Events.{start, first_units}

@@ -1,6 +1,6 @@
 -- What holds of each state that a core can be in.
 use Rattle.std.proofs.Common.{◌≡◌, ℕ, zero, suc, ◌+◌, ◌<◌, ◌≤◌, List, [], ◌∷◌, Bool, true, false, ◌⊎◌, inl, inr, refl, sym, ap, ◌∙◌, subst, arith, Option, Some, None, length, get_or, take, drop, length-drop, get_or-drop, get_or-take}
-use Rattle.core_model.specs.World.{UnitNo, GrainId, nobody, Member, Batch, World}
+use Rattle.core_model.specs.CoreState.{UnitNo, GrainId, nobody, Member, Batch, CoreState}
 use Rattle.core_model.specs.declared.effects.Effect.{Effect}
 use Rattle.core_model.specs.declared.phases.Phase.{Phase}
 use Rattle.core_model.specs.declared.phases.Phase.TheVariants.{Running, Finished}
@@ -57,31 +57,31 @@ all-play (e ∷ es) = (plays-any e, all-play es)
 legal : (r : Run) → 0 < r.base → r.capacity ≡ None → IsLegal any_play r
 legal r above none = record { above = above; effects = all-play r.events; loads = loads-without-limit r none }
 
-pub rests : (w : World) → IsReached w → HoldsWithoutLoads w
+pub rests : (w : CoreState) → IsReached w → HoldsWithoutLoads w
 rests w r = subst HoldsWithoutLoads r.3 (holds-ends r.0 r.1)
 
-pub steady : (w : World) → IsReached w → Steady w
+pub steady : (w : CoreState) → IsReached w → Steady w
 steady w r = subst Steady r.3 (steady-ends r.0 r.1)
 
-pub readers : (w : World) → IsReached w → HoldersHaveRead w
+pub readers : (w : CoreState) → IsReached w → HoldersHaveRead w
 readers w r = subst HoldersHaveRead r.3 (holders-ends any_play r.0 (legal r.0 r.1 r.2))
 
-pub prefixes : (w : World) → IsReached w → ClosedBatchesArePrefix w
+pub prefixes : (w : CoreState) → IsReached w → ClosedBatchesArePrefix w
 prefixes w r = subst ClosedBatchesArePrefix r.3 (consistent-ends any_play r.0 (legal r.0 r.1 r.2)).closed_batches_are_a_prefix
 
 -- who isn't finished has written nothing
-pub unwritten : (w : World) → IsReached w → (u : UnitNo) → (w.units.phase u ≡ Finished → ⊥) → w.manager.writes u ≡ []
+pub unwritten : (w : CoreState) → IsReached w → (u : UnitNo) → (w.units.phase u ≡ Finished → ⊥) → w.manager.writes u ≡ []
 unwritten w r u n = (steady w r).0.0.unwritten u n
 
 -- who runs is undecided
-pub running-open : (w : World) → IsReached w → (u : UnitNo) → w.units.phase u ≡ Running → w.manager.verdict u ≡ Open
+pub running-open : (w : CoreState) → IsReached w → (u : UnitNo) → w.units.phase u ≡ Running → w.manager.verdict u ≡ Open
 running-open w r u p = (steady w r).0.0.undecided u (inr p)
 
-pub closed-within : (w : World) → IsReached w → w.manager.closed ≤ length w.manager.order
+pub closed-within : (w : CoreState) → IsReached w → w.manager.closed ≤ length w.manager.order
 closed-within w r = (let t = (rests w r).within in omega (arith, t))
 
 -- what stands after the closed ones has finished, with a later place
-pub waits : (w : World) → IsReached w → (x : UnitNo) → Member x (waiting w) → (w.units.phase x ≡ Finished) × (w.manager.closed < w.manager.place x)
+pub waits : (w : CoreState) → IsReached w → (x : UnitNo) → Member x (waiting w) → (w.units.phase x ≡ Finished) × (w.manager.closed < w.manager.place x)
 waits w r x h =
     let i = (rests w r).ordered in
     let t = Member-at x (waiting w) h in
@@ -91,7 +91,7 @@ waits w r x h =
     (subst (λ z. w.units.phase z ≡ Finished) e l.0, subst (λ z. w.manager.closed < w.manager.place z) e (omega (arith, l.1)))
 
 -- the closed ones have finished, with places up to their count
-pub closes : (w : World) → IsReached w → (x : UnitNo) → Member x (take w.manager.closed w.manager.order) → (w.units.phase x ≡ Finished) × (w.manager.place x ≤ w.manager.closed)
+pub closes : (w : CoreState) → IsReached w → (x : UnitNo) → Member x (take w.manager.closed w.manager.order) → (w.units.phase x ≡ Finished) × (w.manager.place x ≤ w.manager.closed)
 closes w r x h =
     let i = (rests w r).ordered in
     let t = Member-at x (take w.manager.closed w.manager.order) h in
@@ -107,20 +107,20 @@ closes w r x h =
     at_most (suc m) (y ∷ xs) (suc j) h = omega (arith, at_most m xs j (omega arith))
 
 -- a unit that runs is neither
-pub waits-not : (w : World) → IsReached w → (u : UnitNo) → w.units.phase u ≡ Running → (x : UnitNo) → Member x (waiting w) → x ≡ u → ⊥
+pub waits-not : (w : CoreState) → IsReached w → (u : UnitNo) → w.units.phase u ≡ Running → (x : UnitNo) → Member x (waiting w) → x ≡ u → ⊥
 waits-not w r u p x m e = (let t : Finished ≡ Running = sym (waits w r x m).0 ∙ ap w.units.phase e ∙ p in cc)
 
-pub closes-not : (w : World) → IsReached w → (u : UnitNo) → w.units.phase u ≡ Running → (x : UnitNo) → Member x (take w.manager.closed w.manager.order) → x ≡ u → ⊥
+pub closes-not : (w : CoreState) → IsReached w → (u : UnitNo) → w.units.phase u ≡ Running → (x : UnitNo) → Member x (take w.manager.closed w.manager.order) → x ≡ u → ⊥
 closes-not w r u p x m e = (let t : Finished ≡ Running = sym (closes w r x m).0 ∙ ap w.units.phase e ∙ p in cc)
 
 -- unless a batch is in doubt, the closed ones are decided for good
-pub closes-final : (w : World) → IsReached w → w.manager.doubt ≡ None → (x : UnitNo) → Member x (take w.manager.closed w.manager.order) → is_final (w.manager.verdict x) ≡ true
+pub closes-final : (w : CoreState) → IsReached w → w.manager.doubt ≡ None → (x : UnitNo) → Member x (take w.manager.closed w.manager.order) → is_final (w.manager.verdict x) ≡ true
 closes-final w r none x m = (let t = closes w r x m in (steady w r).2 none x t.0 t.1)
 
 -- a unit that has finished has its place up to the closed ones or after them
-pub late-not-final : (w : World) → IsReached w → (x : UnitNo) → w.units.phase x ≡ Finished → w.manager.closed < w.manager.place x → is_final (w.manager.verdict x) ≡ false
+pub late-not-final : (w : CoreState) → IsReached w → (x : UnitNo) → w.units.phase x ≡ Finished → w.manager.closed < w.manager.place x → is_final (w.manager.verdict x) ≡ false
 late-not-final w r x f lt = (prefixes w r).undecided x f lt
 
 -- the batches follow one another
-pub follows : (w : World) → IsReached w → BatchesFollow w
+pub follows : (w : CoreState) → IsReached w → BatchesFollow w
 follows w r = subst BatchesFollow r.3 (follows-ends any_play r.0 (legal r.0 r.1 r.2))

@@ -10,10 +10,10 @@ use Rattle.cell_model.specs.Cells.{Cell, stacked, without_reading}
 use Rattle.cell_model.specs.declared.locks.Hold.{Hold}
 use Rattle.cell_model.proofs.Asking.{dropped-member, dropped-none}
 use Rattle.cell_model.proofs.Units.{any-true, any-member, same_unit-true, same_unit-is, cases_unit, cases_grain}
-use Rattle.core_model.specs.World.{UnitNo, GrainId, Value, Write, Cells, Units, World, put_grain}
+use Rattle.core_model.specs.CoreState.{UnitNo, GrainId, Value, Write, Cells, Units, CoreState, put_grain}
 use Rattle.core_model.specs.declared.phases.Phase.{Phase}
 use Rattle.core_model.specs.declared.phases.Phase.TheVariants.{Unborn, Running, Finished, Refused, Ended}
-use Rattle.core_model.specs.Tests.{is_over, written}
+use Rattle.core_model.specs.Tests.{is_over, state_written}
 use Rattle.core_model.specs.Chains.{Wrote}
 use Rattle.core_model.specs.declared.events.CoreEvent.TheVariants.{Release}
 use Rattle.core_model.specs.declared.events.CoreReply.TheVariants as reply
@@ -32,14 +32,14 @@ use Rattle.history_core.proofs.Reached.{rests, unwritten}
 use Rattle.history_core.proofs.Locking.{put-cells}
 
 -- what is given is what the unit wrote
-given-is : (p : Parts) (w : World) (u : UnitNo) (g : GrainId) → Stands p w → IsReached w → holds_lock u (w.cells.holds g) ≡ true →
-    if_finished (phase_in p.units u) (handed_in p.handed u g) ≡ written g (w.manager.writes u)
+given-is : (p : Parts) (w : CoreState) (u : UnitNo) (g : GrainId) → Stands p w → IsReached w → holds_lock u (w.cells.holds g) ≡ true →
+    if_finished (phase_in p.units u) (handed_in p.handed u g) ≡ state_written g (w.manager.writes u)
 given-is p w u g s r h = ap (λ ph. if_finished ph (handed_in p.handed u g)) (λ i. (sym s.units i).phase u) ∙ go (w.units.phase u) refl
   where
-    none : (ph : Phase) → w.units.phase u ≡ ph → (ph ≡ Finished → ⊥) → ◌≡◌ {A = Option (List Value)} None (written g (w.manager.writes u))
-    none ph e n = ap (written g) (sym (unwritten w r u (λ f. n (sym e ∙ f))))
+    none : (ph : Phase) → w.units.phase u ≡ ph → (ph ≡ Finished → ⊥) → ◌≡◌ {A = Option (List Value)} None (state_written g (w.manager.writes u))
+    none ph e n = ap (state_written g) (sym (unwritten w r u (λ f. n (sym e ∙ f))))
 
-    go : (ph : Phase) → w.units.phase u ≡ ph → if_finished ph (handed_in p.handed u g) ≡ written g (w.manager.writes u)
+    go : (ph : Phase) → w.units.phase u ≡ ph → if_finished ph (handed_in p.handed u g) ≡ state_written g (w.manager.writes u)
     go Unborn e = none Unborn e (λ z. cc)
     go Running e = none Running e (λ z. cc)
     go Finished e = s.handed u g e h
@@ -57,7 +57,7 @@ is-finished Finished kept h = refl
 is-finished Refused kept h = cc
 is-finished Ended kept h = cc
 
-released-held : (p : Parts) (w : World) (u : UnitNo) (g : GrainId) → Stands p w → is_over (w.units.phase u) && holds_lock u (w.cells.holds g) ≡ true → holds_lock u (w.cells.holds g) ≡ true
+released-held : (p : Parts) (w : CoreState) (u : UnitNo) (g : GrainId) → Stands p w → is_over (w.units.phase u) && holds_lock u (w.cells.holds g) ≡ true → holds_lock u (w.cells.holds g) ≡ true
 released-held p w u g s e = (and_parts (is_over (w.units.phase u)) (holds_lock u (w.cells.holds g)) e).1
 
 -- the unit has the lock
@@ -73,7 +73,7 @@ has-alone p u g c some =
     let r = c.2 in
     let h : holds_lock u (w.cells.holds g) ≡ true = released-held p w u g s (can-is w (Release u g) c.3) in
     let finished : w.units.phase u ≡ Finished = (λ i. (s.units i).phase u) ∙ is-finished (phase_in p.units u) (handed_in p.handed u g) some in
-    let wrote : Wrote w.manager.writes u g = some-wrote (written g (w.manager.writes u)) (subst IsSome (given-is p w u g s r h) some) in
+    let wrote : Wrote w.manager.writes u g = some-wrote (state_written g (w.manager.writes u)) (subst IsSome (given-is p w u g s r h) some) in
     let t = any-true (is_hold_of u) (w.cells.holds g) h in
     let k = (rests w r).writers u g t.0 finished wrote t.1 (same_unit-true t.0.unit u t.2) in
     (λ i. any (covers u mode.Update) ((sym s.cells i).holds g)) ∙ any-member (covers u mode.Update) (w.cells.holds g) k.0 k.1
@@ -121,12 +121,12 @@ does-release p u g new handed puts is = λ w s r a. (
   refl,
 )
   where
-    before : (w : World) (x : UnitNo) (k : GrainId) → holds_lock x (put_grain w.cells.holds g (dropped (w.cells.holds g) u) k) ≡ true → holds_lock x (w.cells.holds k) ≡ true
+    before : (w : CoreState) (x : UnitNo) (k : GrainId) → holds_lock x (put_grain w.cells.holds g (dropped (w.cells.holds g) u) k) ≡ true → holds_lock x (w.cells.holds k) ≡ true
     before w x k h = grain-from w.cells.holds g (dropped (w.cells.holds g) u) (λ hs. holds_lock x hs ≡ true) (holds_lock x (w.cells.holds k) ≡ true) k
         (λ q t. ap (λ j. holds_lock x (w.cells.holds j)) q ∙ held-then (w.cells.holds g) u x t) (λ q t. t) h
 
-    still : (w : World) → Stands p w → (x : UnitNo) (k : GrainId) → w.units.phase x ≡ Finished → holds_lock x (put_grain w.cells.holds g (dropped (w.cells.holds g) u) k) ≡ true →
-        ((x ≡ u) ⊎ (x ≡ u → ⊥)) → ((k ≡ g) ⊎ (k ≡ g → ⊥)) → handed_in handed x k ≡ written k (w.manager.writes x)
+    still : (w : CoreState) → Stands p w → (x : UnitNo) (k : GrainId) → w.units.phase x ≡ Finished → holds_lock x (put_grain w.cells.holds g (dropped (w.cells.holds g) u) k) ≡ true →
+        ((x ≡ u) ⊎ (x ≡ u → ⊥)) → ((k ≡ g) ⊎ (k ≡ g → ⊥)) → handed_in handed x k ≡ state_written k (w.manager.writes x)
     still w s x k f h (inl e) (inl q) =
         (let none : holds_lock x (dropped (w.cells.holds g) u) ≡ false = ap (λ y. holds_lock y (dropped (w.cells.holds g) u)) e ∙ dropped-none u (w.cells.holds g) in
         let some : holds_lock x (dropped (w.cells.holds g) u) ≡ true = grain-from w.cells.holds g (dropped (w.cells.holds g) u) (λ hs. holds_lock x hs ≡ true) (holds_lock x (dropped (w.cells.holds g) u) ≡ true) k (λ z t. t) (λ n t. absurd (n q)) h in

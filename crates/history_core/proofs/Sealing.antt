@@ -4,7 +4,7 @@ use Rattle.std.specs.Prelude.{◌==◌}
 use Rattle.std.proofs.lemmas.Bool.{and_parts}
 use Rattle.base_types.specs.declared.entries.Settled.TheVariants as settled
 use Rattle.cell_model.specs.Units.{Member}
-use Rattle.core_model.specs.World.{UnitNo, GrainId, Write, Batch, Decision, World}
+use Rattle.core_model.specs.CoreState.{UnitNo, GrainId, Write, Batch, Decision, CoreState}
 use Rattle.core_model.specs.declared.effects.Effect.{Effect}
 use Rattle.core_model.specs.declared.phases.Phase.{Phase}
 use Rattle.core_model.specs.declared.phases.Phase.TheVariants.{Finished}
@@ -42,7 +42,7 @@ use Rattle.history_core.proofs.Reached.{rests, waits, closes-final, late-not-fin
 -- ---- what is open
 
 -- what is kept of the batch shows the open one
-pub shown : (p : Parts) (w : World) (b : Batch) → Stands p w → w.manager.batch ≡ Some b →
+pub shown : (p : Parts) (w : CoreState) (b : Batch) → Stands p w → w.manager.batch ≡ Some b →
     (x : TakenBatch) × (p.batch ≡ Some x) × (x.size ≡ b.size) × (x.decisions ≡ b.decisions)
 shown p w b s q = go p.batch refl (subst (ShowsOpen p.batch p.waiting.items) q (to-cases p.batch p.waiting.items w.manager.batch s.batch))
   where
@@ -62,7 +62,7 @@ judged-is (Some x) ms (Some b) n s = λ i. (s.number i == n) && (ap (λ d. not (
 
 -- ---- what it takes to close
 
-pub are-over : (over : UnitNo → Bool) (ds : List Decision) (w : World) (us : List UnitNo) → ((u : UnitNo) → Member u us → over u ≡ true) → AreOver over ds (map (effect_of w) us)
+pub are-over : (over : UnitNo → Bool) (ds : List Decision) (w : CoreState) (us : List UnitNo) → ((u : UnitNo) → Member u us → over u ≡ true) → AreOver over ds (map (effect_of w) us)
 are-over over [] w us e = tt
 are-over over (d ∷ ds) w [] e = tt
 are-over over (d ∷ ds) w (u ∷ us) e = (e u (inl refl), are-over over ds w us (λ x m. e x (inr m)))
@@ -77,7 +77,7 @@ front-placed placed [] ms h = tt
 front-placed placed (d ∷ ds) [] h = tt
 front-placed placed (d ∷ ds) (m ∷ ms) h = (h.0, front-placed placed ds ms h.1)
 
-pub is-ready : (p : Parts) (w : World) (ds : List Decision) → Stands p w → ((u : UnitNo) → Member u (waiting w) → w.units.phase u ≡ Finished) → length ds ≡ owed_in p.batch → Ready p ds
+pub is-ready : (p : Parts) (w : CoreState) (ds : List Decision) → Stands p w → ((u : UnitNo) → Member u (waiting w) → w.units.phase u ≡ Finished) → length ds ≡ owed_in p.batch → Ready p ds
 is-ready p w ds s finished e = record {
   within = (let t = owed-within p.batch p.waiting.items w.manager.batch (to-cases p.batch p.waiting.items w.manager.batch s.batch) in omega (arith, e, t));
   over = subst (AreOver (λ u. is_over (phase_in p.units u)) ds) (sym s.effects)
@@ -95,13 +95,13 @@ each-decided writes votes [] (d ∷ ds) h = absurd h
 each-decided writes votes (u ∷ us) [] h = absurd h
 each-decided writes votes (u ∷ us) (d ∷ ds) h = ap suc (each-decided writes votes us ds h.1)
 
-pub size-within : (w : World) (b : Batch) → IsReached w → w.manager.batch ≡ Some b → w.manager.closed + b.size ≤ length w.manager.order
+pub size-within : (w : CoreState) (b : Batch) → IsReached w → w.manager.batch ≡ Some b → w.manager.closed + b.size ≤ length w.manager.order
 size-within w b r q = subst (λ o. w.manager.closed + size_of o ≤ length w.manager.order) q (rests w r).within
 
-pub members-length : (w : World) (b : Batch) → IsReached w → w.manager.batch ≡ Some b → length (members w b) ≡ b.size
+pub members-length : (w : CoreState) (b : Batch) → IsReached w → w.manager.batch ≡ Some b → length (members w b) ≡ b.size
 members-length w b r q = (let t = size-within w b r q in let l = length-drop w.manager.closed w.manager.order in take_length b.size (waiting w) (omega (arith, t, l)))
 
-pub members-fresh : (w : World) (b : Batch) → IsReached w → (x : UnitNo) (g : GrainId) → Member x (members w b) → w.cells.learnt x g ≡ false
+pub members-fresh : (w : CoreState) (b : Batch) → IsReached w → (x : UnitNo) (g : GrainId) → Member x (members w b) → w.cells.learnt x g ≡ false
 members-fresh w b r x g m = go (w.cells.learnt x g) refl
   where
     go : (t : Bool) → w.cells.learnt x g ≡ t → w.cells.learnt x g ≡ false
@@ -110,7 +110,7 @@ members-fresh w b r x g m = go (w.cells.learnt x g) refl
         (let k = waits w r x (Member-take b.size x (waiting w) m) in
         let z : true ≡ false = sym ((readers w r).learnt x g e).0 ∙ late-not-final w r x k.0 k.1 in cc)
 
-pub can-close : (w : World) (b : Batch) (ds : List Decision) → IsReached w → w.manager.doubt ≡ None → w.manager.batch ≡ Some b → b.decisions ≡ Some ds → CanClose w b ds
+pub can-close : (w : CoreState) (b : Batch) (ds : List Decision) → IsReached w → w.manager.doubt ≡ None → w.manager.batch ≡ Some b → b.decisions ≡ Some ds → CanClose w b ds
 can-close w b ds r none q d = record {
   each = each-decided w.manager.writes b.votes (members w b) ds ((follows w r).decided b ds q d) ∙ members-length w b r q;
   within = size-within w b r q;
@@ -119,38 +119,38 @@ can-close w b ds r none q d = record {
   unlearnt = λ x g m. members-fresh w b r x g m;
 }
 
-no-doubt : (w : World) (e : CoreEvent) → applies w e ≡ true → is_after_doubt e ≡ false → is_after_halt e ≡ true → w.manager.doubt ≡ None
+no-doubt : (w : CoreState) (e : CoreEvent) → applies w e ≡ true → is_after_doubt e ≡ false → is_after_halt e ≡ true → w.manager.doubt ≡ None
 no-doubt w e a x y = none-true w.manager.doubt (sym (allowed-answer w e x y) ∙ allowed-is w e a)
 
 -- ---- the three answers
 
-pub ready-judged : (p : Parts) (w : World) (b : Batch) (ds : List Decision) → Stands p w → IsReached w → w.manager.doubt ≡ None → w.manager.batch ≡ Some b → b.decisions ≡ Some ds → IsReady p
+pub ready-judged : (p : Parts) (w : CoreState) (b : Batch) (ds : List Decision) → Stands p w → IsReached w → w.manager.doubt ≡ None → w.manager.batch ≡ Some b → b.decisions ≡ Some ds → IsReady p
 ready-judged p w b ds s r none q d =
     let t = shown p w b s q in
     let c = can-close w b ds r none q d in
     (t.0, ds, t.1, t.3 ∙ d, is-ready p w ds s (λ u m. (waits w r u m).0) (c.each ∙ sym t.2 ∙ ap owed_in (sym t.1)))
 
-judged-parts : (w : World) (n : ℕ) (e : CoreEvent) → applies w e ≡ true → is_after_doubt e ≡ false → is_after_halt e ≡ true →
-    ((w' : World) → Change w e w' → (b : Batch) × (ds : List Decision) × (w.manager.batch ≡ Some b) × (b.decisions ≡ Some ds)) →
+judged-parts : (w : CoreState) (n : ℕ) (e : CoreEvent) → applies w e ≡ true → is_after_doubt e ≡ false → is_after_halt e ≡ true →
+    ((w' : CoreState) → Change w e w' → (b : Batch) × (ds : List Decision) × (w.manager.batch ≡ Some b) × (b.decisions ≡ Some ds)) →
     (w.manager.doubt ≡ None) × ((b : Batch) × (ds : List Decision) × (w.manager.batch ≡ Some b) × (b.decisions ≡ Some ds))
 judged-parts w n e a x y f = (no-doubt w e a x y, f (does w e) (decode w e (can-is w e a)))
 
-seal-parts : (w : World) (n : ℕ) → applies w (Sealed n) ≡ true → (w.manager.doubt ≡ None) × ((b : Batch) × (ds : List Decision) × (w.manager.batch ≡ Some b) × (b.decisions ≡ Some ds))
+seal-parts : (w : CoreState) (n : ℕ) → applies w (Sealed n) ≡ true → (w.manager.doubt ≡ None) × ((b : Batch) × (ds : List Decision) × (w.manager.batch ≡ Some b) × (b.decisions ≡ Some ds))
 seal-parts w n a = judged-parts w n (Sealed n) a refl refl go
   where
-    go : (w' : World) → Change w (Sealed n) w' → (b : Batch) × (ds : List Decision) × (w.manager.batch ≡ Some b) × (b.decisions ≡ Some ds)
+    go : (w' : CoreState) → Change w (Sealed n) w' → (b : Batch) × (ds : List Decision) × (w.manager.batch ≡ Some b) × (b.decisions ≡ Some ds)
     go w' (seal_batch n b ds q number d) = (b, ds, q, d)
 
-spoil-parts : (w : World) (n : ℕ) → applies w (NotSealed n) ≡ true → (w.manager.doubt ≡ None) × ((b : Batch) × (ds : List Decision) × (w.manager.batch ≡ Some b) × (b.decisions ≡ Some ds))
+spoil-parts : (w : CoreState) (n : ℕ) → applies w (NotSealed n) ≡ true → (w.manager.doubt ≡ None) × ((b : Batch) × (ds : List Decision) × (w.manager.batch ≡ Some b) × (b.decisions ≡ Some ds))
 spoil-parts w n a = judged-parts w n (NotSealed n) a refl refl go
   where
-    go : (w' : World) → Change w (NotSealed n) w' → (b : Batch) × (ds : List Decision) × (w.manager.batch ≡ Some b) × (b.decisions ≡ Some ds)
+    go : (w' : CoreState) → Change w (NotSealed n) w' → (b : Batch) × (ds : List Decision) × (w.manager.batch ≡ Some b) × (b.decisions ≡ Some ds)
     go w' (spoil_batch n b ds q number d) = (b, ds, q, d)
 
-doubt-parts : (w : World) (n : ℕ) → applies w (Doubt n) ≡ true → (w.manager.doubt ≡ None) × ((b : Batch) × (ds : List Decision) × (w.manager.batch ≡ Some b) × (b.decisions ≡ Some ds))
+doubt-parts : (w : CoreState) (n : ℕ) → applies w (Doubt n) ≡ true → (w.manager.doubt ≡ None) × ((b : Batch) × (ds : List Decision) × (w.manager.batch ≡ Some b) × (b.decisions ≡ Some ds))
 doubt-parts w n a = judged-parts w n (Doubt n) a refl refl go
   where
-    go : (w' : World) → Change w (Doubt n) w' → (b : Batch) × (ds : List Decision) × (w.manager.batch ≡ Some b) × (b.decisions ≡ Some ds)
+    go : (w' : CoreState) → Change w (Doubt n) w' → (b : Batch) × (ds : List Decision) × (w.manager.batch ≡ Some b) × (b.decisions ≡ Some ds)
     go w' (doubt_batch n b ds q number d) = (b, ds, q, d)
 
 pub seal-ready : (p : Parts) (n : ℕ) → CanDo p (Sealed n) → IsReady p
@@ -163,10 +163,10 @@ pub doubt-ready : (p : Parts) (n : ℕ) → CanDo p (Doubt n) → IsReady p
 doubt-ready p n c = (let t = doubt-parts c.0 n c.3 in ready-judged p c.0 t.1.0 t.1.1 c.1 c.2 t.0 t.1.2 t.1.3)
 
 -- the change by the decisions that there are
-on-decided : (w : World) (f : Batch → List Decision → World) (b : Batch) (ds : List Decision) → w.manager.batch ≡ Some b → b.decisions ≡ Some ds → on_decided w f w.manager.batch ≡ f b ds
+on-decided : (w : CoreState) (f : Batch → List Decision → CoreState) (b : Batch) (ds : List Decision) → w.manager.batch ≡ Some b → b.decisions ≡ Some ds → on_decided w f w.manager.batch ≡ f b ds
 on-decided w f b ds q d = ap (on_decided w f) q ∙ ap (on_decisions w (f b)) d
 
-decided-here : (p : Parts) (w : World) (b : Batch) (ds : List Decision) → Stands p w → w.manager.batch ≡ Some b → b.decisions ≡ Some ds → decisions_in p.batch ≡ Some ds
+decided-here : (p : Parts) (w : CoreState) (b : Batch) (ds : List Decision) → Stands p w → w.manager.batch ≡ Some b → b.decisions ≡ Some ds → decisions_in p.batch ≡ Some ds
 decided-here p w b ds s q d = (let t = shown p w b s q in ap decisions_in t.1 ∙ t.3 ∙ d)
 
 pub does-seal : (p q : Parts) (n : ℕ) → ((ds : List Decision) → decisions_in p.batch ≡ Some ds → Closes how.Sealed ds p q) → q.doubt ≡ p.doubt → Does p (Sealed n) reply.Done q
@@ -188,7 +188,7 @@ does-spoil p q n k doubt = λ w s r a. (
 )
 
 -- a state in which a batch is in doubt
-stands-doubted : (p : Parts) (w : World) (at : ℕ) → Stands p w → Stands (record p { doubt = true }) (record w { manager = record w.manager { doubt = Some at } })
+stands-doubted : (p : Parts) (w : CoreState) (at : ℕ) → Stands p w → Stands (record p { doubt = true }) (record w { manager = record w.manager { doubt = Some at } })
 stands-doubted p w at s = record {
   units = s.units;
   cells = s.cells;

@@ -1,7 +1,7 @@
 -- What is kept of the open batch, case by case.
 use Rattle.std.proofs.Common.{◌≡◌, List, [], ◌∷◌, Bool, true, false, refl, sym, ap, ◌∙◌, subst, Option, Some, None, take, inl, inr}
 use Rattle.cell_model.specs.Units.{Member}
-use Rattle.core_model.specs.World.{GrainId, Write, Batch}
+use Rattle.core_model.specs.CoreState.{GrainId, Write, Batch}
 use Rattle.open_batch.specs.declared.members.FinishedUnit.{FinishedUnit}
 use Rattle.open_batch.specs.Taken.{TakenBatch}
 use Rattle.open_batch.specs.Shown.{ShowsBatch}

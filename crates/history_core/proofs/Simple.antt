@@ -3,7 +3,7 @@ use Rattle.std.proofs.Common.{◌≡◌, ℕ, ◌+◌, ◌<◌, ◌≤◌, ◌^�
 use Rattle.std.proofs.lemmas.Bool.{ltb-true}
 use Rattle.base_types.specs.declared.entries.BadRequest.{BadRequest}
 use Rattle.base_types.specs.declared.entries.Settled.TheVariants as settled
-use Rattle.core_model.specs.World.{UnitNo, GrainId, nobody, Entry, Units, World}
+use Rattle.core_model.specs.CoreState.{UnitNo, GrainId, nobody, Entry, Units, CoreState}
 use Rattle.core_model.specs.declared.events.CoreEvent.TheVariants.{Bad, Emitted, Halt, Want}
 use Rattle.core_model.specs.declared.events.CoreReply.TheVariants as reply
 use Rattle.core_lists.specs.Room.{EntriesInRoom}

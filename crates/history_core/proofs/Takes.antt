@@ -5,7 +5,7 @@ use Rattle.std.specs.List.{list_all as all}
 use Rattle.std.proofs.lemmas.Bool.{and_parts}
 use Rattle.std.proofs.lemmas.List.{take-map}
 use Rattle.cell_model.specs.Locks.{holds_lock}
-use Rattle.core_model.specs.World.{UnitNo, GrainId, Batch, World}
+use Rattle.core_model.specs.CoreState.{UnitNo, GrainId, Batch, CoreState}
 use Rattle.core_model.specs.declared.effects.Effect.{Effect}
 use Rattle.core_model.specs.declared.effects.Read.{Read}
 use Rattle.core_model.specs.declared.events.CoreEvent.TheVariants.{Take}
@@ -33,17 +33,17 @@ use Rattle.history_core.specs.Steps.{CanDo, Keeps, Does}
 use Rattle.history_core.proofs.Shows.{to-cases, from-cases, each-placed, placed-each}
 use Rattle.history_core.proofs.Stepping.{can-is}
 
-pub are-units : (p : Parts) (w : World) → Stands p w → AreUnits p.waiting.items w (waiting w)
+pub are-units : (p : Parts) (w : CoreState) → Stands p w → AreUnits p.waiting.items w (waiting w)
 are-units p w s = record { effects = s.effects; sources = s.sources }
 
-free-is : (p : Parts) (w : World) → Stands p w → (u : UnitNo) → is_free_by p (effect_of w u) ≡ is_free w u
+free-is : (p : Parts) (w : CoreState) → Stands p w → (u : UnitNo) → is_free_by p (effect_of w u) ≡ is_free w u
 free-is p w s u = λ i. all (λ (r : Read). not (holds_lock u ((sym s.cells i).holds r.grain))) (w.units.reads u)
 
-front-prefix : (p : Parts) (w : World) → Stands p w → (us : List UnitNo) → front_by p (map (effect_of w) us) ≡ free_prefix w us
+front-prefix : (p : Parts) (w : CoreState) → Stands p w → (us : List UnitNo) → front_by p (map (effect_of w) us) ≡ free_prefix w us
 front-prefix p w s [] = refl
 front-prefix p w s (u ∷ us) = (let one = free-is p w s u in let rest = front-prefix p w s us in λ i. if one i then rest i + 1 else 0)
 
-pub size-is : (p : Parts) (w : World) → Stands p w → front_by p (map effect_in (take 64 p.waiting.items)) ≡ batch_size w
+pub size-is : (p : Parts) (w : CoreState) → Stands p w → front_by p (map effect_in (take 64 p.waiting.items)) ≡ batch_size w
 size-is p w s =
     ap (front_by p) (sym (take-map effect_in 64 p.waiting.items) ∙ ap (take 64) s.effects ∙ take-map (effect_of w) 64 (waiting w))
     ∙ front-prefix p w s (take 64 (waiting w))
@@ -85,7 +85,7 @@ none-open p c = go p.batch c.0.manager.batch refl (to-cases p.batch p.waiting.it
         by_shows : ShowsOpen (Some x) p.waiting.items b → b ≡ None → ⊥
         by_shows t q = subst (λ z. ShowsOpen (Some x) p.waiting.items z) q t
 
-pub takes-at : (p : Parts) (size number : ℕ) (x : TakenBatch) (w : World) → Stands p w → size ≡ batch_size w → size ≤ length p.waiting.items → number ≡ p.batches + 1 →
+pub takes-at : (p : Parts) (size number : ℕ) (x : TakenBatch) (w : CoreState) → Stands p w → size ≡ batch_size w → size ≤ length p.waiting.items → number ≡ p.batches + 1 →
     x ≡ first_batch number (λ u. is_bad (verdict_in p.units u)) (take size p.waiting.items) →
     size ≤ p.entries.spare → writes_in (take size p.waiting.items) ≤ p.learn.spare → AllPlaced (has_place p.last) (take size p.waiting.items) →
     Stands (record p { batches = number; batch = Some x }) (does w Take) × (reply.Taken number ≡ reply_with w Take)

@@ -4,7 +4,7 @@ use Rattle.std.specs.Prelude.{◌==◌}
 use Rattle.std.specs.List.{list_any as any}
 use Rattle.std.proofs.lemmas.Bool.{and_parts}
 use Rattle.cell_model.specs.Units.{same_grain}
-use Rattle.core_model.specs.World.{UnitNo, GrainId, Batch, World}
+use Rattle.core_model.specs.CoreState.{UnitNo, GrainId, Batch, CoreState}
 use Rattle.core_model.specs.declared.events.CoreEvent.TheVariants.{Vote}
 use Rattle.core_model.specs.declared.events.CoreReply.TheVariants as reply
 use Rattle.core_model.specs.Tests.{is_planned, is_vote_on}
@@ -35,7 +35,7 @@ may-vote p n g kept c = may-vote-is p.batch p.waiting.items c.0.manager.batch n 
 pub stands-voted : (p : Parts) (x : TakenBatch) (n : ℕ) (g : GrainId) (kept : Bool) → p.batch ≡ Some x → Does p (Vote n g kept) reply.Done (record p { batch = Some (with_vote x g kept) })
 stands-voted p x n g kept e = λ w s r a. (go w s w.manager.batch refl (subst (λ o. ShowsOpen o p.waiting.items w.manager.batch) e (to-cases p.batch p.waiting.items w.manager.batch s.batch)), refl)
   where
-    go : (w : World) → Stands p w → (b : Option Batch) → w.manager.batch ≡ b → ShowsOpen (Some x) p.waiting.items w.manager.batch → Stands (record p { batch = Some (with_vote x g kept) }) (does w (Vote n g kept))
+    go : (w : CoreState) → Stands p w → (b : Option Batch) → w.manager.batch ≡ b → ShowsOpen (Some x) p.waiting.items w.manager.batch → Stands (record p { batch = Some (with_vote x g kept) }) (does w (Vote n g kept))
     go w s None q t = absurd (subst (λ b. ShowsOpen (Some x) p.waiting.items b) q t)
     go w s (Some b) q t = subst (Stands (record p { batch = Some (with_vote x g kept) })) (sym (ap (on_batch w (λ c. voted w c g kept)) q))
         (record {

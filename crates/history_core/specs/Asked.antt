@@ -5,7 +5,7 @@ use Rattle.base_types.specs.declared.calls.Origin.{Origin}
 use Rattle.base_types.specs.declared.calls.Origin.TheVariants.{Line, Child}
 use Rattle.cell_model.specs.Units.{oldest}
 use Rattle.cell_model.specs.Locks as locks
-use Rattle.core_model.specs.World.{UnitNo, GrainId, Mode, same_unit, top}
+use Rattle.core_model.specs.CoreState.{UnitNo, GrainId, Mode, same_unit, top}
 use Rattle.core_model.specs.declared.effects.Read.{Read}
 use Rattle.core_model.specs.declared.questions.AskAnswer.{AskAnswer}
 use Rattle.core_model.specs.declared.questions.AskAnswer.TheVariants as answer

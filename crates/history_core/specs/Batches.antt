@@ -2,7 +2,7 @@
 use Rattle.std.specs.Prelude.{ℕ, Bool, false, ◌&&◌, not, ◌==◌, Option, Some, None, is_none}
 use Rattle.std.specs.List.{list_any as any}
 use Rattle.cell_model.specs.Units.{same_grain}
-use Rattle.core_model.specs.World.{GrainId}
+use Rattle.core_model.specs.CoreState.{GrainId}
 use Rattle.core_model.specs.Tests.{is_empty}
 use Rattle.open_batch.specs.Taken.{TakenBatch}
 

@@ -1,6 +1,6 @@
 -- How code closes a batch, by what is kept.
 use Rattle.std.specs.Prelude.{◌≡◌, ◌≤◌, ℕ, List, ◌++◌, Option, Some, None, length, drop, map}
-use Rattle.core_model.specs.World.{UnitNo, GrainId, Decision}
+use Rattle.core_model.specs.CoreState.{UnitNo, GrainId, Decision}
 use Rattle.core_model.specs.Tests.{is_over}
 use Rattle.core_lists.specs.States.{last_in, has_place}
 use Rattle.unit_table.specs.Table.{units_of, verdict_in, result_in, phase_in}

@@ -1,8 +1,8 @@
 -- What becomes of the units of a batch that closes, and what the grains learn of them.
 use Rattle.std.specs.Prelude.{◌≡◌, ⊤, ℕ, List, [], ◌∷◌, ◌++◌, Bool, true, ◌&&◌, not, Option, Some, None, if◌then◌else◌, filter, map, take}
-use Rattle.core_model.specs.World.{UnitNo, GrainId, Value, Write, put, World}
+use Rattle.core_model.specs.CoreState.{UnitNo, GrainId, Value, Write, put, CoreState}
 use Rattle.core_model.specs.declared.phases.Verdict.{Verdict}
-use Rattle.core_model.specs.Tests.{is_final, is_committed, written}
+use Rattle.core_model.specs.Tests.{is_final, is_committed, state_written}
 use Rattle.core_model.specs.Learning.{to_learn}
 
 -- the first, or the other where it is missing
@@ -18,14 +18,14 @@ state_after committed new before = if committed then or_else new before else bef
 abbrev pub last_among : (UnitNo → Verdict) → (UnitNo → List Write) → GrainId → List UnitNo → Option (List Value) → Option (List Value)
 last_among verdict writes g [] before = before
 last_among verdict writes g (u ∷ us) before =
-    last_among verdict writes g us (state_after (is_committed (verdict u)) (written g (writes u)) before)
+    last_among verdict writes g us (state_after (is_committed (verdict u)) (state_written g (writes u)) before)
 
 -- the state that the last committed writer of the grain, in the finish order, wrote there
-abbrev pub last_state : World → GrainId → Option (List Value)
+abbrev pub last_state : CoreState → GrainId → Option (List Value)
 last_state w g = last_among w.manager.verdict w.manager.writes g (take w.manager.closed w.manager.order) None
 
 -- what the grains still have to learn, in order
-abbrev pub unlearnt : World → List (UnitNo × GrainId)
+abbrev pub unlearnt : CoreState → List (UnitNo × GrainId)
 unlearnt w = filter (λ (t : UnitNo × GrainId). not (w.cells.learnt t.0 t.1)) (to_learn w)
 
 -- each unit's grains

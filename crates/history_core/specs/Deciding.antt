@@ -1,6 +1,6 @@
 -- How code decides a batch, by what is kept.
 use Rattle.std.specs.Prelude.{◌≡◌, ◌≤◌, List, [], ◌∷◌, None, Some, length, map, take}
-use Rattle.core_model.specs.World.{UnitNo, Decision, put}
+use Rattle.core_model.specs.CoreState.{UnitNo, Decision, put}
 use Rattle.core_model.specs.declared.effects.Effect.{Effect}
 use Rattle.core_model.specs.declared.phases.Verdict.{Verdict}
 use Rattle.core_model.specs.Tests.{is_bad, is_over}

@@ -2,7 +2,7 @@
 use Rattle.std.specs.Prelude.{List, [], ◌∷◌, Bool, true, false, ◌&&◌, not, Option}
 use Rattle.std.specs.List.{list_all as all}
 use Rattle.base_types.specs.declared.calls.Outcome.TheVariants.{Aborted as aborted}
-use Rattle.core_model.specs.World.{UnitNo, Outcome, same_unit}
+use Rattle.core_model.specs.CoreState.{UnitNo, Outcome, same_unit}
 use Rattle.core_model.specs.declared.effects.Effect.{Effect}
 use Rattle.core_model.specs.Equality.{same_origin, same_call, same_reads, same_outcome}
 use Rattle.core_model.specs.Tests.{is_answer, is_empty, is_running}

@@ -1,10 +1,10 @@
 -- What a batch that closes leaves, by its decisions and by what its units did, who are the front of those that wait.
 use Rattle.std.specs.Prelude.{◌≡◌, ℕ, ◌+◌, List, [], ◌∷◌, ◌++◌, Bool, true, Option, if◌then◌else◌, length, ⊤}
 use Rattle.base_types.specs.declared.entries.Settled.TheVariants as settled
-use Rattle.core_model.specs.World.{UnitNo, GrainId, Value, Write, Outcome, Settled, Entry, Decision, put}
+use Rattle.core_model.specs.CoreState.{UnitNo, GrainId, Value, Write, Outcome, Settled, Entry, Decision, put}
 use Rattle.core_model.specs.declared.effects.Effect.{Effect}
 use Rattle.core_model.specs.declared.phases.Verdict.{Verdict}
-use Rattle.core_model.specs.Tests.{is_final, is_committed, written}
+use Rattle.core_model.specs.Tests.{is_final, is_committed, state_written}
 use Rattle.core_model.specs.Changes.{seal, spoil, leave, told, entry_for}
 use Rattle.history_core.specs.declared.closing.Closing.{Closing}
 use Rattle.history_core.specs.declared.closing.Closing.TheVariants as how
@@ -49,7 +49,7 @@ abbrev pub last_after : (Verdict → Verdict) → GrainId → List Decision → 
 last_after f g [] es v before = before
 last_after f g (d ∷ ds) [] v before = before
 last_after f g (d ∷ ds) (e ∷ es) v before =
-    last_after f g ds es (put v e.unit (f (v e.unit))) (state_after (is_committed (f (v e.unit))) (written g e.writes) before)
+    last_after f g ds es (put v e.unit (f (v e.unit))) (state_after (is_committed (f (v e.unit))) (state_written g e.writes) before)
 
 -- how many grains its units wrote
 abbrev pub writes_after : List Decision → List Effect → ℕ

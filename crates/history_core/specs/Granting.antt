@@ -1,7 +1,7 @@
 -- What a grant takes off its grain's stack, and which sources are sure, by what is kept.
 use Rattle.std.specs.Prelude.{◌≡◌, Bool, ◌||◌, Option, find}
 use Rattle.cell_model.specs.Cells.{Cell}
-use Rattle.core_model.specs.World.{UnitNo, GrainId, nobody, same_unit}
+use Rattle.core_model.specs.CoreState.{UnitNo, GrainId, nobody, same_unit}
 use Rattle.core_model.specs.Tests.{is_aborted, is_committed}
 use Rattle.grain_cell.specs.Room.{writers, without_aborted}
 use Rattle.cell_table.specs.Table.{cell_in}

@@ -1,6 +1,6 @@
 -- What is kept of the states that units wrote, until they give the grains' locks back.
 use Rattle.std.specs.Prelude.{List, [], ◌∷◌, ◌&&◌, Option, None, Some, if◌then◌else◌}
-use Rattle.core_model.specs.World.{UnitNo, GrainId, Value, Write, same_unit, same_grain}
+use Rattle.core_model.specs.CoreState.{UnitNo, GrainId, Value, Write, same_unit, same_grain}
 use Rattle.core_model.specs.declared.effects.Read.{Read}
 
 -- one unit's state of one grain is replaced

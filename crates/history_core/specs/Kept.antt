@@ -3,10 +3,10 @@ use Rattle.std.specs.Prelude.{◌≡◌, ◌<◌, ◌≤◌, ◌+◌, ℕ, List,
 use Rattle.cell_model.specs.Units.{Member}
 use Rattle.cell_model.specs.Cells.{Cell}
 use Rattle.cell_model.specs.Locks.{holds_lock}
-use Rattle.core_model.specs.World.{UnitNo, GrainId, Write, Batch, Cells, World}
+use Rattle.core_model.specs.CoreState.{UnitNo, GrainId, Write, Batch, Cells, CoreState}
 use Rattle.core_model.specs.declared.effects.Effect.{Effect}
 use Rattle.core_model.specs.declared.phases.Phase.TheVariants.{Finished}
-use Rattle.core_model.specs.Tests.{waiting, written}
+use Rattle.core_model.specs.Tests.{waiting, state_written}
 use Rattle.core_model.specs.Answers.{effect_of}
 use Rattle.core_model.specs.Legal.{Run, ends}
 use Rattle.cell_table.specs.Table.{cell_in}
@@ -75,7 +75,7 @@ pub record HasRoom (p : Parts) : Type 0 where
 -- What is kept stands for the state: units, cells, verdicts, results and entries as they are; the finished units that wait
 -- with their effects and their dependencies; the open batch; of what the grains have learnt what they still have to learn;
 -- of what was written what a finished unit has still to release, and the last committed state of each grain.
-pub record Stands (p : Parts) (w : World) : Type 0 where
+pub record Stands (p : Parts) (w : CoreState) : Type 0 where
   pub units : w.units ≡ units_of p.units w.units.seen_at
   pub cells : w.cells ≡ cells_of (cell_in p.cells) w.cells.learnt
   pub verdict : w.manager.verdict ≡ verdict_in p.units
@@ -88,14 +88,14 @@ pub record Stands (p : Parts) (w : World) : Type 0 where
   pub settled : w.manager.settled ≡ p.entries.entries
   pub emitted : w.manager.emitted ≡ p.entries.emitted
   pub learn : p.learn.pairs ≡ unlearnt w
-  pub handed : (u : UnitNo) (g : GrainId) → w.units.phase u ≡ Finished → holds_lock u (w.cells.holds g) ≡ true → handed_in p.handed u g ≡ written g (w.manager.writes u)
+  pub handed : (u : UnitNo) (g : GrainId) → w.units.phase u ≡ Finished → holds_lock u (w.cells.holds g) ≡ true → handed_in p.handed u g ≡ state_written g (w.manager.writes u)
   pub last : (g : GrainId) → last_in p.last g ≡ last_state w g
   pub room : HasRoom p
 
 -- the state is the last one of a run in which units are numbered from 1 on and every grain stays in memory
-abbrev pub IsReached : World → Type 0
+abbrev pub IsReached : CoreState → Type 0
 IsReached w = (r : Run) × (0 < r.base) × (r.capacity ≡ None) × (ends r ≡ w)
 
 -- what is kept stands for such a state
 abbrev pub IsKept : Parts → Type 0
-IsKept p = (w : World) × Stands p w × IsReached w
+IsKept p = (w : CoreState) × Stands p w × IsReached w

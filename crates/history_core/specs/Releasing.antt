@@ -1,6 +1,6 @@
 -- What a unit gives back with a lock.
 use Rattle.std.specs.Prelude.{List, Option, None}
-use Rattle.core_model.specs.World.{Value}
+use Rattle.core_model.specs.CoreState.{Value}
 use Rattle.core_model.specs.declared.phases.Phase.{Phase}
 use Rattle.core_model.specs.declared.phases.Phase.TheVariants.{Finished}
 

@@ -3,7 +3,7 @@ use Rattle.std.specs.Prelude.{◌≡◌, Bool, true, false, ◌&&◌, not, is_no
 use Rattle.std.specs.declared.result.Result.{Result}
 use Rattle.std.specs.declared.result.Result.TheVariants.{Ok, Err}
 use Rattle.std.specs.declared.alloc.AllocError.{AllocError}
-use Rattle.core_model.specs.World.{World}
+use Rattle.core_model.specs.CoreState.{CoreState}
 use Rattle.core_model.specs.declared.events.CoreEvent.TheVariants.{Bad, Begin, Grant, Refuse, Finish, EndPlain, EndSnapshot, Take, Want}
 use Rattle.core_model.specs.Events.{applies, does, step, reply_to, reply_with, reply_without}
 use Rattle.core_model.specs.declared.events.CoreEvent.{CoreEvent}
@@ -12,32 +12,32 @@ use Rattle.history_core.specs.declared.parts.Parts.{Parts}
 use Rattle.history_core.specs.Kept.{Stands, IsReached}
 
 -- no stop stands: no batch is in doubt, and the run isn't to stop
-abbrev pub is_going : World → Bool
+abbrev pub is_going : CoreState → Bool
 is_going w = is_none w.manager.doubt && not w.units.halt
 
 -- what is kept stands for a state in which the event applies
 abbrev pub CanDo : Parts → CoreEvent → Type 0
-CanDo p e = (w : World) × Stands p w × IsReached w × (applies w e ≡ true)
+CanDo p e = (w : CoreState) × Stands p w × IsReached w × (applies w e ≡ true)
 
 -- whatever state is stood for, it still is
 abbrev pub Keeps : Parts → Parts → Type 0
-Keeps p q = (w : World) → Stands p w → Stands q w
+Keeps p q = (w : CoreState) → Stands p w → Stands q w
 
 -- whatever state is stood for, the test tells whether the event applies there
 abbrev pub Tells : Parts → CoreEvent → Bool → Type 0
-Tells p e told = (w : World) → Stands p w → IsReached w → told ≡ applies w e
+Tells p e told = (w : CoreState) → Stands p w → IsReached w → told ≡ applies w e
 
 -- whatever state is stood for, where the event applies the state after it is stood for, and the reply is that of the event
 abbrev pub Does : Parts → CoreEvent → CoreReply → Parts → Type 0
-Does p e reply q = (w : World) → Stands p w → IsReached w → applies w e ≡ true → Stands q (does w e) × (reply ≡ reply_with w e)
+Does p e reply q = (w : CoreState) → Stands p w → IsReached w → applies w e ≡ true → Stands q (does w e) × (reply ≡ reply_with w e)
 
 -- whatever state is stood for, its step is stood for, and the reply is its reply
 abbrev pub Takes : Parts → CoreEvent → CoreReply → Parts → Type 0
-Takes p e reply q = (w : World) → Stands p w → IsReached w → Stands q (step w e) × (reply ≡ reply_to w e)
+Takes p e reply q = (w : CoreState) → Stands p w → IsReached w → Stands q (step w e) × (reply ≡ reply_to w e)
 
 -- whatever state is stood for, where the event doesn't apply the reply is the one to that
 abbrev pub Refuses : Parts → CoreEvent → CoreReply → Type 0
-Refuses p e reply = (w : World) → Stands p w → applies w e ≡ false → reply ≡ reply_without w e
+Refuses p e reply = (w : CoreState) → Stands p w → applies w e ≡ false → reply ≡ reply_without w e
 
 -- the event may want memory: no earlier one made its room
 abbrev pub takes_memory : CoreEvent → Bool

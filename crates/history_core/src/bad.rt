@@ -1,7 +1,7 @@
 // The next line is no request.
 ghost use Rattle.std.specs.Prelude.{◌≡◌, ◌==◌, ◌+◌, IfOk, OnErr};
 ghost use Rattle.base_types.specs.declared.entries.BadRequest.{BadRequest};
-ghost use Rattle.core_model.specs.World.{World};
+ghost use Rattle.core_model.specs.CoreState.{CoreState};
 ghost use Rattle.core_model.specs.declared.events.CoreEvent.TheVariants.{Bad};
 ghost use Rattle.cell_table.specs.Table.{opens_with};
 ghost use Rattle.history_core.specs.Kept.{Stands};
@@ -22,7 +22,7 @@ impl Parts {
 
     // Whether the line is the next one.
     pub(crate) fn is_next_line(&self, line: u32) -> bool
-        ensures { (w : World) → Stands self.now w → result ≡ (line == w.units.lines + 1) }
+        ensures { (w : CoreState) → Stands self.now w → result ≡ (line == w.units.lines + 1) }
     {
         line != 0 && u64::from(line) - 1 == self.units.lines()
     }

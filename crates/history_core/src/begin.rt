@@ -2,7 +2,7 @@
 ghost use Rattle.std.specs.Prelude.{◌≡◌, Bool, IfOk, IfErr, OnErr};
 ghost use Rattle.std.specs.List.{list_all};
 ghost use Rattle.base_types.specs.declared.calls.Call.{Call};
-ghost use Rattle.core_model.specs.World.{World};
+ghost use Rattle.core_model.specs.CoreState.{CoreState};
 ghost use Rattle.core_model.specs.Events.{can_begin};
 ghost use Rattle.core_model.specs.declared.events.CoreEvent.TheVariants.{Begin};
 ghost use Rattle.cell_table.specs.Table.{opens_with};
@@ -25,7 +25,7 @@ impl Parts {
 
     // Whether it is the next line, or the next child of a running unit whose children are decided.
     fn is_next(&self, origin: &Origin) -> bool
-        ensures { (w : World) → Stands self.now w → result ≡ can_begin w origin.now }
+        ensures { (w : CoreState) → Stands self.now w → result ≡ can_begin w origin.now }
     {
         match *origin {
             Origin::Line(line) => self.is_next_line(line),

@@ -2,9 +2,9 @@
 ghost use Rattle.std.specs.Prelude.{◌≡◌, ◌<◌, ◌≤◌, ◌+◌, ◌++◌, ℕ, Option as AnOption, List as AList, Some, true, map, drop, length};
 ghost use Rattle.base_types.specs.declared.calls.GrainId.{GrainId as AGrain};
 ghost use Rattle.base_types.specs.declared.calls.UnitNo.{UnitNo as AUnit};
-ghost use Rattle.core_model.specs.World.{put};
+ghost use Rattle.core_model.specs.CoreState.{put};
 ghost use Rattle.core_model.specs.Changes.{entry_for, told};
-ghost use Rattle.core_model.specs.Tests.{is_over, is_final, is_committed, written};
+ghost use Rattle.core_model.specs.Tests.{is_over, is_final, is_committed, state_written};
 ghost use Rattle.cell_table.specs.Table.{opens_with};
 ghost use Rattle.core_lists.specs.States.{last_in, has_place, KeepsPlaces};
 ghost use Rattle.open_batch.specs.Members.{effect_in};
@@ -111,7 +111,7 @@ fn close_one(
     ensures spare { entries.old.spare ≤ entries.new.spare + 1 }
     ensures pairs { learn.new.pairs ≡ learn.old.pairs ++ pairs_of (is_final (ends_as how (verdict_in units.old done.effect.unit))) done.effect.unit done.effect.writes }
     ensures room { learn.old.spare ≤ learn.new.spare + length done.effect.writes }
-    ensures last { (g : AGrain) → last_in last.new g ≡ state_after (is_committed (ends_as how (verdict_in units.old done.effect.unit))) (written g done.effect.writes) (last_in last.old g) }
+    ensures last { (g : AGrain) → last_in last.new g ≡ state_after (is_committed (ends_as how (verdict_in units.old done.effect.unit))) (state_written g done.effect.writes) (last_in last.old g) }
     ensures places { KeepsPlaces last.old last.new }
 {
     let effect = done.effect;
@@ -182,7 +182,7 @@ fn teach(learn: &mut LearnQueue, unit: UnitNo, writes: &[(GrainId, State)], is_f
 // The states that a committed unit wrote are their grains' last ones: of a grain that it wrote twice the first.
 fn keep(last: &mut LastStates, writes: List<(GrainId, State)>, is_committed: bool)
     requires { ArePlaced (has_place last.old) writes }
-    ensures last { (g : AGrain) → last_in last.new g ≡ state_after is_committed (written g writes) (last_in last.old g) }
+    ensures last { (g : AGrain) → last_in last.new g ≡ state_after is_committed (state_written g writes) (last_in last.old g) }
     ensures places { KeepsPlaces last.old last.new }
 {
     if !is_committed {

@@ -1,7 +1,7 @@
 // A plain run has come to its end.
 ghost use Rattle.std.specs.Prelude.{◌≡◌, ◌<◌, ◌≤◌, ℕ, List as AList, Option as AnOption, true, IfOk, IfErr, OnOk, OnErr};
 ghost use Rattle.base_types.specs.declared.calls.Outcome.{Outcome as AnOutcome};
-ghost use Rattle.core_model.specs.World.{World};
+ghost use Rattle.core_model.specs.CoreState.{CoreState};
 ghost use Rattle.core_model.specs.Changes.{ended};
 ghost use Rattle.core_model.specs.declared.events.CoreEvent.TheVariants.{EndPlain};
 ghost use Rattle.core_model.specs.Tests.{is_running};
@@ -86,7 +86,7 @@ impl Parts {
         requires runs { is_running (phase_in self.old.units unit) ≡ true }
         requires room { owed_in self.old.batch < self.old.entries.spare }
         requires same { kept ≡ told }
-        ensures ended { (w : World) → Stands self.old w → IsReached w → (answers : AList AnOutcome) (at : AnOption ℕ) → Stands self.new (ended w unit answers told at) }
+        ensures ended { (w : CoreState) → Stands self.old w → IsReached w → (answers : AList AnOutcome) (at : AnOption ℕ) → Stands self.new (ended w unit answers told at) }
         ensures opens { opens_with self.new.cells ≡ opens_with self.old.cells }
     {
         let origin = self.origin(unit);

@@ -4,7 +4,7 @@ ghost use Rattle.base_types.specs.declared.stores.Version.{Version as AVersion};
 ghost use Rattle.cell_model.specs.declared.locks.Ask.TheVariants.{Free};
 ghost use Rattle.cell_model.specs.Locks.{ask};
 ghost use Rattle.cell_model.specs.Cells.{granted};
-ghost use Rattle.core_model.specs.World.{put_grain};
+ghost use Rattle.core_model.specs.CoreState.{put_grain};
 ghost use Rattle.core_model.specs.Tests.{is_aborted};
 ghost use Rattle.core_model.specs.Events as events;
 ghost use Rattle.core_model.specs.Events.{is_free_answer};

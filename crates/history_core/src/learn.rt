@@ -2,7 +2,7 @@
 ghost use Rattle.std.specs.Prelude.{◌≡◌, ◌≤◌};
 ghost use Rattle.cell_model.specs.Units.{nobody};
 ghost use Rattle.cell_model.specs.Cells.{learned};
-ghost use Rattle.core_model.specs.World.{put_grain};
+ghost use Rattle.core_model.specs.CoreState.{put_grain};
 ghost use Rattle.core_model.specs.Tests.{is_committed};
 ghost use Rattle.core_model.specs.declared.events.CoreEvent.TheVariants.{Learn};
 ghost use Rattle.cell_table.specs.Table.{cell_in, opens_with};

@@ -1,6 +1,6 @@
 // A batch is taken.
 ghost use Rattle.std.specs.Prelude.{◌≡◌, ◌≤◌, length, map, take, None, IfOk, OnOk, OnErr};
-ghost use Rattle.core_model.specs.World.{World};
+ghost use Rattle.core_model.specs.CoreState.{CoreState};
 ghost use Rattle.core_model.specs.declared.events.CoreEvent.TheVariants.{Take};
 ghost use Rattle.core_model.specs.Events.{batch_size};
 ghost use Rattle.cell_table.specs.Table.{opens_with};
@@ -30,7 +30,7 @@ impl Parts {
     // How many units a batch would have: the longest prefix, of at most 64, of the finished units that no batch has
     // yet and that hold no lock.
     pub(crate) fn batch_size(&self) -> usize
-        ensures size { (w : World) → Stands self.now w → result ≡ batch_size w }
+        ensures size { (w : CoreState) → Stands self.now w → result ≡ batch_size w }
         ensures most { result ≤ 64 }
         ensures within { result ≤ length self.now.waiting.items }
     {

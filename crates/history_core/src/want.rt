@@ -2,7 +2,7 @@
 ghost use Rattle.std.specs.Prelude.{◌≡◌, ◌&&◌, not, IfOk, OnErr};
 ghost use Rattle.std.specs.List.{list_any};
 ghost use Rattle.cell_model.specs.Units.{same_unit, same_grain};
-ghost use Rattle.core_model.specs.World.{World};
+ghost use Rattle.core_model.specs.CoreState.{CoreState};
 ghost use Rattle.core_model.specs.Events.{can_want};
 ghost use Rattle.core_model.specs.declared.events.CoreEvent.TheVariants.{Want};
 ghost use Rattle.cell_table.specs.Table.{opens_with};
@@ -25,7 +25,7 @@ impl Parts {
 
     // Whether the unit runs, has no lock of the grain and doesn't wait for it yet.
     fn may_want(&self, unit: UnitNo, grain: GrainId) -> bool
-        ensures { (w : World) → Stands self.now w → result ≡ can_want w unit grain }
+        ensures { (w : CoreState) → Stands self.now w → result ≡ can_want w unit grain }
     {
         self.is_active(unit, grain)
             && !self.cells.is_held_by(unit, grain)

@@ -1,6 +1,6 @@
 use Rattle.std.proofs.Common.{◌≡◌, ◌∙◌, ◌++◌, ◌∷◌, [], sym, ap, subst, List}
-use Rattle.core_model.specs.World.{Write, GrainId}
-use Rattle.core_model.specs.Tests.{written}
+use Rattle.core_model.specs.CoreState.{Write, GrainId}
+use Rattle.core_model.specs.Tests.{state_written}
 use Rattle.core_lists.specs.States.{last_in, has_place}
 use Rattle.history_core.specs.Closing.{ArePlaced, or_else}
 use Rattle.history_core.proofs.Loops.{placed-last, placed-more, written-last, last-put}
@@ -17,9 +17,9 @@ loop-grain-preserved c =
     let x : Write = (c.in-Some.grain, c.in-Some.state) in
     let e : c.loop-grain.writes.items ≡ c.pop.new.self.items ++ x ∷ [] = c.in-Some.ensures.items in record {
       last = λ g.
-          ap (or_else (written g c.pop.new.self.items)) (last-put c.loop-grain.last c.put.new.self x.0 x.1 c.put.ensures.put g)
+          ap (or_else (state_written g c.pop.new.self.items)) (last-put c.loop-grain.last c.put.new.self x.0 x.1 c.put.ensures.put g)
           ∙ sym (written-last g c.pop.new.self.items x (last_in c.loop-grain.last g))
-          ∙ ap (λ (ws : List Write). or_else (written g ws) (last_in c.loop-grain.last g)) (sym e)
+          ∙ ap (λ (ws : List Write). or_else (state_written g ws) (last_in c.loop-grain.last g)) (sym e)
           ∙ c.loop-grain.invariant.last g;
       places = λ g h. c.put.ensures.places g (c.loop-grain.invariant.places g h);
       placed = placed-more (has_place c.loop-grain.last) (has_place c.put.new.self) c.pop.new.self.items (λ g h. c.put.ensures.places g h)

@@ -1,5 +1,5 @@
 use Rattle.std.proofs.Common.{◌≡◌, ◌∙◌, ◌∷◌, ◌+◌, ◌<◌, List, sym, ap, subst, drop, map, length, arith, None, Bool, get_or}
-use Rattle.core_model.specs.World.{UnitNo, Decision, Units, put}
+use Rattle.core_model.specs.CoreState.{UnitNo, Decision, Units, put}
 use Rattle.cell_model.specs.declared.outcomes.Decision.TheVariants.{Commit}
 use Rattle.core_model.specs.Tests.{is_over}
 use Rattle.core_model.specs.declared.effects.Effect.{Effect}

@@ -1,5 +1,5 @@
 use Rattle.std.proofs.Common.{◌≡◌, ◌∙◌, sym, subst}
-use Rattle.core_model.specs.World.{Write}
+use Rattle.core_model.specs.CoreState.{Write}
 use Rattle.core_lists.specs.States.{has_place}
 use Rattle.history_core.specs.Closing.{ArePlaced}
 use Rattle.history_core.proofs.Loops.{drop-at, drop-end}

@@ -1,6 +1,6 @@
 use Rattle.std.proofs.Common.{◌≡◌, ◌∙◌, ◌++◌, ◌∷◌, [], List, sym, ap, arith}
 use Rattle.base_types.specs.declared.entries.Settled.TheVariants as settled
-use Rattle.core_model.specs.World.{Entry, nobody}
+use Rattle.core_model.specs.CoreState.{Entry, nobody}
 use Rattle.history_core.proofs.Simple.{does-bad}
 use Rattle.history_core.proofs.parts.Parts.bad.Goals as goal
 

@@ -1,5 +1,5 @@
 use Rattle.std.proofs.Common.{ap, None}
-use Rattle.core_model.specs.World.{Units}
+use Rattle.core_model.specs.CoreState.{Units}
 use Rattle.core_model.specs.declared.events.CoreEvent.TheVariants.{Begin}
 use Rattle.core_model.specs.declared.events.CoreReply.TheVariants as reply
 use Rattle.history_core.specs.declared.parts.Parts.{Parts}

@@ -1,5 +1,5 @@
 use Rattle.std.proofs.Common.{◌≡◌, ◌∙◌, ◌++◌, sym, ap, arith}
-use Rattle.core_model.specs.World.{put}
+use Rattle.core_model.specs.CoreState.{put}
 use Rattle.unit_table.specs.Table.{result_in}
 use Rattle.history_core.proofs.Endings.{stands-ended}
 use Rattle.history_core.proofs.parts.Parts.end.Goals as goal

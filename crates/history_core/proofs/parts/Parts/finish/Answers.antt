@@ -1,5 +1,5 @@
 use Rattle.std.proofs.Common.{◌≡◌, ◌∙◌, sym, ap, refl, true}
-use Rattle.core_model.specs.World.{put}
+use Rattle.core_model.specs.CoreState.{put}
 use Rattle.core_model.specs.Tests.{is_running}
 use Rattle.core_model.specs.declared.events.CoreEvent.TheVariants.{Finish}
 use Rattle.core_model.specs.declared.events.CoreReply.TheVariants as reply

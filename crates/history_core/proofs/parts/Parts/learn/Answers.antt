@@ -1,6 +1,6 @@
 use Rattle.std.proofs.Common.{◌≡◌, ◌∙◌, sym, ap, refl}
 use Rattle.cell_model.specs.Cells.{learned}
-use Rattle.core_model.specs.World.{put_grain}
+use Rattle.core_model.specs.CoreState.{put_grain}
 use Rattle.core_model.specs.Tests.{is_committed}
 use Rattle.cell_table.specs.Table.{cell_in}
 use Rattle.history_core.proofs.Learns.{does-learn, somebody}

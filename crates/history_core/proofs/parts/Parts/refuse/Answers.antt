@@ -1,5 +1,5 @@
 use Rattle.std.proofs.Common.{◌≡◌, ◌∙◌, ◌++◌, sym, ap, arith, List, Some}
-use Rattle.core_model.specs.World.{Entry}
+use Rattle.core_model.specs.CoreState.{Entry}
 use Rattle.core_model.specs.Changes.{refusal, entry_for}
 use Rattle.core_model.specs.Tests.{ask}
 use Rattle.core_model.specs.declared.events.CoreEvent.TheVariants.{Refuse}

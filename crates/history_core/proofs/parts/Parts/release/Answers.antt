@@ -1,6 +1,6 @@
 use Rattle.std.proofs.Common.{◌≡◌, ◌∙◌, sym, ap, refl, subst, Option, IsSome}
 use Rattle.cell_model.specs.Cells.{released}
-use Rattle.core_model.specs.World.{put_grain, Value}
+use Rattle.core_model.specs.CoreState.{put_grain, Value}
 use Rattle.cell_table.specs.Table.{cell_in}
 use Rattle.core_lists.specs.States.{handed_in}
 use Rattle.unit_table.specs.Table.{phase_in}
