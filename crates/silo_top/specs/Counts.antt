@@ -13,8 +13,10 @@ InputFaulted InputFault.Memory old new = NoneFailed old new
 InputFaulted InputFault.Failed old new = FailedOn Input old new
 InputFaulted InputFault.TooLong old new = NoneFailed old new
 
--- a call on the output failed where `WriteFault` is answered, one on the manager file where `DiskFault` is, and none without memory
+-- a call on the output failed where `WriteFault` is answered, one on the manager file where `DiskFault` is, and none without memory or
+-- without a number for the next unit
 abbrev pub RunFaulted : RunFault → (Channel → ℕ) → (Channel → ℕ) → Type 0
 RunFaulted RunFault.Memory old new = NoneFailed old new
+RunFaulted RunFault.UnitLimit old new = NoneFailed old new
 RunFaulted RunFault.WriteFault old new = FailedOn Output old new
 RunFaulted RunFault.DiskFault old new = FailedOn (File manager) old new

@@ -1,4 +1,4 @@
-ghost use Rattle.std.specs.Prelude.{◌≡◌, ◌+◌, ◌^◌, ◌<◌, ◌≤◌, ◌++◌, ℕ, List, length, IsTrue, IfOk, OnOk, IfErr};
+ghost use Rattle.std.specs.Prelude.{◌≡◌, ◌+◌, ◌-◌, ◌^◌, ◌<◌, ◌≤◌, ◌++◌, ℕ, List, length, IsTrue, IfOk, OnOk, IfErr};
 ghost use Rattle.host_trait.specs.Faults.{NoneFailed};
 ghost use Rattle.host_trait.specs.Files.{StaysReady};
 ghost use Rattle.host_trait.specs.World.{Passes, moment_of};
@@ -35,6 +35,9 @@ const UNIT_LIMIT: u64 = 9_223_372_036_854_775_808;
 pub enum RunFault {
     #[error("no memory")]
     Memory,
+    /// The next unit's number would be 2 to the 63, which no log may hold.
+    #[error("no number is left for a unit")]
+    UnitLimit,
     #[error("the output couldn't be written")]
     WriteFault,
     #[error("the manager file couldn't be written")]
@@ -68,8 +71,8 @@ pub struct Running {
     pub gate_at: u64,
 }
 
-/// Carries one line: in memory first, then its unit is sealed, and then its reply emitted. After want of memory the host
-/// is as before; it is answered too where the unit would have a number of 2 to the 63 or more.
+/// Carries one line: in memory first, then its unit is sealed, and then its reply emitted. After want of memory, and where
+/// no number is left, the host is as before.
 fn carry_line<H: Host, G: Gate>(
     alloc: Global,
     shape: &Shape,
@@ -102,6 +105,9 @@ fn carry_line<H: Host, G: Gate>(
     ensures quiet { IfErr result (λ e. e ≡ RunFault.DiskFault → IsTrue H.tells
         → (H.world host.new).output ≡ (H.world host.old).output) }
     ensures memory { IfErr result (λ e. e ≡ RunFault.Memory → host.new ≡ host.old) }
+    ensures starved { IfErr result (λ e. e ≡ RunFault.Memory → (totals_of running.old.counters).units < 2 ^ 63 - 1) }
+    ensures limit { IfErr result (λ e. e ≡ RunFault.UnitLimit → (host.new ≡ host.old) × (running.new ≡ running.old)
+        × (2 ^ 63 - 1 ≤ (totals_of running.old.counters).units)) }
     ensures after { OnOk result (totals_of running.new.counters
         ≡ totals_after (totals_of running.old.counters) (request_of line.now)) }
     ensures next { OnOk result (running.new.gate_at < 2 ^ 63) }
@@ -113,7 +119,7 @@ fn carry_line<H: Host, G: Gate>(
     ensures input { IsTrue H.tells → (H.world host.new).input ≡ (H.world host.old).input }
 {
     if running.counters.units() >= UNIT_LIMIT - 1 {
-        return Err(RunFault::Memory);
+        return Err(RunFault::UnitLimit);
     }
     let prepared = prepare(alloc, shape, &mut running.counters, number, line)?;
     match settle(host, gate, running.gate_at, &prepared) {
@@ -148,6 +154,11 @@ pub fn carry_lines<H: Host, G: Gate>(
         → Stands counter_magic opening running.old.gate_at (H.world host.old).disk
         → totals_of running.old.counters ≡ replayed opening
         → IsStopped counter_magic opening (journal_of opening input.now) (H.world host.old) (H.world host.new)) }
+    ensures limit { IfErr result (λ e. e ≡ RunFault.UnitLimit → IsTrue H.tells → (opening : List Logged)
+        → Stands counter_magic opening running.old.gate_at (H.world host.old).disk
+        → totals_of running.old.counters ≡ replayed opening
+        → IsStopped counter_magic opening (journal_of opening input.now) (H.world host.old) (H.world host.new)) }
+    ensures last { IfErr result (λ e. e ≡ RunFault.UnitLimit → 2 ^ 63 - 1 ≤ (totals_of running.new.counters).units) }
     ensures cut { IfErr result (λ e. e ≡ RunFault.WriteFault → IsTrue H.tells → (opening : List Logged)
         → Stands counter_magic opening running.old.gate_at (H.world host.old).disk
         → totals_of running.old.counters ≡ replayed opening

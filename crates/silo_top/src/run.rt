@@ -71,6 +71,7 @@ fn serve<H: Host, G: Gate>(alloc: Global, opened: Opened, host: &mut H, gate: &G
     match carry_lines(alloc, input.as_slice(), &mut running, host, gate) {
         Ok(()) => Status::Done,
         Err(RunFault::Memory) => Status::Memory,
+        Err(RunFault::UnitLimit) => Status::Memory,
         Err(RunFault::WriteFault) => Status::WriteFault,
         Err(RunFault::DiskFault) => Status::DiskFault { file: MANAGER },
     }

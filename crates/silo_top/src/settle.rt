@@ -88,6 +88,7 @@ pub fn settle<H: Host, G: Gate>(
     ensures quiet { IfErr result (λ e. e ≡ RunFault.DiskFault → IsTrue H.tells
         → (H.world host.new).output ≡ (H.world host.old).output) }
     ensures memory { IfErr result (λ e. e ≡ RunFault.Memory → ⊥) }
+    ensures limit { IfErr result (λ e. e ≡ RunFault.UnitLimit → ⊥) }
     ensures next { IfOk result (λ next. next < 2 ^ 63) }
     ensures calm { OnOk result (NoneFailed (H.faults host.old) (H.faults host.new)) }
     ensures counts { IfErr result (λ e. RunFaulted e (H.faults host.old) (H.faults host.new)) }

@@ -58,6 +58,19 @@ returns-in-Err-Memory-carry_lines-clause-served g c told =
     (c.carry_lines.ensures.moments told opening stands1 c.in-Ok.ensures)
     (c.in-Err-Memory-carry_lines.ensures.memory c.in-Err-Memory-carry_lines.field-0-is told opening stands1 c.in-Ok.ensures)
 
+pub returns-in-Err-UnitLimit-clause-served : goal.returns-in-Err-UnitLimit-clause-served
+returns-in-Err-UnitLimit-clause-served g c told =
+    let stands = c.requires.stands told in
+    let w0 = g.H.Host.world c.args.host.now in
+    let w1 = g.H.Host.world c.read_input.new.host in
+    let opening = c.args.opened.log in
+    let gate = c.args.opened.gate_at in
+    let stands1 = stands_on counter_magic opening gate w0.disk w1.disk (c.read_input.ensures.disk told) stands in
+    let whole : w0.input ≡ c.as_slice.result.now = c.in-Ok-read_input.ensures.whole told ∙ sym c.as_slice.ensures.value in
+    served_stopped opening gate w0 w1 stands (c.read_input.ensures.output told) (c.read_input.ensures.disk told) (c.read_input.ensures.moments told) (g.H.Host.world c.carry_lines.new.host) c.as_slice.result.now whole
+    (c.carry_lines.ensures.moments told opening stands1 c.in-Ok.ensures)
+    (c.in-Err-UnitLimit.ensures.limit c.in-Err-UnitLimit.field-0-is told opening stands1 c.in-Ok.ensures)
+
 pub returns-in-Err-WriteFault-clause-served : goal.returns-in-Err-WriteFault-clause-served
 returns-in-Err-WriteFault-clause-served g c told =
     let stands = c.requires.stands told in
@@ -101,6 +114,9 @@ returns-in-Ok-carry_lines-clause-others g c told = beside_both (g.H.Host.world c
 pub returns-in-Err-Memory-carry_lines-clause-others : goal.returns-in-Err-Memory-carry_lines-clause-others
 returns-in-Err-Memory-carry_lines-clause-others g c told = beside_both (g.H.Host.world c.args.host.now) (g.H.Host.world c.read_input.new.host) (g.H.Host.world c.carry_lines.new.host) (beside_still _ _ (c.read_input.ensures.disk told) (c.read_input.ensures.moments told)) (c.carry_lines.ensures.others told)
 
+pub returns-in-Err-UnitLimit-clause-others : goal.returns-in-Err-UnitLimit-clause-others
+returns-in-Err-UnitLimit-clause-others g c told = beside_both (g.H.Host.world c.args.host.now) (g.H.Host.world c.read_input.new.host) (g.H.Host.world c.carry_lines.new.host) (beside_still _ _ (c.read_input.ensures.disk told) (c.read_input.ensures.moments told)) (c.carry_lines.ensures.others told)
+
 pub returns-in-Err-WriteFault-clause-others : goal.returns-in-Err-WriteFault-clause-others
 returns-in-Err-WriteFault-clause-others g c told = beside_both (g.H.Host.world c.args.host.now) (g.H.Host.world c.read_input.new.host) (g.H.Host.world c.carry_lines.new.host) (beside_still _ _ (c.read_input.ensures.disk told) (c.read_input.ensures.moments told)) (c.carry_lines.ensures.others told)
 
@@ -127,6 +143,12 @@ returns-in-Ok-carry_lines-clause-header g c told header has =
 
 pub returns-in-Err-Memory-carry_lines-clause-header : goal.returns-in-Err-Memory-carry_lines-clause-header
 returns-in-Err-Memory-carry_lines-clause-header g c told header has =
+    let read = headed_still header (g.H.Host.world c.args.host.now) (g.H.Host.world c.read_input.new.host) (c.read_input.ensures.output told) (c.read_input.ensures.disk told) (c.read_input.ensures.moments told) has in
+    let stands1 = stands_on counter_magic c.args.opened.log c.args.opened.gate_at (g.H.Host.world c.args.host.now).disk (g.H.Host.world c.read_input.new.host).disk (c.read_input.ensures.disk told) (c.requires.stands told) in
+    headed_both header (g.H.Host.world c.args.host.now) (g.H.Host.world c.read_input.new.host) (g.H.Host.world c.carry_lines.new.host) read (c.carry_lines.ensures.header told c.args.opened.log header stands1 c.in-Ok.ensures read.now)
+
+pub returns-in-Err-UnitLimit-clause-header : goal.returns-in-Err-UnitLimit-clause-header
+returns-in-Err-UnitLimit-clause-header g c told header has =
     let read = headed_still header (g.H.Host.world c.args.host.now) (g.H.Host.world c.read_input.new.host) (c.read_input.ensures.output told) (c.read_input.ensures.disk told) (c.read_input.ensures.moments told) has in
     let stands1 = stands_on counter_magic c.args.opened.log c.args.opened.gate_at (g.H.Host.world c.args.host.now).disk (g.H.Host.world c.read_input.new.host).disk (c.read_input.ensures.disk told) (c.requires.stands told) in
     headed_both header (g.H.Host.world c.args.host.now) (g.H.Host.world c.read_input.new.host) (g.H.Host.world c.carry_lines.new.host) read (c.carry_lines.ensures.header told c.args.opened.log header stands1 c.in-Ok.ensures read.now)
