@@ -15,6 +15,7 @@ use Rattle.promise_spec.specs.Programs.{Program, IsChecked}
 use Rattle.promise_spec.specs.Openings.{Reads}
 use Rattle.promise_spec.specs.Courses.{Observed, Course}
 use Rattle.promise_spec.specs.Promise.{IsSoundFolder}
+use Rattle.log_reading.specs.Steps.{live_slot}
 use Rattle.explained_runs.specs.Closings.{ReadsMayStay, IsBehind}
 use Rattle.explained_runs.specs.Obligations.{Opens}
 use Rattle.explained_runs.proofs.KeptRuns.{opens_sound}
@@ -48,7 +49,7 @@ untouched old mid run = record {
       | inr other ↦ ap (λ (s : FileState). s.seen) (run.now.others file (λ e. other (sym e)))
     ]
 
-pub behind : (o : Opened) (r : Observed) (c : Course) (mid : host.World) (is : IsOpenedFrom (seen_in r.old.disk) o) → FollowsOpening r c mid is.log → IsBehind (program_of is) r c mid
+pub behind : (o : Opened) (r : Observed) (c : Course) (mid : host.World) (is : IsOpenedFrom (seen_in r.old.disk) o) → FollowsOpening r c mid is.log → IsBehind live_slot (program_of is) r c mid
 behind o r c mid is follows = record {
   reads = is.reads ∙ ap (λ l. Reads (program_of is) l) (sym follows.opening);
   untouched = untouched r.old mid follows.run;

@@ -3,6 +3,7 @@ ghost use Rattle.log_reading.specs.Steps.{seen_in};
 ghost use Rattle.promise_spec.specs.Programs.{Program, IsChecked};
 ghost use Rattle.promise_spec.specs.Courses.{Observed, Course};
 ghost use Rattle.promise_spec.specs.Promise.{IsSoundFolder};
+ghost use Rattle.log_reading.specs.Steps.{live_slot};
 ghost use Rattle.explained_runs.specs.Closings.{ReadsMayStay, IsBehind};
 ghost use Rattle.explained_runs.specs.Obligations.{Opens};
 ghost use Rattle.silo_opening.specs.Opened.{IsOpenedFrom};
@@ -13,7 +14,7 @@ ghost use Rattle.opening_rules.specs.Behind.{program_of, FollowsOpening};
 /// to be shown of it. The premises are what `open_silo` ensures after Ok, and what a host's reads give.
 pub fn opened_folders_open()
     ensures behind { (o : Opened) (r : Observed) (c : Course) (mid : World) (is : IsOpenedFrom (seen_in r.old.disk) o) → FollowsOpening r c mid is.log
-        → IsBehind (program_of is) r c mid }
+        → IsBehind live_slot (program_of is) r c mid }
     ensures opens { (q : Program) (o : Opened) (r : Observed) (c : Course) (mid : World) (is : IsOpenedFrom (seen_in r.old.disk) o) → FollowsOpening r c mid is.log
         → IsChecked q → IsSoundFolder q r.old → ReadsMayStay r.old → ReadsMayStay mid → Opens (program_of is) r c }
 {}

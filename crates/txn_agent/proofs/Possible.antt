@@ -30,7 +30,7 @@ use Rattle.promise_spec.specs.Serial.{depth_of}
 use Rattle.promise_spec.specs.Gotten.{Got, GotLock, GotRaise, GotChild, and_given, given_by, got_in}
 use Rattle.promise_spec.specs.UnitRule.{Basis, IsDue, IsPlayOf}
 use Rattle.promise_spec.proofs.Lists.{some_is}
-use Rattle.turn_rules.specs.Counted.{kids_got}
+use Rattle.promise_spec.specs.Gotten.{kids_got}
 use Rattle.turn_rules.specs.Links.{asks_next}
 use Rattle.turn_rules.proofs.Counted.{counted-ends}
 use Rattle.turn_rules.proofs.Linked.{due-lock, due-raise, due-refusal, due-raise-refusal, due-child, due-finish, due-end}
