@@ -1,4 +1,0 @@
-pub mod Working
-pub mod Linked
-pub mod Stepping
-pub mod Movable
