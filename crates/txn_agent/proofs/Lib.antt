@@ -1,0 +1,17 @@
+pub mod Trails
+pub mod Shaped
+pub mod Others
+pub mod Locking
+pub mod Beginning
+pub mod Lowest
+pub mod Ending
+pub mod Replied
+pub mod Possible
+pub mod Effects
+pub mod Acting
+pub mod Resuming
+pub mod Composed
+pub mod Moving
+pub mod Going
+pub mod Telling
+pub mod Promised

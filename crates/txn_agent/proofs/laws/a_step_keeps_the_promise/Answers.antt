@@ -1,0 +1,5 @@
+use Rattle.txn_agent.proofs.Promised.{acts-promise}
+use Rattle.txn_agent.proofs.laws.a_step_keeps_the_promise.Goals as goal
+
+pub returns : goal.returns
+returns c = acts-promise

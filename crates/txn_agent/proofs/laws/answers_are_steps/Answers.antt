@@ -1,0 +1,5 @@
+use Rattle.txn_agent.proofs.Composed.{happened-acts}
+use Rattle.txn_agent.proofs.laws.answers_are_steps.Goals as goal
+
+pub returns : goal.returns
+returns c = happened-acts

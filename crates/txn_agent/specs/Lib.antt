@@ -1,0 +1,4 @@
+pub mod Working
+pub mod Linked
+pub mod Stepping
+pub mod Movable

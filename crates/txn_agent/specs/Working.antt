@@ -1,0 +1,49 @@
+-- What an agent knows of its script's machine, whatever others do.
+use Rattle.std.specs.Prelude.{◌≡◌, ℕ, List, length, map, true}
+use Rattle.std.specs.List.{All, Contains}
+use Rattle.core_model.specs.CoreState.{UnitNo}
+use Rattle.core_model.specs.declared.effects.Effect.{Effect}
+use Rattle.core_model.specs.declared.effects.Read.{Read}
+use Rattle.script_tree.specs.Programs.{ProgramTree}
+use Rattle.script_meaning.specs.Play.{Found, Over, asks, grains_of}
+use Rattle.script_meaning.specs.Trails.{Given, answers_of, exclusive_in, reads_of}
+use Rattle.script_machine.specs.declared.machine.Pause.{Pause}
+use Rattle.script_machine.specs.Machines.{Follows, HasRoom, has_begun, is_done, is_over, pause_for, rest}
+use Rattle.promise_spec.specs.Serial.{depth_of}
+use Rattle.promise_spec.specs.UnitRule.{IsPlayOf}
+use Rattle.txn_agent.specs.declared.work.Carried.{Carried}
+use Rattle.txn_agent.specs.declared.work.Work.{Work}
+
+-- The machine runs the unit's call, and was given this; what it was granted and has begun is counted along.
+pub record IsAtWork (types : ProgramTree) (c : Carried) (work : Work) (trail : List Given) (begun : ℕ) : Type 0 where
+  pub follows : Follows types work.call (depth_of c.origin) work.machine trail
+  pub started : has_begun work.machine ≡ true
+  pub held : work.held ≡ grains_of (reads_of trail)
+  pub sources : length work.sources ≡ length (reads_of trail)
+  pub kids : work.kids ≡ begun
+
+-- The machine asks for what the pause says.
+pub record IsReady (types : ProgramTree) (work : Work) (pause : Pause) : Type 0 where
+  pub asks_for : pause ≡ pause_for (asks (rest types work.machine))
+  pub over : is_over work.machine ≡ is_done pause
+  pub room : HasRoom work.machine
+
+-- what was found, and by whom it was written
+abbrev pub found_by : Read → Found
+found_by read = (read.grain, read.state)
+
+abbrev pub source_of : Read → UnitNo
+source_of read = read.source
+
+-- The effect is what the unit leaves: the whole play's over what the machine was given, each read with the source that came
+-- with it. What it writes it has locked exclusive.
+pub record IsEffectOf (types : ProgramTree) (c : Carried) (work : Work) (trail : List Given) (effect : Effect) : Type 0 where
+  pub unit : effect.unit ≡ c.unit
+  pub origin : effect.origin ≡ c.origin
+  pub call : effect.call ≡ work.call
+  pub result : asks (rest types work.machine) ≡ Over effect.result
+  pub play : IsPlayOf types effect
+  pub answers : effect.answers ≡ answers_of trail
+  pub found : map found_by effect.reads ≡ reads_of trail
+  pub sources : map source_of effect.reads ≡ work.sources
+  pub locked : All (λ one. Contains (exclusive_in trail) one.0) effect.writes

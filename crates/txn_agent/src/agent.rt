@@ -1,0 +1,187 @@
+ghost use Rattle.std.specs.Prelude.{◌≡◌, IfOk, IsOk};
+ghost use Rattle.core_access.specs.Sights.{Sight, Counts, Looks};
+ghost use Rattle.script_tree.specs.Programs.{ProgramTree, program_tree};
+ghost use Rattle.promise_spec.specs.Serial.{depth_of as depth_in};
+ghost use Rattle.txn_agent.specs.Linked.{IfOwn, IsNew, Knows};
+ghost use Rattle.txn_agent.specs.Stepping.{Acts, AnswerSays, Hears, children_of};
+ghost use Rattle.txn_agent.specs.Movable.{ShowsMove};
+
+use crate::steps::{hear_child, moves_now, step};
+use crate::work::{Carried, Doing, Work};
+use base_types::{Call, GrainId, List, Origin, UnitNo};
+use core_access::Access;
+use script_check::Checked;
+use script_machine::{Input, Machine};
+use std::alloc::{AllocError, Global};
+use std::mem;
+
+/// What a step of an agent came to.
+#[derive(Drop)]
+pub enum Advanced {
+    /// Another event of the unit applied; or one that the core had shown to be possible in this call was answered otherwise
+    /// when it was put, which only another who makes events, a doubt or a stop can cause.
+    Moved,
+    /// The unit locked the grain, or made its lock exclusive. The version that it found there is the source's.
+    Granted {
+        grain: GrainId,
+        source: UnitNo,
+    },
+    /// A unit of its own began, which is to be carried too: its origin has the number of the units that this one had begun
+    /// before, and this depth.
+    Began {
+        child: UnitNo,
+        call: Call,
+        depth: u16,
+    },
+    /// The lock that the unit asks for is held by younger units in a mode that conflicts, of which this is the oldest.
+    Waits {
+        holder: UnitNo,
+    },
+    /// The unit's child isn't decided.
+    WaitsFor {
+        child: UnitNo,
+    },
+    /// The unit has no event left: it is over and holds no lock, or its end came after a doubt or a stop.
+    Ended,
+}
+
+/// A unit that is carried: its machine, what it holds, and what it asks the core for next.
+///
+/// After want of memory it is only dropped. An event that was put by then stands, and is told as each other one.
+#[derive(Drop)]
+pub struct Agent {
+    carried: Carried,
+    doing: Doing,
+}
+
+impl Agent {
+    /// An agent for a unit that has just begun, of this call: it runs the script to its first pause.
+    pub fn new(
+        alloc: Global,
+        checked: &Checked,
+        unit: UnitNo,
+        origin: Origin,
+        call: Call,
+        plain: bool,
+    ) -> Result<Agent, AllocError>
+        ensures carried { IfOk result (λ agent. agent.carried ≡ record { unit = unit; origin = origin; plain = plain }) }
+        ensures children { IfOk result (λ agent. children_of agent.doing ≡ 0) }
+        ensures knows { IfOk result (λ agent. (s : Sight) → IfOwn agent.carried s (λ r. IsNew (program_tree checked.now) r agent.carried call) → Knows (program_tree checked.now) s agent) }
+    {
+        let asked = call.copy()?;
+        let mut machine = Machine::start(alloc, checked, asked, depth_of(origin))?;
+        let pause = machine.resume(alloc, checked, Input::First)?;
+        let work = Work {
+            call,
+            machine,
+            held: List::new(alloc),
+            sources: List::new(alloc),
+            kids: 0,
+        };
+        Ok(Agent {
+            carried: Carried {
+                unit,
+                origin,
+                plain,
+            },
+            doing: Doing::Asks { work, pause },
+        })
+    }
+
+    /// The unit.
+    pub fn unit(&self) -> UnitNo
+        ensures { result ≡ self.now.carried.unit }
+    {
+        self.carried.unit
+    }
+
+    /// How many units of its own the unit has begun, while it runs: the number of the next one among them.
+    pub fn children(&self) -> u32
+        ensures { result ≡ children_of self.now.doing }
+    {
+        match &self.doing {
+            Doing::Asks { work, .. } => work.kids,
+            Doing::Awaits { work, .. } => work.kids,
+            Doing::Frees { .. } => 0,
+            Doing::Stopped => 0,
+        }
+    }
+
+    /// Hands the script the outcome of the child for which it waits, where the core shows in this call that the child is
+    /// decided, and runs the script to its next pause.
+    pub fn ready<A: Access>(
+        &mut self,
+        alloc: Global,
+        checked: &Checked,
+        access: &mut A,
+    ) -> Result<(), AllocError>
+        requires fit { A.is_fit access.old }
+        requires counts { Counts (A.sight access.old) }
+        requires knows { Knows (program_tree checked.now) (A.sight access.old) self.old }
+        ensures fit { A.is_fit access.new }
+        ensures aside { A.aside access.new ≡ A.aside access.old }
+        ensures carried { self.new.carried ≡ self.old.carried }
+        ensures looked { Looks A.may_come (A.sight access.old) (A.sight access.new) }
+        ensures heard { IfOk result (λ _. Hears (A.sight access.new) self.new.doing) }
+        ensures children { IfOk result (λ _. children_of self.new.doing ≡ children_of self.old.doing) }
+        ensures knows { IfOk result (λ _. Knows (program_tree checked.now) (A.sight access.new) self.new) }
+    {
+        let doing = mem::replace(&mut self.doing, Doing::Stopped);
+        self.doing = hear_child(alloc, checked, access, self.carried, doing)?;
+        Ok(())
+    }
+
+    /// Whether the unit moves, by what was looked at in this call: false where `advance` would answer `Waits`, `WaitsFor` or
+    /// `Ended`. `ready` was called since the last move; else a unit whose child is decided by now is told to move, which it
+    /// does by hearing of it. It takes no memory.
+    pub fn can_move<A: Access>(&self, access: &mut A) -> Result<bool, AllocError>
+        requires fit { A.is_fit access.old }
+        ensures fit { A.is_fit access.new }
+        ensures aside { A.aside access.new ≡ A.aside access.old }
+        ensures looked { Looks A.may_come (A.sight access.old) (A.sight access.new) }
+        ensures sure { IsOk result }
+        ensures moves { IfOk result (λ b. (types : ProgramTree) → Counts (A.sight access.old) → Knows types (A.sight access.old) self.now → IfOwn self.now.carried (A.sight access.new) (λ r. ShowsMove types r self.now.carried self.now.doing b)) }
+    {
+        let moves = moves_now(access, self.carried, &self.doing)?;
+        Ok(moves)
+    }
+
+    /// Goes on by at most one event of the unit.
+    pub fn advance<A: Access>(
+        &mut self,
+        alloc: Global,
+        checked: &Checked,
+        access: &mut A,
+    ) -> Result<Advanced, AllocError>
+        requires fit { A.is_fit access.old }
+        requires counts { Counts (A.sight access.old) }
+        requires knows { Knows (program_tree checked.now) (A.sight access.old) self.old }
+        ensures fit { A.is_fit access.new }
+        ensures aside { A.aside access.new ≡ A.aside access.old }
+        ensures carried { self.new.carried ≡ self.old.carried }
+
+        // What was put stands where memory was wanting too.
+        ensures acts { Acts A.may_come (program_tree checked.now) self.old.carried.unit (A.sight access.old) (A.sight access.new) }
+        ensures told { IfOk result (λ advanced. AnswerSays A.may_come (program_tree checked.now) self.old.carried.unit (children_of self.old.doing) (A.sight access.old) (A.sight access.new) advanced) }
+        ensures knows { IfOk result (λ _. Knows (program_tree checked.now) (A.sight access.new) self.new) }
+    {
+        let doing = mem::replace(&mut self.doing, Doing::Stopped);
+        let (doing, advanced) = step(alloc, checked, access, self.carried, doing)?;
+        self.doing = doing;
+        Ok(advanced)
+    }
+}
+
+/// The depth of a unit's first frame.
+fn depth_of(origin: Origin) -> u16
+    ensures { result ≡ depth_in origin }
+{
+    match origin {
+        Origin::Line(_line) => 1,
+        Origin::Child {
+            parent: _parent,
+            index: _index,
+            depth,
+        } => depth,
+    }
+}

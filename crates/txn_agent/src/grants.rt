@@ -1,0 +1,114 @@
+ghost use Rattle.std.specs.Prelude.{◌≡◌, IfOk, false, true};
+ghost use Rattle.core_model.specs.declared.questions.AskAnswer.TheVariants.{Free as IsFree};
+ghost use Rattle.core_model.specs.Legal.{ends};
+ghost use Rattle.core_model.specs.Tests.{ask};
+ghost use Rattle.core_access.specs.Sights.{run_seen, Counts};
+ghost use Rattle.script_tree.specs.Programs.{program_tree};
+ghost use Rattle.script_machine.specs.Machines.{asks_raise, rest};
+ghost use Rattle.script_machine.specs.declared.machine.Pause.TheVariants.{NeedGrain};
+ghost use Rattle.txn_agent.specs.Linked.{KnowsPaused, KnowsDoing};
+ghost use Rattle.txn_agent.specs.Stepping.{Acts, AnswerSays};
+
+use crate::agent::Advanced;
+use crate::work::{Carried, Doing, Work};
+use base_types::{GrainId, Mode};
+use core_access::Access;
+use core_model::{CoreEvent, CoreReply};
+use script_check::Checked;
+use script_machine::{Input, Pause};
+use std::alloc::{AllocError, Global};
+
+/// Locks a grain for the first time, and hands its state to the unit's script.
+pub fn grant_first<A: Access>(
+    alloc: Global,
+    checked: &Checked,
+    access: &mut A,
+    carried: Carried,
+    work: Work,
+    grain: GrainId,
+    mode: Mode,
+) -> Result<(Doing, Advanced), AllocError>
+    requires fit { A.is_fit access.old }
+    requires counts { Counts (A.sight access.old) }
+    requires paused { KnowsPaused (program_tree checked.now) (A.sight access.old) carried work (NeedGrain grain mode) }
+    requires first { asks_raise (rest (program_tree checked.now) work.machine) ≡ false }
+    requires free { ask (ends (run_seen (A.sight access.old))) carried.unit grain mode ≡ IsFree }
+    ensures fit { A.is_fit access.new }
+    ensures aside { A.aside access.new ≡ A.aside access.old }
+    ensures acts { Acts A.may_come (program_tree checked.now) carried.unit (A.sight access.old) (A.sight access.new) }
+    ensures told { IfOk result (λ made. AnswerSays A.may_come (program_tree checked.now) carried.unit work.kids (A.sight access.old) (A.sight access.new) made.1) }
+    ensures doing { IfOk result (λ made. KnowsDoing (program_tree checked.now) (A.sight access.new) carried made.0) }
+{
+    let reply = match access.put(CoreEvent::Grant {
+        unit: carried.unit,
+        grain,
+        mode,
+    }) {
+        Ok(reply) => reply,
+        Err(_) => return Err(AllocError),
+    };
+    match reply {
+        CoreReply::Granted { state, source } => {
+            let mut work = work;
+            work.held.push(grain)?;
+            work.sources.push(source)?;
+            let pause = work.machine.resume(alloc, checked, Input::Grain { state })?;
+            Ok((
+                Doing::Asks { work, pause },
+                Advanced::Granted { grain, source },
+            ))
+        }
+        _ => {
+            let pause = Pause::NeedGrain { grain, mode };
+            Ok((Doing::Asks { work, pause }, Advanced::Moved))
+        }
+    }
+}
+
+/// Makes a shared lock exclusive.
+pub fn grant_again<A: Access>(
+    alloc: Global,
+    checked: &Checked,
+    access: &mut A,
+    carried: Carried,
+    work: Work,
+    grain: GrainId,
+    mode: Mode,
+) -> Result<(Doing, Advanced), AllocError>
+    requires fit { A.is_fit access.old }
+    requires counts { Counts (A.sight access.old) }
+    requires paused { KnowsPaused (program_tree checked.now) (A.sight access.old) carried work (NeedGrain grain mode) }
+    requires again { asks_raise (rest (program_tree checked.now) work.machine) ≡ true }
+    requires free { ask (ends (run_seen (A.sight access.old))) carried.unit grain mode ≡ IsFree }
+    ensures fit { A.is_fit access.new }
+    ensures aside { A.aside access.new ≡ A.aside access.old }
+    ensures acts { Acts A.may_come (program_tree checked.now) carried.unit (A.sight access.old) (A.sight access.new) }
+    ensures told { IfOk result (λ made. AnswerSays A.may_come (program_tree checked.now) carried.unit work.kids (A.sight access.old) (A.sight access.new) made.1) }
+    ensures doing { IfOk result (λ made. KnowsDoing (program_tree checked.now) (A.sight access.new) carried made.0) }
+{
+    let reply = match access.put(CoreEvent::Grant {
+        unit: carried.unit,
+        grain,
+        mode,
+    }) {
+        Ok(reply) => reply,
+        Err(_) => return Err(AllocError),
+    };
+    match reply {
+        CoreReply::Granted {
+            state: _state,
+            source,
+        } => {
+            let mut work = work;
+            let pause = work.machine.resume(alloc, checked, Input::Held)?;
+            Ok((
+                Doing::Asks { work, pause },
+                Advanced::Granted { grain, source },
+            ))
+        }
+        _ => {
+            let pause = Pause::NeedGrain { grain, mode };
+            Ok((Doing::Asks { work, pause }, Advanced::Moved))
+        }
+    }
+}

@@ -1,0 +1,107 @@
+ghost use Rattle.std.specs.Prelude.{◌≡◌, IfOk, is_some, true};
+ghost use Rattle.core_model.specs.Changes.{refusal};
+ghost use Rattle.core_model.specs.Legal.{ends};
+ghost use Rattle.core_model.specs.Tests.{ask};
+ghost use Rattle.core_access.specs.Sights.{run_seen, Counts};
+ghost use Rattle.script_tree.specs.Programs.{program_tree};
+ghost use Rattle.script_machine.specs.declared.machine.Pause.TheVariants.{NeedGrain};
+ghost use Rattle.txn_agent.specs.Linked.{KnowsPaused, KnowsDoing};
+ghost use Rattle.txn_agent.specs.Stepping.{Acts, AnswerSays};
+
+use crate::agent::Advanced;
+use crate::grants::{grant_again, grant_first};
+use crate::looks::ask_for;
+use crate::work::{Carried, Doing, Work};
+use base_types::{GrainId, Mode};
+use core_access::Access;
+use core_model::{AskAnswer, CoreEvent, CoreReply};
+use script_check::Checked;
+use script_machine::Pause;
+use std::alloc::{AllocError, Global};
+
+/// Refuses a lock that the unit asks for. Then its locks are to be given back.
+fn refuse<A: Access>(
+    checked: &Checked,
+    access: &mut A,
+    carried: Carried,
+    work: Work,
+    grain: GrainId,
+    mode: Mode,
+) -> Result<(Doing, Advanced), AllocError>
+    requires fit { A.is_fit access.old }
+    requires counts { Counts (A.sight access.old) }
+    requires paused { KnowsPaused (program_tree checked.now) (A.sight access.old) carried work (NeedGrain grain mode) }
+    requires barred { is_some (refusal grain (ask (ends (run_seen (A.sight access.old))) carried.unit grain mode)) ≡ true }
+    ensures fit { A.is_fit access.new }
+    ensures aside { A.aside access.new ≡ A.aside access.old }
+    ensures acts { Acts A.may_come (program_tree checked.now) carried.unit (A.sight access.old) (A.sight access.new) }
+    ensures told { IfOk result (λ made. AnswerSays A.may_come (program_tree checked.now) carried.unit work.kids (A.sight access.old) (A.sight access.new) made.1) }
+    ensures doing { IfOk result (λ made. KnowsDoing (program_tree checked.now) (A.sight access.new) carried made.0) }
+{
+    let reply = match access.put(CoreEvent::Refuse {
+        unit: carried.unit,
+        grain,
+        mode,
+    }) {
+        Ok(reply) => reply,
+        Err(_) => return Err(AllocError),
+    };
+    match reply {
+        CoreReply::Done => Ok((Doing::Frees { held: work.held }, Advanced::Moved)),
+        _ => {
+            let pause = Pause::NeedGrain { grain, mode };
+            Ok((Doing::Asks { work, pause }, Advanced::Moved))
+        }
+    }
+}
+
+/// Asks for a grain: locks it where it is free, and refuses it where the unit must die or has read what is gone.
+pub fn take_grain<A: Access>(
+    alloc: Global,
+    checked: &Checked,
+    access: &mut A,
+    carried: Carried,
+    work: Work,
+    grain: GrainId,
+    mode: Mode,
+) -> Result<(Doing, Advanced), AllocError>
+    requires fit { A.is_fit access.old }
+    requires counts { Counts (A.sight access.old) }
+    requires paused { KnowsPaused (program_tree checked.now) (A.sight access.old) carried work (NeedGrain grain mode) }
+    ensures fit { A.is_fit access.new }
+    ensures aside { A.aside access.new ≡ A.aside access.old }
+    ensures acts { Acts A.may_come (program_tree checked.now) carried.unit (A.sight access.old) (A.sight access.new) }
+    ensures told { IfOk result (λ made. AnswerSays A.may_come (program_tree checked.now) carried.unit work.kids (A.sight access.old) (A.sight access.new) made.1) }
+    ensures doing { IfOk result (λ made. KnowsDoing (program_tree checked.now) (A.sight access.new) carried made.0) }
+{
+    match ask_for(access, carried.unit, grain, mode)? {
+        AskAnswer::Free => {
+            if work.machine.is_raise() {
+                return grant_again(alloc, checked, access, carried, work, grain, mode);
+            }
+            return grant_first(alloc, checked, access, carried, work, grain, mode);
+        }
+        AskAnswer::MustWait { holder } => {
+            let pause = Pause::NeedGrain { grain, mode };
+            return Ok((Doing::Asks { work, pause }, Advanced::Waits { holder }));
+        }
+        AskAnswer::MustDie { holder: _holder } => {
+            return refuse(checked, access, carried, work, grain, mode);
+        }
+        AskAnswer::Doomed { source: _source } => {
+            return refuse(checked, access, carried, work, grain, mode);
+        }
+        AskAnswer::NotActive => {
+            let pause = Pause::NeedGrain { grain, mode };
+            return Ok((Doing::Asks { work, pause }, Advanced::Moved));
+        }
+        AskAnswer::Held => {
+            let pause = Pause::NeedGrain { grain, mode };
+            return Ok((Doing::Asks { work, pause }, Advanced::Moved));
+        }
+        AskAnswer::Absent => {
+            let pause = Pause::NeedGrain { grain, mode };
+            return Ok((Doing::Asks { work, pause }, Advanced::Moved));
+        }
+    }
+}

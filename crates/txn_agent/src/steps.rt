@@ -1,0 +1,156 @@
+ghost use Rattle.std.specs.Prelude.{◌≡◌, IfOk, IsOk};
+ghost use Rattle.core_access.specs.Sights.{Counts, Looks};
+ghost use Rattle.script_tree.specs.Programs.{ProgramTree, program_tree};
+ghost use Rattle.promise_spec.specs.TurnRule.{is_wait};
+ghost use Rattle.txn_agent.specs.Linked.{IfOwn, KnowsPaused, KnowsDoing};
+ghost use Rattle.txn_agent.specs.Stepping.{Acts, AnswerSays, Hears, children_of};
+ghost use Rattle.txn_agent.specs.Movable.{ShowsMove};
+
+use crate::agent::Advanced;
+use crate::children::{begin_child, hear};
+use crate::ends::{end_plain, finish, release};
+use crate::locks::take_grain;
+use crate::looks::{ask_for, is_decided};
+use crate::work::{Carried, Doing, Work};
+use core_access::Access;
+use core_model::AskAnswer;
+use script_check::Checked;
+use script_machine::Pause;
+use std::alloc::{AllocError, Global};
+
+/// Hands the script the outcome of the child for which it waits, where the child is decided.
+pub fn hear_child<A: Access>(
+    alloc: Global,
+    checked: &Checked,
+    access: &mut A,
+    carried: Carried,
+    doing: Doing,
+) -> Result<Doing, AllocError>
+    requires fit { A.is_fit access.old }
+    requires counts { Counts (A.sight access.old) }
+    requires doing { KnowsDoing (program_tree checked.now) (A.sight access.old) carried doing }
+    ensures fit { A.is_fit access.new }
+    ensures aside { A.aside access.new ≡ A.aside access.old }
+    ensures looked { Looks A.may_come (A.sight access.old) (A.sight access.new) }
+    ensures heard { IfOk result (λ made. Hears (A.sight access.new) made) }
+    ensures children { IfOk result (λ made. children_of made ≡ children_of doing) }
+    ensures doing { IfOk result (λ made. KnowsDoing (program_tree checked.now) (A.sight access.new) carried made) }
+{
+    match doing {
+        Doing::Awaits { work, child } => {
+            return hear(alloc, checked, access, carried, work, child);
+        }
+        Doing::Asks { work, pause } => return Ok(Doing::Asks { work, pause }),
+        Doing::Frees { held } => return Ok(Doing::Frees { held }),
+        Doing::Stopped => return Ok(Doing::Stopped),
+    }
+}
+
+/// Does what the script asks for.
+fn do_asked<A: Access>(
+    alloc: Global,
+    checked: &Checked,
+    access: &mut A,
+    carried: Carried,
+    work: Work,
+    pause: Pause,
+) -> Result<(Doing, Advanced), AllocError>
+    requires fit { A.is_fit access.old }
+    requires counts { Counts (A.sight access.old) }
+    requires paused { KnowsPaused (program_tree checked.now) (A.sight access.old) carried work pause }
+    ensures fit { A.is_fit access.new }
+    ensures aside { A.aside access.new ≡ A.aside access.old }
+    ensures acts { Acts A.may_come (program_tree checked.now) carried.unit (A.sight access.old) (A.sight access.new) }
+    ensures told { IfOk result (λ made. AnswerSays A.may_come (program_tree checked.now) carried.unit work.kids (A.sight access.old) (A.sight access.new) made.1) }
+    ensures doing { IfOk result (λ made. KnowsDoing (program_tree checked.now) (A.sight access.new) carried made.0) }
+{
+    match pause {
+        Pause::NeedGrain { grain, mode } => {
+            return take_grain(alloc, checked, access, carried, work, grain, mode);
+        }
+        Pause::NeedUnit { call, depth } => {
+            return begin_child(checked, access, carried, work, call, depth);
+        }
+        Pause::Done { outcome } => {
+            if carried.plain {
+                return end_plain(alloc, checked, access, carried, work, outcome);
+            }
+            return finish(alloc, checked, access, carried, work, outcome);
+        }
+    }
+}
+
+/// Goes on by at most one event of the unit.
+pub fn step<A: Access>(
+    alloc: Global,
+    checked: &Checked,
+    access: &mut A,
+    carried: Carried,
+    doing: Doing,
+) -> Result<(Doing, Advanced), AllocError>
+    requires fit { A.is_fit access.old }
+    requires counts { Counts (A.sight access.old) }
+    requires doing { KnowsDoing (program_tree checked.now) (A.sight access.old) carried doing }
+    ensures fit { A.is_fit access.new }
+    ensures aside { A.aside access.new ≡ A.aside access.old }
+    ensures acts { Acts A.may_come (program_tree checked.now) carried.unit (A.sight access.old) (A.sight access.new) }
+    ensures told { IfOk result (λ made. AnswerSays A.may_come (program_tree checked.now) carried.unit (children_of doing) (A.sight access.old) (A.sight access.new) made.1) }
+    ensures doing { IfOk result (λ made. KnowsDoing (program_tree checked.now) (A.sight access.new) carried made.0) }
+{
+    match hear_child(alloc, checked, access, carried, doing)? {
+        Doing::Asks { work, pause } => {
+            return do_asked(alloc, checked, access, carried, work, pause);
+        }
+        Doing::Awaits { work, child } => {
+            return Ok((Doing::Awaits { work, child }, Advanced::WaitsFor { child }));
+        }
+        Doing::Frees { held } => return release(checked, access, carried, held),
+        Doing::Stopped => return Ok((Doing::Stopped, Advanced::Ended)),
+    }
+}
+
+/// Whether the answer says that the unit must wait.
+fn must_wait(answer: AskAnswer) -> bool
+    ensures { result ≡ is_wait answer }
+{
+    match answer {
+        AskAnswer::MustWait { holder: _holder } => true,
+        AskAnswer::Free => false,
+        AskAnswer::MustDie { holder: _holder } => false,
+        AskAnswer::Doomed { source: _source } => false,
+        AskAnswer::NotActive => false,
+        AskAnswer::Held => false,
+        AskAnswer::Absent => false,
+    }
+}
+
+/// Whether the unit moves, by what was looked at in this call.
+pub fn moves_now<A: Access>(
+    access: &mut A,
+    carried: Carried,
+    doing: &Doing,
+) -> Result<bool, AllocError>
+    requires fit { A.is_fit access.old }
+    ensures fit { A.is_fit access.new }
+    ensures aside { A.aside access.new ≡ A.aside access.old }
+    ensures looked { Looks A.may_come (A.sight access.old) (A.sight access.new) }
+    ensures sure { IsOk result }
+    ensures moves { IfOk result (λ b. (types : ProgramTree) → Counts (A.sight access.old) → KnowsDoing types (A.sight access.old) carried doing.now → IfOwn carried (A.sight access.new) (λ r. ShowsMove types r carried doing.now b)) }
+{
+    match doing {
+        Doing::Asks { pause, .. } => match pause {
+            Pause::NeedGrain { grain, mode } => {
+                let answer = ask_for(access, carried.unit, *grain, *mode)?;
+                return Ok(!must_wait(answer));
+            }
+            Pause::NeedUnit { .. } => return Ok(true),
+            Pause::Done { .. } => return Ok(true),
+        },
+        Doing::Awaits { child, .. } => {
+            let decided = is_decided(access, *child)?;
+            return Ok(decided);
+        }
+        Doing::Frees { held } => return Ok(!held.is_empty()),
+        Doing::Stopped => return Ok(false),
+    }
+}
