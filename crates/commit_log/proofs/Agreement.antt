@@ -17,7 +17,7 @@ use Rattle.field_codec.proofs.Readers.{Reads, past, ok_is}
 use Rattle.field_codec.proofs.Counts.{reads16, reads32}
 use Rattle.field_codec.proofs.Things.{origin_reads, result_reads}
 use Rattle.commit_log.specs.declared.records.CommitRecord.{CommitRecord}
-use Rattle.commit_log.specs.Bodies.{HasNumbers, IsRecordIn, IsBody}
+use Rattle.commit_log.specs.Bodies.{HasNumbers, IsRecordIn, IsBlockBody}
 use Rattle.commit_log.specs.Fields.{call_in, answers_at, writes_in, record_in, records_in, body_in}
 use Rattle.commit_log.specs.Agreement.{IsNoUnitAt, Agrees}
 use Rattle.commit_log.proofs.Fields.{call_reads, answers_read, writes_reads, record_reads}
@@ -218,5 +218,5 @@ numbered : (shape : Shape) (records : List CommitRecord) → AllByRecursion (IsR
 numbered shape [] each all = tt
 numbered shape (r ∷ rs) each all = (record { fits = each.0.fits; units = all.0; call = each.0.call; writes = each.0.writes }, numbered shape rs each.1 all.1)
 
-pub body_is_logged : (shape : Shape) (records : List CommitRecord) (body : List ℕ) → IsBody Free shape records body → AllByRecursion (HasNumbers Logged) records → IsBody Logged shape records body
+pub body_is_logged : (shape : Shape) (records : List CommitRecord) (body : List ℕ) → IsBlockBody Free shape records body → AllByRecursion (HasNumbers Logged) records → IsBlockBody Logged shape records body
 body_is_logged shape records body is all = record { count = is.count; each = numbered shape records is.each all; spelled = is.spelled }

@@ -21,20 +21,20 @@ use Rattle.commit_log.specs.declared.records.Written.{Written}
 use Rattle.commit_log.specs.declared.records.CommitRecord.{CommitRecord}
 use Rattle.commit_log.specs.Orders.{is_above, grain_after, IsAscending}
 use Rattle.commit_log.specs.Spelling.{spelling_of_grain, spelling_of_write, WriteFits, WritesFit, AnswersFit, spelling_of_record, spelling_of_body}
-use Rattle.commit_log.specs.Bodies.{params_in, IsType, IsCallIn, IsRecordIn}
+use Rattle.commit_log.specs.Bodies.{params_in, IsShapeType, IsCallIn, IsRecordIn}
 use Rattle.commit_log.specs.Fields.{grain_in, call_in, write_in, writes_in, answers_at, record_in, records_in}
 
 module _ (shape : Shape) where
   -- ---- grains
 
   abbrev pub GrainFitsIn : GrainId → Type 0
-  GrainFitsIn grain = (grain.kind < 2 ^ 16) × ((grain.key < 2 ^ 32) × IsType shape grain.kind)
+  GrainFitsIn grain = (grain.kind < 2 ^ 16) × ((grain.key < 2 ^ 32) × IsShapeType shape grain.kind)
 
-  grain_behind : (kind from : ℕ) → Reads from (λ (g : GrainId). Any g × (g.kind ≡ kind)) (λ g. to_le_bytes w32 g.key) (λ g. (g.key < 2 ^ 32) × IsType shape g.kind)
+  grain_behind : (kind from : ℕ) → Reads from (λ (g : GrainId). Any g × (g.kind ≡ kind)) (λ g. to_le_bytes w32 g.key) (λ g. (g.key < 2 ^ 32) × IsShapeType shape g.kind)
       (choice (ltb kind (length shape.types)) (field (number_at w32) λ key here. whole (record { kind = kind; key = key })) (refused (Unknown from)))
   grain_behind kind from =
       let P : GrainId → Type 0 = λ g. Any g × (g.kind ≡ kind) in
-      let Fits : GrainId → Type 0 = λ g. (g.key < 2 ^ 32) × IsType shape g.kind in
+      let Fits : GrainId → Type 0 = λ g. (g.key < 2 ^ 32) × IsShapeType shape g.kind in
       choose from P (λ g. to_le_bytes w32 g.key) Fits (ltb kind (length shape.types)) _ _
       (λ there. said from P P (λ g. to_le_bytes w32 g.key ++ []) (λ g. to_le_bytes w32 g.key) (λ g. (g.key < 2 ^ 32) × Unit {0}) Fits _ (λ g p. p) (λ g p. p) (λ g p. simp append-nil)
       (λ g p fits. (fits.0, subst (λ (k : ℕ). k < length shape.types) (sym p.1) (ltb-true _ _ there))) (λ g p fits. (fits.0, tt))
@@ -44,7 +44,7 @@ module _ (shape : Shape) where
 
   pub grain_reads : (low : ℕ) → Reads low Any spelling_of_grain GrainFitsIn (grain_in shape)
   unfolding grain_in
-  grain_reads low = then (λ (g : GrainId). g.kind) (to_le_bytes w16) (λ n. n < 2 ^ 16) (number_at w16) low Any (λ g. to_le_bytes w32 g.key) (λ g. (g.key < 2 ^ 32) × IsType shape g.kind) _ (reads16 low) grain_behind
+  grain_reads low = then (λ (g : GrainId). g.kind) (to_le_bytes w16) (λ n. n < 2 ^ 16) (number_at w16) low Any (λ g. to_le_bytes w32 g.key) (λ g. (g.key < 2 ^ 32) × IsShapeType shape g.kind) _ (reads16 low) grain_behind
 
 -- ---- calls
 
@@ -91,7 +91,7 @@ module _ (shape : Shape) where
   -- ---- writes
 
   abbrev WriteFitsIn : Option GrainId → Written → Type 0
-  WriteFitsIn last w = WriteFits w × (IsType shape w.grain.kind × (is_above last w.grain ≡ true))
+  WriteFitsIn last w = WriteFits w × (IsShapeType shape w.grain.kind × (is_above last w.grain ≡ true))
 
   abbrev place_bytes : Written → List ℕ
   place_bytes w = to_le_bytes w64 w.place.offset ++ to_le_bytes w32 w.place.len
@@ -124,7 +124,7 @@ module _ (shape : Shape) where
       (then (λ (w : Written). w.grain) spelling_of_grain (GrainFitsIn shape) (grain_in shape) low Any place_bytes (PlaceFits last) _ (grain_reads shape low) (write_behind last))
 
   abbrev AreTypes : List Written → Type 0
-  AreTypes ws = AllByRecursion (λ w. IsType shape w.grain.kind) ws
+  AreTypes ws = AllByRecursion (λ w. IsShapeType shape w.grain.kind) ws
 
   chained_into : (last : Option GrainId) (ws : List Written) → Chained WriteFitsIn grain_after last ws → AllByRecursion WriteFits ws × AreTypes ws × IsAscending last ws
   chained_into last [] fits = (tt, tt, tt)

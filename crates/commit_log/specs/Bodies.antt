@@ -18,12 +18,12 @@ abbrev pub params_in : Shape → ℕ → ℕ → Option ℕ
 params_in shape kind method = params_of (slice_get shape.types kind) method
 
 -- the program has this type
-abbrev pub IsType : Shape → ℕ → Type 0
-IsType shape kind = kind < length shape.types
+abbrev pub IsShapeType : Shape → ℕ → Type 0
+IsShapeType shape kind = kind < length shape.types
 
 -- the program's method of this type and number has as many parameters as the call has arguments
 abbrev pub IsCallIn : Shape → Call → Type 0
-IsCallIn shape call = IsType shape call.grain.kind × (params_in shape call.grain.kind call.method ≡ Some (length call.args))
+IsCallIn shape call = IsShapeType shape call.grain.kind × (params_in shape call.grain.kind call.method ≡ Some (length call.args))
 
 -- the unit's number, and its parent's where it has one, are ones that are taken
 pub record HasNumbers (numbers : Numbers) (r : CommitRecord) : Type 0 where
@@ -35,10 +35,10 @@ pub record IsRecordIn (numbers : Numbers) (shape : Shape) (r : CommitRecord) : T
   pub fits : RecordFits r
   pub units : HasNumbers numbers r
   pub call : IsCallIn shape r.call
-  pub writes : AllByRecursion (λ write. IsType shape write.grain.kind) r.writes
+  pub writes : AllByRecursion (λ write. IsShapeType shape write.grain.kind) r.writes
 
 -- the bytes are the body of these records, and nothing follows them
-pub record IsBody (numbers : Numbers) (shape : Shape) (records : List CommitRecord) (body : List ℕ) : Type 0 where
+pub record IsBlockBody (numbers : Numbers) (shape : Shape) (records : List CommitRecord) (body : List ℕ) : Type 0 where
   pub count : length records ≤ 64
   pub each : AllByRecursion (IsRecordIn numbers shape) records
   pub spelled : body ≡ spelling_of_body records

@@ -54,7 +54,7 @@ DoubtAs NotSealed bodies body gate block old new = Unit {0}
 DoubtAs InDoubt bodies body gate block old new = StaysClosed bodies gate block old new ⊎ SomeLogs (bodies ++ body ∷ []) (gate + length block) manager new.disk
 
 -- Over every host. Sealed: the next gate is the block's last byte, and no call failed. Otherwise a call on the manager file did.
-abbrev pub HasCause : Sealing → ℕ → ℕ → (Channel → ℕ) → (Channel → ℕ) → Type 0
-HasCause (Sealed next) gate size old new = (next ≡ gate + size) × ((next < 2 ^ 63) × NoneFailed old new)
-HasCause NotSealed gate size old new = FailedOn (File manager) old new
-HasCause InDoubt gate size old new = FailedOn (File manager) old new
+abbrev pub SealHasCause : Sealing → ℕ → ℕ → (Channel → ℕ) → (Channel → ℕ) → Type 0
+SealHasCause (Sealed next) gate size old new = (next ≡ gate + size) × ((next < 2 ^ 63) × NoneFailed old new)
+SealHasCause NotSealed gate size old new = FailedOn (File manager) old new
+SealHasCause InDoubt gate size old new = FailedOn (File manager) old new

@@ -2,9 +2,9 @@ ghost use Rattle.std.specs.Prelude.{◌≡◌, ◌≤◌, List, length, IfOk, If
 ghost use Rattle.std.specs.Int.{w32};
 ghost use Rattle.field_codec.specs.Reading.{times, count_at};
 ghost use Rattle.field_codec.specs.Fields.{answer_at};
-ghost use Rattle.field_codec.specs.Results.{Gives, place_of};
+ghost use Rattle.field_codec.specs.Results.{GivesRead, place_of};
 ghost use Rattle.field_codec.specs.declared.units.Numbers.TheVariants.{Free, Logged};
-ghost use Rattle.commit_log.specs.Bodies.{IsBody};
+ghost use Rattle.commit_log.specs.Bodies.{IsBlockBody};
 ghost use Rattle.commit_log.specs.Fields.{answers_at, record_in, records_in, body_in};
 ghost use Rattle.commit_log.specs.declared.records.CommitRecord.{CommitRecord as Record};
 
@@ -24,7 +24,7 @@ fn answers_there(
     at: usize,
     count: u16,
 ) -> Result<(List<Outcome>, usize), CodecFault>
-    ensures { Gives result (times answer_at count bytes.now at) }
+    ensures { GivesRead result (times answer_at count bytes.now at) }
 {
     let mut answers = List::new(alloc);
     let mut place = at;
@@ -39,7 +39,7 @@ fn answers_there(
 // The answers that stand at a place, at most 64.
 #[tactic(auto, unfolding(field_codec::specs::Reading::list_at, field_codec::specs::Reading::field))]
 fn get_answers(alloc: Global, bytes: &[u8], at: usize) -> Result<(List<Outcome>, usize), CodecFault>
-    ensures { Gives result (answers_at bytes.now at) }
+    ensures { GivesRead result (answers_at bytes.now at) }
 {
     let (count, after) = get_count(bytes, at, 64)?;
     let (answers, after) = answers_there(alloc, bytes, after, count)?;
@@ -55,7 +55,7 @@ fn get_record(
     shape: &Shape,
     numbers: Numbers,
 ) -> Result<(CommitRecord, usize), CodecFault>
-    ensures { Gives result (record_in numbers shape.now bytes.now at) }
+    ensures { GivesRead result (record_in numbers shape.now bytes.now at) }
 {
     let (unit, after) = get_unit(bytes, at, numbers)?;
     let (origin, after) = get_origin(bytes, after, numbers)?;
@@ -84,7 +84,7 @@ fn records_there(
     numbers: Numbers,
     count: u32,
 ) -> Result<(List<CommitRecord>, usize), CodecFault>
-    ensures { Gives result (times (record_in numbers shape.now) count bytes.now at) }
+    ensures { GivesRead result (times (record_in numbers shape.now) count bytes.now at) }
 {
     let mut records = List::new(alloc);
     let mut place = at;
@@ -99,7 +99,7 @@ fn records_there(
 // How many records the body has, at most 64.
 #[tactic(auto, unfolding(field_codec::specs::Reading::count_at, field_codec::specs::Reading::field, field_codec::specs::Reading::choice, field_codec::specs::Reading::refused, field_codec::specs::Reading::whole))]
 fn record_count(body: &[u8]) -> Result<(u32, usize), CodecFault>
-    ensures { Gives result (count_at w32 64 body.now 0) }
+    ensures { GivesRead result (count_at w32 64 body.now 0) }
 {
     let (count, after) = get_u32(body, 0)?;
     if count > 64 {
@@ -118,7 +118,7 @@ fn get_body(
     shape: &Shape,
     numbers: Numbers,
 ) -> Result<List<CommitRecord>, CodecFault>
-    ensures { Gives result (body_in numbers shape.now body.now) }
+    ensures { GivesRead result (body_in numbers shape.now body.now) }
 {
     let (count, after) = record_count(body)?;
     let (records, end) = records_there(alloc, body, after, shape, numbers, count)?;
@@ -137,11 +137,11 @@ pub fn decode_body(
     shape: &Shape,
 ) -> Result<List<CommitRecord>, CodecFault>
     // It answers records exactly for the bodies of the grammar.
-    ensures found { IfOk result (λ records. IsBody Free shape.now records body.now) }
-    ensures only { (records : List Record) → IsBody Free shape.now records body.now → Gives result (Ok records) }
+    ensures found { IfOk result (λ records. IsBlockBody Free shape.now records body.now) }
+    ensures only { (records : List Record) → IsBlockBody Free shape.now records body.now → GivesRead result (Ok records) }
 
     // Else it answers the first fault, which names a place in the body or its end.
-    ensures exact { Gives result (body_in Free shape.now body.now) }
+    ensures exact { GivesRead result (body_in Free shape.now body.now) }
     ensures within { IfErr result (λ fault. place_of fault ≤ length body.now) }
 {
     get_body(alloc, body, shape, Numbers::Free)
@@ -156,11 +156,11 @@ pub fn read_records(
     shape: &Shape,
 ) -> Result<List<CommitRecord>, CodecFault>
     // It answers records exactly for the bodies of the grammar with such numbers alone.
-    ensures found { IfOk result (λ records. IsBody Logged shape.now records body.now) }
-    ensures only { (records : List Record) → IsBody Logged shape.now records body.now → Gives result (Ok records) }
+    ensures found { IfOk result (λ records. IsBlockBody Logged shape.now records body.now) }
+    ensures only { (records : List Record) → IsBlockBody Logged shape.now records body.now → GivesRead result (Ok records) }
 
     // Else it answers the first fault, which names a place in the body or its end.
-    ensures exact { Gives result (body_in Logged shape.now body.now) }
+    ensures exact { GivesRead result (body_in Logged shape.now body.now) }
     ensures within { IfErr result (λ fault. place_of fault ≤ length body.now) }
 {
     get_body(alloc, body, shape, Numbers::Logged)

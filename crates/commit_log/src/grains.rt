@@ -1,5 +1,5 @@
 ghost use Rattle.std.specs.Prelude.{◌≡◌};
-ghost use Rattle.field_codec.specs.Results.{Gives};
+ghost use Rattle.field_codec.specs.Results.{GivesRead};
 ghost use Rattle.commit_log.specs.Bodies.{params_in};
 ghost use Rattle.commit_log.specs.Fields.{grain_in, call_in};
 
@@ -10,7 +10,7 @@ use std::alloc::Global;
 /// The grain that stands at a place. `Unknown` names the type's place where the program has no such type.
 #[tactic(auto, unfolding(crate::specs::Fields::grain_in, field_codec::specs::Reading::field, field_codec::specs::Reading::choice, field_codec::specs::Reading::refused, field_codec::specs::Reading::whole))]
 pub fn get_grain(bytes: &[u8], at: usize, shape: &Shape) -> Result<(GrainId, usize), CodecFault>
-    ensures { Gives result (grain_in shape.now bytes.now at) }
+    ensures { GivesRead result (grain_in shape.now bytes.now at) }
 {
     let (kind, after) = get_u16(bytes, at)?;
     if (kind as usize) < shape.types.len() {
@@ -38,7 +38,7 @@ pub fn get_call_in(
     at: usize,
     shape: &Shape,
 ) -> Result<(Call, usize), CodecFault>
-    ensures { Gives result (call_in shape.now bytes.now at) }
+    ensures { GivesRead result (call_in shape.now bytes.now at) }
 {
     let (grain, place) = get_grain(bytes, at, shape)?;
     let (method, after) = get_u16(bytes, place)?;

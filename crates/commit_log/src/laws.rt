@@ -4,7 +4,7 @@ ghost use Rattle.base_types.specs.declared.shapes.Shape.{Shape};
 ghost use Rattle.field_codec.specs.Apart.{AreApart};
 ghost use Rattle.field_codec.specs.declared.units.Numbers.TheVariants.{Free, Logged};
 ghost use Rattle.commit_log.specs.Spelling.{spelling_of_write, WriteFits, spelling_of_record, RecordFits, spelling_of_body, spelling_of_block, RecordsFit};
-ghost use Rattle.commit_log.specs.Bodies.{HasNumbers, IsBody};
+ghost use Rattle.commit_log.specs.Bodies.{HasNumbers, IsBlockBody};
 ghost use Rattle.commit_log.specs.Fields.{body_in};
 ghost use Rattle.commit_log.specs.Agreement.{Agrees};
 ghost use Rattle.commit_log.specs.declared.records.CommitRecord.{CommitRecord as Record};
@@ -22,8 +22,8 @@ pub fn spellings_are_apart()
 /// unit's number of a log. A body that `decode_body` takes, and whose units' and parents' numbers are a log's, is read by both.
 pub fn readings_agree()
     ensures agree { (shape : Shape) (body : List ℕ) → Agrees body (body_in Logged shape body) (body_in Free shape body) }
-    ensures sound { (shape : Shape) (records : List Record) (body : List ℕ) → IsBody Free shape records body
-        → AllByRecursion (HasNumbers Logged) records → IsBody Logged shape records body }
+    ensures sound { (shape : Shape) (records : List Record) (body : List ℕ) → IsBlockBody Free shape records body
+        → AllByRecursion (HasNumbers Logged) records → IsBlockBody Logged shape records body }
 {}
 
 /// The block that `docs/FORMATS.md` shows is the spelling of the first deposit's record.

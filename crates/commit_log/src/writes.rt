@@ -1,5 +1,5 @@
 ghost use Rattle.std.specs.Prelude.{◌≡◌};
-ghost use Rattle.field_codec.specs.Results.{Gives};
+ghost use Rattle.field_codec.specs.Results.{GivesRead};
 ghost use Rattle.commit_log.specs.Orders.{is_above};
 ghost use Rattle.commit_log.specs.Fields.{write_in, writes_behind, writes_in};
 
@@ -28,7 +28,7 @@ fn get_write(
     shape: &Shape,
     last: Option<GrainId>,
 ) -> Result<(Written, usize), CodecFault>
-    ensures { Gives result (write_in shape.now last bytes.now at) }
+    ensures { GivesRead result (write_in shape.now last bytes.now at) }
 {
     let (grain, after) = get_grain(bytes, at, shape)?;
     if is_above(last, grain) {
@@ -48,7 +48,7 @@ fn writes_there(
     shape: &Shape,
     count: u16,
 ) -> Result<(List<Written>, usize), CodecFault>
-    ensures { Gives result (writes_behind shape.now None count bytes.now at) }
+    ensures { GivesRead result (writes_behind shape.now None count bytes.now at) }
 {
     let mut writes = List::new(alloc);
     let mut last = None;
@@ -70,7 +70,7 @@ pub fn get_writes(
     at: usize,
     shape: &Shape,
 ) -> Result<(List<Written>, usize), CodecFault>
-    ensures { Gives result (writes_in shape.now bytes.now at) }
+    ensures { GivesRead result (writes_in shape.now bytes.now at) }
 {
     let (count, after) = get_count(bytes, at, 64)?;
     let (writes, after) = writes_there(alloc, bytes, after, shape, count)?;

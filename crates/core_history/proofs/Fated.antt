@@ -15,7 +15,7 @@ use Rattle.core_model.specs.declared.phases.Verdict.{Verdict}
 use Rattle.core_model.specs.declared.phases.Verdict.TheVariants.{Chosen, Committed, Aborted}
 use Rattle.core_model.specs.CoreState.{UnitNo, GrainId, Mode, Value, Batch, CoreState, Member}
 use Rattle.core_model.specs.Tests.{is_bad, is_good, is_final, state_written, members, has_failed, is_vote_on}
-use Rattle.core_model.specs.Chains.{Wrote}
+use Rattle.core_model.specs.Chains.{WroteGrain}
 use Rattle.core_model.specs.Dead.{IsDead, itself, by_source as dead_source}
 use Rattle.core_model.specs.Changes.{new_batch, decisions_of, judged, verdict_of}
 use Rattle.core_model.specs.Events.{applies, batch_size, reply_with}
@@ -78,10 +78,10 @@ pub record Step (opening : GrainId → List Value) (h : List Applied) (w : CoreS
   pub grows : Grows w w'
 
 -- what a unit wrote, by the state and by the history
-pub wrote-in : (h : List Applied) (w : CoreState) → Tells h w → (u : UnitNo) (g : GrainId) → Wrote w.manager.writes u g → WroteIn h u g
+pub wrote-in : (h : List Applied) (w : CoreState) → Tells h w → (u : UnitNo) (g : GrainId) → WroteGrain w.manager.writes u g → WroteIn h u g
 wrote-in h w t u g wr = (wr.0, ap (state_written g) (sym (t.writes u)) ∙ wr.1)
 
-pub wrote-by : (h : List Applied) (w : CoreState) → Tells h w → (u : UnitNo) (g : GrainId) → WroteIn h u g → Wrote w.manager.writes u g
+pub wrote-by : (h : List Applied) (w : CoreState) → Tells h w → (u : UnitNo) (g : GrainId) → WroteIn h u g → WroteGrain w.manager.writes u g
 wrote-by h w t u g wr = (wr.0, ap (state_written g) (t.writes u) ∙ wr.1)
 
 -- what a finished unit wrote stays
@@ -96,7 +96,7 @@ wrote-more opening h w e w' c s n u g b wr =
     wrote-in (more h (answered w e)) w' s.next u g (t.0, ap (state_written g) (writes-stay w e w' c u (batch-finished opening h w s.core.kept s.told n u b)) ∙ t.1)
 
 -- and was so before
-wrote-less : (opening : GrainId → List Value) (h : List Applied) (w : CoreState) (e : CoreEvent) (w' : CoreState) → Change w e w' → Step opening h w e w' → (n : ℕ) (u : UnitNo) (g : GrainId) → InBatch h n u → WroteIn (more h (answered w e)) u g → Wrote w.manager.writes u g
+wrote-less : (opening : GrainId → List Value) (h : List Applied) (w : CoreState) (e : CoreEvent) (w' : CoreState) → Change w e w' → Step opening h w e w' → (n : ℕ) (u : UnitNo) (g : GrainId) → InBatch h n u → WroteIn (more h (answered w e)) u g → WroteGrain w.manager.writes u g
 wrote-less opening h w e w' c s n u g b wr =
     let t = wrote-by (more h (answered w e)) w' s.next u g wr in
     (t.0, ap (state_written g) (sym (writes-stay w e w' c u (batch-finished opening h w s.core.kept s.told n u b))) ∙ t.1)
@@ -256,7 +256,7 @@ decided-reason opening h w e w' s b q d x m =
     reasons-at b.votes w.manager.writes w.units.deps (judged (members w b) (decisions_of w b) w.manager.verdict) (members w b) (decisions_of w b) x (argued-decided opening w b s.core.kept s.core.depends q d) m
 
 -- whose file failed is to abort
-decided-down : (opening : GrainId → List Value) (h : List Applied) (w : CoreState) (e : CoreEvent) (w' : CoreState) → Step opening h w e w' → (b : Batch) → w.manager.batch ≡ Some b → b.decisions ≡ None → (x : UnitNo) (g : GrainId) → InBatch h b.number x → Wrote w.manager.writes x g →
+decided-down : (opening : GrainId → List Value) (h : List Applied) (w : CoreState) (e : CoreEvent) (w' : CoreState) → Step opening h w e w' → (b : Batch) → w.manager.batch ≡ Some b → b.decisions ≡ None → (x : UnitNo) (g : GrainId) → InBatch h b.number x → WroteGrain w.manager.writes x g →
     Happened h (Vote b.number g false) → is_bad (judged (members w b) (decisions_of w b) w.manager.verdict x) ≡ true
 decided-down opening h w e w' s b q d x g i wr v = (let t = decided-reason opening h w e w' s b q d x (open-member h w b s.told q x i) in go t.0 t.2 t.3)
   where
@@ -270,7 +270,7 @@ decided-down opening h w e w' s b q d x g i wr v = (let t = decided-reason openi
     go (decision.Dependency on) e r = (let z : true ≡ false = sym f ∙ failed-none b.votes (w.manager.writes x) r.0 g wr in cc)
 
 -- a decision aborts whose file failed
-down-now : (opening : GrainId → List Value) (h : List Applied) (w : CoreState) (e : CoreEvent) (w' : CoreState) → Change w e w' → Step opening h w e w' → (n : ℕ) (u : UnitNo) (g : GrainId) → Decide n ≡ e → InBatch h n u → Wrote w.manager.writes u g → Happened h (Vote n g false) → is_bad (w'.manager.verdict u) ≡ true
+down-now : (opening : GrainId → List Value) (h : List Applied) (w : CoreState) (e : CoreEvent) (w' : CoreState) → Change w e w' → Step opening h w e w' → (n : ℕ) (u : UnitNo) (g : GrainId) → Decide n ≡ e → InBatch h n u → WroteGrain w.manager.writes u g → Happened h (Vote n g false) → is_bad (w'.manager.verdict u) ≡ true
 down-now opening h w e w' (decide_some m b q number d voted some) s n u g z i wr v =
     (let is : n ≡ b.number = (let y : n ≡ m = cc in y ∙ sym number) in
     decided-down opening h w (Decide m) w' s b q d u g (subst (λ k. InBatch h k u) is i) wr (subst (λ k. Happened h (Vote k g false)) is v))

@@ -5,7 +5,7 @@ use Rattle.cell_model.specs.Locks.{is_update}
 use Rattle.core_model.specs.CoreState.{UnitNo, GrainId, Member, Value, Finished, Committed, Version, top, Hold, Effect, Batch, CoreState}
 use Rattle.core_model.specs.Tests.{is_good, state_written}
 use Rattle.core_model.specs.Dead.{Dead}
-use Rattle.core_model.specs.Chains.{Chain, Wrote, IsBottom, IsLink}
+use Rattle.core_model.specs.Chains.{Chain, WroteGrain, IsBottom, IsLink}
 use Rattle.core_model.proofs.Invariant.{Inv, same_place, wrote-finished}
 use Rattle.core_model.specs.Legal.{Run, IsLegal, begins, ends}
 use Rattle.core_model.specs.Serial.{IsLastVersion}
@@ -21,7 +21,7 @@ use Rattle.core_model.proofs.Ends.{kept-begins, kept-ends, valid-ends, split-end
 
 -- A released writer that isn't dead is in the stack, or stands before the bottom's unit.
 pub in_stack_or_below : (opening : GrainId → List Value) (n : ℕ) (w : CoreState) → Inv opening n w →
-    (u : UnitNo) (g : GrainId) → w.units.phase u ≡ Finished → Wrote w.manager.writes u g → ((h : Hold) → Member h (w.cells.holds g) → h.unit ≡ u → is_update h.mode ≡ true → ⊥) →
+    (u : UnitNo) (g : GrainId) → w.units.phase u ≡ Finished → WroteGrain w.manager.writes u g → ((h : Hold) → Member h (w.cells.holds g) → h.unit ≡ u → is_update h.mode ≡ true → ⊥) →
     Dead w.manager.verdict w.units.reads u ⊎ (((x : Version) × Member x (w.cells.stack g) × (x.unit ≡ u)) ⊎ (w.manager.place u < w.manager.place (bottom (w.cells.stack g)).unit))
 in_stack_or_below opening n w i u g f wr free =
     elim (i.latest u g f wr free) [ inl d ↦ inl d | inr le ↦ go (w.cells.stack g) (i.chain g) le ]

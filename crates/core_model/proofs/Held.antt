@@ -5,7 +5,7 @@ use Rattle.cell_model.specs.Locks.{is_update, is_hold_of, holds_lock, dropped}
 use Rattle.cell_model.proofs.Units.{same_unit-true, same_unit-false, cases_unit, any-true, any-false, all-true, Member-append, Member-left, filter-member}
 use Rattle.core_model.specs.CoreState.{UnitNo, GrainId, put, put_grain, Member, Value, Running, Verdict, Aborted, Read, Write, top, Hold, Mode, Reading, Effect, CoreState}
 use Rattle.core_model.specs.Tests.{any, all, is_final, state_written}
-use Rattle.core_model.specs.Chains.{Wrote}
+use Rattle.core_model.specs.Chains.{WroteGrain}
 use Rattle.core_model.proofs.Puts.{put-at, put-is, put-other, grain-at, grain-other}
 use Rattle.core_model.proofs.Basics.{written-member}
 use Rattle.std.proofs.Common.{filter, is_some}
@@ -33,7 +33,7 @@ Tidy w =
     ((g : GrainId) → DifferInUnit (λ (h : Hold). h.unit) (w.cells.holds g))
     × ((g : GrainId) → DifferInUnit (λ (s : Reading). s.unit) (w.cells.readings g))
     × ((u : UnitNo) (r s : Read) → Member r (w.units.reads u) → Member s (w.units.reads u) → r.grain ≡ s.grain → r ≡ s)
-    × ((u : UnitNo) (g : GrainId) → Wrote w.manager.writes u g → (r : Read) × Member r (w.units.reads u) × (r.grain ≡ g))
+    × ((u : UnitNo) (g : GrainId) → WroteGrain w.manager.writes u g → (r : Read) × Member r (w.units.reads u) × (r.grain ≡ g))
 
 differ-filter : {A : Type 0} (unit_of : A → UnitNo) (p : A → Bool) (xs : List A) → DifferInUnit unit_of xs → DifferInUnit unit_of (filter p xs)
 differ-filter unit_of p [] d = tt
@@ -170,10 +170,10 @@ tidy-ends r above = (run-keeps (λ w. LoadlessKept w × Tidy w) (λ w e w' c a t
 
 -- what a grain has learnt
 abbrev pub Knows : CoreState → Type 0
-Knows w = (u : UnitNo) (g : GrainId) → w.cells.learnt u g ≡ true → (is_final (w.manager.verdict u) ≡ true) × Wrote w.manager.writes u g
+Knows w = (u : UnitNo) (g : GrainId) → w.cells.learnt u g ≡ true → (is_final (w.manager.verdict u) ≡ true) × WroteGrain w.manager.writes u g
 
 knows-from : (w : CoreState) (verdict : UnitNo → Verdict) → ((x : UnitNo) → is_final (w.manager.verdict x) ≡ true → verdict x ≡ w.manager.verdict x) → Knows w →
-    (u : UnitNo) (g : GrainId) → w.cells.learnt u g ≡ true → (is_final (verdict u) ≡ true) × Wrote w.manager.writes u g
+    (u : UnitNo) (g : GrainId) → w.cells.learnt u g ≡ true → (is_final (verdict u) ≡ true) × WroteGrain w.manager.writes u g
 knows-from w verdict same s u g e = (let t = s u g e in (ap is_final (same u t.0) ∙ t.0, t.1))
 
 wrote-some : (o : Option (List Value)) → is_some o ≡ true → (v : List Value) × (o ≡ Some v)

@@ -5,7 +5,7 @@ use Rattle.cell_model.specs.Locks.{is_update}
 use Rattle.core_model.specs.CoreState.{UnitNo, GrainId, nobody, Member, Value, Phase, Unborn, Running, Finished, Refused, Ended, Verdict, Open, Committed, Read, Write, Version, top, Hold, Reading, CoreState}
 use Rattle.core_model.specs.Tests.{is_good, state_written}
 use Rattle.core_model.specs.Dead.{Dead}
-use Rattle.core_model.specs.Chains.{Chain, Wrote, IsBottom, IsLink}
+use Rattle.core_model.specs.Chains.{Chain, WroteGrain, IsBottom, IsLink}
 use Rattle.core_model.proofs.Loadless.{LoadlessAt}
 
 -- The first n units of the finish order are decided, or judged in the open batch. Each part of the state is an
@@ -27,7 +27,7 @@ pub record Facts (opening : GrainId → List Value) (n : ℕ) (next : ℕ) (phas
   pub late : (u : UnitNo) → phase u ≡ Finished → n < place u → verdict u ≡ Open
   pub alone : (g : GrainId) (h k : Hold) → Member h (holds g) → Member k (holds g) → is_update h.mode ≡ true → k.unit ≡ h.unit
   pub keeps : (u : UnitNo) (r : Read) → phase u ≡ Running → Member r (reads u) → (h : Hold) × Member h (holds r.grain) × (h.unit ≡ u)
-  pub strong : (u : UnitNo) (g : GrainId) (h : Hold) → phase u ≡ Finished → Wrote writes u g → Member h (holds g) → h.unit ≡ u → (k : Hold) × Member k (holds g) × (k.unit ≡ u) × (is_update k.mode ≡ true)
+  pub strong : (u : UnitNo) (g : GrainId) (h : Hold) → phase u ≡ Finished → WroteGrain writes u g → Member h (holds g) → h.unit ≡ u → (k : Hold) × Member k (holds g) × (k.unit ≡ u) × (is_update k.mode ≡ true)
   pub told : (g : GrainId) (h : Hold) → Member h (holds g) → (s : Reading) × Member s (readings g) × (s.unit ≡ h.unit)
   pub seen : (g : GrainId) (s : Reading) → Member s (readings g) → (r : Read) × Member r (reads s.unit) × (r.grain ≡ g) × (r.source ≡ s.source)
   pub kept : (g : GrainId) (s : Reading) → Member s (readings g) → (h : Hold) × Member h (holds g) × (h.unit ≡ s.unit)
@@ -36,9 +36,9 @@ pub record Facts (opening : GrainId → List Value) (n : ℕ) (next : ℕ) (phas
       ((r.source ≡ nobody) × (r.state ≡ opening r.grain))
       ⊎ ((phase r.source ≡ Finished) × (state_written r.grain (writes r.source) ≡ Some r.state) × (phase u ≡ Finished → place r.source < place u))
   pub gap : (u : UnitNo) (r : Read) (x : UnitNo) → Member r (reads u) → (phase u ≡ Running) ⊎ ((phase u ≡ Finished) × (place x < place u)) →
-      phase x ≡ Finished → Wrote writes x r.grain → place r.source < place x → Dead verdict reads x
+      phase x ≡ Finished → WroteGrain writes x r.grain → place r.source < place x → Dead verdict reads x
   pub chain : (g : GrainId) → Chain (IsBottom opening phase writes verdict g) (IsLink phase writes reads g) (stack g)
-  pub latest : (u : UnitNo) (g : GrainId) → phase u ≡ Finished → Wrote writes u g → ((h : Hold) → Member h (holds g) → h.unit ≡ u → is_update h.mode ≡ true → ⊥) →
+  pub latest : (u : UnitNo) (g : GrainId) → phase u ≡ Finished → WroteGrain writes u g → ((h : Hold) → Member h (holds g) → h.unit ≡ u → is_update h.mode ≡ true → ⊥) →
       Dead verdict reads u ⊎ (place u ≤ place (top (stack g)).unit)
   pub good : (u : UnitNo) (r : Read) → is_good (verdict u) ≡ true → Member r (reads u) → (r.source ≡ nobody) ⊎ (is_good (verdict r.source) ≡ true)
   pub sure : (u : UnitNo) (r : Read) → verdict u ≡ Committed → Member r (reads u) → (r.source ≡ nobody) ⊎ (verdict r.source ≡ Committed)
@@ -99,7 +99,7 @@ wrote-finished opening n w i u g v e = go (w.units.phase u) refl
 
 -- The step down a stack in the proof that the latest live writer is on top: between two neighbours all writers are dead.
 pub down-latest : (opening : GrainId → List Value) (n : ℕ) (w : CoreState) → Inv opening n w →
-    (u : UnitNo) (g : GrainId) → w.units.phase u ≡ Finished → Wrote w.manager.writes u g → (x y : Version) → IsLink w.units.phase w.manager.writes w.units.reads g x y → Dead w.manager.verdict w.units.reads x.unit →
+    (u : UnitNo) (g : GrainId) → w.units.phase u ≡ Finished → WroteGrain w.manager.writes u g → (x y : Version) → IsLink w.units.phase w.manager.writes w.units.reads g x y → Dead w.manager.verdict w.units.reads x.unit →
     Dead w.manager.verdict w.units.reads u ⊎ (w.manager.place u ≤ w.manager.place x.unit) → Dead w.manager.verdict w.units.reads u ⊎ (w.manager.place u ≤ w.manager.place y.unit)
 down-latest opening n w i u g fu wu x y l d (inl h) = inl h
 down-latest opening n w i u g fu wu x y l d (inr h) = go (cases_lt (w.manager.place y.unit) (w.manager.place u)) (cases_lt (w.manager.place u) (w.manager.place x.unit))

@@ -5,7 +5,7 @@ use Rattle.cell_model.specs.Locks.{is_update, is_hold_of}
 use Rattle.cell_model.proofs.Units.{same_unit-true, cases_unit, any-true, all-true}
 use Rattle.core_model.specs.CoreState.{UnitNo, GrainId, nobody, put, Member, Value, Unborn, Running, Finished, Read, Write, Version, top, Hold, Effect, CoreState}
 use Rattle.core_model.specs.Tests.{any, all, state_written}
-use Rattle.core_model.specs.Chains.{Wrote, IsVersion, IsBottom, IsLink}
+use Rattle.core_model.specs.Chains.{WroteGrain, IsVersion, IsBottom, IsLink}
 use Rattle.core_model.proofs.Puts.{put-at, put-from, put-other}
 use Rattle.core_model.proofs.Basics.{written-member}
 use Rattle.core_model.proofs.Chained.{Chain-more, Chain-top}
@@ -94,7 +94,7 @@ kept-finished opening n w u effect i running holds =
         let c = and_parts (is_hold_of u b.0) (is_update b.0.mode) b.2 in
         (b.0, subst (λ k. Member b.0 (w.cells.holds k)) a.2 b.1, same_unit-true _ _ c.0, c.1)
 
-    old_wrote : (x : UnitNo) (g : GrainId) → (x ≡ u → ⊥) → Wrote (put w.manager.writes u ws) x g → Wrote w.manager.writes x g
+    old_wrote : (x : UnitNo) (g : GrainId) → (x ≡ u → ⊥) → WroteGrain (put w.manager.writes u ws) x g → WroteGrain w.manager.writes x g
     old_wrote x g e wr = (wr.0, ap (state_written g) (sym (put-other w.manager.writes u ws x e)) ∙ wr.1)
 
     entry : (g : GrainId) (x : Version) → IsVersion w.units.phase w.manager.writes g x → IsVersion (put w.units.phase u Finished) (put w.manager.writes u ws) g x
@@ -106,7 +106,7 @@ kept-finished opening n w u effect i running holds =
     place_old : (x : UnitNo) → w.units.phase x ≡ Finished → w.manager.place x ≤ length w.manager.order
     place_old x f = (let t = i.placed x f in omega (arith, t.1, t.2))
 
-    wrote_new : (x : UnitNo) (g : GrainId) → x ≡ u → Wrote (put w.manager.writes u ws) x g → (v : List Value) × (state_written g ws ≡ Some v)
+    wrote_new : (x : UnitNo) (g : GrainId) → x ≡ u → WroteGrain (put w.manager.writes u ws) x g → (v : List Value) × (state_written g ws ≡ Some v)
     wrote_new x g e = put-from w.manager.writes u ws (λ t. (v : List Value) × (state_written g t ≡ Some v)) _ x (λ k z. z) (λ k z. absurd (k e))
 
     fin : (x : UnitNo) → (x ≡ u → ⊥) → put w.units.phase u Finished x ≡ Finished → w.units.phase x ≡ Finished

@@ -5,7 +5,7 @@ use Rattle.cell_model.proofs.Units.{same_unit-true, same_unit-false, any-true, a
 use Rattle.core_model.specs.CoreState.{UnitNo, GrainId, nobody, put, put_grain, Member, Value, Running, Finished, Read, top, Hold, Mode, Reading, CoreState}
 use Rattle.core_model.specs.Tests.{is_good, state_written}
 use Rattle.core_model.specs.Dead.{Dead}
-use Rattle.core_model.specs.Chains.{Wrote, IsBottom, IsLink}
+use Rattle.core_model.specs.Chains.{WroteGrain, IsBottom, IsLink}
 use Rattle.core_model.proofs.Puts.{put-at, put-from, grain-at, grain-from, grain-other}
 use Rattle.core_model.proofs.Basics.{Dead-more}
 use Rattle.core_model.proofs.Chained.{Chain-more, Chain-top}
@@ -64,7 +64,7 @@ kept-locked opening n w u g mode i running free first here_g =
           (λ e m'. elim (Member-append r (w.units.reads u) (new ∷ []) m') [
             | inl a ↦ i.gap x r y (subst (λ z. Member r (w.units.reads z)) (sym e) a) o f wr lt
             | inr a ↦ elim a [
-              | inl q ↦ new_gap y f (subst (λ k. Wrote w.manager.writes y k) (ap (λ (z : Read). z.grain) q) wr) (subst (λ k. w.manager.place k < w.manager.place y) (ap (λ (z : Read). z.source) q) lt)
+              | inl q ↦ new_gap y f (subst (λ k. WroteGrain w.manager.writes y k) (ap (λ (z : Read). z.grain) q) wr) (subst (λ k. w.manager.place k < w.manager.place y) (ap (λ (z : Read). z.source) q) lt)
               | inr q ↦ absurd q
             ]
           ])
@@ -126,7 +126,7 @@ kept-locked opening n w u g mode i running free first here_g =
           | inr l ↦ inr (l.1.0.0, l.1.0.1, λ f. absurd (not_finished x e f))
         ]
 
-    new_gap : (y : UnitNo) → w.units.phase y ≡ Finished → Wrote w.manager.writes y g → w.manager.place (top (w.cells.stack g)).unit < w.manager.place y → Dead w.manager.verdict w.units.reads y
+    new_gap : (y : UnitNo) → w.units.phase y ≡ Finished → WroteGrain w.manager.writes y g → w.manager.place (top (w.cells.stack g)).unit < w.manager.place y → Dead w.manager.verdict w.units.reads y
     new_gap y f wr lt =
         elim (i.latest y g f wr (λ h m q up. not_finished y (sym q ∙ no_conflict u mode h (free h m) (inr up)) f)) [
           | inl d ↦ d

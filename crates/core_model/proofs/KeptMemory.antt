@@ -4,7 +4,7 @@ use Rattle.std.proofs.lemmas.Bool.{and_parts, not-false, or_parts}
 use Rattle.core_model.specs.CoreState.{UnitNo, GrainId, put_grain, Member, Value, Finished, Committed, Version, top, CoreState}
 use Rattle.core_model.specs.Tests.{is_good, state_written}
 use Rattle.core_model.specs.Dead.{Dead}
-use Rattle.core_model.specs.Chains.{Chain, Wrote, IsBottom, IsLink}
+use Rattle.core_model.specs.Chains.{Chain, WroteGrain, IsBottom, IsLink}
 use Rattle.core_model.proofs.Puts.{grain-at}
 use Rattle.core_model.proofs.Invariant.{Inv, same_place, wrote-finished}
 use Rattle.std.proofs.lemmas.Bool.{and_cases}
@@ -112,5 +112,5 @@ kept-loaded opening n w g u s i gone last =
     kept =
         kept-restacked opening n w g xs i (λ h. (record { unit = u; state = s }, refl))
         (subst (λ t. Chain (IsBottom opening w.units.phase w.manager.writes w.manager.verdict g) (IsLink w.units.phase w.manager.writes w.units.reads g) t) same (i.chain g))
-        (λ k. subst (λ t. (w.units.phase k ≡ Finished → Wrote w.manager.writes k g → Dead w.manager.verdict w.units.reads k ⊎ (w.manager.place k ≤ w.manager.place (top (w.cells.stack g)).unit) → Dead w.manager.verdict w.units.reads k ⊎ (w.manager.place k ≤ w.manager.place (top t).unit))
+        (λ k. subst (λ t. (w.units.phase k ≡ Finished → WroteGrain w.manager.writes k g → Dead w.manager.verdict w.units.reads k ⊎ (w.manager.place k ≤ w.manager.place (top (w.cells.stack g)).unit) → Dead w.manager.verdict w.units.reads k ⊎ (w.manager.place k ≤ w.manager.place (top t).unit))
         × ((k ≡ (top (w.cells.stack g)).unit) ⊎ Dead w.manager.verdict w.units.reads k → (k ≡ (top t).unit) ⊎ Dead w.manager.verdict w.units.reads k)) same ((λ f wr h. h), (λ h. h)))

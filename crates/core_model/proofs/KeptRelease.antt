@@ -6,7 +6,7 @@ use Rattle.cell_model.proofs.Units.{same_unit-true, cases_unit, any-true}
 use Rattle.core_model.specs.CoreState.{UnitNo, GrainId, put_grain, Member, Value, Running, Finished, Read, Version, top, Hold, Reading, CoreState}
 use Rattle.core_model.specs.Tests.{state_written}
 use Rattle.core_model.specs.Dead.{Dead, by_source}
-use Rattle.core_model.specs.Chains.{Chain, Wrote, IsBottom, IsLink}
+use Rattle.core_model.specs.Chains.{Chain, WroteGrain, IsBottom, IsLink}
 use Rattle.core_model.proofs.Puts.{grain-at, grain-from, grain-other}
 use Rattle.core_model.proofs.Chained.{Chain-push}
 use Rattle.core_model.proofs.Invariant.{Inv, wrote-finished}
@@ -55,7 +55,7 @@ kept-released opening n w u g i stopped held =
           (λ e. subst (λ j. Chain (IsBottom opening w.units.phase w.manager.writes w.manager.verdict j) (IsLink w.units.phase w.manager.writes w.units.reads j) stack_g) (sym e) chain_g)
           (λ e. i.chain k);
       latest = λ x k f wr none. grain-at w.cells.stack g stack_g (λ s. Dead w.manager.verdict w.units.reads x ⊎ (w.manager.place x ≤ w.manager.place (top s).unit)) k
-          (λ e. latest_g x f (subst (Wrote w.manager.writes x) e wr)
+          (λ e. latest_g x f (subst (WroteGrain w.manager.writes x) e wr)
           (λ h m. none h (grain-at w.cells.holds g holds_g (Member h) k (λ z. m) (λ z. absurd (z e)))) (cases_unit x u))
           (λ e. i.latest x k f wr (λ h m. none h (grain-at w.cells.holds g holds_g (Member h) k (λ z. absurd (e z)) (λ z. m))));
       good = i.good;
@@ -142,7 +142,7 @@ kept-released opening n w u g i stopped held =
       | inl p ↦ subst (λ z. w.manager.place x ≤ w.manager.place (top z).unit) (sym p.3) (omega (arith, above p, le))
     ]
 
-    own_latest : (x : UnitNo) → x ≡ u → Wrote w.manager.writes x g → Dead w.manager.verdict w.units.reads x ⊎ (w.manager.place x ≤ w.manager.place (top stack_g).unit)
+    own_latest : (x : UnitNo) → x ≡ u → WroteGrain w.manager.writes x g → Dead w.manager.verdict w.units.reads x ⊎ (w.manager.place x ≤ w.manager.place (top stack_g).unit)
     own_latest x q wr = elim either [
       | inl p ↦ inr (subst (λ z. w.manager.place x ≤ w.manager.place (top z).unit) (sym p.3) (omega (arith, ap w.manager.place q)))
       | inr s ↦ (let t = i.told g own.0 own.1 in
@@ -154,7 +154,7 @@ kept-released opening n w u g i stopped held =
           ])
     ]
 
-    latest_g : (x : UnitNo) → w.units.phase x ≡ Finished → Wrote w.manager.writes x g → ((h : Hold) → Member h (dropped (w.cells.holds g) u) → h.unit ≡ x → is_update h.mode ≡ true → ⊥) → (x ≡ u) ⊎ (x ≡ u → ⊥) →
+    latest_g : (x : UnitNo) → w.units.phase x ≡ Finished → WroteGrain w.manager.writes x g → ((h : Hold) → Member h (dropped (w.cells.holds g) u) → h.unit ≡ x → is_update h.mode ≡ true → ⊥) → (x ≡ u) ⊎ (x ≡ u → ⊥) →
         Dead w.manager.verdict w.units.reads x ⊎ (w.manager.place x ≤ w.manager.place (top stack_g).unit)
     latest_g x f wr none (inl q) = own_latest x q wr
     latest_g x f wr none (inr q) =

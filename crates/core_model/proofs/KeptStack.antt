@@ -4,7 +4,7 @@ use Rattle.cell_model.proofs.Units.{same_unit-true}
 use Rattle.core_model.specs.CoreState.{UnitNo, GrainId, nobody, Value, Finished, Open, Committed, Aborted, Version, top, cut, CoreState}
 use Rattle.core_model.specs.Tests.{is_bad, is_aborted, is_committed, is_final}
 use Rattle.core_model.specs.Dead.{Dead, itself, by_source}
-use Rattle.core_model.specs.Chains.{Chain, Wrote, IsBottom, IsLink}
+use Rattle.core_model.specs.Chains.{Chain, WroteGrain, IsBottom, IsLink}
 use Rattle.core_model.proofs.Puts.{grain-at}
 use Rattle.core_model.proofs.Basics.{is_aborted-true, is_final-cases}
 use Rattle.core_model.proofs.Chained.{cut-top, cut-Chain, committed-Chain, cut-single, committed-single}
@@ -17,7 +17,7 @@ use Rattle.cell_model.proofs.Stacks.{committed-top}
 -- A fact about the top that passes down from a dead version to the one under it, passes to the new top.
 abbrev pub Lowers : CoreState → GrainId → List Version → Type 0
 Lowers w g xs = (u : UnitNo) →
-    ((w.units.phase u ≡ Finished → Wrote w.manager.writes u g → Dead w.manager.verdict w.units.reads u ⊎ (w.manager.place u ≤ w.manager.place (top (w.cells.stack g)).unit) → Dead w.manager.verdict w.units.reads u ⊎ (w.manager.place u ≤ w.manager.place (top xs).unit))
+    ((w.units.phase u ≡ Finished → WroteGrain w.manager.writes u g → Dead w.manager.verdict w.units.reads u ⊎ (w.manager.place u ≤ w.manager.place (top (w.cells.stack g)).unit) → Dead w.manager.verdict w.units.reads u ⊎ (w.manager.place u ≤ w.manager.place (top xs).unit))
     × ((u ≡ (top (w.cells.stack g)).unit) ⊎ Dead w.manager.verdict w.units.reads u → (u ≡ (top xs).unit) ⊎ Dead w.manager.verdict w.units.reads u))
 
 pub kept-restacked : (opening : GrainId → List Value) (n : ℕ) (w : CoreState) (g : GrainId) (xs : List Version) → Inv opening n w →
@@ -52,7 +52,7 @@ kept-restacked opening n w g xs i gone c lowers =
           (λ e. subst (λ j. Chain (IsBottom opening w.units.phase w.manager.writes w.manager.verdict j) (IsLink w.units.phase w.manager.writes w.units.reads j) xs) (sym e) c)
           (λ e. i.chain k);
       latest = λ u k f wr no. grain-at w.cells.stack g xs (λ s. Dead w.manager.verdict w.units.reads u ⊎ (w.manager.place u ≤ w.manager.place (top s).unit)) k
-          (λ e. (lowers u).0 f (subst (λ j. Wrote w.manager.writes u j) e wr) (subst (λ j. Dead w.manager.verdict w.units.reads u ⊎ (w.manager.place u ≤ w.manager.place (top (w.cells.stack j)).unit)) e (i.latest u k f wr no)))
+          (λ e. (lowers u).0 f (subst (λ j. WroteGrain w.manager.writes u j) e wr) (subst (λ j. Dead w.manager.verdict w.units.reads u ⊎ (w.manager.place u ≤ w.manager.place (top (w.cells.stack j)).unit)) e (i.latest u k f wr no)))
           (λ e. i.latest u k f wr no);
       good = i.good;
       sure = i.sure;
@@ -115,5 +115,5 @@ kept-learnt opening n w u g i final = elim (is_final-cases (w.manager.verdict u)
         kept-restacked opening n w g (committed_stack u (w.cells.stack g)) i
         (λ h. (let t = (i.away g h).1 in (t.0, ap (committed_stack u) t.1 ∙ committed-single u t.0)))
         (committed-Chain (IsBottom opening w.units.phase w.manager.writes w.manager.verdict g) (IsLink w.units.phase w.manager.writes w.units.reads g) u (λ x y q l. inr (ap w.manager.verdict q ∙ e, l.0)) (w.cells.stack g) (i.chain g))
-        (λ k. subst (λ t. ((w.units.phase k ≡ Finished → Wrote w.manager.writes k g → Dead w.manager.verdict w.units.reads k ⊎ (w.manager.place k ≤ w.manager.place (top (w.cells.stack g)).unit) → Dead w.manager.verdict w.units.reads k ⊎ (w.manager.place k ≤ w.manager.place t.unit))
+        (λ k. subst (λ t. ((w.units.phase k ≡ Finished → WroteGrain w.manager.writes k g → Dead w.manager.verdict w.units.reads k ⊎ (w.manager.place k ≤ w.manager.place (top (w.cells.stack g)).unit) → Dead w.manager.verdict w.units.reads k ⊎ (w.manager.place k ≤ w.manager.place t.unit))
         × ((k ≡ (top (w.cells.stack g)).unit) ⊎ Dead w.manager.verdict w.units.reads k → (k ≡ t.unit) ⊎ Dead w.manager.verdict w.units.reads k))) (sym (committed-top u (w.cells.stack g))) ((λ f wr h. h), (λ h. h)))

@@ -2,7 +2,7 @@
 use Rattle.std.proofs.Common.{◌≡◌, ℕ, ◌+◌, ◌<◌, ◌≤◌, List, [], length, get_or, true, ◌⊎◌}
 use Rattle.cell_model.specs.Locks.{is_update}
 use Rattle.core_model.specs.CoreState.{UnitNo, GrainId, nobody, Member, Phase, Unborn, Running, Finished, Verdict, Open, Read, Write, Hold, Reading, CoreState}
-use Rattle.core_model.specs.Chains.{Wrote}
+use Rattle.core_model.specs.Chains.{WroteGrain}
 
 -- The first n units of the finish order are decided, or judged in the open batch. Each part of the state is an argument, so
 -- that an event that leaves those parts alone keeps all of this.
@@ -21,7 +21,7 @@ pub record Loadless (n : ℕ) (next : ℕ) (phase : UnitNo → Phase) (reads : U
   pub late : (u : UnitNo) → phase u ≡ Finished → n < place u → verdict u ≡ Open
   pub alone : (g : GrainId) (h k : Hold) → Member h (holds g) → Member k (holds g) → is_update h.mode ≡ true → k.unit ≡ h.unit
   pub keeps : (u : UnitNo) (r : Read) → phase u ≡ Running → Member r (reads u) → (h : Hold) × Member h (holds r.grain) × (h.unit ≡ u)
-  pub strong : (u : UnitNo) (g : GrainId) (h : Hold) → phase u ≡ Finished → Wrote writes u g → Member h (holds g) → h.unit ≡ u → (k : Hold) × Member k (holds g) × (k.unit ≡ u) × (is_update k.mode ≡ true)
+  pub strong : (u : UnitNo) (g : GrainId) (h : Hold) → phase u ≡ Finished → WroteGrain writes u g → Member h (holds g) → h.unit ≡ u → (k : Hold) × Member k (holds g) × (k.unit ≡ u) × (is_update k.mode ≡ true)
   pub told : (g : GrainId) (h : Hold) → Member h (holds g) → (s : Reading) × Member s (readings g) × (s.unit ≡ h.unit)
   pub seen : (g : GrainId) (s : Reading) → Member s (readings g) → (r : Read) × Member r (reads s.unit) × (r.grain ≡ g) × (r.source ≡ s.source)
   pub kept : (g : GrainId) (s : Reading) → Member s (readings g) → (h : Hold) × Member h (holds g) × (h.unit ≡ s.unit)

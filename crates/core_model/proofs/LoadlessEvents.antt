@@ -7,7 +7,7 @@ use Rattle.cell_model.proofs.Units.{same_unit-true, same_unit-false, cases_unit,
 use Rattle.cell_model.proofs.Asking.{no_conflict, granted-member, granted-new, granted-stays, dropped-member, dropped-stays}
 use Rattle.core_model.specs.CoreState.{UnitNo, GrainId, nobody, put, put_grain, Member, Value, Call, Origin, Phase, Unborn, Running, Finished, Refused, Verdict, Open, Aborted, Read, Write, top, Hold, Mode, Reading, Effect, Settled, CoreState}
 use Rattle.core_model.specs.Tests.{any, all, state_written}
-use Rattle.core_model.specs.Chains.{Wrote}
+use Rattle.core_model.specs.Chains.{WroteGrain}
 use Rattle.core_model.specs.Changes.{begun, new_unit, finished, locked, raised, released, read_of, refused}
 use Rattle.core_model.specs.Events.{holds_alone}
 use Rattle.core_model.proofs.Puts.{put-at, put-from, put-same, put-other, grain-at, grain-from, grain-is}
@@ -215,7 +215,7 @@ loadless-finished n w u effect i running holds =
         let c = and_parts (is_hold_of u b.0) (is_update b.0.mode) b.2 in
         (b.0, subst (λ k. Member b.0 (w.cells.holds k)) a.2 b.1, same_unit-true _ _ c.0, c.1)
 
-    old_wrote : (x : UnitNo) (g : GrainId) → (x ≡ u → ⊥) → Wrote (put w.manager.writes u ws) x g → Wrote w.manager.writes x g
+    old_wrote : (x : UnitNo) (g : GrainId) → (x ≡ u → ⊥) → WroteGrain (put w.manager.writes u ws) x g → WroteGrain w.manager.writes x g
     old_wrote x g e wr = (wr.0, ap (state_written g) (sym (put-other w.manager.writes u ws x e)) ∙ wr.1)
 
 pub loadless-locked : (n : ℕ) (w : CoreState) (u : UnitNo) (g : GrainId) (mode : Mode) → LoadlessAt n w →

@@ -7,7 +7,7 @@ use Rattle.cell_model.proofs.Units.{any-true, all-true}
 use Rattle.cell_model.proofs.Asking.{dropped-member}
 use Rattle.core_model.specs.CoreState.{UnitNo, GrainId, put, put_grain, Member, Value, Phase, Unborn, Running, Finished, Refused, Ended, Mode, Write, Hold, CoreState}
 use Rattle.core_model.specs.Tests.{is_running, state_written}
-use Rattle.core_model.specs.Chains.{Wrote}
+use Rattle.core_model.specs.Chains.{WroteGrain}
 use Rattle.core_model.specs.Changes.{new_unit}
 use Rattle.core_model.specs.Events.{CoreEvent, Grant, applies, can, run, is_allowed, holds_alone}
 use Rattle.core_model.specs.Legal.{Run, begins, ends}
@@ -125,7 +125,7 @@ grown-run w es = run-keeps (Grown w.units.next w.units.kinds) (grown-change w.un
 abbrev pub InKinds : CoreState → Type 0
 InKinds w =
     ((g : GrainId) (h : Hold) → Member h (w.cells.holds g) → g.kind < w.units.kinds)
-    × ((u : UnitNo) (g : GrainId) → Wrote w.manager.writes u g → g.kind < w.units.kinds)
+    × ((u : UnitNo) (g : GrainId) → WroteGrain w.manager.writes u g → g.kind < w.units.kinds)
 
 -- the type of a grain that is granted
 granted-kind : (w : CoreState) (u : UnitNo) (g : GrainId) (mode : Mode) → applies w (Grant u g mode) ≡ true → g.kind < w.units.kinds

@@ -5,7 +5,7 @@ use Rattle.std.proofs.lemmas.Bool.{and_parts, cases_Bool, cases_lt, cond_both, c
 use Rattle.cell_model.proofs.Units.{any-true, any-none, any-member, same_grain-true, same_grain-false, same_grain-is, Member-append, Member-left, Member-right}
 use Rattle.core_model.specs.CoreState.{UnitNo, GrainId, same_grain, Member, Value, Running, Finished, Aborted, Write, Effect, Batch, CoreState}
 use Rattle.core_model.specs.Tests.{any, is_bad, is_before, members, has_bad_source, with_grain, grains_of, grains_to_write, planned}
-use Rattle.core_model.specs.Chains.{Wrote}
+use Rattle.core_model.specs.Chains.{WroteGrain}
 use Rattle.core_model.specs.Changes.{finished, taken, swept, swept_by}
 use Rattle.core_model.specs.Events.{CoreEvent, Take, applies, batch_size, can, does, step, run, is_allowed}
 use Rattle.core_model.specs.Steps.{AreAscending, IsPlan}
@@ -110,17 +110,17 @@ flat-same f g (u ∷ us) h =
     λ i. a i ++ b i
 
 -- a grain is in the plan of these units exactly where one that doesn't read from an aborted unit wrote it
-pub planned-by : (w : CoreState) (us : List UnitNo) (g : GrainId) → Member g (planned w us) → (u : UnitNo) × Member u us × (has_bad_source w u ≡ false) × Wrote w.manager.writes u g
+pub planned-by : (w : CoreState) (us : List UnitNo) (g : GrainId) → Member g (planned w us) → (u : UnitNo) × Member u us × (has_bad_source w u ≡ false) × WroteGrain w.manager.writes u g
 planned-by w us g m =
     let t = flat-member (grains_to_write w) us g (grains-only (flat_map (grains_to_write w) us) g m) in
     let s = by t.0 t.2 in (t.0, t.1, s.0, s.1)
   where
-    by : (u : UnitNo) → Member g (grains_to_write w u) → (has_bad_source w u ≡ false) × Wrote w.manager.writes u g
-    by u = cond_both (has_bad_source w u) [] (map (λ (x : Write). x.0) (w.manager.writes u)) (λ gs. Member g gs → (has_bad_source w u ≡ false) × Wrote w.manager.writes u g)
+    by : (u : UnitNo) → Member g (grains_to_write w u) → (has_bad_source w u ≡ false) × WroteGrain w.manager.writes u g
+    by u = cond_both (has_bad_source w u) [] (map (λ (x : Write). x.0) (w.manager.writes u)) (λ gs. Member g gs → (has_bad_source w u ≡ false) × WroteGrain w.manager.writes u g)
         (λ b n. absurd n)
         (λ b n. (b, named-written g (w.manager.writes u) n))
 
-pub in-plan : (w : CoreState) (us : List UnitNo) (g : GrainId) (u : UnitNo) → Member u us → has_bad_source w u ≡ false → Wrote w.manager.writes u g → Member g (planned w us)
+pub in-plan : (w : CoreState) (us : List UnitNo) (g : GrainId) (u : UnitNo) → Member u us → has_bad_source w u ≡ false → WroteGrain w.manager.writes u g → Member g (planned w us)
 in-plan w us g u m b wrote =
     grains-in (flat_map (grains_to_write w) us) g (member-flat (grains_to_write w) us g u m
     (subst (Member g) (sym (cond-false (has_bad_source w u) [] (map (λ (x : Write). x.0) (w.manager.writes u)) b)) (written-named g wrote.0 (w.manager.writes u) wrote.1)))

@@ -3,7 +3,7 @@ use Rattle.std.proofs.Common.{◌≡◌, ℕ, suc, ◌+◌, ◌<◌, ◌≤◌, 
 use Rattle.std.proofs.lemmas.Bool.{cases_lt, cond_both}
 use Rattle.core_model.specs.CoreState.{UnitNo, GrainId, nobody, Member, Value, Unborn, Finished, Verdict, Read, Effect, CoreState}
 use Rattle.core_model.specs.Tests.{is_good, is_committed, state_written}
-use Rattle.core_model.specs.Chains.{Wrote}
+use Rattle.core_model.specs.Chains.{WroteGrain}
 use Rattle.core_model.proofs.Basics.{is_committed-true}
 use Rattle.core_model.proofs.Invariant.{Inv, same_place}
 use Rattle.std.proofs.Common.{map, filter, unwrap_or}
@@ -22,7 +22,7 @@ pub record Closed (w : CoreState) (t : Verdict → Bool) : Type 0 where
 pub record Writer (w : CoreState) (t : Verdict → Bool) (g : GrainId) (k : ℕ) (c : UnitNo) : Type 0 where
   pub sure : t (w.manager.verdict c) ≡ true
   pub done : w.units.phase c ≡ Finished
-  pub wrote : Wrote w.manager.writes c g
+  pub wrote : WroteGrain w.manager.writes c g
   pub among : w.manager.place c ≤ k
 
 -- the store after the committed units among the first k

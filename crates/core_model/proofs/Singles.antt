@@ -10,7 +10,7 @@ use Rattle.cell_model.proofs.Units.{same_unit-true, same_unit-false, any-true, a
 use Rattle.cell_model.proofs.Stacks.{cut-none}
 use Rattle.core_model.specs.CoreState.{UnitNo, GrainId, put, put_grain, Member, Value, Finished, Committed, Write, Version, Reading, top, cut, Effect, CoreState}
 use Rattle.core_model.specs.Tests.{any, is_final, is_good, is_aborted, is_committed, state_written}
-use Rattle.core_model.specs.Chains.{Chain, Wrote, IsBottom, IsLink}
+use Rattle.core_model.specs.Chains.{Chain, WroteGrain, IsBottom, IsLink}
 use Rattle.core_model.specs.Learning.{to_learn, next_learn}
 use Rattle.core_model.specs.Asked.{IsSettledGrain, SettledStacksAreSingle}
 use Rattle.core_model.specs.Changes.{cleaned, swept, swept_by}
@@ -209,7 +209,7 @@ pair-in u g (x ∷ ws) (inl q) = inl (ap (λ k. (u, k)) q)
 pair-in u g (x ∷ ws) (inr m) = inr (pair-in u g ws m)
 
 -- where all is learnt, a grain has learnt of each decided unit that wrote it
-all-learnt : (opening : GrainId → List Value) (w : CoreState) → Going opening w → next_learn w ≡ None → (u : UnitNo) (g : GrainId) → w.units.phase u ≡ Finished → Wrote w.manager.writes u g → is_final (w.manager.verdict u) ≡ true → w.cells.learnt u g ≡ true
+all-learnt : (opening : GrainId → List Value) (w : CoreState) → Going opening w → next_learn w ≡ None → (u : UnitNo) (g : GrainId) → w.units.phase u ≡ Finished → WroteGrain w.manager.writes u g → is_final (w.manager.verdict u) ≡ true → w.cells.learnt u g ≡ true
 all-learnt opening w s none u g f wrote final =
     let m = filter-stays (λ u. is_final (w.manager.verdict u)) (take w.manager.closed w.manager.order) u (among-closed opening w s.kept u f (decided-closed w s.batched u f final)) final in
     let pair = pair-in u g (w.manager.writes u) (written-named g wrote.0 (w.manager.writes u) wrote.1) in
@@ -245,7 +245,7 @@ one-left opening w s none g done [] is c = absurd c
 one-left opening w s none g done (x ∷ []) is c = (x, refl)
 one-left opening w s none g done (x ∷ y ∷ ys) is c =
     let f = c.0.0.0 in
-    let wrote : Wrote w.manager.writes x.unit g = (x.state, c.0.0.1) in
+    let wrote : WroteGrain w.manager.writes x.unit g = (x.state, c.0.0.1) in
     let l = all-learnt opening w s none x.unit g f wrote (done x.unit f wrote) in
     absurd ((subst (OnlyBottom x.unit) is (s.below x.unit g l)).0 refl)
 

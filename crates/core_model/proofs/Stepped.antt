@@ -6,10 +6,10 @@ use Rattle.std.proofs.lemmas.Bool.{ltb-true, and_parts, and_from, cases_Bool, co
 use Rattle.cell_model.proofs.Units.{any-member, same_grain-is, filter-member}
 use Rattle.core_model.specs.CoreState.{UnitNo, GrainId, same_grain, Member, Value, Version, Outcome, Write, Effect, Batch, Decision, CoreState}
 use Rattle.core_model.specs.Tests.{any, all, is_final, is_good, outcome_of, waiting, is_planned, is_voted, is_vote_on, members, has_bad_source, state_written}
-use Rattle.core_model.specs.Chains.{Wrote}
+use Rattle.core_model.specs.Chains.{WroteGrain}
 use Rattle.core_model.specs.Changes.{swept, swept_by}
 use Rattle.core_model.specs.Learning.{to_learn, next_learn}
-use Rattle.core_model.specs.Settler.{Votes, Decides, Learns, Seals, Writes, Takes, Rests, Makes, first_unvoted, undecided_step, batch_step, learn_step, last_step, later_step, version_of, version_to_write, to_commit, Step, settler_step, step_of, work_in, write_work}
+use Rattle.core_model.specs.Settler.{Votes, Decides, Learns, Seals, Writes, Takes, Rests, MakesEvent, first_unvoted, undecided_step, batch_step, learn_step, last_step, later_step, version_of, version_to_write, to_commit, Step, settler_step, step_of, work_in, write_work}
 use Rattle.core_model.specs.Steps.{StepApplies, ShowsVersions, TellsDecided}
 use Rattle.core_model.specs.Events.{CoreEvent, Take, Vote, Decide, Sealed, NotSealed, Doubt, Learn, Emitted, applies, can, does, step, run, is_allowed, is_open, is_judged, is_after_doubt, is_after_halt}
 use Rattle.core_model.specs.Effects.{effect_of}
@@ -113,11 +113,11 @@ allowed-is w e d c =
 doubt-none : (o : Option ℕ) (b : Bool) → o ≡ None → (is_none o || b) ≡ true
 doubt-none o b e = ap (λ t. is_none t || b) e
 
-in-writes : (w : CoreState) (us : List UnitNo) (x : UnitNo × GrainId) → Member x (flat_map (λ u. map (λ (t : Write). (u, t.0)) (w.manager.writes u)) us) → Member x.0 us × Wrote w.manager.writes x.0 x.1
+in-writes : (w : CoreState) (us : List UnitNo) (x : UnitNo × GrainId) → Member x (flat_map (λ u. map (λ (t : Write). (u, t.0)) (w.manager.writes u)) us) → Member x.0 us × WroteGrain w.manager.writes x.0 x.1
 in-writes w us x m =
     let t = flat-member (λ u. map (λ (y : Write). (u, y.0)) (w.manager.writes u)) us x m in
     let s = pair t.0 (w.manager.writes t.0) t.2 in
-    (subst (λ u. Member u us) (sym s.0) t.1, subst (λ u. Wrote w.manager.writes u x.1) (sym s.0) (named-written x.1 (w.manager.writes t.0) s.1))
+    (subst (λ u. Member u us) (sym s.0) t.1, subst (λ u. WroteGrain w.manager.writes u x.1) (sym s.0) (named-written x.1 (w.manager.writes t.0) s.1))
   where
     pair : (u : UnitNo) (ws : List Write) → Member x (map (λ (y : Write). (u, y.0)) ws) → (x.0 ≡ u) × Member x.1 (map (λ (y : Write). y.0) ws)
     pair u [] n = absurd n
@@ -137,10 +137,10 @@ module _ (w : CoreState) (ended : Ended w) (e : CoreEvent) where
   abbrev Applies : Type 0
   Applies = applies w e ≡ (not w.units.halt || is_after_halt e)
 
-  by_last : (may_take : Bool) → (is_none w.manager.doubt ≡ true) ⊎ (may_take ≡ false) → Makes (last_step w may_take) e → Applies
-  by_last may_take o = cond_both (nat_lt w.manager.emitted (length w.manager.settled)) Writes (if may_take && applies w Take then Takes else Rests) (λ s. Makes s e → Applies)
+  by_last : (may_take : Bool) → (is_none w.manager.doubt ≡ true) ⊎ (may_take ≡ false) → MakesEvent (last_step w may_take) e → Applies
+  by_last may_take o = cond_both (nat_lt w.manager.emitted (length w.manager.settled)) Writes (if may_take && applies w Take then Takes else Rests) (λ s. MakesEvent s e → Applies)
       (λ h q. subst (λ (x : CoreEvent). applies w x ≡ (not w.units.halt || is_after_halt x)) (sym q) (allowed-is w Emitted (or-true (is_none w.manager.doubt)) h))
-      (λ h. cond_both (may_take && applies w Take) Takes Rests (λ s. Makes s e → Applies)
+      (λ h. cond_both (may_take && applies w Take) Takes Rests (λ s. MakesEvent s e → Applies)
       (λ t q. (let p = and_parts may_take (applies w Take) t in
       subst (λ (x : CoreEvent). applies w x ≡ (not w.units.halt || is_after_halt x)) (sym q) (allowed-is w Take (and_parts _ _ (and_parts (is_allowed w Take) (can w Take) p.1).0).0 (and_parts (is_allowed w Take) (can w Take) p.1).1)))
       (λ t q. absurd q))
@@ -149,14 +149,14 @@ module _ (w : CoreState) (ended : Ended w) (e : CoreEvent) where
       or-true true = refl
       or-true false = refl
 
-  by_learn : is_none w.manager.doubt ≡ true → (o : Option (UnitNo × GrainId)) → next_learn w ≡ o → Makes (learn_step w o) e → Applies
+  by_learn : is_none w.manager.doubt ≡ true → (o : Option (UnitNo × GrainId)) → next_learn w ≡ o → MakesEvent (learn_step w o) e → Applies
   by_learn d None n q = by_last true (inl d) q
   by_learn d (Some x) n q =
       subst (λ (y : CoreEvent). applies w y ≡ (not w.units.halt || is_after_halt y)) (sym q) (allowed-is w (Learn x.0 x.1) (ap (λ b. b || false) d) (learn-can w x n))
 
-  by_later : (o : Option ℕ) → w.manager.doubt ≡ o → Makes (later_step w) e → Applies
-  by_later None d q = by_learn (ap is_none d) (next_learn w) refl (subst (λ (o : Option ℕ). Makes (if is_some o then last_step w false else learn_step w (next_learn w)) e) d q)
-  by_later (Some n) d q = by_last false (inr refl) (subst (λ (o : Option ℕ). Makes (if is_some o then last_step w false else learn_step w (next_learn w)) e) d q)
+  by_later : (o : Option ℕ) → w.manager.doubt ≡ o → MakesEvent (later_step w) e → Applies
+  by_later None d q = by_learn (ap is_none d) (next_learn w) refl (subst (λ (o : Option ℕ). MakesEvent (if is_some o then last_step w false else learn_step w (next_learn w)) e) d q)
+  by_later (Some n) d q = by_last false (inr refl) (subst (λ (o : Option ℕ). MakesEvent (if is_some o then last_step w false else learn_step w (next_learn w)) e) d q)
 
   no_doubt_yet : (b : Batch) → w.manager.batch ≡ Some b → w.manager.doubt ≡ None
   no_doubt_yet b q = go w.manager.doubt refl
@@ -168,7 +168,7 @@ module _ (w : CoreState) (ended : Ended w) (e : CoreEvent) where
   same-number : (n : ℕ) → (n == n) ≡ true
   same-number n = eq-eqb n n refl
 
-  by_vote : (b : Batch) → w.manager.batch ≡ Some b → b.decisions ≡ None → (o : Option GrainId) → first_unvoted b ≡ o → Makes (undecided_step b.number o) e → Applies
+  by_vote : (b : Batch) → w.manager.batch ≡ Some b → b.decisions ≡ None → (o : Option GrainId) → first_unvoted b ≡ o → MakesEvent (undecided_step b.number o) e → Applies
   by_vote b q d None n m =
       let voted : is_voted b ≡ true = all-from (λ g. any (is_vote_on g) b.votes) b.plan (λ g h. not_back (any (is_vote_on g) b.votes) (find-none (λ g. not (any (is_vote_on g) b.votes)) b.plan n g h)) in
       subst (λ (x : CoreEvent). applies w x ≡ (not w.units.halt || is_after_halt x)) (sym m)
@@ -185,7 +185,7 @@ module _ (w : CoreState) (ended : Ended w) (e : CoreEvent) where
       (allowed-is w (Vote b.number g m.0) (doubt-none w.manager.doubt false (no_doubt_yet b q))
       (ap (is_open b.number (λ b. is_planned b g && not (any (is_vote_on g) b.votes))) q ∙ and_from (b.number == b.number) _ (same-number b.number) (and_from (is_none b.decisions) _ (ap is_none d) test)))
 
-  by_seal : (b : Batch) (ds : List Decision) → w.manager.batch ≡ Some b → b.decisions ≡ Some ds → Makes (Seals b.number) e → Applies
+  by_seal : (b : Batch) (ds : List Decision) → w.manager.batch ≡ Some b → b.decisions ≡ Some ds → MakesEvent (Seals b.number) e → Applies
   by_seal b ds q d m =
       let judged : is_judged b.number w.manager.batch ≡ true = ap (is_judged b.number) q ∙ and_from (b.number == b.number) (is_some b.decisions) (same-number b.number) (ap is_some d) in
       elim m [
@@ -196,11 +196,11 @@ module _ (w : CoreState) (ended : Ended w) (e : CoreEvent) where
         ]
       ]
 
-  by_decisions : (b : Batch) → w.manager.batch ≡ Some b → (o : Option (List Decision)) → b.decisions ≡ o → Makes (batch_step w (Some b)) e → Applies
-  by_decisions b q None d m = by_vote b q d (first_unvoted b) refl (subst (λ (o : Option (List Decision)). Makes (if is_some o then Seals b.number else undecided_step b.number (first_unvoted b)) e) d m)
-  by_decisions b q (Some ds) d m = by_seal b ds q d (subst (λ (o : Option (List Decision)). Makes (if is_some o then Seals b.number else undecided_step b.number (first_unvoted b)) e) d m)
+  by_decisions : (b : Batch) → w.manager.batch ≡ Some b → (o : Option (List Decision)) → b.decisions ≡ o → MakesEvent (batch_step w (Some b)) e → Applies
+  by_decisions b q None d m = by_vote b q d (first_unvoted b) refl (subst (λ (o : Option (List Decision)). MakesEvent (if is_some o then Seals b.number else undecided_step b.number (first_unvoted b)) e) d m)
+  by_decisions b q (Some ds) d m = by_seal b ds q d (subst (λ (o : Option (List Decision)). MakesEvent (if is_some o then Seals b.number else undecided_step b.number (first_unvoted b)) e) d m)
 
-  by_batch : (o : Option Batch) → w.manager.batch ≡ o → Makes (batch_step w o) e → Applies
+  by_batch : (o : Option Batch) → w.manager.batch ≡ o → MakesEvent (batch_step w o) e → Applies
   by_batch None q m = by_later w.manager.doubt refl m
   by_batch (Some b) q m = by_decisions b q b.decisions refl m
 
@@ -214,7 +214,7 @@ or_true false = refl
 
 writes-left : (r : Run) → settler_step (ends r) ≡ Writes → (ends r).manager.emitted < length (ends r).manager.settled
 writes-left r q =
-    let a = step-applies r Emitted (subst (λ (s : Step). Makes s Emitted) (sym q) refl) ∙ or_true (not (ends r).units.halt) in
+    let a = step-applies r Emitted (subst (λ (s : Step). MakesEvent s Emitted) (sym q) refl) ∙ or_true (not (ends r).units.halt) in
     ltb-true (ends r).manager.emitted (length (ends r).manager.settled) (and_parts (is_allowed (ends r) Emitted) (can (ends r) Emitted) a).1
 
 -- ---- what is shown

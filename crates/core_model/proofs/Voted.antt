@@ -4,7 +4,7 @@ use Rattle.std.proofs.lemmas.Bool.{and_parts, and_from, cases_Bool, cond_both}
 use Rattle.cell_model.proofs.Units.{any-true, any-false, all-true}
 use Rattle.core_model.specs.CoreState.{UnitNo, GrainId, put, Member, Value, Running, Finished, Verdict, Write, Effect, Settled, Batch, Decision, CoreState}
 use Rattle.core_model.specs.Tests.{any, is_bad, state_written}
-use Rattle.core_model.specs.Chains.{Wrote}
+use Rattle.core_model.specs.Chains.{WroteGrain}
 use Rattle.core_model.proofs.Puts.{put-other}
 use Rattle.std.proofs.Common.{take, drop, length-drop}
 use Rattle.base_types.specs.declared.entries.Settled.TheVariants as settled
@@ -71,7 +71,7 @@ are-decided opening w b k dep plan q d voted (u ∷ us) (c ∷ cs) sub r = (by c
       | inr y ↦ y
     ])
 
-    by : (c : Decision) → Reason b.votes (w.manager.writes u) (w.units.deps u) (judged (members w b) (decisions_of w b) w.manager.verdict) c → is_commit c ≡ true → (g : GrainId) → Wrote w.manager.writes u g → HasYes b.votes g
+    by : (c : Decision) → Reason b.votes (w.manager.writes u) (w.units.deps u) (judged (members w b) (decisions_of w b) w.manager.verdict) c → is_commit c ≡ true → (g : GrainId) → WroteGrain w.manager.writes u g → HasYes b.votes g
     by decision.Commit s e g wrote =
         let at : Member g b.plan = subst (Member g) (sym (plan b q d)) (in-plan w (members w b) g u (sub u (inl refl)) (alive s.1) wrote) in
         yes-vote b.votes g (all-true (λ y. any (is_vote_on y) b.votes) b.plan voted g at)

@@ -7,7 +7,7 @@ use Rattle.core_model.specs.declared.questions.AskAnswer.{AskAnswer}
 use Rattle.core_model.specs.declared.questions.AskAnswer.TheVariants as answer
 use Rattle.core_model.specs.CoreState.{UnitNo, GrainId, Member, Value, Version, Mode, Read, Running, Finished, Batch, CoreState}
 use Rattle.core_model.specs.Tests.{ask, is_final, members, waiting}
-use Rattle.core_model.specs.Chains.{Wrote}
+use Rattle.core_model.specs.Chains.{WroteGrain}
 use Rattle.core_model.specs.Causes.{IsRemoved}
 use Rattle.core_model.specs.Learning.{next_learn}
 use Rattle.core_model.specs.Serial.{IsLastVersion}
@@ -60,7 +60,7 @@ pub record TakesBatch (w next : CoreState) (b : Batch) : Type 0 where
 
 -- each finished unit that wrote the grain is decided for good
 abbrev pub IsSettledGrain : CoreState → GrainId → Type 0
-IsSettledGrain w g = (u : UnitNo) → w.units.phase u ≡ Finished → Wrote w.manager.writes u g → is_final (w.manager.verdict u) ≡ true
+IsSettledGrain w g = (u : UnitNo) → w.units.phase u ≡ Finished → WroteGrain w.manager.writes u g → is_final (w.manager.verdict u) ≡ true
 
 -- Where every grain has learnt what there is to learn, the stack of a grain whose writers are all decided is one version:
 -- the last committed one.

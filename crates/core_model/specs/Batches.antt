@@ -2,7 +2,7 @@
 use Rattle.std.specs.Prelude.{◌≡◌, ◌≤◌, ◌<◌, ◌+◌, ℕ, List, [], ◌∷◌, Bool, true, Some, length, take, drop, ⊤}
 use Rattle.cell_model.specs.Decisions.{is_commit}
 use Rattle.core_model.specs.CoreState.{UnitNo, GrainId, Member, Write, Batch, Decision, CoreState}
-use Rattle.core_model.specs.Chains.{Wrote}
+use Rattle.core_model.specs.Chains.{WroteGrain}
 
 -- the grain's file was written
 abbrev pub HasYes : List (GrainId × Bool) → GrainId → Type 0
@@ -13,7 +13,7 @@ abbrev pub AreDecided : (UnitNo → List Write) → List (GrainId × Bool) → L
 AreDecided writes votes [] [] = ⊤
 AreDecided writes votes [] (d ∷ ds) = ⊥
 AreDecided writes votes (u ∷ us) [] = ⊥
-AreDecided writes votes (u ∷ us) (d ∷ ds) = (is_commit d ≡ true → (g : GrainId) → Wrote writes u g → HasYes votes g) × AreDecided writes votes us ds
+AreDecided writes votes (u ∷ us) (d ∷ ds) = (is_commit d ≡ true → (g : GrainId) → WroteGrain writes u g → HasYes votes g) × AreDecided writes votes us ds
 
 -- A batch of 1 to 64 units, the first of those that were left, with their decisions.
 pub record IsClosedBatch (writes : UnitNo → List Write) (left : List UnitNo) (b : Batch) : Type 0 where

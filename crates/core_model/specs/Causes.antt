@@ -6,20 +6,20 @@ use Rattle.cell_model.specs.Laws.{IsOldestRival}
 use Rattle.core_model.specs.CoreState.{UnitNo, GrainId, nobody, Member, Mode, Outcome, Read, Version, Running, Entry, Settled, Batch, CoreState}
 use Rattle.core_model.specs.Tests.{is_gone, is_before, has_failed, members, outcome_of}
 use Rattle.core_model.specs.Dead.{IsDead}
-use Rattle.core_model.specs.Chains.{Wrote}
+use Rattle.core_model.specs.Chains.{WroteGrain}
 use Rattle.core_model.specs.Changes.{with_decisions, decisions_of}
 use Rattle.core_model.specs.Events.{CoreEvent, Bad, Refuse, EndPlain, EndSnapshot, Decide, Sealed, NotSealed, Doubt, applies, step, run, Begin, Grant, Finish, Release, Take, Vote, Learn, Emitted, Halt, Want, Load}
 use Rattle.core_model.specs.Legal.{Run, begins}
 
 -- The unit wrote the grain, whose file failed, and it is the first such grain.
 pub record IsVotedDown (w : CoreState) (b : Batch) (u : UnitNo) (g : GrainId) : Type 0 where
-  pub wrote : Wrote w.manager.writes u g
+  pub wrote : WroteGrain w.manager.writes u g
   pub failed : has_failed b.votes g ≡ true
-  pub first : (k : GrainId) → Wrote w.manager.writes u k → has_failed b.votes k ≡ true → is_before k g ≡ false
+  pub first : (k : GrainId) → WroteGrain w.manager.writes u k → has_failed b.votes k ≡ true → is_before k g ≡ false
 
 -- no file that the unit wrote failed
 abbrev pub IsWritten : CoreState → Batch → UnitNo → Type 0
-IsWritten w b u = (g : GrainId) → Wrote w.manager.writes u g → has_failed b.votes g ≡ false
+IsWritten w b u = (g : GrainId) → WroteGrain w.manager.writes u g → has_failed b.votes g ≡ false
 
 -- No file that the unit wrote failed; the other unit is the oldest of its dependencies that are dead.
 pub record DependsOnDead (w : CoreState) (b : Batch) (u on : UnitNo) : Type 0 where

@@ -10,8 +10,8 @@ Chain B L (x ∷ []) = B x
 Chain B L (x ∷ y ∷ ys) = L x y × Chain B L (y ∷ ys)
 
 -- the unit wrote the grain
-abbrev pub Wrote : (UnitNo → List Write) → UnitNo → GrainId → Type 0
-Wrote writes u g = (v : List Value) × (state_written g (writes u) ≡ Some v)
+abbrev pub WroteGrain : (UnitNo → List Write) → UnitNo → GrainId → Type 0
+WroteGrain writes u g = (v : List Value) × (state_written g (writes u) ≡ Some v)
 
 -- a version is what a finished unit wrote
 abbrev pub IsVersion : (UnitNo → Phase) → (UnitNo → List Write) → GrainId → Version → Type 0

@@ -5,7 +5,7 @@ use Rattle.cell_model.specs.Sources.{SourcesAscend}
 use Rattle.core_model.specs.CoreState.{UnitNo, GrainId, nobody, Member, Value, Running, Finished, Ended, Chosen, Committed, Aborted, Read, Effect, Version, Hold, Batch, CoreState}
 use Rattle.core_model.specs.Tests.{is_good, is_final, state_written}
 use Rattle.core_model.specs.Dead.{IsDead}
-use Rattle.core_model.specs.Chains.{Chain, Wrote, IsBottom, IsLink}
+use Rattle.core_model.specs.Chains.{Chain, WroteGrain, IsBottom, IsLink}
 use Rattle.core_model.specs.Answers.{effect_of}
 use Rattle.core_model.specs.Serial.{batch_begin, IsLastVersion}
 
@@ -45,7 +45,7 @@ SourcesAreTruthful opening w = (u : UnitNo) (r : Read) → Member r (w.units.rea
 abbrev pub NoLiveWriterBetween : CoreState → Type 0
 NoLiveWriterBetween w = (u : UnitNo) (r : Read) (x : UnitNo) → Member r (w.units.reads u) →
     (w.units.phase u ≡ Running) ⊎ ((w.units.phase u ≡ Finished) × (w.manager.place x < w.manager.place u)) →
-    w.units.phase x ≡ Finished → Wrote w.manager.writes x r.grain → w.manager.place r.source < w.manager.place x → IsDead w x
+    w.units.phase x ≡ Finished → WroteGrain w.manager.writes x r.grain → w.manager.place r.source < w.manager.place x → IsDead w x
 
 -- A unit's dependencies are the sources that weren't known committed at their grant, oldest first. Those of a finished
 -- unit stand before it in the finish order.
@@ -70,7 +70,7 @@ bottom (x ∷ y ∷ ys) = bottom (y ∷ ys)
 -- A writer of a grain that has released it and isn't dead is in the grain's stack, or stands before the bottom's unit.
 -- The stack of a grain out of memory is its last committed version alone.
 pub record NoLiveWriterIsLost (opening : GrainId → List Value) (w : CoreState) : Type 0 where
-  pub in_stack : (u : UnitNo) (g : GrainId) → w.units.phase u ≡ Finished → Wrote w.manager.writes u g → ((h : Hold) → Member h (w.cells.holds g) → h.unit ≡ u → ⊥) →
+  pub in_stack : (u : UnitNo) (g : GrainId) → w.units.phase u ≡ Finished → WroteGrain w.manager.writes u g → ((h : Hold) → Member h (w.cells.holds g) → h.unit ≡ u → ⊥) →
       IsDead w u ⊎ (((x : Version) × Member x (w.cells.stack g) × (x.unit ≡ u)) ⊎ (w.manager.place u < w.manager.place (bottom (w.cells.stack g)).unit))
   pub out_of_memory : (g : GrainId) → w.cells.here g ≡ false → (x : Version) × (w.cells.stack g ≡ x ∷ []) × IsLastVersion opening w g x.unit x.state
 

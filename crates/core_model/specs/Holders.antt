@@ -3,7 +3,7 @@ use Rattle.std.specs.Prelude.{◌≡◌, List, [], ◌∷◌, true, ⊤}
 use Rattle.core_model.specs.CoreState.{UnitNo, GrainId, Member, Read, Running, Hold, Reading, CoreState}
 use Rattle.cell_model.specs.Locks.{is_update}
 use Rattle.core_model.specs.Tests.{is_final}
-use Rattle.core_model.specs.Chains.{Wrote}
+use Rattle.core_model.specs.Chains.{WroteGrain}
 
 -- no two items are of one unit
 abbrev pub DifferInUnit : {A : Type 0} → (A → UnitNo) → List A → Type 0
@@ -20,8 +20,8 @@ pub record HoldersHaveRead (w : CoreState) : Type 0 where
   pub lock : (g : GrainId) (s : Reading) → Member s (w.cells.readings g) → (h : Hold) × Member h (w.cells.holds g) × (h.unit ≡ s.unit)
   pub source : (g : GrainId) (s : Reading) → Member s (w.cells.readings g) → (r : Read) × Member r (w.units.reads s.unit) × (r.grain ≡ g) × (r.source ≡ s.source)
   pub once : (u : UnitNo) (r s : Read) → Member r (w.units.reads u) → Member s (w.units.reads u) → r.grain ≡ s.grain → r ≡ s
-  pub overwrites : (u : UnitNo) (g : GrainId) → Wrote w.manager.writes u g → (r : Read) × Member r (w.units.reads u) × (r.grain ≡ g)
-  pub learnt : (u : UnitNo) (g : GrainId) → w.cells.learnt u g ≡ true → (is_final (w.manager.verdict u) ≡ true) × Wrote w.manager.writes u g
+  pub overwrites : (u : UnitNo) (g : GrainId) → WroteGrain w.manager.writes u g → (r : Read) × Member r (w.units.reads u) × (r.grain ≡ g)
+  pub learnt : (u : UnitNo) (g : GrainId) → w.cells.learnt u g ≡ true → (is_final (w.manager.verdict u) ≡ true) × WroteGrain w.manager.writes u g
 
 -- Later a unit that runs still holds what it held, and for itself alone where it did.
 abbrev pub RunnersKeepLocks : CoreState → CoreState → Type 0

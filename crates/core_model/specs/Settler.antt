@@ -53,14 +53,14 @@ abbrev pub settler_step : CoreState → Step
 settler_step w = batch_step w w.manager.batch
 
 -- the step makes this event; the vote and the answer of the seal are the host's
-abbrev pub Makes : Step → CoreEvent → Type 0
-Makes (Votes number g) e = (kept : Bool) × (e ≡ Vote number g kept)
-Makes (Decides number) e = e ≡ Decide number
-Makes (Seals number) e = (e ≡ Sealed number) ⊎ ((e ≡ NotSealed number) ⊎ (e ≡ Doubt number))
-Makes (Learns u g) e = e ≡ Learn u g
-Makes Writes e = e ≡ Emitted
-Makes Takes e = e ≡ Take
-Makes Rests e = ⊥
+abbrev pub MakesEvent : Step → CoreEvent → Type 0
+MakesEvent (Votes number g) e = (kept : Bool) × (e ≡ Vote number g kept)
+MakesEvent (Decides number) e = e ≡ Decide number
+MakesEvent (Seals number) e = (e ≡ Sealed number) ⊎ ((e ≡ NotSealed number) ⊎ (e ≡ Doubt number))
+MakesEvent (Learns u g) e = e ≡ Learn u g
+MakesEvent Writes e = e ≡ Emitted
+MakesEvent Takes e = e ≡ Take
+MakesEvent Rests e = ⊥
 
 -- the settler has something to do
 abbrev pub has_step : Step → Bool

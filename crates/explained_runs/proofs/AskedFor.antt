@@ -8,7 +8,7 @@ use Rattle.base_types.specs.declared.calls.Outcome.{Outcome}
 use Rattle.base_types.specs.declared.calls.Value.{Value}
 use Rattle.script_tree.specs.Programs.{ProgramTree}
 use Rattle.script_meaning.specs.Requests.{Requests, End, AskLock, AskRaise, AskUnit}
-use Rattle.script_meaning.specs.Play.{Found, WantLock, WantUnit, asks, rest_of, serve, unit, next, play_over}
+use Rattle.script_meaning.specs.Play.{GrainState, WantLock, WantUnit, asks, rest_of, serve, unit, next, play_over}
 use Rattle.script_meaning.specs.Trails.{Given, GivenLock, GivenRaise, GivenOutcome, locks_of, answers_of, reads_of, Has, IsTrail}
 use Rattle.script_meaning.proofs.Leads.{Leads, follows_leads}
 
@@ -40,9 +40,9 @@ serve_reaches (End done had) (GivenOutcome of deep outcome ∷ rest) child at go
 serve_reaches (AskLock grain mode on) (GivenLock of how state ∷ rest) child at go states more leads found =
     let e : WantLock grain mode ≡ WantLock of how = leads.0 in
     let same : grain ≡ of = cc in
-    let there : states grain ≡ state = ap states same ∙ All-head (λ (one : Found). states one.0 ≡ one.1) (of, state) (reads_of rest) found in
+    let there : states grain ≡ state = ap states same ∙ All-head (λ (one : GrainState). states one.0 ≡ one.1) (of, state) (reads_of rest) found in
     subst (λ (s : List Value). slice_get (serve (on s) states (answers_of rest ++ more)).asked (length (answers_of rest)) ≡ Some (child, at)) (sym there)
-    (serve_reaches (on state) rest child at go states more leads.1 (All-tail (λ (one : Found). states one.0 ≡ one.1) (of, state) (reads_of rest) found))
+    (serve_reaches (on state) rest child at go states more leads.1 (All-tail (λ (one : GrainState). states one.0 ≡ one.1) (of, state) (reads_of rest) found))
 serve_reaches (AskLock grain mode on) (GivenRaise of ∷ rest) child at go states more leads found = absurd (let e = leads.0 in cc)
 serve_reaches (AskLock grain mode on) (GivenOutcome of deep outcome ∷ rest) child at go states more leads found = absurd (let e = leads.0 in cc)
 serve_reaches (AskRaise grain after) (GivenLock of how state ∷ rest) child at go states more leads found = absurd (let e = leads.0 in cc)

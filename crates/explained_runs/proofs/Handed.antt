@@ -6,7 +6,7 @@ use Rattle.base_types.specs.declared.calls.Outcome.{Outcome}
 use Rattle.core_model.specs.CoreState.{UnitNo, nobody, CoreState}
 use Rattle.core_model.specs.Tests.{outcome_of}
 use Rattle.script_tree.specs.Programs.{ProgramTree}
-use Rattle.script_meaning.specs.Play.{Found, Want, WantLock, WantRaise, WantUnit, next}
+use Rattle.script_meaning.specs.Play.{GrainState, Want, WantLock, WantRaise, WantUnit, next}
 use Rattle.script_meaning.specs.Trails.{Given, GivenLock, GivenRaise, GivenOutcome, wanted, locks_of, answers_of, reads_of, IsTrail}
 use Rattle.script_meaning.proofs.Plays.{trails_grow_lem}
 use Rattle.promise_spec.specs.Serial.{depth_of}
@@ -17,7 +17,7 @@ use Rattle.explained_runs.specs.Handed.{IsGiven, AreGiven, want_of, reads_got, I
 -- those of two lists
 pub reads_got-append : (xs ys : List Got) → reads_got (xs ++ ys) ≡ reads_got xs ++ reads_got ys
 reads_got-append [] ys = refl
-reads_got-append (GotLock g mode state ∷ xs) ys = ap (λ (l : List Found). (g, state) ∷ l) (reads_got-append xs ys)
+reads_got-append (GotLock g mode state ∷ xs) ys = ap (λ (l : List GrainState). (g, state) ∷ l) (reads_got-append xs ys)
 reads_got-append (GotRaise g ∷ xs) ys = reads_got-append xs ys
 reads_got-append (GotChild call depth child ∷ xs) ys = reads_got-append xs ys
 
@@ -111,7 +111,7 @@ given-reads outcome [] [] all = refl
 given-reads outcome [] (y ∷ trail) all = absurd all
 given-reads outcome (x ∷ got) [] all = absurd all
 given-reads outcome (GotLock g mode state ∷ got) (y ∷ trail) all =
-    ap (λ (one : Given). reads_of (one ∷ trail)) all.0 ∙ ap (λ (l : List Found). (g, state) ∷ l) (given-reads outcome got trail all.1)
+    ap (λ (one : Given). reads_of (one ∷ trail)) all.0 ∙ ap (λ (l : List GrainState). (g, state) ∷ l) (given-reads outcome got trail all.1)
 given-reads outcome (GotRaise g ∷ got) (y ∷ trail) all = ap (λ (one : Given). reads_of (one ∷ trail)) all.0 ∙ given-reads outcome got trail all.1
 given-reads outcome (GotChild call depth child ∷ got) (y ∷ trail) all = ap (λ (one : Given). reads_of (one ∷ trail)) all.0.2 ∙ given-reads outcome got trail all.1
 

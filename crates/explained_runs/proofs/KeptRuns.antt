@@ -30,7 +30,7 @@ use Rattle.promise_spec.proofs.Openings.{silo_reads, sound_is_read, reads_is}
 use Rattle.promise_spec.proofs.SettledLogs.{settled_logs}
 use Rattle.promise_spec.proofs.Stepping.{entries_of-append, joined_logs, begins_at, now_says, keep_more, say_more, cut_says}
 use Rattle.explained_runs.specs.Closings.{ReadsMayStay, IsBehind, AllEnd, Carries}
-use Rattle.explained_runs.specs.Obligations.{Answers, Opens, SaysIn, Journals, Lasts}
+use Rattle.explained_runs.specs.Obligations.{ShowsAnywhere, Opens, SaysIn, Journals, Lasts}
 use Rattle.explained_runs.proofs.OpenedRuns.{answered_promised}
 use Rattle.promise_spec.specs.Words.{Manner}
 
@@ -229,7 +229,7 @@ module _ (p : Program) (r : Observed) (c : Course) (mid : World) (b : IsBehind l
 -- ---- the promise
 
 -- what a run answers, and what lasts where its folder was opened so, is the whole promise
-pub carried_promised : (m : Manner) (p : Program) (r : Observed) (c : Course) (mid : World) → Answers p r c → r.manner ≡ m → IsChecked p → IsBehind live_slot p r c mid → ReadsMayStay r.old → ReadsMayStay mid
+pub carried_promised : (m : Manner) (p : Program) (r : Observed) (c : Course) (mid : World) → ShowsAnywhere p r c → r.manner ≡ m → IsChecked p → IsBehind live_slot p r c mid → ReadsMayStay r.old → ReadsMayStay mid
     → (Opens p r c → Lasts p r c) → Promises m r
 carried_promised m p r c mid answers is checked behind stay stay_mid lasts =
     answered_promised p r c answers m c.opening is checked behind.reads (λ q checked_too sound. lasts (opens_sound p r c mid behind q checked_too sound stay stay_mid))

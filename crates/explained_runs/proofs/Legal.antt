@@ -17,7 +17,7 @@ use Rattle.core_model.specs.Legal.{Run, IsLegal, begins, ends}
 use Rattle.core_model.proofs.Basics.{same_list-true, same_state-true, same_outcome-true}
 use Rattle.core_model.proofs.Replied.{no-change}
 use Rattle.script_tree.specs.Programs.{ProgramTree}
-use Rattle.script_meaning.specs.Play.{Found}
+use Rattle.script_meaning.specs.Play.{GrainState}
 use Rattle.promise_spec.specs.Gotten.{Got, got_from}
 use Rattle.promise_spec.specs.Cores.{applied_from, state_before}
 use Rattle.promise_spec.specs.UnitRule.{Basis, played_by, IsPlayOf, IsDue, KeepsUnitRule}
@@ -43,10 +43,10 @@ same_outcome-itself (outcome.Value a) = same_value-itself a
 same_outcome-itself (outcome.Fault a) = same_text-itself a
 same_outcome-itself outcome.Aborted = refl
 
-same_found-itself : (a : Found) → same_found a a ≡ true
+same_found-itself : (a : GrainState) → same_found a a ≡ true
 same_found-itself a = and_from (same_grain a.0 a.0) (same_state a.1 a.1) (same_grain-is a.0 a.0 refl) (same_state-itself a.1)
 
-same_found-true : (a b : Found) → same_found a b ≡ true → a ≡ b
+same_found-true : (a b : GrainState) → same_found a b ≡ true → a ≡ b
 same_found-true a b e =
     let p = and_parts (same_grain a.0 b.0) (same_state a.1 b.1) e in
     let g : a.0 ≡ b.0 = same_grain-true a.0 b.0 p.0 in

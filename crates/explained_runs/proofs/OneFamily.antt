@@ -23,7 +23,7 @@ use Rattle.core_model.proofs.Further.{children-ends, answers-ends}
 use Rattle.core_model.proofs.Held.{holders-ends}
 use Rattle.core_model.proofs.Lined.{once-ends}
 use Rattle.script_tree.specs.Programs.{ProgramTree}
-use Rattle.script_meaning.specs.Play.{Found, play_over}
+use Rattle.script_meaning.specs.Play.{GrainState, play_over}
 use Rattle.script_holding.specs.Holding.{same_grain}
 use Rattle.script_meaning.proofs.Grains.{is_same_grain, same_grain_is}
 use Rattle.script_meaning.specs.Trails.{answers_of, reads_of, Has, states_of}
@@ -241,16 +241,16 @@ begins-with (x ∷ xs) (y ∷ ys) h =
     (t.0, λ i. same i ∷ t.1 i)
 
 -- what holds of all members
-all-have : (states : States) (fs : List Found) → ((one : Found) → Member one fs → states one.0 ≡ one.1) → Has states fs
-all-have states [] h = All-nil (λ (one : Found). states one.0 ≡ one.1)
-all-have states (x ∷ fs) h = All-cons (λ (one : Found). states one.0 ≡ one.1) x fs (h x (inl refl)) (all-have states fs (λ one m. h one (inr m)))
+all-have : (states : States) (fs : List GrainState) → ((one : GrainState) → Member one fs → states one.0 ≡ one.1) → Has states fs
+all-have states [] h = All-nil (λ (one : GrainState). states one.0 ≡ one.1)
+all-have states (x ∷ fs) h = All-cons (λ (one : GrainState). states one.0 ≡ one.1) x fs (h x (inl refl)) (all-have states fs (λ one m. h one (inr m)))
 
 -- states that a unit's reads have, a trail of it has
 led-has : (types : ProgramTree) (w : CoreState) (child : Call) (p : UnitNo) (i d : ℕ) (states : States) → (led : Led types w child p i d) →
     ((r : Read) → Member r (w.units.reads p) → states r.grain ≡ r.state) → Has states (reads_of led.trail)
 led-has types w child p i d states led reads = all-have states (reads_of led.trail) (λ one m.
     (let t = led.reads one m in
-    subst (λ (f : Found). states f.0 ≡ f.1) t.2 (reads t.0 t.1)))
+    subst (λ (f : GrainState). states f.0 ≡ f.1) t.2 (reads t.0 t.1)))
 
 -- a child's record stands before its parent's, whose play asks for the child
 asked-before : (types : ProgramTree) (asked : List (List ℕ)) (w : CoreState) (states : States) (early added : List Commit) → Ground types asked w states early added →

@@ -19,7 +19,7 @@ use Rattle.promise_spec.specs.Promise.{IsSoundFolder, Keeps, Promises}
 use Rattle.promise_spec.proofs.Lists.{in_append}
 use Rattle.promise_spec.proofs.Openings.{one_program}
 use Rattle.silo_spec.specs.Silos.{program_file}
-use Rattle.explained_runs.specs.Obligations.{Answers, Lasts, Shows}
+use Rattle.explained_runs.specs.Obligations.{ShowsAnywhere, Lasts, Shows}
 use Rattle.explained_runs.proofs.TrueReplies.{replies_within, replies_once}
 use Rattle.explained_runs.proofs.ShownRuns.{explained, at_entry, shown}
 
@@ -28,7 +28,7 @@ no_member : {A : Type 0} (xs : List A) → ((x : A) → Member x xs → ⊥) →
 no_member [] none = refl
 no_member (x ∷ xs) none = absurd (none x (inl refl))
 
-module _ (p : Program) (r : Observed) (c : Course) (a : Answers p r c) where
+module _ (p : Program) (r : Observed) (c : Course) (a : ShowsAnywhere p r c) where
   -- each entry is one that the core settled
   in_core : (e : Entry) → Member e c.entries → Member e (core_end p c).manager.settled
   in_core e there = subst (λ (x : List Entry). Member e x) (sym a.settled.entries.1) (in_append e c.entries a.settled.entries.0 (inl there))
@@ -103,12 +103,12 @@ module _ (p : Program) (r : Observed) (c : Course) (a : Answers p r c) where
   }
 
 -- what a run shows is both
-pub shows_both : (p : Program) (r : Observed) (c : Course) → Shows p r c → Answers p r c × Lasts p r c
+pub shows_both : (p : Program) (r : Observed) (c : Course) → Shows p r c → ShowsAnywhere p r c × Lasts p r c
 shows_both p r c s = (
   record { explains = s.explains; settled = s.settled; output = s.output; whole = s.whole; ends = s.ends },
   record { opens = s.opens; journals = s.journals; leaves = s.leaves },
 )
 
 -- and both are what it shows
-pub both_show : (p : Program) (r : Observed) (c : Course) → Answers p r c → Lasts p r c → Shows p r c
+pub both_show : (p : Program) (r : Observed) (c : Course) → ShowsAnywhere p r c → Lasts p r c → Shows p r c
 both_show p r c a l = with_images p r c a l

@@ -18,7 +18,7 @@ use Rattle.core_model.specs.declared.phases.Phase.{Phase}
 use Rattle.core_model.specs.declared.phases.Phase.TheVariants.{Unborn, Running, Finished, Refused, Ended}
 use Rattle.core_model.specs.declared.phases.Verdict.TheVariants.{Open, Committed, Aborted}
 use Rattle.core_model.specs.Causes.{HasCause, HasLine, IsCaused, decided_state}
-use Rattle.core_model.specs.Chains.{Wrote}
+use Rattle.core_model.specs.Chains.{WroteGrain}
 use Rattle.core_model.specs.Changes.{new_unit, swept, swept_by}
 use Rattle.core_model.specs.Events.{applies, can, does, step, run, is_allowed}
 use Rattle.core_model.specs.Legal.{Run, IsLegal, begins, ends}
@@ -69,7 +69,7 @@ module _ (shape : Shape) where
 
   -- and the written grains are the program's
   abbrev Fits : CoreState → Type 0
-  Fits w = ResultsFit w.units.phase w.manager.result × ((u : UnitNo) (g : GrainId) → Wrote w.manager.writes u g → IsGrainIn shape g)
+  Fits w = ResultsFit w.units.phase w.manager.result × ((u : UnitNo) (g : GrainId) → WroteGrain w.manager.writes u g → IsGrainIn shape g)
 
   -- a unit in another phase than an end
   other-phase : (phase : UnitNo → Phase) (result : UnitNo → Outcome) (u : UnitNo) (p : Phase) → (IsEnded p → ⊥) → ResultsFit phase result → ResultsFit (put phase u p) result
@@ -212,7 +212,7 @@ module _ (types : ProgramTree) (lines : List (List ℕ)) (shape : Shape) (plays 
       (let older = c.older in let low = (born x.unit (aborted-born x.unit t)).1 in omega (arith, older, low)),
       subst (IsEventIn shape) c.refused event-in,
     )
-    may-say (settled.Vote g) c t = fits-front.1 x.unit g (subst (λ (ws : UnitNo → List Write). Wrote ws x.unit g) (same-decided (ends front) cause.event c.0).0 c.4.wrote)
+    may-say (settled.Vote g) c t = fits-front.1 x.unit g (subst (λ (ws : UnitNo → List Write). WroteGrain ws x.unit g) (same-decided (ends front) cause.event c.0).0 c.4.wrote)
     may-say (settled.Dependency on) (inl c) t = subst (λ (n : UnitNo). n.0 < 2 ^ 64) c.gone.2 (source-low x.unit c.gone.0 c.gone.1)
     may-say (settled.Dependency on) (inr c) t = dependency-low x.unit on (subst (λ (us : Units). Member on (us.deps x.unit)) (same-decided (ends front) cause.event c.0).1 c.4.source)
     may-say settled.Disk c t = tt

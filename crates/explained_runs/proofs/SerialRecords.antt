@@ -15,7 +15,7 @@ use Rattle.core_model.specs.Serial as model
 use Rattle.core_model.specs.Legal.{Run, IsLegal, ends}
 use Rattle.core_model.proofs.Ends.{serial-ends, serial-chosen-ends}
 use Rattle.script_tree.specs.Programs.{ProgramTree}
-use Rattle.script_meaning.specs.Play.{Found, Played, play_over, is_below}
+use Rattle.script_meaning.specs.Play.{GrainState, Played, play_over, is_below}
 use Rattle.script_meaning.specs.Trails.{Has, states_of}
 use Rattle.script_meaning.proofs.Lists.{pairs_first, pairs_rest}
 use Rattle.script_meaning.proofs.Plays.{play_rests_on_reads_lem, plays_are_orderly_lem}
@@ -36,11 +36,11 @@ irreflexive g t = elim (or_cases (nat_lt g.kind g.kind) _ t) [
 ]
 
 -- one grain before another
-abbrev IsBelow : Found → Found → Type 0
+abbrev IsBelow : GrainState → GrainState → Type 0
 IsBelow one other = IsTrue (is_below one.0 other.0)
 
 -- what stands below all that is written isn't written
-unwritten : (x : Found) (ws : List Found) → All (IsBelow x) ws → core.state_written x.0 ws ≡ None
+unwritten : (x : GrainState) (ws : List GrainState) → All (IsBelow x) ws → core.state_written x.0 ws ≡ None
 unwritten x [] below = refl
 unwritten x (w ∷ ws) below =
     elim (cases_Bool (same_grain w.0 x.0)) [
@@ -49,7 +49,7 @@ unwritten x (w ∷ ws) below =
     ]
 
 -- after ascending writes the core and the log have the same states
-same_after : (store states : States) (ws : List Found) → AllPairs IsBelow ws → ((g : GrainId) → store g ≡ states g) → (g : GrainId) → unwrap_or (core.state_written g ws) (store g) ≡ fold put_state states ws g
+same_after : (store states : States) (ws : List GrainState) → AllPairs IsBelow ws → ((g : GrainId) → store g ≡ states g) → (g : GrainId) → unwrap_or (core.state_written g ws) (store g) ≡ fold put_state states ws g
 same_after store states [] pairs same g = same g
 same_after store states (w ∷ ws) pairs same g =
     let next : States = put_state states w in
@@ -75,7 +75,7 @@ has_reads states (r ∷ reads) found = All-cons (λ (r : Read). states r.grain �
 pub plays_again : (types : ProgramTree) (states : States) (e : Effect) → IsPlayOf types e → ((r : Read) → Member r e.reads → r.state ≡ states r.grain)
     → play_over types e.call (depth_of e.origin) states e.answers ≡ played_by types e
 plays_again types states e is found =
-    let has : Has states (map (λ (r : Read). (r.grain, r.state)) e.reads) = All-map (λ (one : Found). states one.0 ≡ one.1) (λ (r : Read). (r.grain, r.state)) e.reads (has_reads states e.reads found) in
+    let has : Has states (map (λ (r : Read). (r.grain, r.state)) e.reads) = All-map (λ (one : GrainState). states one.0 ≡ one.1) (λ (r : Read). (r.grain, r.state)) e.reads (has_reads states e.reads found) in
     play_rests_on_reads_lem types e.call (depth_of e.origin) (states_of (map (λ (r : Read). (r.grain, r.state)) e.reads)) states e.answers e.answers (subst (Has states) (sym is.reads) has) refl
 
 -- a record's play is that of its unit
@@ -101,7 +101,7 @@ writes_ascend types e is =
 pub next-states : (types : ProgramTree) (store states : States) (e : Effect) (l : Commit) → IsPlayOf types e → IsRecordOf e l → ((g : GrainId) → store g ≡ states g) →
     (g : GrainId) → model.after store e.writes g ≡ after_writes states l g
 next-states types store states e l is of_unit same g =
-    same_after store states e.writes (writes_ascend types e is) same g ∙ ap (λ (ws : List Found). fold put_state states ws g) (sym of_unit.writes)
+    same_after store states e.writes (writes_ascend types e is) same g ∙ ap (λ (ws : List GrainState). fold put_state states ws g) (sym of_unit.writes)
 
 -- the records of serial effects are serial
 pub serial_records : (types : ProgramTree) (store states : States) (es : List Effect) (log : List Commit) → ((g : GrainId) → store g ≡ states g)

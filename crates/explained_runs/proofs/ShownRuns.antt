@@ -27,7 +27,7 @@ use Rattle.promise_spec.specs.Journals.{KeepsJournal, commits_of}
 use Rattle.promise_spec.specs.Promise.{HasEnded, Keeps}
 use Rattle.promise_spec.proofs.OneLog.{one_log}
 use Rattle.promise_spec.proofs.Journaled as journaled
-use Rattle.explained_runs.specs.Obligations.{Opens, Journals, Explains, Shows}
+use Rattle.explained_runs.specs.Obligations.{Opens, Journals, ExplainsEvents, Shows}
 use Rattle.explained_runs.proofs.SerialRecords.{above_records, explained_serial}
 use Rattle.explained_runs.proofs.AbortCauses.{explained_aborts}
 use Rattle.explained_runs.proofs.OneFamily.{explained_family}
@@ -41,7 +41,7 @@ use Rattle.explained_runs.proofs.ShownOrder.{order_serial, order_numbered}
 -- ---- causes
 
 -- each abort has its cause by the unit rule
-pub explained : (p : Program) (r : Observed) (c : Course) → Explains p r c → IsExplained p r c
+pub explained : (p : Program) (r : Observed) (c : Course) → ExplainsEvents p r c → IsExplained p r c
 explained p r c e = record {
   records = e.records;
   units = e.units;

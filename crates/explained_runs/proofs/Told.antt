@@ -21,7 +21,7 @@ use Rattle.core_model.proofs.Kept.{Kept}
 use Rattle.core_model.proofs.Children.{Kin}
 use Rattle.core_model.proofs.Growth.{Grows, grows-outcome}
 use Rattle.script_tree.specs.Programs.{ProgramTree}
-use Rattle.script_meaning.specs.Play.{Found, Want, WantLock, WantRaise, WantUnit, Over, grains_of, next}
+use Rattle.script_meaning.specs.Play.{GrainState, Want, WantLock, WantRaise, WantUnit, Over, grains_of, next}
 use Rattle.script_meaning.specs.Laws.{IsMissing}
 use Rattle.script_meaning.specs.Trails.{Given, locks_of, answers_of, reads_of, IsTrail}
 use Rattle.script_meaning.proofs.Plays.{next_is_missing_lem}
@@ -49,7 +49,7 @@ pub record Led (types : ProgramTree) (w : CoreState) (child : Call) (p : UnitNo)
   pub parent : HasBegun w p
   pub trail : List Given
   pub is : IsTrail types (w.units.call p) (depth_of (w.units.origin p)) trail
-  pub reads : (one : Found) → Member one (reads_of trail) → (r : Read) × Member r (w.units.reads p) × (found r ≡ one)
+  pub reads : (one : GrainState) → Member one (reads_of trail) → (r : Read) × Member r (w.units.reads p) × (found r ≡ one)
   pub answered : (j : ℕ) (o : Outcome) → slice_get (answers_of trail) j ≡ Some o → HasOutcome w p j o
   pub count : length (answers_of trail) ≡ i
   pub named : next types (w.units.call p) (depth_of (w.units.origin p)) (locks_of trail) (answers_of trail) ≡ WantUnit child d
@@ -286,16 +286,16 @@ reader-holds opening w u r k running m =
     any-member (is_hold_of u) (w.cells.holds r.grain) h.0 h.1 (same_unit-is h.0.unit u h.2)
 
 -- a grain of the reads is that of a read, and the other way round
-read-there : (rs : List Read) (fs : List Found) (g : GrainId) → fs ≡ map found rs → Contains (grains_of fs) g → (r : Read) × Member r rs × (r.grain ≡ g)
+read-there : (rs : List Read) (fs : List GrainState) (g : GrainId) → fs ≡ map found rs → Contains (grains_of fs) g → (r : Read) × Member r rs × (r.grain ≡ g)
 read-there rs fs g e there =
-    let t = map-member (λ (f : Found). f.0) fs g (contains-member (grains_of fs) g there.0 there.1 there.2) in
+    let t = map-member (λ (f : GrainState). f.0) fs g (contains-member (grains_of fs) g there.0 there.1 there.2) in
     let r = map-member found rs t.0 (subst (Member t.0) e t.1) in
-    (r.0, r.1, ap (λ (f : Found). f.0) r.2 ∙ t.2)
+    (r.0, r.1, ap (λ (f : GrainState). f.0) r.2 ∙ t.2)
 
-there-read : (rs : List Read) (fs : List Found) (g : GrainId) (r : Read) → fs ≡ map found rs → Member r rs → r.grain ≡ g → Contains (grains_of fs) g
+there-read : (rs : List Read) (fs : List GrainState) (g : GrainId) (r : Read) → fs ≡ map found rs → Member r rs → r.grain ≡ g → Contains (grains_of fs) g
 there-read rs fs g r e m same =
     subst (Contains (grains_of fs)) same
-    (member-contains (grains_of fs) r.grain (member-map (λ (f : Found). f.0) fs (found r) (subst (Member (found r)) (sym e) (member-map found rs r m))))
+    (member-contains (grains_of fs) r.grain (member-map (λ (f : GrainState). f.0) fs (found r) (subst (Member (found r)) (sym e) (member-map found rs r m))))
 
 -- not both
 both-ways : (b : Bool) → b ≡ true → b ≡ false → ⊥
@@ -341,7 +341,7 @@ named-more types w w' got v x s g t due =
 -- one more read at the end
 pub map-push : (rs : List Read) (r : Read) → map found (rs ++ (r ∷ [])) ≡ map found rs ++ (found r ∷ [])
 map-push [] r = refl
-map-push (x ∷ rs) r = ap (λ (l : List Found). found x ∷ l) (map-push rs r)
+map-push (x ∷ rs) r = ap (λ (l : List GrainState). found x ∷ l) (map-push rs r)
 
 -- one unit got a lock or a raise
 pub traced-got : (types : ProgramTree) (w w' : CoreState) (got : UnitNo → List Got) (v : UnitNo) (f : UnitNo → Got) → IsSteady w w' → Grows w w' → Traced types w got → w.units.phase v ≡ Running →

@@ -7,7 +7,7 @@ use Rattle.core_model.specs.declared.phases.Phase.TheVariants.{Unborn}
 use Rattle.core_model.specs.declared.effects.Read.{Read}
 use Rattle.core_model.specs.Tests.{outcome_of}
 use Rattle.script_tree.specs.Programs.{ProgramTree}
-use Rattle.script_meaning.specs.Play.{Found, Want, WantLock, WantRaise, WantUnit, next}
+use Rattle.script_meaning.specs.Play.{GrainState, Want, WantLock, WantRaise, WantUnit, next}
 use Rattle.script_meaning.specs.Trails.{Given, GivenLock, GivenRaise, GivenOutcome, locks_of, answers_of}
 use Rattle.promise_spec.specs.Serial.{depth_of}
 use Rattle.promise_spec.specs.Gotten.{Got, GotLock, GotRaise, GotChild, kids_got}
@@ -32,14 +32,14 @@ want_of (GotRaise g) = WantRaise g
 want_of (GotChild call depth child) = WantUnit call depth
 
 -- the grains and states of the first locks
-abbrev pub reads_got : List Got → List Found
+abbrev pub reads_got : List Got → List GrainState
 reads_got [] = []
 reads_got (GotLock g mode state ∷ rest) = (g, state) ∷ reads_got rest
 reads_got (GotRaise g ∷ rest) = reads_got rest
 reads_got (GotChild call depth child ∷ rest) = reads_got rest
 
 -- a read's grain and state
-abbrev pub found : Read → Found
+abbrev pub found : Read → GrainState
 found r = (r.grain, r.state)
 
 -- after what came before, the script asked for this one

@@ -5,12 +5,12 @@ use Rattle.core_model.specs.CoreState.{same_grain}
 use Rattle.core_model.specs.Equality.{same_list, same_state, same_outcome}
 use Rattle.core_model.specs.Legal.{Run}
 use Rattle.script_tree.specs.Programs.{ProgramTree}
-use Rattle.script_meaning.specs.Play.{Found}
+use Rattle.script_meaning.specs.Play.{GrainState}
 use Rattle.promise_spec.specs.Cores.{applied_in}
 use Rattle.promise_spec.specs.UnitRule.{played_by}
 
 -- one grain in one state
-abbrev pub same_found : Found → Found → Bool
+abbrev pub same_found : GrainState → GrainState → Bool
 same_found a b = same_grain a.0 b.0 && same_state a.1 b.1
 
 -- the effect is what its call does over its reads and answers, and it has an answer for each unit that was asked for

@@ -59,7 +59,7 @@ pub record Journals (p : Program) (r : Observed) (c : Course) : Type 0 where
 -- The records are those of the core's committed units. The events keep the unit rule, and on one thread the turn rule.
 -- No more faults show than were counted. Of files the manager file alone may end a run, and only with a batch in doubt;
 -- and a doubt ends the run.
-pub record Explains (p : Program) (r : Observed) (c : Course) : Type 0 where
+pub record ExplainsEvents (p : Program) (r : Observed) (c : Course) : Type 0 where
   pub records : AreAdded (core_end p c) c.added
   pub units : KeepsUnitRule (basis p r c) (core_run p c)
   pub turns : r.manner.threaded ≡ false → KeepsTurnRule p.types (length (lines r)) r.manner.width r.manner.picks (core_run p c)
@@ -69,7 +69,7 @@ pub record Explains (p : Program) (r : Observed) (c : Course) : Type 0 where
 
 -- The log at the exit: each image has the whole order, or lacks the records of the batch in doubt. A unit that is told to
 -- be in doubt and that no image has is in no record, and the block of a batch in doubt stands behind its gate.
-pub record Leaves (p : Program) (r : Observed) (c : Course) : Type 0 where
+pub record LeavesAtExit (p : Program) (r : Observed) (c : Course) : Type 0 where
   pub logs : (image : Image) → IsImage r.new.disk image → HasLogAtExit p c (core_end p c) image
   pub nowhere : (e : Entry) → Member e c.entries → e.what ≡ InDoubt → IsNowhere p r e.unit → HasNoRecord c e.unit
   pub block : HasDoubt (core_run p c) → HasDoubtfulBlock live_slot r c (core_end p c)
@@ -77,7 +77,7 @@ pub record Leaves (p : Program) (r : Observed) (c : Course) : Type 0 where
 -- How it ended: its lines are the input's, nothing began before the input was read whole, and done means that each line
 -- has its entry; a fault is shown by its count, and an input that is too long by its length. Where nothing failed, so many
 -- syncs were asked for.
-pub record Ends (p : Program) (r : Observed) (c : Course) : Type 0 where
+pub record EndsRightly (p : Program) (r : Observed) (c : Course) : Type 0 where
   pub given : lines r ≡ lines_of r.old.input
   pub risen : HasRisen r.ending r.faults_before r.faults_after
   pub carried : IsCarried r.ending
@@ -89,24 +89,24 @@ pub record Ends (p : Program) (r : Observed) (c : Course) : Type 0 where
 -- what a run has to show
 pub record Shows (p : Program) (r : Observed) (c : Course) : Type 0 where
   pub opens : Opens p r c
-  pub explains : Explains p r c
+  pub explains : ExplainsEvents p r c
   pub settled : AreSettled p r c
   pub output : Grew (shape_in p) r.old.output r.new.output c.entries c.rest
   pub whole : r.ending ≢ WriteFault → c.rest ≡ []
   pub journals : Journals p r c
-  pub leaves : Leaves p r c
-  pub ends : Ends p r c
+  pub leaves : LeavesAtExit p r c
+  pub ends : EndsRightly p r c
 
 -- what a run has to show over any folder that reads as a silo, sound or not: nothing of what the images hold
-pub record Answers (p : Program) (r : Observed) (c : Course) : Type 0 where
-  pub explains : Explains p r c
+pub record ShowsAnywhere (p : Program) (r : Observed) (c : Course) : Type 0 where
+  pub explains : ExplainsEvents p r c
   pub settled : AreSettled p r c
   pub output : Grew (shape_in p) r.old.output r.new.output c.entries c.rest
   pub whole : r.ending ≢ WriteFault → c.rest ≡ []
-  pub ends : Ends p r c
+  pub ends : EndsRightly p r c
 
 -- and what it has to show of the images, over a sound folder
 pub record Lasts (p : Program) (r : Observed) (c : Course) : Type 0 where
   pub opens : Opens p r c
   pub journals : Journals p r c
-  pub leaves : Leaves p r c
+  pub leaves : LeavesAtExit p r c

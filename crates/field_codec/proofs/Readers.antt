@@ -4,7 +4,7 @@ use Rattle.std.proofs.lemmas.List.{take_at, drop_at}
 use Rattle.field_codec.specs.declared.faults.CodecFault.{CodecFault}
 use Rattle.field_codec.specs.Spelling.{Stands}
 use Rattle.field_codec.specs.Reading.{AreBytes, and_then, Reader, whole, refused, field, choice, known}
-use Rattle.field_codec.specs.Results.{place_of, Gives, Found, Only}
+use Rattle.field_codec.specs.Results.{place_of, GivesRead, FindsSpelling, Only}
 use Rattle.field_codec.specs.Apart.{AreApart}
 use Rattle.field_codec.proofs.Standing.{stands_both, stands_first, stands_second, stands_empty, stands_end}
 
@@ -206,10 +206,10 @@ apart {C} spell Fits read reads a b x y fits also e =
     (is.0, sym (drop_at (spell a) x (length (spell a)) refl) ∙ rw (is.1) (ap (drop (length (spell b))) e ∙ drop_at (spell b) y (length (spell b)) refl))
 
 pub found_from : {C : Type 0} (spell : C → List ℕ) (Fits : C → Type 0) (read : Reader C) → Reads 0 Any spell Fits read
-    → (bytes : List ℕ) (at : ℕ) (result : Result (C × ℕ) CodecFault) → AreBytes bytes → Gives result (read bytes at) → Found spell Fits bytes at result
+    → (bytes : List ℕ) (at : ℕ) (result : Result (C × ℕ) CodecFault) → AreBytes bytes → GivesRead result (read bytes at) → FindsSpelling spell Fits bytes at result
 found_from spell Fits read reads bytes at (Ok x) are gives le = let t = reads.takes bytes at x.0 x.1 are le gives in (t.1, t.2)
 found_from spell Fits read reads bytes at (Err e) are gives le = tt
 
 pub only_from : {C : Type 0} (spell : C → List ℕ) (Fits : C → Type 0) (read : Reader C) → Reads 0 Any spell Fits read
-    → (bytes : List ℕ) (at : ℕ) (result : Result (C × ℕ) CodecFault) → Gives result (read bytes at) → Only spell Fits bytes at result
-only_from {C} spell Fits read reads bytes at result gives x end le fits stands = subst (λ (r : Result (C × ℕ) CodecFault). Gives result r) (reads.again bytes at x end le tt fits stands) gives
+    → (bytes : List ℕ) (at : ℕ) (result : Result (C × ℕ) CodecFault) → GivesRead result (read bytes at) → Only spell Fits bytes at result
+only_from {C} spell Fits read reads bytes at result gives x end le fits stands = subst (λ (r : Result (C × ℕ) CodecFault). GivesRead result r) (reads.again bytes at x end le tt fits stands) gives

@@ -1,6 +1,6 @@
 ghost use Rattle.std.specs.Prelude.{◌≡◌, ◌≤◌, ◌++◌, length, is_ok, if◌then◌else◌};
 ghost use Rattle.field_codec.specs.Fields.{call_at};
-ghost use Rattle.field_codec.specs.Results.{Gives, Found, Only};
+ghost use Rattle.field_codec.specs.Results.{GivesRead, FindsSpelling, Only};
 ghost use Rattle.field_codec.specs.Spelling.{spelling_of_call, CallFits};
 
 use crate::faults::CodecFault;
@@ -39,7 +39,7 @@ pub fn put_call(into: &mut Vec<u8>, call: &Call) -> Result<(), AllocError>
 
 #[tactic(auto, unfolding(crate::specs::Fields::call_at, crate::specs::Reading::field, crate::specs::Reading::whole))]
 fn call_there(alloc: Global, bytes: &[u8], at: usize) -> Result<(Call, usize), CodecFault>
-    ensures { Gives result (call_at bytes.now at) }
+    ensures { GivesRead result (call_at bytes.now at) }
 {
     let (kind, after) = get_u16(bytes, at)?;
     let (key, after) = get_u32(bytes, after)?;
@@ -58,9 +58,9 @@ fn call_there(alloc: Global, bytes: &[u8], at: usize) -> Result<(Call, usize), C
 
 /// The call that stands at a place, and the place behind it. The fault is the first from left to right.
 pub fn get_call(alloc: Global, bytes: &[u8], at: usize) -> Result<(Call, usize), CodecFault>
-    ensures found { Found spelling_of_call CallFits bytes.now at result }
+    ensures found { FindsSpelling spelling_of_call CallFits bytes.now at result }
     ensures only { Only spelling_of_call CallFits bytes.now at result }
-    ensures exact { Gives result (call_at bytes.now at) }
+    ensures exact { GivesRead result (call_at bytes.now at) }
 {
     call_there(alloc, bytes, at)
 }

@@ -1,5 +1,5 @@
 ghost use Rattle.field_codec.specs.Fields.{ended, answer_at, result_at};
-ghost use Rattle.field_codec.specs.Results.{Gives, Found, Only};
+ghost use Rattle.field_codec.specs.Results.{GivesRead, FindsSpelling, Only};
 ghost use Rattle.field_codec.specs.Spelling.{spelling_of_outcome, AnswerFits, ResultFits};
 
 use crate::faults::CodecFault;
@@ -48,7 +48,7 @@ fn get_ended(
     tag: u8,
     place: usize,
 ) -> Result<(Outcome, usize), CodecFault>
-    ensures { Gives result (ended tag place bytes.now at) }
+    ensures { GivesRead result (ended tag place bytes.now at) }
 {
     if tag == 1 {
         let (value, after) = get_value(alloc, bytes, at)?;
@@ -63,7 +63,7 @@ fn get_ended(
 
 #[tactic(auto, unfolding(crate::specs::Fields::answer_at, crate::specs::Reading::field, crate::specs::Reading::choice, crate::specs::Reading::whole))]
 fn answer_there(alloc: Global, bytes: &[u8], at: usize) -> Result<(Outcome, usize), CodecFault>
-    ensures { Gives result (answer_at bytes.now at) }
+    ensures { GivesRead result (answer_at bytes.now at) }
 {
     let (tag, after) = get_u8(bytes, at)?;
     if tag == 0 {
@@ -75,16 +75,16 @@ fn answer_there(alloc: Global, bytes: &[u8], at: usize) -> Result<(Outcome, usiz
 
 /// The answer to a nested call that stands at a place, and the place behind it. The fault is the first from left to right.
 pub fn get_answer(alloc: Global, bytes: &[u8], at: usize) -> Result<(Outcome, usize), CodecFault>
-    ensures found { Found spelling_of_outcome AnswerFits bytes.now at result }
+    ensures found { FindsSpelling spelling_of_outcome AnswerFits bytes.now at result }
     ensures only { Only spelling_of_outcome AnswerFits bytes.now at result }
-    ensures exact { Gives result (answer_at bytes.now at) }
+    ensures exact { GivesRead result (answer_at bytes.now at) }
 {
     answer_there(alloc, bytes, at)
 }
 
 #[tactic(auto, unfolding(crate::specs::Fields::result_at, crate::specs::Reading::field))]
 fn result_there(alloc: Global, bytes: &[u8], at: usize) -> Result<(Outcome, usize), CodecFault>
-    ensures { Gives result (result_at bytes.now at) }
+    ensures { GivesRead result (result_at bytes.now at) }
 {
     let (tag, after) = get_u8(bytes, at)?;
     let (outcome, after) = get_ended(alloc, bytes, after, tag, at)?;
@@ -94,9 +94,9 @@ fn result_there(alloc: Global, bytes: &[u8], at: usize) -> Result<(Outcome, usiz
 /// The result of a unit that stands at a place, which is no abort, and the place behind it. The fault is the first from left
 /// to right.
 pub fn get_result(alloc: Global, bytes: &[u8], at: usize) -> Result<(Outcome, usize), CodecFault>
-    ensures found { Found spelling_of_outcome ResultFits bytes.now at result }
+    ensures found { FindsSpelling spelling_of_outcome ResultFits bytes.now at result }
     ensures only { Only spelling_of_outcome ResultFits bytes.now at result }
-    ensures exact { Gives result (result_at bytes.now at) }
+    ensures exact { GivesRead result (result_at bytes.now at) }
 {
     result_there(alloc, bytes, at)
 }

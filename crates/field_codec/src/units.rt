@@ -1,7 +1,7 @@
 ghost use Rattle.std.specs.Prelude.{◌≡◌, IsErrOf};
 ghost use Rattle.field_codec.specs.Units.{may_be_unit, may_be_parent};
 ghost use Rattle.field_codec.specs.Fields.{unit_at, parent_at};
-ghost use Rattle.field_codec.specs.Results.{Gives};
+ghost use Rattle.field_codec.specs.Results.{GivesRead};
 ghost use Rattle.field_codec.specs.declared.faults.CodecFault.{CodecFault as Fault};
 
 use crate::faults::CodecFault;
@@ -37,7 +37,7 @@ fn may_be_parent(numbers: Numbers, number: u64) -> bool
 /// The number of a unit that stands at a place, and the place behind it. `Unknown` where it is none that is taken.
 #[tactic(auto, unfolding(crate::specs::Fields::unit_at, crate::specs::Reading::field, crate::specs::Reading::choice, crate::specs::Reading::refused, crate::specs::Reading::whole))]
 pub fn get_unit(bytes: &[u8], at: usize, numbers: Numbers) -> Result<(u64, usize), CodecFault>
-    ensures exact { Gives result (unit_at numbers bytes.now at) }
+    ensures exact { GivesRead result (unit_at numbers bytes.now at) }
     ensures quiet { IsErrOf result Fault.Memory → ⊥ }
 {
     let (number, after) = get_u64(bytes, at)?;
@@ -50,7 +50,7 @@ pub fn get_unit(bytes: &[u8], at: usize, numbers: Numbers) -> Result<(u64, usize
 /// The number of a parent that stands at a place, and the place behind it. `Unknown` where it is none that is taken.
 #[tactic(auto, unfolding(crate::specs::Fields::parent_at, crate::specs::Reading::field, crate::specs::Reading::choice, crate::specs::Reading::refused, crate::specs::Reading::whole))]
 pub fn get_parent(bytes: &[u8], at: usize, numbers: Numbers) -> Result<(u64, usize), CodecFault>
-    ensures exact { Gives result (parent_at numbers bytes.now at) }
+    ensures exact { GivesRead result (parent_at numbers bytes.now at) }
     ensures quiet { IsErrOf result Fault.Memory → ⊥ }
 {
     let (number, after) = get_u64(bytes, at)?;

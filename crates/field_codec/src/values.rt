@@ -1,7 +1,7 @@
 ghost use Rattle.std.specs.Prelude.{◌≡◌, ◌≤◌, ◌++◌, length, take, is_ok, if◌then◌else◌, IfOk, OnOk};
 ghost use Rattle.field_codec.specs.Reading.{times};
 ghost use Rattle.field_codec.specs.Fields.{value_at, values_at, exactly_at};
-ghost use Rattle.field_codec.specs.Results.{Gives, Found, Only};
+ghost use Rattle.field_codec.specs.Results.{GivesRead, FindsSpelling, Only};
 ghost use Rattle.field_codec.specs.Spelling.{spelling_of_value, spelling_of_values, ValueFits, ValuesFit};
 
 use crate::faults::CodecFault;
@@ -80,7 +80,7 @@ pub fn put_state(into: &mut Vec<u8>, state: &State) -> Result<(), AllocError>
 
 #[tactic(auto, unfolding(crate::specs::Fields::value_at, crate::specs::Reading::field, crate::specs::Reading::choice, crate::specs::Reading::refused, crate::specs::Reading::whole))]
 fn value_there(alloc: Global, bytes: &[u8], at: usize) -> Result<(Value, usize), CodecFault>
-    ensures { Gives result (value_at bytes.now at) }
+    ensures { GivesRead result (value_at bytes.now at) }
 {
     let (tag, after) = get_u8(bytes, at)?;
     if tag == 0 {
@@ -104,7 +104,7 @@ pub fn get_values(
     at: usize,
     count: u16,
 ) -> Result<(List<Value>, usize), CodecFault>
-    ensures exact { Gives result (times value_at count bytes.now at) }
+    ensures exact { GivesRead result (times value_at count bytes.now at) }
     ensures many { IfOk result (λ x. length x.0 ≡ count) }
 {
     let mut values = List::new(alloc);
@@ -125,7 +125,7 @@ pub fn values_there(
     at: usize,
     limit: u16,
 ) -> Result<(List<Value>, usize), CodecFault>
-    ensures exact { Gives result (values_at limit bytes.now at) }
+    ensures exact { GivesRead result (values_at limit bytes.now at) }
     ensures within { IfOk result (λ x. length x.0 ≤ limit) }
 {
     let (count, after) = get_count(bytes, at, limit)?;
@@ -143,7 +143,7 @@ pub fn get_exactly(
     limit: u16,
     many: usize,
 ) -> Result<(List<Value>, usize), CodecFault>
-    ensures exact { Gives result (exactly_at limit many bytes.now at) }
+    ensures exact { GivesRead result (exactly_at limit many bytes.now at) }
     ensures within { IfOk result (λ x. length x.0 ≤ limit) }
 {
     let (count, after) = get_count(bytes, at, limit)?;
@@ -156,15 +156,15 @@ pub fn get_exactly(
 
 /// The value that stands at a place, and the place behind it. The fault is the first from left to right.
 pub fn get_value(alloc: Global, bytes: &[u8], at: usize) -> Result<(Value, usize), CodecFault>
-    ensures found { Found spelling_of_value ValueFits bytes.now at result }
+    ensures found { FindsSpelling spelling_of_value ValueFits bytes.now at result }
     ensures only { Only spelling_of_value ValueFits bytes.now at result }
-    ensures exact { Gives result (value_at bytes.now at) }
+    ensures exact { GivesRead result (value_at bytes.now at) }
 {
     value_there(alloc, bytes, at)
 }
 
 fn state_there(alloc: Global, bytes: &[u8], at: usize) -> Result<(State, usize), CodecFault>
-    ensures { Gives result (values_at 16 bytes.now at) }
+    ensures { GivesRead result (values_at 16 bytes.now at) }
 {
     let (values, after) = values_there(alloc, bytes, at, 16)?;
     Ok((State::from_list(values), after))
@@ -172,9 +172,9 @@ fn state_there(alloc: Global, bytes: &[u8], at: usize) -> Result<(State, usize),
 
 /// The state that stands at a place, and the place behind it. The fault is the first from left to right.
 pub fn get_state(alloc: Global, bytes: &[u8], at: usize) -> Result<(State, usize), CodecFault>
-    ensures found { Found spelling_of_values (ValuesFit 16) bytes.now at result }
+    ensures found { FindsSpelling spelling_of_values (ValuesFit 16) bytes.now at result }
     ensures only { Only spelling_of_values (ValuesFit 16) bytes.now at result }
-    ensures exact { Gives result (values_at 16 bytes.now at) }
+    ensures exact { GivesRead result (values_at 16 bytes.now at) }
 {
     state_there(alloc, bytes, at)
 }

@@ -7,16 +7,16 @@ use Rattle.std.specs.Int.{w32, to_le_bytes, from_le_bytes}
 use Rattle.host_trait.specs.Disk.{Tears, overlaid}
 use Rattle.host_trait.proofs.Crashes.{Tears-overlaid}
 use Rattle.gate_block.specs.Gates.{IsClosedAt, is_open_at}
-use Rattle.gate_block.specs.Blocks.{Found, shut, bad, whole, found_at, size_at, block_of, block_at}
+use Rattle.gate_block.specs.Blocks.{BehindGate, shut, bad, whole, found_at, size_at, block_of, block_at}
 use Rattle.gate_block.specs.Log.{then_bodies, then_gate, bodies_from, bodies_of, gate_from, gate_of, IsWhole, open_blocks, AreSmall, HasBlocks, LogsUpTo, first_gate}
 
 -- whether a whole block was found
-abbrev pub is_whole : Found → Bool
+abbrev pub is_whole : BehindGate → Bool
 is_whole shut = false
 is_whole bad = false
 is_whole (whole body) = true
 
-body_in : Found → List ℕ
+body_in : BehindGate → List ℕ
 body_in shut = []
 body_in bad = []
 body_in (whole body) = body
@@ -67,12 +67,12 @@ module _ (gate : ℕ) (body after file : List ℕ) (split : drop gate file ≡ b
       let is : take (length body) (drop (gate + 5) file) ≡ body = ap (λ (l : List ℕ). take (length body) l) behind_size ∙ take_at body after (length body) refl in
       rw (first, size, lt-ltb (gate + 5 + length body) (length file) within, is)
 
-no_bodies : (behind : ℕ → List (List ℕ)) (found : Found) → is_whole found ≡ false → then_bodies behind found ≡ []
+no_bodies : (behind : ℕ → List (List ℕ)) (found : BehindGate) → is_whole found ≡ false → then_bodies behind found ≡ []
 no_bodies behind shut stop = refl
 no_bodies behind bad stop = refl
 no_bodies behind (whole body) stop = absurd (false≢true (sym stop))
 
-same_gate : (gate : ℕ) (behind : ℕ → ℕ) (found : Found) → is_whole found ≡ false → then_gate gate behind found ≡ gate
+same_gate : (gate : ℕ) (behind : ℕ → ℕ) (found : BehindGate) → is_whole found ≡ false → then_gate gate behind found ≡ gate
 same_gate gate behind shut stop = refl
 same_gate gate behind bad stop = refl
 same_gate gate behind (whole body) stop = absurd (false≢true (sym stop))
@@ -92,8 +92,8 @@ walk (suc most) (body ∷ bodies) gate end after file small enough split more at
     let found : found_at gate file ≡ whole body = found_block gate body behind file here small.0 (omega (arith, more, length-append (open_blocks bodies) after)) in
     let on : end ≡ gate + 5 + length body + length (open_blocks bodies) = omega (arith, at, length-append (block_at body) (open_blocks bodies), length-block_at body) in
     let later = walk most bodies (gate + 5 + length body) end after file small.1 (omega (arith, enough)) (next_block gate body behind file here) more on stop in (
-      ap (λ (f : Found). then_bodies (λ size. bodies_from most (gate + 5 + size) file) f) found ∙ ap (λ (l : List (List ℕ)). body ∷ l) later.0,
-      ap (λ (f : Found). then_gate gate (λ size. gate_from most (gate + 5 + size) file) f) found ∙ later.1,
+      ap (λ (f : BehindGate). then_bodies (λ size. bodies_from most (gate + 5 + size) file) f) found ∙ ap (λ (l : List (List ℕ)). body ∷ l) later.0,
+      ap (λ (f : BehindGate). then_gate gate (λ size. gate_from most (gate + 5 + size) file) f) found ∙ later.1,
     )
 
 -- each block has bytes

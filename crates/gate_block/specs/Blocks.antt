@@ -4,17 +4,17 @@ use Rattle.std.specs.Int.{w32, to_le_bytes, from_le_bytes}
 use Rattle.gate_block.specs.Gates.{is_open_at}
 
 -- what a gate may have behind it: nothing that counts, a block that isn't whole, or the body of a whole one
-pub data Found : Type 0 where
-  shut : Found
-  bad : Found
-  whole : List ℕ → Found
+pub data BehindGate : Type 0 where
+  shut : BehindGate
+  bad : BehindGate
+  whole : List ℕ → BehindGate
 
 -- the number in the length field behind a gate
 abbrev pub size_at : ℕ → List ℕ → ℕ
 size_at gate file = from_le_bytes w32 (take 4 (drop (gate + 1) file))
 
 -- A block is whole where its body and the gate behind it lie in the file.
-abbrev pub found_at : ℕ → List ℕ → Found
+abbrev pub found_at : ℕ → List ℕ → BehindGate
 found_at gate file = if is_open_at gate file
     then (if nat_lt (gate + 5 + size_at gate file) (length file) then whole (take (size_at gate file) (drop (gate + 5) file)) else bad)
     else shut

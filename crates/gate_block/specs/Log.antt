@@ -4,14 +4,14 @@ use Rattle.host_trait.specs.declared.channels.FileId.{FileId}
 use Rattle.host_trait.specs.Disk.{FileState, MayLeave, overlaid, settled}
 use Rattle.host_trait.specs.World.{Disk}
 use Rattle.gate_block.specs.Gates.{IsClosedAt, is_open_at}
-use Rattle.gate_block.specs.Blocks.{Found, shut, bad, whole, found_at, block_of, block_at}
+use Rattle.gate_block.specs.Blocks.{BehindGate, shut, bad, whole, found_at, block_of, block_at}
 
 -- the place of the first block's gate
 abbrev pub first_gate : ℕ
 first_gate = 15
 
 -- the body that was found and those behind it, none where the log ends here
-abbrev pub then_bodies : (ℕ → List (List ℕ)) → Found → List (List ℕ)
+abbrev pub then_bodies : (ℕ → List (List ℕ)) → BehindGate → List (List ℕ)
 then_bodies behind shut = []
 then_bodies behind bad = []
 then_bodies behind (whole body) = body ∷ behind (length body)
@@ -26,7 +26,7 @@ abbrev pub bodies_of : List ℕ → List (List ℕ)
 bodies_of file = bodies_from (length file) first_gate file
 
 -- the gate behind the block that was found and all whole ones behind it, this one where the log ends here
-abbrev pub then_gate : ℕ → (ℕ → ℕ) → Found → ℕ
+abbrev pub then_gate : ℕ → (ℕ → ℕ) → BehindGate → ℕ
 then_gate gate behind shut = gate
 then_gate gate behind bad = gate
 then_gate gate behind (whole body) = behind (length body)

@@ -6,7 +6,7 @@ use Rattle.base_types.specs.declared.stores.Version.{Version}
 use Rattle.host_trait.specs.Disk.{overlaid}
 use Rattle.field_codec.specs.Spelling.{Stands, spelling_of_version}
 use Rattle.field_codec.proofs.Standing.{stands_first, stands_second}
-use Rattle.grain_log.specs.Places.{spelling_of_versions, places_from, AllStand}
+use Rattle.grain_log.specs.Places.{spelling_of_versions, places_from, VersionsStand}
 
 places_suc : (at : ℕ) (vs : List Version) (i : ℕ) (v : Version) → i < length vs → v ≡ get_or vs i v
     → places_from at (take (suc i) vs) ≡ places_from at (take i vs) ++ record { offset = at + length (spelling_of_versions (take i vs)); len = length (spelling_of_version v) } ∷ []
@@ -37,13 +37,13 @@ size_is old new text start len start_is len_is grown =
 
 -- ---- standing
 
-stand_all : (file : List ℕ) (at end : ℕ) (vs : List Version) → Stands file at (spelling_of_versions vs) end → AllStand file at vs
+stand_all : (file : List ℕ) (at end : ℕ) (vs : List Version) → Stands file at (spelling_of_versions vs) end → VersionsStand file at vs
 stand_all file at end [] stands = tt
 stand_all file at end (v ∷ vs) stands =
     (stands_first file at end (spelling_of_version v) (spelling_of_versions vs) stands, stand_all file (at + length (spelling_of_version v)) end vs (stands_second file at end (spelling_of_version v) (spelling_of_versions vs) stands))
 
 -- what was written over a file stands there
-pub written_stands : (file : List ℕ) (at : ℕ) (vs : List Version) → at ≤ length file → AllStand (overlaid file at (spelling_of_versions vs)) at vs
+pub written_stands : (file : List ℕ) (at : ℕ) (vs : List Version) → at ≤ length file → VersionsStand (overlaid file at (spelling_of_versions vs)) at vs
 written_stands file at vs within =
     let text = spelling_of_versions vs in
     let after = drop (at + length text) file in

@@ -10,7 +10,7 @@ use Rattle.field_codec.specs.declared.faults.CodecFault.TheVariants as codec
 use Rattle.field_codec.specs.Spelling.{spelling_of_values, spelling_of_version, VersionFits}
 use Rattle.field_codec.specs.Reading.{AreBytes, number_at}
 use Rattle.field_codec.specs.Fields.{exactly_at}
-use Rattle.field_codec.specs.Results.{Gives, Faults, named_place, place_of}
+use Rattle.field_codec.specs.Results.{GivesRead, Faults, named_place, place_of}
 use Rattle.field_codec.proofs.Readers.{Reads, Any, then, done, said, past}
 use Rattle.field_codec.proofs.Counts.{reads64}
 use Rattle.field_codec.proofs.Things.{ValuesFitExactly, exactly_reads}
@@ -32,11 +32,11 @@ version_reads fields low =
     then (λ (v : Version). v.state) spelling_of_values (ValuesFitExactly 16 fields) (exactly_at 16 fields) from0 _ _ _ _ (exactly_reads 16 fields (omega arith) from0) λ s from1.
     done from1 _ (record { unit = record { 0 = u }; state = s }) ((tt, refl), refl) (λ d known i. record { unit = record { 0 = known.0.1 i }; state = known.1 i }))
 
-pub within_text : (fields : ℕ) (text : List ℕ) → AreBytes text → (result : Result Version CodecFault) → Gives result (version_of fields text) → IfErr result (λ fault. place_of fault ≤ length text)
+pub within_text : (fields : ℕ) (text : List ℕ) → AreBytes text → (result : Result Version CodecFault) → GivesRead result (version_of fields text) → IfErr result (λ fault. place_of fault ≤ length text)
 within_text fields text are result gives = whole_within spelling_of_version (FitsWith fields) (version_in fields) (version_reads fields 0) text are result gives
 
 -- what was read of a whole text has its length
-pub shaped_text : (fields : ℕ) (text : List ℕ) → AreBytes text → (result : Result Version CodecFault) → Gives result (version_of fields text) → IfOk result (λ v. IsVersionOf fields (length text) v)
+pub shaped_text : (fields : ℕ) (text : List ℕ) → AreBytes text → (result : Result Version CodecFault) → GivesRead result (version_of fields text) → IfOk result (λ v. IsVersionOf fields (length text) v)
 shaped_text fields text are (Ok v) gives =
     let is = whole_takes spelling_of_version (FitsWith fields) (version_in fields) (version_reads fields 0) text are v gives in
     record { fits = is.0.0; count = is.0.1; len = ap length (sym is.1) }

@@ -15,10 +15,10 @@ places_from at [] = []
 places_from at (version ∷ versions) = record { offset = at; len = length (spelling_of_version version) } ∷ places_from (at + length (spelling_of_version version)) versions
 
 -- these versions stand in the file, one behind the other, the first at this offset
-abbrev pub AllStand : List ℕ → ℕ → List Version → Type 0
-AllStand file at [] = Unit {0}
-AllStand file at (version ∷ versions) =
-    Stands file at (spelling_of_version version) (at + length (spelling_of_version version)) × AllStand file (at + length (spelling_of_version version)) versions
+abbrev pub VersionsStand : List ℕ → ℕ → List Version → Type 0
+VersionsStand file at [] = Unit {0}
+VersionsStand file at (version ∷ versions) =
+    Stands file at (spelling_of_version version) (at + length (spelling_of_version version)) × VersionsStand file (at + length (spelling_of_version version)) versions
 
 -- this version has so many fields, and a spelling of this length
 pub record IsVersionOf (fields size : ℕ) (version : Version) : Type 0 where

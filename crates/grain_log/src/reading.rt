@@ -3,7 +3,7 @@ ghost use Rattle.std.specs.Int.{w64, to_le_bytes};
 ghost use Rattle.host_trait.specs.Faults.{NoneFailed};
 ghost use Rattle.host_trait.specs.Files.{HasSlot, StaysReady};
 ghost use Rattle.host_trait.specs.Runs.{OnlyAsked};
-ghost use Rattle.field_codec.specs.Results.{Gives, named_place, place_of};
+ghost use Rattle.field_codec.specs.Results.{GivesRead, named_place, place_of};
 ghost use Rattle.grain_log.specs.Counts.{ReadFaulted};
 ghost use Rattle.grain_log.specs.Places.{IsVersionOf, IsVersionIn, IsVersionAt};
 ghost use Rattle.grain_log.specs.Reads.{fields_in, version_in, version_of, is_beyond, in_file, damage_at, version_at_place, owned_version, GivesVersion, IsImpossible};
@@ -54,7 +54,7 @@ fn get_version(
     at: usize,
     fields: usize,
 ) -> Result<(Version, usize), CodecFault>
-    ensures { Gives result (version_in fields bytes.now at) }
+    ensures { GivesRead result (version_in fields bytes.now at) }
 {
     let (unit, after) = get_u64(bytes, at)?;
     let (values, after) = get_exactly(alloc, bytes, after, 16, fields)?;
@@ -64,7 +64,7 @@ fn get_version(
 }
 
 fn get_whole(alloc: Global, text: &[u8], fields: usize) -> Result<Version, CodecFault>
-    ensures { Gives result (version_of fields text.now) }
+    ensures { GivesRead result (version_of fields text.now) }
 {
     let (version, end) = get_version(alloc, text, 0, fields)?;
     if end == text.len() {
@@ -75,7 +75,7 @@ fn get_whole(alloc: Global, text: &[u8], fields: usize) -> Result<Version, Codec
 
 // The one version of a whole text.
 fn decode(alloc: Global, text: &[u8], fields: usize) -> Result<Version, CodecFault>
-    ensures exact { Gives result (version_of fields text.now) }
+    ensures exact { GivesRead result (version_of fields text.now) }
     ensures within { IfErr result (λ fault. place_of fault ≤ length text.now) }
     ensures shaped { IfOk result (λ version. IsVersionOf fields (length text.now) version) }
 {

@@ -6,7 +6,7 @@ ghost use Rattle.host_trait.specs.Files.{HasSlot, StaysReady};
 ghost use Rattle.host_trait.specs.Runs.{RunsOnFile};
 ghost use Rattle.field_codec.specs.Spelling.{VersionFits};
 ghost use Rattle.grain_log.specs.Counts.{WriteFaulted};
-ghost use Rattle.grain_log.specs.Places.{spelling_of_versions, places_from, AllStand};
+ghost use Rattle.grain_log.specs.Places.{spelling_of_versions, places_from, VersionsStand};
 ghost use Rattle.grain_log.specs.declared.faults.LogFault.{LogFault};
 
 use crate::faults::LogFault;
@@ -62,7 +62,7 @@ pub fn write_versions<H: Host>(
         → (H.world host.new).syncs ≡ (H.world host.old).syncs + 1) }
     ensures places { IfOk result (λ places. places ≡ places_from at versions.now) }
     ensures stand { OnOk result (IsTrue H.tells
-        → (image : List ℕ) → MayLeave ((H.world host.new).disk file) image → AllStand image at versions.now) }
+        → (image : List ℕ) → MayLeave ((H.world host.new).disk file) image → VersionsStand image at versions.now) }
     ensures before { OnOk result (IsTrue H.tells
         → (image : List ℕ) → MayLeave ((H.world host.new).disk file) image → take at image ≡ take at ((H.world host.old).disk file).seen) }
     ensures fits { OnOk result (AllByRecursion VersionFits versions.now) }

@@ -14,7 +14,7 @@ use Rattle.core_model.specs.CoreState.{UnitNo, GrainId, Value, Write, Cells, Uni
 use Rattle.core_model.specs.declared.phases.Phase.{Phase}
 use Rattle.core_model.specs.declared.phases.Phase.TheVariants.{Unborn, Running, Finished, Refused, Ended}
 use Rattle.core_model.specs.Tests.{is_over, state_written}
-use Rattle.core_model.specs.Chains.{Wrote}
+use Rattle.core_model.specs.Chains.{WroteGrain}
 use Rattle.core_model.specs.declared.events.CoreEvent.TheVariants.{Release}
 use Rattle.core_model.specs.declared.events.CoreReply.TheVariants as reply
 use Rattle.core_model.proofs.Puts.{grain-from}
@@ -73,7 +73,7 @@ has-alone p u g c some =
     let r = c.2 in
     let h : holds_lock u (w.cells.holds g) ≡ true = released-held p w u g s (can-is w (Release u g) c.3) in
     let finished : w.units.phase u ≡ Finished = (λ i. (s.units i).phase u) ∙ is-finished (phase_in p.units u) (handed_in p.handed u g) some in
-    let wrote : Wrote w.manager.writes u g = some-wrote (state_written g (w.manager.writes u)) (subst IsSome (given-is p w u g s r h) some) in
+    let wrote : WroteGrain w.manager.writes u g = some-wrote (state_written g (w.manager.writes u)) (subst IsSome (given-is p w u g s r h) some) in
     let t = any-true (is_hold_of u) (w.cells.holds g) h in
     let k = (rests w r).writers u g t.0 finished wrote t.1 (same_unit-true t.0.unit u t.2) in
     (λ i. any (covers u mode.Update) ((sym s.cells i).holds g)) ∙ any-member (covers u mode.Update) (w.cells.holds g) k.0 k.1

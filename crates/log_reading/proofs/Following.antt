@@ -5,7 +5,7 @@ use Rattle.base_types.specs.declared.shapes.Shape.{Shape}
 use Rattle.field_codec.specs.declared.faults.CodecFault.{CodecFault}
 use Rattle.field_codec.specs.declared.units.Numbers.TheVariants.{Logged}
 use Rattle.field_codec.specs.Results.{place_of}
-use Rattle.gate_block.specs.Blocks.{Found, shut, bad, whole, found_at}
+use Rattle.gate_block.specs.Blocks.{BehindGate, shut, bad, whole, found_at}
 use Rattle.gate_block.specs.Log.{then_bodies, then_gate, bodies_from, gate_from, gate_of, first_gate}
 use Rattle.gate_block.proofs.Logs.{closed_shut}
 use Rattle.commit_log.specs.declared.records.CommitRecord.{CommitRecord}
@@ -22,12 +22,12 @@ past_shut file gate past = closed_shut gate file (λ is. let none : slice_index 
 
 module _ (shape : Shape) (file : List ℕ) where
   -- what is left from a gate on, by what was found there
-  abbrev from_found : ℕ → ℕ → Found → Result Records ℕ
+  abbrev from_found : ℕ → ℕ → BehindGate → Result Records ℕ
   from_found m gate found =
       records_behind shape gate (then_bodies (λ size. bodies_from m (gate + 5 + size) file) found)
       (no_more (then_gate gate (λ size. gate_from m (gate + 5 + size) file) found) (found_at (then_gate gate (λ size. gate_from m (gate + 5 + size) file) found) file))
 
-  abbrev gate_found : ℕ → ℕ → Found → ℕ
+  abbrev gate_found : ℕ → ℕ → BehindGate → ℕ
   gate_found m gate found = then_gate gate (λ size. gate_from m (gate + 5 + size) file) found
 
 -- ---- what an answer tells of a body
@@ -60,7 +60,7 @@ and_with at (Err fault) more later e = absurd cc
 -- ---- one step
 
 module _ (shape : Shape) (file : List ℕ) where
-  further_by : (m gate : ℕ) (found : Found) → found_at gate file ≡ found → (more : Records) (next : ℕ) → next_of shape gate found ≡ Ok (Some (more, next))
+  further_by : (m gate : ℕ) (found : BehindGate) → found_at gate file ≡ found → (more : Records) (next : ℕ) → next_of shape gate found ≡ Ok (Some (more, next))
       → (records_from shape (suc m) gate file ≡ with_records more (records_from shape m next file)) × (gate_from (suc m) gate file ≡ gate_from m next file) × (gate + 5 ≤ next)
   further_by m gate shut is more next e = absurd cc
   further_by m gate bad is more next e = absurd cc
@@ -74,14 +74,14 @@ module _ (shape : Shape) (file : List ℕ) where
         omega (arith, t.1),
       )
 
-  end_by : (m gate : ℕ) (found : Found) → found_at gate file ≡ found → next_of shape gate found ≡ Ok None → (records_from shape (suc m) gate file ≡ Ok []) × (gate_from (suc m) gate file ≡ gate)
+  end_by : (m gate : ℕ) (found : BehindGate) → found_at gate file ≡ found → next_of shape gate found ≡ Ok None → (records_from shape (suc m) gate file ≡ Ok []) × (gate_from (suc m) gate file ≡ gate)
   end_by m gate shut is e =
       let one : records_from shape (suc m) gate file ≡ no_more gate (found_at gate file) = ap (from_found shape file m gate) is in
       (one ∙ ap (no_more gate) is, ap (gate_found shape file m gate) is)
   end_by m gate bad is e = absurd cc
   end_by m gate (whole body) is e = gate_none gate (length body) (body_in Logged shape body) e
 
-  break_by : (m gate : ℕ) (found : Found) → found_at gate file ≡ found → (place : ℕ) → next_of shape gate found ≡ Err place → records_from shape (suc m) gate file ≡ Err place
+  break_by : (m gate : ℕ) (found : BehindGate) → found_at gate file ≡ found → (place : ℕ) → next_of shape gate found ≡ Err place → records_from shape (suc m) gate file ≡ Err place
   break_by m gate shut is place e = absurd cc
   break_by m gate bad is place e =
       let one : records_from shape (suc m) gate file ≡ no_more gate (found_at gate file) = ap (from_found shape file m gate) is in

@@ -4,7 +4,7 @@ use Rattle.base_types.specs.declared.shapes.Shape.{Shape}
 use Rattle.field_codec.specs.declared.faults.CodecFault.{CodecFault}
 use Rattle.field_codec.specs.declared.units.Numbers.TheVariants.{Logged}
 use Rattle.field_codec.specs.Results.{place_of}
-use Rattle.gate_block.specs.Blocks.{Found, shut, bad, whole, found_at}
+use Rattle.gate_block.specs.Blocks.{BehindGate, shut, bad, whole, found_at}
 use Rattle.gate_block.specs.Log.{first_gate, bodies_of, gate_of}
 use Rattle.commit_log.specs.declared.records.CommitRecord.{CommitRecord}
 use Rattle.commit_log.specs.Fields.{body_in}
@@ -16,7 +16,7 @@ and_records at (Ok records) (Err place) = Err place
 and_records at (Ok records) (Ok more) = Ok (records ++ more)
 
 -- behind the bodies the log ends at a closed gate, or is damaged at the length field of a block that isn't whole
-abbrev pub no_more : ℕ → Found → Result (List CommitRecord) ℕ
+abbrev pub no_more : ℕ → BehindGate → Result (List CommitRecord) ℕ
 no_more gate shut = Ok []
 no_more gate bad = Err (gate + 1)
 no_more gate (whole body) = Ok []

@@ -7,7 +7,7 @@ use Rattle.host_trait.specs.World.{Disk, Image}
 use Rattle.field_codec.specs.declared.faults.CodecFault.{CodecFault}
 use Rattle.field_codec.specs.declared.units.Numbers.TheVariants.{Logged}
 use Rattle.field_codec.specs.Results.{place_of}
-use Rattle.gate_block.specs.Blocks.{Found, shut, bad, whole, found_at}
+use Rattle.gate_block.specs.Blocks.{BehindGate, shut, bad, whole, found_at}
 use Rattle.gate_block.specs.Log.{bodies_from, gate_from}
 use Rattle.commit_log.specs.declared.records.CommitRecord.{CommitRecord}
 use Rattle.commit_log.specs.Fields.{body_in}
@@ -31,7 +31,7 @@ and_gate gate size (Ok records) = Ok (Some (records, gate + 5 + size))
 and_gate gate size (Err fault) = Err (gate + 5 + place_of fault)
 
 -- what was found behind a gate as records: none at a closed gate
-abbrev pub next_of : Shape → ℕ → Found → Result (Option (List CommitRecord × ℕ)) ℕ
+abbrev pub next_of : Shape → ℕ → BehindGate → Result (Option (List CommitRecord × ℕ)) ℕ
 next_of shape gate shut = Ok None
 next_of shape gate bad = Err (gate + 1)
 next_of shape gate (whole body) = and_gate gate (length body) (body_in Logged shape body)

@@ -7,7 +7,7 @@ ghost use Rattle.host_trait.specs.declared.channels.FileId.{FileId};
 ghost use Rattle.field_codec.specs.declared.units.Numbers.TheVariants.{Logged};
 ghost use Rattle.field_codec.specs.Results.{named_place, place_of};
 ghost use Rattle.commit_log.specs.Fields.{body_in};
-ghost use Rattle.commit_log.specs.Bodies.{IsBody, IsRecordIn};
+ghost use Rattle.commit_log.specs.Bodies.{IsBlockBody, IsRecordIn};
 ghost use Rattle.log_reading.specs.declared.faults.FolderFault.{FolderFault};
 ghost use Rattle.log_reading.specs.Counts.{ReadFaulted, damage_in};
 ghost use Rattle.log_reading.specs.Steps.{manager, next_in, placed};
@@ -43,7 +43,7 @@ fn records_at(
 ) -> Result<List<CommitRecord>, FolderFault>
     requires { start + length body.now < 2 ^ 63 }
     ensures found { IfOk result (λ records. body_in Logged shape.now body.now ≡ Ok records) }
-    ensures body { IfOk result (λ records. IsBody Logged shape.now records body.now) }
+    ensures body { IfOk result (λ records. IsBlockBody Logged shape.now records body.now) }
     ensures damaged { (file : FileId) (place : ℕ) → IsErrOf result (FolderFault.Damaged file place) → (file ≡ manager) × (placed start (body_in Logged shape.now body.now) ≡ Err place) }
     ensures failed { (file : FileId) → IsErrOf result (FolderFault.Failed file) → ⊥ }
 {

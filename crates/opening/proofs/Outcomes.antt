@@ -5,8 +5,8 @@ use Rattle.host_trait.specs.World.{World, Moment, Image, Disk, IsImage, Passes, 
 use Rattle.gate_block.specs.Log.{first_gate}
 use Rattle.silo_spec.specs.Silos.{manager, program_file, counter_magic, IsSilo, HasProgram, IsNewSilo, new_header}
 use Rattle.silo_spec.specs.Moments.{IsUntouched}
-use Rattle.silo_spec.specs.Logs.{IsLog}
-use Rattle.silo_spec.specs.Making.{IsMade, IsNewAt, IsUnsynced, FromFirstSync, Makes}
+use Rattle.silo_spec.specs.Logs.{IsCounterLog}
+use Rattle.silo_spec.specs.Making.{IsMade, IsNewAt, IsUnsynced, FromFirstSync, CameThisFar}
 use Rattle.opening.specs.Steps.{HasNoSilo}
 use Rattle.opening.proofs.Closing.{first_then, first_weaker}
 use Rattle.opening.proofs.Filling.{new_log, new_silo}
@@ -40,19 +40,19 @@ module _ (text : List ℕ) (disk : Disk) (made : IsMade counter_magic text disk)
   made_silo = new_silo text image silo (sym header_is) text_is closed
 
   -- and its log has no unit
-  pub made_log : IsLog counter_magic image [] first_gate
+  pub made_log : IsCounterLog counter_magic image [] first_gate
   made_log = record { silo = silo; blocks = new_log (image manager) long closed; units = tt }
 
 no_silo_new : (text : List ℕ) (m : Moment) → HasNoSilo counter_magic m → IsNewAt counter_magic text m
 no_silo_new text m none image is silo = absurd (none image is silo)
 
 -- the first two steps came so far
-pub so_far : (text : List ℕ) (old new : World) → IsUntouched old new ⊎ (IsUnsynced old new ⊎ FromFirstSync (HasNoSilo counter_magic) old new) → Makes counter_magic text old new
+pub so_far : (text : List ℕ) (old new : World) → IsUntouched old new ⊎ (IsUnsynced old new ⊎ FromFirstSync (HasNoSilo counter_magic) old new) → CameThisFar counter_magic text old new
 so_far text old new (inl untouched) = inl untouched
 so_far text old new (inr (inl unsynced)) = inr (inl unsynced)
 so_far text old new (inr (inr first)) = inr (inr (first_weaker (HasNoSilo counter_magic) (IsNewAt counter_magic text) old new (no_silo_new text) first))
 
 -- and the later ones behind them
-pub came_on : (text : List ℕ) (old mid new : World) → FromFirstSync (HasNoSilo counter_magic) old mid → Passes (IsNewAt counter_magic text) mid.past new.past → IsNewAt counter_magic text (moment_of new) → Makes counter_magic text old new
+pub came_on : (text : List ℕ) (old mid new : World) → FromFirstSync (HasNoSilo counter_magic) old mid → Passes (IsNewAt counter_magic text) mid.past new.past → IsNewAt counter_magic text (moment_of new) → CameThisFar counter_magic text old new
 came_on text old mid new first moments now =
     inr (inr (first_then (IsNewAt counter_magic text) old mid new (first_weaker (HasNoSilo counter_magic) (IsNewAt counter_magic text) old mid (no_silo_new text) first) moments now))

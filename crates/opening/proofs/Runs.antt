@@ -11,7 +11,7 @@ use Rattle.gate_block.specs.Log.{LogsUpTo}
 use Rattle.silo_spec.specs.Silos.{manager, IsSilo}
 use Rattle.silo_spec.specs.declared.units.Logged.{Logged}
 use Rattle.silo_spec.specs.Units.{body_of, AreUnits}
-use Rattle.silo_spec.specs.Logs.{IsLog}
+use Rattle.silo_spec.specs.Logs.{IsCounterLog}
 use Rattle.silo_spec.specs.Moments.{IsAsAtEntry, IsUntouched}
 use Rattle.opening.specs.Reading.{Stays}
 
@@ -61,7 +61,7 @@ untouched most old new run = record {
 
 -- where nothing of the manager file is pending, each image has its log
 pub each_log : (magic bytes : List ℕ) (disk : Disk) (log : List Logged) (gate : ℕ) → disk manager ≡ settled bytes → IsSilo magic bytes → LogsUpTo (map body_of log) gate bytes → AreUnits 0 log
-    → (image : Image) → IsImage disk image → IsLog magic image log gate
+    → (image : Image) → IsImage disk image → IsCounterLog magic image log gate
 each_log magic bytes disk log gate there silo logs units image is =
     let same : bytes ≡ image manager = sym (settled_image disk manager bytes (image manager) there (is manager)) in
     record {

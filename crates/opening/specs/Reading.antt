@@ -1,6 +1,6 @@
 -- What opening reads behind a gate.
 use Rattle.std.specs.Prelude.{◌≡◌, ℕ, ◌+◌, ◌^◌, ◌<◌, List, length, take, drop}
-use Rattle.gate_block.specs.Blocks.{Found, shut, bad, whole, found_at, block_at}
+use Rattle.gate_block.specs.Blocks.{BehindGate, shut, bad, whole, found_at, block_at}
 use Rattle.silo_spec.specs.declared.units.Logged.{Logged}
 use Rattle.silo_spec.specs.Units.{body_of, IsUnit}
 use Rattle.silo_spec.specs.Damage.{IsBodyAbove}
@@ -10,7 +10,7 @@ abbrev pub Stays : List ℕ → List ℕ → Type 0
 Stays old new = new ≡ old
 
 -- there is an open block, and it isn't that of a unit above this one
-abbrev pub IsBroken : ℕ → Found → Type 0
+abbrev pub IsBroken : ℕ → BehindGate → Type 0
 IsBroken above shut = ⊥
 IsBroken above bad = Unit {0}
 IsBroken above (whole body) = IsBodyAbove above body → ⊥

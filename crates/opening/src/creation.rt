@@ -12,7 +12,7 @@ ghost use Rattle.silo_spec.specs.Moments.{IsUntouched};
 ghost use Rattle.opening.specs.declared.faults.CreateFault.{CreateFault};
 ghost use Rattle.opening.specs.declared.creation.Front.{Front};
 ghost use Rattle.opening.specs.Counts.{CreateFaulted};
-ghost use Rattle.silo_spec.specs.Making.{IsMade, StaysBeside, IsUnsynced, FromFirstSync, IsNewAt, Makes};
+ghost use Rattle.silo_spec.specs.Making.{IsMade, StaysBeside, IsUnsynced, FromFirstSync, IsNewAt, CameThisFar};
 ghost use Rattle.opening.specs.Steps.{Shows, Looks, SyncsFor, ClosesBy, MayClose, HasNoSilo, IsShut};
 
 use crate::faults::CreateFault;
@@ -71,7 +71,7 @@ pub fn create<H: Host>(host: &mut H, program: &[u8]) -> Result<(), CreateFault>
 
     // A crash at any moment leaves a folder of before but for the header gate, until the first sync has succeeded, and
     // from then on no silo or a new one.
-    ensures moments { IsTrue H.tells → Makes counter_magic program.now (H.world host.old) (H.world host.new) }
+    ensures moments { IsTrue H.tells → CameThisFar counter_magic program.now (H.world host.old) (H.world host.new) }
 
     // No other file changes, and no output or input.
     ensures beside { IsTrue H.tells → StaysBeside (H.world host.old) (H.world host.new) }

@@ -12,8 +12,8 @@ ghost use Rattle.gate_block.specs.Blocks.{found_at, shut};
 ghost use Rattle.gate_block.specs.Log.{LogsUpTo, first_gate};
 ghost use Rattle.silo_spec.specs.Silos.{manager, counter_magic, IsSilo};
 ghost use Rattle.silo_spec.specs.Units.{body_of, IsUnit, AreUnits};
-ghost use Rattle.silo_spec.specs.Logs.{IsLog};
-ghost use Rattle.silo_spec.specs.Damage.{IsBodyAbove, IsDamagedAt};
+ghost use Rattle.silo_spec.specs.Logs.{IsCounterLog};
+ghost use Rattle.silo_spec.specs.Damage.{IsBodyAbove, IsLogDamagedAt};
 ghost use Rattle.silo_spec.specs.Moments.{IsUntouched};
 ghost use Rattle.opening.specs.declared.faults.OpenFault.{OpenFault};
 ghost use Rattle.opening.specs.Counts.{OpenFaulted};
@@ -194,7 +194,7 @@ fn read_log<H: Host>(alloc: Global, host: &mut H) -> Result<Opened, OpenFault>
     ensures units { IfOk result (λ opened. AreUnits 0 opened.log) }
     ensures bound { IfOk result (λ opened. opened.gate_at < 2 ^ 63) }
     ensures damaged { (file : FileId) (place : ℕ) → IsErrOf result (OpenFault.Damaged file place) → IsTrue H.tells
-        → IsDamagedAt ((H.world host.old).disk manager).seen place }
+        → IsLogDamagedAt ((H.world host.old).disk manager).seen place }
     ensures place { (file : FileId) (place : ℕ) → IsErrOf result (OpenFault.Damaged file place) → file ≡ manager }
     ensures silo { IsErrOf result OpenFault.NotASilo → ⊥ }
     ensures asked { IsTrue H.tells → OnlyAsked (H.world host.old) (H.world host.new) }
@@ -227,7 +227,7 @@ fn read_log<H: Host>(alloc: Global, host: &mut H) -> Result<Opened, OpenFault>
 pub fn open_silo<H: Host>(alloc: Global, host: &mut H) -> Result<Opened, OpenFault>
     // Each image has this log, which ends at this closed gate, and nothing of the manager file is pending.
     ensures log { IfOk result (λ opened. IsTrue H.tells → (image : Image) → IsImage (H.world host.new).disk image
-        → IsLog counter_magic image opened.log opened.gate_at) }
+        → IsCounterLog counter_magic image opened.log opened.gate_at) }
     ensures units { IfOk result (λ opened. AreUnits 0 opened.log) }
     ensures bound { IfOk result (λ opened. opened.gate_at < 2 ^ 63) }
     ensures closed { IfOk result (λ opened. IsTrue H.tells
@@ -245,10 +245,10 @@ pub fn open_silo<H: Host>(alloc: Global, host: &mut H) -> Result<Opened, OpenFau
 
     // A damaged silo is refused with the place, and no other is.
     ensures damaged { (file : FileId) (place : ℕ) → IsErrOf result (OpenFault.Damaged file place) → IsTrue H.tells
-        → IsDamagedAt ((H.world host.old).disk manager).seen place }
+        → IsLogDamagedAt ((H.world host.old).disk manager).seen place }
     ensures damaged_file { (file : FileId) (place : ℕ) → IsErrOf result (OpenFault.Damaged file place) → file ≡ manager }
     ensures undamaged { OnOk result (IsTrue H.tells → (place : ℕ)
-        → IsDamagedAt ((H.world host.old).disk manager).seen place → ⊥) }
+        → IsLogDamagedAt ((H.world host.old).disk manager).seen place → ⊥) }
 
     // `DiskFault` is answered exactly where a call on the manager file failed: its count rose then, and no other changed.
     // With another answer no count has changed.

@@ -12,7 +12,7 @@ use Rattle.core_model.specs.CoreState.{UnitNo, GrainId, Batch, CoreState}
 use Rattle.core_model.proofs.Decoded.{Change, bad, begin, lock, raise, refuse, finish, end_plain, end_snapshot, release, take_batch, vote, decide_some, decide_none, seal_batch, spoil_batch, doubt_batch, learn, emit, halt_run, want, load, decode}
 use Rattle.script_tree.specs.Programs.{ProgramTree}
 use Rattle.promise_spec.specs.Cores.{AppliesAt, state_before}
-use Rattle.promise_spec.specs.TurnRule.{KeepsTurnRule, Makes, batch_step, later_step}
+use Rattle.promise_spec.specs.TurnRule.{KeepsTurnRule, MakesEvent, batch_step, later_step}
 
 never_fewer : (w w' : CoreState) (e : CoreEvent) → Change w e w' → w.manager.emitted ≤ w'.manager.emitted
 never_fewer w _ _ (bad line why is) = omega arith
@@ -70,15 +70,15 @@ module _ (w : CoreState) (unwritten : w.manager.emitted < length w.manager.settl
   less : nat_lt w.manager.emitted (length w.manager.settled) ≡ true
   less = lt-ltb w.manager.emitted (length w.manager.settled) unwritten
 
-  by_learn : (next : Option (UnitNo × GrainId)) → next_learn w ≡ next → is_some w.manager.doubt ≡ false → Makes (later_step w) Take → ⊥
+  by_learn : (next : Option (UnitNo × GrainId)) → next_learn w ≡ next → is_some w.manager.doubt ≡ false → MakesEvent (later_step w) Take → ⊥
   by_learn None q d = rw (d, q, less) (λ e. absurd (cc e))
   by_learn (Some x) q d = rw (d, q) (λ e. absurd (cc e))
 
-  by_doubt : (b : Bool) → is_some w.manager.doubt ≡ b → Makes (later_step w) Take → ⊥
+  by_doubt : (b : Bool) → is_some w.manager.doubt ≡ b → MakesEvent (later_step w) Take → ⊥
   by_doubt true d = rw (d, less) (λ e. absurd (cc e))
   by_doubt false d = by_learn (next_learn w) refl d
 
-  not_taken : Makes (later_step w) Take → ⊥
+  not_taken : MakesEvent (later_step w) Take → ⊥
   not_taken = by_doubt (is_some w.manager.doubt) refl
 
 no_batch : (o : Option Batch) → is_none o ≡ true → o ≡ None
@@ -92,4 +92,4 @@ nothing_unwritten types lines width picks r at keeps is unwritten =
     let turn = keeps at Take is in
     let able = and_parts (is_allowed w Take) (can w Take) is.applied in
     let none : w.manager.batch ≡ None = no_batch w.manager.batch (and_parts _ _ able.1).0 in
-    not_taken w unwritten (subst (λ (b : Option Batch). Makes (batch_step w b) Take) none turn.2)
+    not_taken w unwritten (subst (λ (b : Option Batch). MakesEvent (batch_step w b) Take) none turn.2)

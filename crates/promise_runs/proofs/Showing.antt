@@ -6,7 +6,7 @@ use Rattle.promise_spec.specs.Programs.{Program}
 use Rattle.promise_spec.specs.Courses.{Observed, Course, moments}
 use Rattle.promise_spec.specs.Journals.{Settlement, Backs, commits_of}
 use Rattle.promise_spec.specs.Promise.{IsSoundFolder, Keeps}
-use Rattle.explained_runs.specs.Obligations.{SaysIn, Opens, Journals, Explains, Leaves, Ends, Shows}
+use Rattle.explained_runs.specs.Obligations.{SaysIn, Opens, Journals, ExplainsEvents, LeavesAtExit, EndsRightly, Shows}
 
 module _ (p : Program) (r : Observed) (c : Course) (keeps : Keeps p r c) where
   -- it opened the folder, and some image was there at the return of the opening's last sync
@@ -36,7 +36,7 @@ module _ (p : Program) (r : Observed) (c : Course) (keeps : Keeps p r c) where
     alone = keeps.headline.crashes.alone;
   }
 
-  explains : Explains p r c
+  explains : ExplainsEvents p r c
   explains = record {
     records = keeps.explained.records;
     units = keeps.explained.units;
@@ -46,10 +46,10 @@ module _ (p : Program) (r : Observed) (c : Course) (keeps : Keeps p r c) where
     ended = keeps.explained.ended;
   }
 
-  leaves : Leaves p r c
+  leaves : LeavesAtExit p r c
   leaves = record { logs = keeps.exit.logs; nowhere = keeps.exit.nowhere; block = keeps.exit.block }
 
-  ends : Ends p r c
+  ends : EndsRightly p r c
   ends = record {
     given = keeps.ended.given;
     risen = keeps.ended.risen;

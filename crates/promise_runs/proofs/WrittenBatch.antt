@@ -37,7 +37,7 @@ use Rattle.promise_spec.specs.Journals.{Settlement, Backs, commits_of}
 use Rattle.promise_spec.specs.Promise.{Keeps, Promises}
 use Rattle.promise_spec.proofs.Lists.{head_of, tail_of, none_is}
 use Rattle.promise_spec.proofs.OneLog.{one_log}
-use Rattle.explained_runs.specs.Obligations.{SaysIn, Opens, Journals, Explains, Leaves, Ends, Shows}
+use Rattle.explained_runs.specs.Obligations.{SaysIn, Opens, Journals, ExplainsEvents, LeavesAtExit, EndsRightly, Shows}
 use Rattle.explained_runs.proofs.ShownRuns.{shown}
 use Rattle.explained_runs.proofs.ShownPromise.{promised}
 use Rattle.promise_runs.specs.Examples.{account_program, account_1, program_bytes, unit_no, first_commit, next_commit, first_version, first_entry, manager_of}
@@ -348,7 +348,7 @@ journals = record {
   alone = alone;
 }
 
-explains : Explains account_program batched batch_course
+explains : ExplainsEvents account_program batched batch_course
 explains = record {
   records = inl records_are;
   units = batch_unit_rule batched.asked asks;
@@ -369,7 +369,7 @@ told = record {
   cut = inl refl;
 }
 
-leaves : Leaves account_program batched batch_course
+leaves : LeavesAtExit account_program batched batch_course
 leaves = record {
   logs = λ image left. record { log = both_commits; is = both_images image left; which = inl refl };
   nowhere = λ e there.
@@ -383,7 +383,7 @@ answered (suc zero) low high = (first_entry, inl refl, refl)
 answered (suc (suc zero)) low high = (second_entry, inr (inl refl), refl)
 answered (suc (suc (suc n))) low high = absurd (omega arith)
 
-ends : Ends account_program batched batch_course
+ends : EndsRightly account_program batched batch_course
 ends = record {
   given = refl;
   risen = tt;

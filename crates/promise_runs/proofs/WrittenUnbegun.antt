@@ -27,7 +27,7 @@ use Rattle.promise_spec.specs.Exits.{HasBlock, DifferAt, HasDoubtfulBlock}
 use Rattle.promise_spec.specs.Journals.{Settlement, Backs}
 use Rattle.promise_spec.specs.Promise.{Keeps, Promises}
 use Rattle.promise_spec.proofs.OneLog.{one_log}
-use Rattle.explained_runs.specs.Obligations.{SaysIn, Opens, Journals, Explains, Leaves, Ends, Shows}
+use Rattle.explained_runs.specs.Obligations.{SaysIn, Opens, Journals, ExplainsEvents, LeavesAtExit, EndsRightly, Shows}
 use Rattle.explained_runs.proofs.ShownRuns.{shown}
 use Rattle.explained_runs.proofs.ShownPromise.{promised}
 use Rattle.promise_runs.specs.Examples.{account_program, account_1, first_commit, grain_bytes, block_bytes, manager_bytes, locked_entry, doubt_entry, conflict_entries}
@@ -210,7 +210,7 @@ file_is : (file : FileId) → unbegun.ending ≡ DiskFault file → file ≡ man
 file_is file is = let e : DiskFault manager ≡ DiskFault file = is in cc e
 
 -- why each line ended so
-explains : Explains account_program unbegun unbegun_course
+explains : ExplainsEvents account_program unbegun unbegun_course
 explains = record {
   records = records;
   units = two_unit_rule unbegun.asked asks;
@@ -270,7 +270,7 @@ doubtful_block = record {
 }
 
 -- the logs at the exit
-leaves : Leaves account_program unbegun unbegun_course
+leaves : LeavesAtExit account_program unbegun unbegun_course
 leaves = record {
   logs = λ image left. record { log = []; is = (at_exit.images image left).0; which = inl refl };
   nowhere = λ e there what none l added. absurd added;
@@ -282,7 +282,7 @@ not_calm : NoneRose unbegun.faults_before unbegun.faults_after → ⊥
 not_calm calm = let same : 1 ≡ 0 = (calm (File manager)).0 in absurd (omega (arith, same))
 
 -- how it ended
-ends : Ends account_program unbegun unbegun_course
+ends : EndsRightly account_program unbegun unbegun_course
 ends = record {
   given = refl;
   risen = manager_fails.rose;

@@ -21,17 +21,17 @@ use Rattle.commit_log.specs.Fields.{records_in}
 use Rattle.commit_log.proofs.Fields.{records_reads}
 use Rattle.silo_spec.specs.Silos.{manager}
 use Rattle.promise_spec.specs.Records.{Commit}
-use Rattle.promise_spec.specs.Logs.{Stands, AllStand, IsKept, body_of, IsLog, live_slot}
+use Rattle.promise_spec.specs.Logs.{WriteStands, WritesStand, IsKept, body_of, IsLog, live_slot}
 use Rattle.promise_spec.proofs.Lists.{head_of, tail_of, none_is, parts_of}
 
 versions_same : (v w : Version) → VersionFits v → VersionFits w → spelling_of_version v ≡ spelling_of_version w → v ≡ w
 versions_same v w first second e = (apart spelling_of_version VersionFits version_at (version_reads 0) v w [] [] first second (ap (λ l. l ++ []) e)).0
 
 module _ (shape : Shape) (image : Image) where
-  state_same : (unit : UnitNo) (w : Written) (s t : List Value) → Stands live_slot shape image unit w s → Stands live_slot shape image unit w t → s ≡ t
+  state_same : (unit : UnitNo) (w : Written) (s t : List Value) → WriteStands live_slot shape image unit w s → WriteStands live_slot shape image unit w t → s ≡ t
   state_same unit w s t a b = ap (λ (v : Version). v.state) (versions_same _ _ a.version.version_is.fits b.version.version_is.fits (sym a.version.here ∙ b.version.here))
 
-  states_same : (unit : UnitNo) (ws : List Written) (s t : List (List Value)) → AllStand live_slot shape image unit ws s → AllStand live_slot shape image unit ws t → s ≡ t
+  states_same : (unit : UnitNo) (ws : List Written) (s t : List (List Value)) → WritesStand live_slot shape image unit ws s → WritesStand live_slot shape image unit ws t → s ≡ t
   states_same unit [] [] [] a b = refl
   states_same unit [] [] (y ∷ t) a b = absurd b
   states_same unit [] (x ∷ s) t a b = absurd a
@@ -44,7 +44,7 @@ module _ (shape : Shape) (image : Image) where
 
   commit_same : (c d : Commit) → IsKept live_slot shape image c → IsKept live_slot shape image d → c.logged ≡ d.logged → c ≡ d
   commit_same c d a b e =
-      let there : AllStand live_slot shape image d.logged.unit d.logged.writes c.states = subst (λ (r : CommitRecord). AllStand live_slot shape image r.unit r.writes c.states) e a.whole in
+      let there : WritesStand live_slot shape image d.logged.unit d.logged.writes c.states = subst (λ (r : CommitRecord). WritesStand live_slot shape image r.unit r.writes c.states) e a.whole in
       let states : c.states ≡ d.states = states_same d.logged.unit d.logged.writes c.states d.states there b.whole in
       λ i. record { logged = e i; states = states i }
 

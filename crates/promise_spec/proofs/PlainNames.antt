@@ -19,7 +19,7 @@ use Rattle.script_lexer.specs.Reading.{Spells, Reads, name, word, nought, number
 use Rattle.script_expressions.specs.Grammar.{Derives, single, alone, joined, compared, OperandOver, whole, prefix, parens, Nothing, IsOperand, IsExpression, IsPlace, number, named, key, enclosed, IsList, last, more, IsEnclosedList, empty, filled, IsCall, call}
 use Rattle.script_parser.specs.Grammar.{IsSource, computed, called, IsElse, left_out, other, IsStmt, bind, rebind, set_field, perform, choose, repeat, give, fail_with, attempt, IsBody, no_more, then_more, IsBraced, braces, IsBlock, OneName, IsMethod, method, IsInitial, positive, negative, worded, IsField, field, Many, none, one_more, IsType, type}
 use Rattle.script_parser.proofs.SoundParts.{program_sound}
-use Rattle.script_check.specs.Accepted.{AreApart}
+use Rattle.script_check.specs.Accepted.{AreNamesApart}
 use Rattle.script_check.specs.Shapes.{fitted, type_shapes}
 use Rattle.script_check.proofs.Whole.{program_iff}
 use Rattle.promise_spec.specs.Programs.{Program, IsChecked, shape_in}
@@ -197,7 +197,7 @@ apart_shapes said (t ∷ types) differ all = (
   apart_shapes said types (All-tail (λ (other_name : List ℕ). said ≢ other_name) t.name.text (map (λ (u : TypeTree). u.name.text) types) differ) all.1,
 )
 
-plain_shapes : (types : List TypeTree) → AreApart (map (λ (t : TypeTree). t.name.text) types) → AllByRecursion (λ (t : TypeTree). IsPlain t.name.text) types → HavePlainNames (type_shapes types)
+plain_shapes : (types : List TypeTree) → AreNamesApart (map (λ (t : TypeTree). t.name.text) types) → AllByRecursion (λ (t : TypeTree). IsPlain t.name.text) types → HavePlainNames (type_shapes types)
 plain_shapes [] apart all = tt
 plain_shapes (t ∷ types) apart all =
     let same : fitted t.name.text ≡ t.name.text = fitted_same t.name.text all.0.short in (

@@ -10,7 +10,7 @@ use Rattle.field_codec.specs.Reading.{AreBytes}
 use Rattle.field_codec.proofs.Counts.{wide32, AreBytes-cut}
 use Rattle.field_codec.proofs.Wholes.{whole_takes, whole_again}
 use Rattle.gate_block.specs.Gates.{is_open_at}
-use Rattle.gate_block.specs.Blocks.{Found, shut, bad, whole, found_at, size_at, block_at}
+use Rattle.gate_block.specs.Blocks.{BehindGate, shut, bad, whole, found_at, size_at, block_at}
 use Rattle.gate_block.specs.Log.{then_bodies, then_gate, bodies_from, bodies_of, gate_from, gate_of, HasBlocks, LogsUpTo, first_gate}
 use Rattle.gate_block.proofs.Logs.{is_whole, no_blocks, read_more, spelled, whole_fits}
 use Rattle.commit_log.specs.declared.records.CommitRecord.{CommitRecord}
@@ -65,7 +65,7 @@ module _ (file : List ℕ) (are : AreBytes file) where
   -- open blocks before a gate, and those that are found behind it
   more_by : (most gate : ℕ) (before : List (List ℕ)) → HasBlocks before gate file
       → ((next : ℕ) (front : List (List ℕ)) → HasBlocks front next file → HasBlocks (front ++ bodies_from most next file) (gate_from most next file) file)
-      → (found : Found) → found_at gate file ≡ found
+      → (found : BehindGate) → found_at gate file ≡ found
       → HasBlocks (before ++ then_bodies (λ size. bodies_from most (gate + 5 + size) file) found) (then_gate gate (λ size. gate_from most (gate + 5 + size) file) found) file
   more_by most gate before has on shut is = subst (λ (l : List (List ℕ)). HasBlocks l gate file) (sym (append-nil before)) has
   more_by most gate before has on bad is = subst (λ (l : List (List ℕ)). HasBlocks l gate file) (sym (append-nil before)) has
@@ -79,7 +79,7 @@ module _ (file : List ℕ) (are : AreBytes file) where
   more zero gate before has = subst (λ (l : List (List ℕ)). HasBlocks l gate file) (sym (append-nil before)) has
   more (suc most) gate before has = more_by most gate before has (λ next front there. more most next front there) (found_at gate file) refl
 
-  bytes_by : (most gate : ℕ) → ((next : ℕ) → AllByRecursion AreBytes (bodies_from most next file)) → (found : Found) → found_at gate file ≡ found
+  bytes_by : (most gate : ℕ) → ((next : ℕ) → AllByRecursion AreBytes (bodies_from most next file)) → (found : BehindGate) → found_at gate file ≡ found
       → AllByRecursion AreBytes (then_bodies (λ size. bodies_from most (gate + 5 + size) file) found)
   bytes_by most gate on shut is = tt
   bytes_by most gate on bad is = tt
@@ -95,13 +95,13 @@ module _ (file : List ℕ) (are : AreBytes file) where
   is_logged long found = record { blocks = more (length file) 15 [] (no_blocks file long); closed = shut_closed (gate_of file) file found }
 
 module _ (file : List ℕ) where
-  stop_by : (gate : ℕ) → length file ≤ gate → (found : Found) → found_at gate file ≡ found → is_whole found ≡ false
+  stop_by : (gate : ℕ) → length file ≤ gate → (found : BehindGate) → found_at gate file ≡ found → is_whole found ≡ false
   stop_by gate past shut is = refl
   stop_by gate past bad is = refl
   stop_by gate past (whole body) is = absurd (omega (arith, past, whole_fits gate body file is))
 
   ends_by : (most gate : ℕ) → length file ≤ gate + suc most → ((next : ℕ) → length file ≤ next + most → is_whole (found_at (gate_from most next file) file) ≡ false)
-      → (found : Found) → found_at gate file ≡ found → is_whole (found_at (then_gate gate (λ size. gate_from most (gate + 5 + size) file) found) file) ≡ false
+      → (found : BehindGate) → found_at gate file ≡ found → is_whole (found_at (then_gate gate (λ size. gate_from most (gate + 5 + size) file) found) file) ≡ false
   ends_by most gate past on shut is = ap is_whole is
   ends_by most gate past on bad is = ap is_whole is
   ends_by most gate past on (whole body) is = on (gate + 5 + length body) (omega (arith, past))
@@ -115,7 +115,7 @@ module _ (file : List ℕ) where
   no_whole = ends (length file) 15 (omega arith)
 
 -- what ends a log whose last block isn't damaged
-pub ended : (gate : ℕ) (found : Found) (last : List CommitRecord) → is_whole found ≡ false → no_more gate found ≡ Ok last → (found ≡ shut) × (last ≡ [])
+pub ended : (gate : ℕ) (found : BehindGate) (last : List CommitRecord) → is_whole found ≡ false → no_more gate found ≡ Ok last → (found ≡ shut) × (last ≡ [])
 ended gate shut last stop e = (refl, cc)
 ended gate bad last stop e = absurd cc
 ended gate (whole body) last stop e = absurd (false≢true (sym stop))

@@ -32,7 +32,7 @@ use Rattle.cell_model.specs.Units as cell
 use Rattle.cell_model.proofs.Units.{same_grain-true, same_grain-is, filter-stays}
 use Rattle.script_holding.specs.Holding.{same_grain}
 use Rattle.promise_spec.specs.Records.{Commit, with_grain, ascending}
-use Rattle.promise_spec.specs.Logs.{Stands, AllStand, IsKept, live_slot}
+use Rattle.promise_spec.specs.Logs.{WriteStands, WritesStand, IsKept, live_slot}
 use Rattle.promise_spec.specs.Openings.{Named, named_by, by_grain, is_owned, version_named, missing_or, first_missing, state_of, commit_of}
 use Rattle.promise_spec.proofs.Lists.{parts_of, both_parts, each_of, all_of, in_flat, all_flat}
 
@@ -132,7 +132,7 @@ module _ (shape : Shape) (image : Image) where
         omega (arith, low)
 
     -- a version that is read stands there
-    pub stands : AreBytes (image (Grain 0 w.grain)) → unit.0 < 2 ^ 64 → (v : Version) → version_named live_slot shape image named_as ≡ Ok v → Stands live_slot shape image unit w v.state
+    pub stands : AreBytes (image (Grain 0 w.grain)) → unit.0 < 2 ^ 64 → (v : Version) → version_named live_slot shape image named_as ≡ Ok v → WriteStands live_slot shape image unit w v.state
     stands are low v e =
         let t = passed (is_owned unit w.place (image (Grain 0 w.grain))) w.place.offset (version_at_place (fields_of (slice_get shape.types w.grain.kind)) w.place (image (Grain 0 w.grain))) v e in
         let is = found_when (Unit {0}) (fields_of (slice_get shape.types w.grain.kind)) w.place (image (Grain 0 w.grain)) (Ok v) (λ told. t.1) (λ told. AreBytes-cut w.place.len w.place.offset (image (Grain 0 w.grain)) are) tt in
@@ -150,7 +150,7 @@ module _ (shape : Shape) (image : Image) where
         }
 
     -- a version that stands there is read
-    pub stood : (state : List Value) → Stands live_slot shape image unit w state → version_named live_slot shape image named_as ≡ Ok (record { unit = unit; state = state })
+    pub stood : (state : List Value) → WriteStands live_slot shape image unit w state → version_named live_slot shape image named_as ≡ Ok (record { unit = unit; state = state })
     stood state s =
         let v : Version = record { unit = unit; state = state } in
         let o : Option ℕ = fields_of (slice_get shape.types w.grain.kind) in
@@ -165,20 +165,20 @@ module _ (shape : Shape) (image : Image) where
 
   -- versions that are there stand, with the states that are read
   all_stand : (unit : UnitNo) (ws : List Written) → ((file : FileId) → AreBytes (image file)) → unit.0 < 2 ^ 64 → AllByRecursion IsThere (map (λ w. record { unit = unit; written = w }) ws)
-      → AllStand live_slot shape image unit ws (map (λ w. state_of (version_named live_slot shape image (record { unit = unit; written = w }))) ws)
+      → WritesStand live_slot shape image unit ws (map (λ w. state_of (version_named live_slot shape image (record { unit = unit; written = w }))) ws)
   all_stand unit [] are low all = tt
   all_stand unit (w ∷ ws) are low all =
       let state : all.0.0.state ≡ state_of (version_named live_slot shape image (record { unit = unit; written = w })) = ap state_of (sym all.0.1) in
-      (subst (Stands live_slot shape image unit w) state (stands unit w (are (Grain 0 w.grain)) low all.0.0 all.0.1), all_stand unit ws are low all.1)
+      (subst (WriteStands live_slot shape image unit w) state (stands unit w (are (Grain 0 w.grain)) low all.0.0 all.0.1), all_stand unit ws are low all.1)
 
   -- versions that stand are there
-  all_there : (unit : UnitNo) (ws : List Written) (states : List (List Value)) → AllStand live_slot shape image unit ws states → AllByRecursion IsThere (map (λ w. record { unit = unit; written = w }) ws)
+  all_there : (unit : UnitNo) (ws : List Written) (states : List (List Value)) → WritesStand live_slot shape image unit ws states → AllByRecursion IsThere (map (λ w. record { unit = unit; written = w }) ws)
   all_there unit [] states all = tt
   all_there unit (w ∷ ws) [] all = absurd all
   all_there unit (w ∷ ws) (state ∷ states) all = ((record { unit = unit; state = state }, stood unit w state all.0), all_there unit ws states all.1)
 
   -- and their states are read
-  all_states : (unit : UnitNo) (ws : List Written) (states : List (List Value)) → AllStand live_slot shape image unit ws states → map (λ w. state_of (version_named live_slot shape image (record { unit = unit; written = w }))) ws ≡ states
+  all_states : (unit : UnitNo) (ws : List Written) (states : List (List Value)) → WritesStand live_slot shape image unit ws states → map (λ w. state_of (version_named live_slot shape image (record { unit = unit; written = w }))) ws ≡ states
   all_states unit [] [] all = refl
   all_states unit [] (state ∷ states) all = absurd all
   all_states unit (w ∷ ws) [] all = absurd all

@@ -11,7 +11,7 @@ use Rattle.gate_block.proofs.Logs.{no_blocks}
 use Rattle.core_model.specs.CoreState.{Member}
 use Rattle.silo_spec.specs.Silos.{manager, IsSilo, IsNewSilo}
 use Rattle.silo_spec.specs.Moments.{IsAsAtEntry, IsUntouched}
-use Rattle.silo_spec.specs.Making.{Makes, IsEarly, FromFirstSync, IsNewAt}
+use Rattle.silo_spec.specs.Making.{CameThisFar, IsEarly, FromFirstSync, IsNewAt}
 use Rattle.promise_spec.specs.Programs.{Program, IsChecked, shape_in}
 use Rattle.promise_spec.specs.Records.{Commit}
 use Rattle.promise_spec.specs.Logs.{magic, body_of, IsLog, live_slot}
@@ -178,7 +178,7 @@ early_sound p old new seen early sound = by (old.disk manager).seen refl
     by (b ∷ bytes) is = as_before p old new (early.unwritten (λ none. (let z : b ∷ bytes ≡ [] = sym is ∙ none in absurd cc))).images sound
 
 -- however far a call came that makes a silo of q
-pub makes_keeps : (p q : Program) (old new : World) → MayLeave (old.disk manager) (old.disk manager).seen → Makes magic q.text old new → IsSoundFolder p old → IsSoundFolder p new ⊎ IsSoundFolder q new
+pub makes_keeps : (p q : Program) (old new : World) → MayLeave (old.disk manager) (old.disk manager).seen → CameThisFar magic q.text old new → IsSoundFolder p old → IsSoundFolder p new ⊎ IsSoundFolder q new
 makes_keeps p q old new seen (inl u) sound = inl (untouched p old new u sound)
 makes_keeps p q old new seen (inr (inl unsynced)) sound = inl (early_sound p old new seen unsynced.now sound)
 makes_keeps p q old new seen (inr (inr first)) sound = inr (new_folder q new first.now)
@@ -233,7 +233,7 @@ init_makes r makes done =
 -- a load that made no silo
 unmade_keeps : (p bank : Program) (r : Observed) → IsChecked p → IsChecked bank → bank.text ≡ bank_text → MayLeave (r.old.disk manager) (r.old.disk manager).seen → IsUnmade r → IsSoundFolder p r.old → Leaves r
 unmade_keeps p bank r checked checked_too text seen un sound =
-    either_program p bank r checked checked_too (makes_keeps p bank r.old r.new seen (subst (λ (t : List ℕ). Makes magic t r.old r.new) (sym text) un.makes) sound)
+    either_program p bank r checked checked_too (makes_keeps p bank r.old r.new seen (subst (λ (t : List ℕ). CameThisFar magic t r.old r.new) (sym text) un.makes) sound)
 
 -- a load
 pub load_keeps : (n seed : ℕ) (m : Manner) (p bank : Program) (r : Observed) → IsChecked p → IsChecked bank → bank.text ≡ bank_text → MayLeave (r.old.disk manager) (r.old.disk manager).seen → Loads n seed m r → IsSoundFolder p r.old → Leaves r
@@ -325,7 +325,7 @@ first_moments p q old new checked checked_too seen sound first =
     joined IsSoundAt (weaker_twice (IsEarly old) (IsNewAt magic q.text) IsSoundAt IsSoundAt (λ m early. early_moment p old m checked seen sound early) (λ m is. new_moment q m checked_too is) first.moments)
 
 -- those of the making of a silo, however far it came
-makes_moments : (p q : Program) (old new : World) → IsChecked p → IsChecked q → MayLeave (old.disk manager) (old.disk manager).seen → Makes magic q.text old new → IsSoundFolder p old → Passes IsSoundAt old.past new.past
+makes_moments : (p q : Program) (old new : World) → IsChecked p → IsChecked q → MayLeave (old.disk manager) (old.disk manager).seen → CameThisFar magic q.text old new → IsSoundFolder p old → Passes IsSoundAt old.past new.past
 makes_moments p q old new checked checked_too seen (inl u) sound = untouched_moments p old new checked u sound
 makes_moments p q old new checked checked_too seen (inr (inl unsynced)) sound = weaker (IsEarly old) IsSoundAt (λ m early. early_moment p old m checked seen sound early) unsynced.moments
 makes_moments p q old new checked checked_too seen (inr (inr first)) sound = first_moments p q old new checked checked_too seen sound first
@@ -359,7 +359,7 @@ load_moments : (n seed : ℕ) (m : Manner) (p bank : Program) (r : Observed) →
 load_moments n seed m p bank r checked checked_too text seen loads sound = by loads.answers
   where
     by : IsUnmade r ⊎ LoadsFrom n seed r → Passes IsSoundAt r.old.past r.new.past
-    by (inl un) = makes_moments p bank r.old r.new checked checked_too seen (subst (λ (t : List ℕ). Makes magic t r.old r.new) (sym text) un.makes) sound
+    by (inl un) = makes_moments p bank r.old r.new checked checked_too seen (subst (λ (t : List ℕ). CameThisFar magic t r.old r.new) (sym text) un.makes) sound
     by (inr from) = both IsSoundAt
         (first_moments p from.program r.old from.made checked from.checked seen sound (subst (λ (t : List ℕ). FromFirstSync (IsNewAt magic t) r.old from.made) (sym from.text) from.has.makes))
         (carried from.carried)

@@ -4,7 +4,7 @@ use Rattle.host_trait.specs.declared.channels.FileId.{FileId}
 use Rattle.host_trait.specs.World.{World, Moment, Image, IsImage, Passes, moment_of}
 use Rattle.silo_spec.specs.Silos.{manager, IsSilo, IsNewSilo}
 use Rattle.silo_spec.specs.Moments.{IsUntouched}
-use Rattle.silo_spec.specs.Making.{Makes, IsBeside}
+use Rattle.silo_spec.specs.Making.{CameThisFar, IsBeside}
 use Rattle.script_tree.specs.Programs.{ProgramTree}
 use Rattle.promise_spec.specs.Programs.{Program, ProgramFault, text_limit, program_in}
 use Rattle.promise_spec.specs.Records.{Commit, log_start}
@@ -63,7 +63,7 @@ MakesAs (InputTooLong line) r = (line ≡ 0) × (text_limit < length r.old.input
 pub record MakesSilo (r : Observed) : Type 0 where
   pub beside : Passes (IsBeside r.old) r.old.past r.new.past
   pub beside_now : IsBeside r.old (moment_of r.new)
-  pub makes : Makes magic r.old.input r.old r.new
+  pub makes : CameThisFar magic r.old.input r.old r.new
   pub ended : MakesAs r.ending r
   pub risen : HasRisen r.ending r.faults_before r.faults_after
 

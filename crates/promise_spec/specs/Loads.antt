@@ -14,7 +14,7 @@ use Rattle.request_wire.specs.Reply.{value_data, counted}
 use Rattle.serde_json.specs.Data.{object, member, no_members}
 use Rattle.silo_spec.specs.Silos.{IsNewSilo}
 use Rattle.silo_spec.specs.Moments.{IsUntouched}
-use Rattle.silo_spec.specs.Making.{StaysBeside, IsNewAt, FromFirstSync, Makes}
+use Rattle.silo_spec.specs.Making.{StaysBeside, IsNewAt, FromFirstSync, CameThisFar}
 use Rattle.script_tree.specs.Programs.{ProgramTree}
 use Rattle.promise_spec.specs.Programs.{Program, IsChecked, shape_in}
 use Rattle.promise_spec.specs.Records.{States, standing_of}
@@ -200,7 +200,7 @@ IsUnmadeBy (ending.InputTooLong line) r = ⊥
 -- The load made no silo: it read no input and emitted nothing, and how far it came is said as of `init`.
 pub record IsUnmade (r : Observed) : Type 0 where
   pub beside : StaysBeside r.old r.new
-  pub makes : Makes magic bank_text r.old r.new
+  pub makes : CameThisFar magic bank_text r.old r.new
   pub ended : IsUnmadeBy r.ending r
   pub risen : ending.HasRisen r.ending r.faults_before r.faults_after
 

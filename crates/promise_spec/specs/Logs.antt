@@ -23,24 +23,24 @@ magic = codes "OTXLOG01"
 
 -- the version of a unit stands whole at the place that its write names, below 2 to the 63, with this state, which has
 -- the fields of its type
-pub record Stands (live : ℕ) (shape : Shape) (image : Image) (unit : UnitNo) (w : Written) (state : List Value) : Type 0 where
+pub record WriteStands (live : ℕ) (shape : Shape) (image : Image) (unit : UnitNo) (w : Written) (state : List Value) : Type 0 where
   pub near : w.place.offset < 2 ^ 63
   pub fields : fields_of (slice_get shape.types w.grain.kind) ≡ Some (length state)
   pub version : IsVersionAt (length state) w.place (image (Grain live w.grain)) (record { unit = unit; state = state })
 
 -- each write of a unit has its state, and the version stands
-abbrev pub AllStand : ℕ → Shape → Image → UnitNo → List Written → List (List Value) → Type 0
-AllStand live shape image unit [] [] = ⊤
-AllStand live shape image unit [] (state ∷ states) = ⊥
-AllStand live shape image unit (w ∷ ws) [] = ⊥
-AllStand live shape image unit (w ∷ ws) (state ∷ states) =
-    Stands live shape image unit w state × AllStand live shape image unit ws states
+abbrev pub WritesStand : ℕ → Shape → Image → UnitNo → List Written → List (List Value) → Type 0
+WritesStand live shape image unit [] [] = ⊤
+WritesStand live shape image unit [] (state ∷ states) = ⊥
+WritesStand live shape image unit (w ∷ ws) [] = ⊥
+WritesStand live shape image unit (w ∷ ws) (state ∷ states) =
+    WriteStands live shape image unit w state × WritesStand live shape image unit ws states
 
 -- The record is within the format's limits, its unit's number is above 0 and its own and its parent's are below 2 to the
 -- 63, its call and its grains are the program's, and its versions stand.
 pub record IsKept (live : ℕ) (shape : Shape) (image : Image) (c : Commit) : Type 0 where
   pub fits : IsRecordIn Logged shape c.logged
-  pub whole : AllStand live shape image c.logged.unit c.logged.writes c.states
+  pub whole : WritesStand live shape image c.logged.unit c.logged.writes c.states
 
 -- the records of one batch as a block's body
 abbrev pub body_of : List Commit → List ℕ

@@ -8,7 +8,7 @@ use Rattle.core_model.specs.declared.questions.AskAnswer.{AskAnswer}
 use Rattle.core_model.specs.declared.questions.AskAnswer.TheVariants as answer
 use Rattle.core_model.specs.CoreState.{UnitNo, same_unit, CoreState}
 use Rattle.core_model.specs.Tests.{is_running, is_over, is_free, ask}
-pub use Rattle.core_model.specs.Settler.{Makes, batch_step, has_step, later_step, settler_step}
+pub use Rattle.core_model.specs.Settler.{MakesEvent, batch_step, has_step, later_step, settler_step}
 use Rattle.core_model.specs.declared.events.CoreEvent.{CoreEvent}
 use Rattle.core_model.specs.declared.events.CoreEvent.TheVariants.{Bad, Begin, Grant, Refuse, Finish, EndPlain, EndSnapshot, Release, Take, Vote, Decide, Sealed, NotSealed, Doubt, Learn, Emitted, Halt, Want, Load}
 use Rattle.core_model.specs.Legal.{Run, begins}
@@ -126,7 +126,7 @@ picked (m ∷ ms) pick = slice_get (m ∷ ms) (pick % length (m ∷ ms))
 abbrev pub IsTurn : Bool → Option Mover → CoreState → CoreEvent → Mover → Type 0
 IsTurn begins_line chosen w e OfLine = begins_line ≡ true
 IsTurn begins_line chosen w e (OfUnit u) = (begins_line ≡ false) × (chosen ≡ Some (OfUnit u))
-IsTurn begins_line chosen w e OfSettler = (begins_line ≡ false) × (chosen ≡ Some OfSettler) × Makes (settler_step w) e
+IsTurn begins_line chosen w e OfSettler = (begins_line ≡ false) × (chosen ≡ Some OfSettler) × MakesEvent (settler_step w) e
 
 -- Each event of the run that applies is that of the turn: the width and the list of picks say whose turn it is. The
 -- pick is 0 behind the end of the list.

@@ -5,7 +5,7 @@ use Rattle.std.specs.List.{All}
 use Rattle.std.proofs.lemmas.Option.{slice_get-map, slice_get_within, get_or_from_slice_get}
 use Rattle.script_tree.specs.declared.programs.TypeDecl.{TypeDecl}
 use Rattle.script_tree.specs.Programs.{TypeTree, type_tree, method_tree}
-use Rattle.script_check.specs.Accepted.{IsType, IsProgram}
+use Rattle.script_check.specs.Accepted.{IsAcceptedType, IsAcceptedProgram}
 use Rattle.request_wire.specs.Names.{TypeNames, type_names, method_names, names_in, named}
 use Rattle.request_wire.specs.Request.{method_of}
 
@@ -27,7 +27,7 @@ pub method_of-none : (types : List TypeDecl) (kind : ℕ) (name : List ℕ) → 
 method_of-none types kind name e = rw (names_at types kind, ← e) refl
 
 -- a type of a program has few methods
-pub few_methods : (types : List TypeDecl) (kind : ℕ) (t : TypeDecl) → IsProgram (map type_tree types) → Some t ≡ slice_get types kind → length (map method_tree t.methods.list.items) ≤ 64
+pub few_methods : (types : List TypeDecl) (kind : ℕ) (t : TypeDecl) → IsAcceptedProgram (map type_tree types) → Some t ≡ slice_get types kind → length (map method_tree t.methods.list.items) ≤ 64
 few_methods types kind t p e =
     let there : slice_get (map type_tree types) kind ≡ Some (type_tree t) = rw (tree_at types kind, ← e) refl in
     let is : get_or (map type_tree types) kind (type_tree t) ≡ type_tree t = get_or_from_slice_get (map type_tree types) kind (type_tree t) (type_tree t) there in

@@ -13,7 +13,7 @@ use Rattle.script_tree.specs.Stmts.{SourceTree, Computed, Called, StmtTree, Bloc
 use Rattle.script_tree.specs.Programs.{MethodTree, TypeTree, ProgramTree}
 use Rattle.script_scopes.specs.declared.faults.CheckFault.{CheckFault}
 use Rattle.script_scopes.specs.declared.faults.CheckFault.TheVariants.{UnknownName, TwiceNamed, Arity, TooMany, Memory}
-use Rattle.script_scopes.specs.Found.{Found, ◌<|>◌, Fails}
+use Rattle.script_scopes.specs.Found.{FirstFault, ◌<|>◌, Fails}
 use Rattle.script_scopes.specs.Names.{Scope, Setting, is_in, taken_fault, room_fault, local_fault, reading_fault, writing_fault, variable_fault, assigned_fault, set_fault}
 use Rattle.script_scopes.specs.Expressions.{expression_fault, arguments_fault, type_named, method_named, arity_fault, target_fault, call_fault}
 use Rattle.script_scopes.specs.Statements.{source_fault, with_name, scope_after, statement_fault, block_fault, else_fault}
@@ -22,28 +22,28 @@ use Rattle.script_check.specs.Mentions.{Mention, at_name, expression_names, argu
 use Rattle.script_scopes.proofs.Founds.{fails_some}
 
 -- the first fault of names one after another
-pub first_fault : List Mention → Found
+pub first_fault : List Mention → FirstFault
 first_fault [] = None
 first_fault (m ∷ ms) = m.fault <|> first_fault ms
 
-associates : (a b c : Found) → (a <|> (b <|> c)) ≡ ((a <|> b) <|> c)
+associates : (a b c : FirstFault) → (a <|> (b <|> c)) ≡ ((a <|> b) <|> c)
 associates None b c = refl
 associates (Some f) b c = refl
 
-alone : (a : Found) → (a <|> None) ≡ a
+alone : (a : FirstFault) → (a <|> None) ≡ a
 alone None = refl
 alone (Some f) = refl
 
 -- a fault, where there is one, names this place
-abbrev pub IsAt : ℕ → Found → Type 0
+abbrev pub IsAt : ℕ → FirstFault → Type 0
 IsAt at None = Unit {0}
 IsAt at (Some fault) = place_of fault ≡ at
 
-at_both : (at : ℕ) (a b : Found) → IsAt at a → IsAt at b → IsAt at (a <|> b)
+at_both : (at : ℕ) (a b : FirstFault) → IsAt at a → IsAt at b → IsAt at (a <|> b)
 at_both at None b h k = k
 at_both at (Some f) b h k = h
 
-at_test : (at : ℕ) (b : Bool) (x y : Found) → IsAt at x → IsAt at y → IsAt at (if b then x else y)
+at_test : (at : ℕ) (b : Bool) (x y : FirstFault) → IsAt at x → IsAt at y → IsAt at (if b then x else y)
 at_test at true x y h k = h
 at_test at false x y h k = k
 
@@ -114,24 +114,24 @@ are_both [] ys h k = k
 are_both (x ∷ xs) ys h k = (h.0, are_both xs ys h.1 k)
 
 -- names that stand for a piece of text: their first fault is the piece's
-abbrev pub Tells : List Mention → Found → Type 0
+abbrev pub Tells : List Mention → FirstFault → Type 0
 Tells names found = (first_fault names ≡ found) × AreAt names
 
 tells_nothing : Tells [] None
 unfolding first_fault
 tells_nothing = (refl, tt)
 
-tells_one : (name : Name) (fault : Found) → IsAt name.at fault → Tells (at_name name fault) fault
+tells_one : (name : Name) (fault : FirstFault) → IsAt name.at fault → Tells (at_name name fault) fault
 unfolding first_fault
 tells_one name fault h = (alone fault, (h, tt))
 
 first_append : (xs ys : List Mention) → first_fault (xs ++ ys) ≡ (first_fault xs <|> first_fault ys)
 unfolding first_fault
 first_append [] ys = refl
-first_append (x ∷ xs) ys = ap (λ (y : Found). x.fault <|> y) (first_append xs ys) ∙ associates x.fault (first_fault xs) (first_fault ys)
+first_append (x ∷ xs) ys = ap (λ (y : FirstFault). x.fault <|> y) (first_append xs ys) ∙ associates x.fault (first_fault xs) (first_fault ys)
 
-tells_both : (xs ys : List Mention) (a b : Found) → Tells xs a → Tells ys b → Tells (xs ++ ys) (a <|> b)
-tells_both xs ys a b h k = (first_append xs ys ∙ ap (λ (x : Found). x <|> first_fault ys) h.0 ∙ ap (λ (y : Found). a <|> y) k.0, are_both xs ys h.1 k.1)
+tells_both : (xs ys : List Mention) (a b : FirstFault) → Tells xs a → Tells ys b → Tells (xs ++ ys) (a <|> b)
+tells_both xs ys a b h k = (first_append xs ys ∙ ap (λ (x : FirstFault). x <|> first_fault ys) h.0 ∙ ap (λ (y : FirstFault). a <|> y) k.0, are_both xs ys h.1 k.1)
 
 expression_tells : (setting : Setting) (scope : Scope) (e : ExprTree) → Tells (expression_names setting scope e) (expression_fault setting scope e)
 unfolding expression_names expression_fault
@@ -203,7 +203,7 @@ mutual
   else_tells setting scope NoElse = tells_nothing
   else_tells setting scope (Else block) = block_tells setting scope block
 
-each_tells : {A : Type 0} (name_of : A → Name) (names : Scope → A → List Mention) (fault : Scope → A → Found) (one : (before : Scope) (x : A) → Tells (names before x) (fault before x)) (before : Scope) (xs : List A) → Tells (each_names name_of names before xs) (each_fault name_of fault before xs)
+each_tells : {A : Type 0} (name_of : A → Name) (names : Scope → A → List Mention) (fault : Scope → A → FirstFault) (one : (before : Scope) (x : A) → Tells (names before x) (fault before x)) (before : Scope) (xs : List A) → Tells (each_names name_of names before xs) (each_fault name_of fault before xs)
 unfolding each_names each_fault
 each_tells name_of names fault one before [] = tells_nothing
 each_tells name_of names fault one before (x ∷ xs) =
@@ -241,7 +241,7 @@ pub record IsFirstOf (ms : List Mention) (fault : CheckFault) : Type 0 where
   pub is_here : here.fault ≡ Some fault
   pub place : place_of fault ≡ here.name.at
 
-first_here : (m : Mention) (ms : List Mention) (fault : CheckFault) (found : Found) → m.fault ≡ found → IsAt m.name.at m.fault → ((first_fault ms ≡ Some fault) → IsFirstOf ms fault) → (found <|> first_fault ms) ≡ Some fault → IsFirstOf (m ∷ ms) fault
+first_here : (m : Mention) (ms : List Mention) (fault : CheckFault) (found : FirstFault) → m.fault ≡ found → IsAt m.name.at m.fault → ((first_fault ms ≡ Some fault) → IsFirstOf ms fault) → (found <|> first_fault ms) ≡ Some fault → IsFirstOf (m ∷ ms) fault
 first_here m ms fault None is at later e =
     let r = later e in
     record { before = m ∷ r.before; here = r.here; after = r.after; are = ap (λ (l : List Mention). m ∷ l) r.are; right_before = All-cons (λ x. x.fault ≡ None) m r.before is r.right_before; is_here = r.is_here; place = r.place }

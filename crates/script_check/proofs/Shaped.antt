@@ -7,7 +7,7 @@ use Rattle.script_tree.specs.declared.programs.TypeDecl.{TypeDecl}
 use Rattle.script_tree.specs.declared.programs.Method.{Method}
 use Rattle.script_tree.specs.Programs.{ProgramTree, method_tree, type_tree}
 use Rattle.script_check.specs.Programs.{field_names}
-use Rattle.script_check.specs.Accepted.{IsMethod, IsType, IsProgram}
+use Rattle.script_check.specs.Accepted.{IsAcceptedMethod, IsAcceptedType, IsAcceptedProgram}
 use Rattle.script_check.specs.Shapes.{IsSmall}
 
 -- a list that is mapped twice
@@ -21,19 +21,19 @@ front_fits f items xs i limit is lt le =
     let n : length items ≡ length (take i xs) = ap length is ∙ length-map (take i xs) f in
     omega (arith, n, length-take i xs)
 
-methods_small : (types : ProgramTree) (fields : List (List ℕ)) (ms : List Method) → All (IsMethod types fields) (map method_tree ms) → All (λ m. length m.params.list.items ≤ 8) ms
+methods_small : (types : ProgramTree) (fields : List (List ℕ)) (ms : List Method) → All (IsAcceptedMethod types fields) (map method_tree ms) → All (λ m. length m.params.list.items ≤ 8) ms
 methods_small types fields [] h = All-nil (λ m. length m.params.list.items ≤ 8)
 methods_small types fields (m ∷ ms) h =
-    All-cons (λ m. length m.params.list.items ≤ 8) m ms (All-head (IsMethod types fields) (method_tree m) (map method_tree ms) h).few (methods_small types fields ms (All-tail (IsMethod types fields) (method_tree m) (map method_tree ms) h))
+    All-cons (λ m. length m.params.list.items ≤ 8) m ms (All-head (IsAcceptedMethod types fields) (method_tree m) (map method_tree ms) h).few (methods_small types fields ms (All-tail (IsAcceptedMethod types fields) (method_tree m) (map method_tree ms) h))
 
-types_small : (all : ProgramTree) (types : List TypeDecl) → All (IsType all) (map type_tree types) → All IsSmall types
+types_small : (all : ProgramTree) (types : List TypeDecl) → All (IsAcceptedType all) (map type_tree types) → All IsSmall types
 types_small all [] h = All-nil IsSmall
 types_small all (t ∷ ts) h =
-    let one = All-head (IsType all) (type_tree t) (map type_tree ts) h in
+    let one = All-head (IsAcceptedType all) (type_tree t) (map type_tree ts) h in
     All-cons IsSmall t ts
     (record { fields = one.few_fields; params = methods_small all (field_names (type_tree t).fields) t.methods.list.items one.methods })
-    (types_small all ts (All-tail (IsType all) (type_tree t) (map type_tree ts) h))
+    (types_small all ts (All-tail (IsAcceptedType all) (type_tree t) (map type_tree ts) h))
 
 -- the types of a program have a shape
-pub program_small : (types : List TypeDecl) → IsProgram (map type_tree types) → All IsSmall types
+pub program_small : (types : List TypeDecl) → IsAcceptedProgram (map type_tree types) → All IsSmall types
 program_small types p = types_small (map type_tree types) types p.each

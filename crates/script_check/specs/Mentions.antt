@@ -8,7 +8,7 @@ use Rattle.script_tree.specs.Stmts.{SourceTree, Computed, Called, StmtTree, Bloc
 use Rattle.script_tree.specs.Programs.{MethodTree, TypeTree, ProgramTree}
 use Rattle.script_scopes.specs.declared.faults.CheckFault.{CheckFault}
 use Rattle.script_scopes.specs.declared.faults.CheckFault.TheVariants.{UnknownName, TwiceNamed, Arity, FieldInPlain, SetInRead, TooMany, NeedsTransaction, Memory}
-use Rattle.script_scopes.specs.Found.{Found, ◌<|>◌}
+use Rattle.script_scopes.specs.Found.{FirstFault, ◌<|>◌}
 use Rattle.script_scopes.specs.Names.{Scope, Setting, local_fault, variable_fault, assigned_fault, set_fault}
 use Rattle.script_scopes.specs.Expressions.{type_named, method_named, arity_fault}
 use Rattle.script_scopes.specs.Statements.{with_name, scope_after}
@@ -17,10 +17,10 @@ use Rattle.script_check.specs.Programs.{declared_fault, transaction_fault, field
 -- a name in the text, and what is at fault at it
 pub record Mention : Type 0 where
   pub name : Name
-  pub fault : Found
+  pub fault : FirstFault
 
 -- one name
-abbrev pub at_name : Name → Found → List Mention
+abbrev pub at_name : Name → FirstFault → List Mention
 at_name name fault = (record { name = name; fault = fault }) ∷ []
 
 -- the names of an expression
@@ -37,7 +37,7 @@ argument_names setting scope [] = []
 argument_names setting scope (first ∷ rest) = expression_names setting scope first ++ argument_names setting scope rest
 
 -- the type of a call is there
-abbrev pub type_known : Name → Option TypeTree → Found
+abbrev pub type_known : Name → Option TypeTree → FirstFault
 type_known name None = Some (UnknownName name.at)
 type_known name (Some target) = None
 

@@ -3,7 +3,7 @@ ghost use Rattle.script_tree.specs.Programs.{program_tree};
 ghost use Rattle.script_tree.specs.Names.{names_in_program, AreInOrder};
 ghost use Rattle.script_scopes.specs.Found.{Answers};
 ghost use Rattle.script_check.specs.Programs.{program_fault};
-ghost use Rattle.script_check.specs.Accepted.{IsProgram};
+ghost use Rattle.script_check.specs.Accepted.{IsAcceptedProgram};
 ghost use Rattle.script_check.specs.Mentions.{IsFirstFault, IsLeastPlace};
 ghost use Rattle.script_check.specs.Shapes.{type_shapes};
 
@@ -47,9 +47,9 @@ pub fn check(alloc: Global, program: Program) -> Result<Checked, CheckFault>
     ensures kept { IfOk result (λ checked. checked ≡ program) }
 
     // It goes through exactly where the tree is a program.
-    ensures accepted { IfOk result (λ _. IsProgram (program_tree program)) }
+    ensures accepted { IfOk result (λ _. IsAcceptedProgram (program_tree program)) }
     ensures refused { IfErr result (λ fault. fault ≢ CheckFault.Memory
-        → ¬ IsProgram (program_tree program)) }
+        → ¬ IsAcceptedProgram (program_tree program)) }
 
     // The fault is that of the first name of the text that has one.
     ensures first { IfErr result (λ fault. fault ≢ CheckFault.Memory
@@ -68,7 +68,7 @@ impl Checked {
     /// The program.
     pub fn program(&self) -> &Program
         ensures same { result.now ≡ self.now }
-        ensures checked { IsProgram (program_tree self.now) }
+        ensures checked { IsAcceptedProgram (program_tree self.now) }
     {
         &self.program
     }

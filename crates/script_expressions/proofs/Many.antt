@@ -3,7 +3,7 @@ use Rattle.std.proofs.Common.{◌≡◌, ℕ, suc, List, [], ◌∷◌, ◌++◌
 use Rattle.script_lexer.specs.declared.faults.ParseFault.{ParseFault}
 use Rattle.script_lexer.specs.declared.tokens.Spanned.{Spanned}
 use Rattle.script_lexer.specs.declared.tokens.Symbol.TheVariants as symbol
-use Rattle.script_expressions.specs.Reading.{Part, Read, ◌>>=◌, Fails}
+use Rattle.script_expressions.specs.Reading.{Part, Read, ◌>>=◌, FailsReading}
 use Rattle.script_expressions.specs.Tokens.{refused, expected, taken}
 use Rattle.script_expressions.specs.Calls.{goes_on, listed}
 use Rattle.script_expressions.proofs.Steps.{fails_is, fails_bind}
@@ -29,13 +29,13 @@ module _ (A : Type 0) (stop : ParseFault) (one : Read A) where
       let step : with_front front (listed stop one n ts) ≡ Ok (front ++ x ∷ [], after) = rw (en, e, close) refl in
       sym h ∙ step
 
-  pub listed_fails : (e : ParseFault) (n m : ℕ) (front : List A) (ts : List Spanned) (total : Part (List A)) → n ≡ suc m → Fails e (one ts) → with_front front (listed stop one n ts) ≡ total → Fails e total
+  pub listed_fails : (e : ParseFault) (n m : ℕ) (front : List A) (ts : List Spanned) (total : Part (List A)) → n ≡ suc m → FailsReading e (one ts) → with_front front (listed stop one n ts) ≡ total → FailsReading e total
   unfolding listed
   listed_fails e n m front ts total en f h =
       let step : with_front front (listed stop one n ts) ≡ with_front front (one ts >>= λ x. goes_on stop (listed stop one m) x.0 x.1 (taken symbol.RightParen x.1)) = rw en refl in
       fails_is e _ _ h (fails_is e _ _ (sym step) (fails_bind e _ _ (fails_bind e (one ts) _ f)))
 
-  pub listed_stops : (e : ParseFault) (n m : ℕ) (front : List A) (ts us : List Spanned) (x : A) (total : Part (List A)) → n ≡ suc m → one ts ≡ Ok (x, us) → taken symbol.RightParen us ≡ None → Fails e (expected stop symbol.Comma us) → with_front front (listed stop one n ts) ≡ total → Fails e total
+  pub listed_stops : (e : ParseFault) (n m : ℕ) (front : List A) (ts us : List Spanned) (x : A) (total : Part (List A)) → n ≡ suc m → one ts ≡ Ok (x, us) → taken symbol.RightParen us ≡ None → FailsReading e (expected stop symbol.Comma us) → with_front front (listed stop one n ts) ≡ total → FailsReading e total
   unfolding listed
   listed_stops e n m front ts us x total en i none f h =
       let step : with_front front (listed stop one n ts) ≡ with_front front (expected stop symbol.Comma us >>= λ c. listed stop one m c.1 >>= λ r. Ok (x ∷ r.0, r.1)) = rw (en, i, none) refl in

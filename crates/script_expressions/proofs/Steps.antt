@@ -5,17 +5,17 @@ use Rattle.script_tree.specs.Exprs.{ExprTree, Joined}
 use Rattle.script_lexer.specs.declared.faults.ParseFault.{ParseFault}
 use Rattle.script_lexer.specs.declared.faults.ParseFault.TheVariants.{BadToken, Unexpected, TooDeep, Memory}
 use Rattle.script_lexer.specs.declared.tokens.Spanned.{Spanned}
-use Rattle.script_expressions.specs.Reading.{◌>>=◌, Read, Fails}
+use Rattle.script_expressions.specs.Reading.{◌>>=◌, Read, FailsReading}
 use Rattle.script_expressions.specs.Expressions.{Sized, Operator, operator_at, linked, chain}
 
 -- a fault ends all that follows
-pub fails_bind : {A B : Type 0} (e : ParseFault) (r : Result A ParseFault) (f : A → Result B ParseFault) → Fails e r → Fails e (r >>= f)
+pub fails_bind : {A B : Type 0} (e : ParseFault) (r : Result A ParseFault) (f : A → Result B ParseFault) → FailsReading e r → FailsReading e (r >>= f)
 fails_bind Memory r f h = tt
 fails_bind (BadToken at) r f h = ap (λ x. x >>= f) h
 fails_bind (Unexpected at) r f h = ap (λ x. x >>= f) h
 fails_bind (TooDeep at) r f h = ap (λ x. x >>= f) h
 
-pub fails_is : {A : Type 0} (e : ParseFault) (r s : Result A ParseFault) → r ≡ s → Fails e r → Fails e s
+pub fails_is : {A : Type 0} (e : ParseFault) (r s : Result A ParseFault) → r ≡ s → FailsReading e r → FailsReading e s
 fails_is Memory r s h f = tt
 fails_is (BadToken at) r s h f = sym h ∙ f
 fails_is (Unexpected at) r s h f = sym h ∙ f
@@ -46,5 +46,5 @@ module _ (side : ℕ → Read Sized) (tier : ℕ) where
   pub chain_compared : (n m : ℕ) (left : ExprTree) (room r : ℕ) (o : Operator) (ts : List Spanned) (right : ExprTree) (room' : ℕ) (ts' : List Spanned) → n ≡ suc m → room ≡ suc r → operator_at tier ts ≡ Some o → side r o.1 ≡ Ok ((right, room'), ts') → nat_eq tier 3 ≡ true → chain side tier n left room ts ≡ Ok ((Joined o.0.0 left right, room'), ts')
   chain_compared n m left room r o ts right room' ts' en er h k b = chain_takes n m left room r o ts en er h ∙ rw (k, b) refl
 
-  pub chain_fails : (e : ParseFault) (n m : ℕ) (left : ExprTree) (room r : ℕ) (o : Operator) (ts : List Spanned) → n ≡ suc m → room ≡ suc r → operator_at tier ts ≡ Some o → Fails e (side r o.1) → Fails e (chain side tier n left room ts)
+  pub chain_fails : (e : ParseFault) (n m : ℕ) (left : ExprTree) (room r : ℕ) (o : Operator) (ts : List Spanned) → n ≡ suc m → room ≡ suc r → operator_at tier ts ≡ Some o → FailsReading e (side r o.1) → FailsReading e (chain side tier n left room ts)
   chain_fails e n m left room r o ts en er h f = fails_is e _ _ (sym (chain_takes n m left room r o ts en er h)) (fails_bind e (side r o.1) _ f)

@@ -18,21 +18,21 @@ abbrev pub ◌>>=◌ : {A B : Type 0} → Result A ParseFault → (A → Result 
 (Err e) >>= f = Err e
 
 -- the fault is what reading meets; want of memory may be answered in its place
-abbrev pub Fails : {Y : Type 0} → ParseFault → Result Y ParseFault → Type 0
-Fails Memory read = Unit {0}
-Fails (BadToken at) read = read ≡ Err (BadToken at)
-Fails (Unexpected at) read = read ≡ Err (Unexpected at)
-Fails (TooDeep at) read = read ≡ Err (TooDeep at)
+abbrev pub FailsReading : {Y : Type 0} → ParseFault → Result Y ParseFault → Type 0
+FailsReading Memory read = Unit {0}
+FailsReading (BadToken at) read = read ≡ Err (BadToken at)
+FailsReading (Unexpected at) read = read ≡ Err (Unexpected at)
+FailsReading (TooDeep at) read = read ≡ Err (TooDeep at)
 
 -- what a function made, seen by `view`, is this, unless memory ran out
 abbrev pub Makes : {X Y : Type 0} → (X → Y) → Result X ParseFault → Result Y ParseFault → Type 0
 Makes view (Ok x) read = read ≡ Ok (view x)
-Makes view (Err e) read = Fails e read
+Makes view (Err e) read = FailsReading e read
 
 -- what a method read, seen by `view`, and the tokens that it left are what reading gives, unless memory ran out
-abbrev pub Gives : {X Y : Type 0} → (X → Y) → Result X ParseFault → List Spanned → Part Y → Type 0
-Gives view (Ok x) left read = read ≡ Ok (view x, left)
-Gives view (Err e) left read = Fails e read
+abbrev pub GivesPart : {X Y : Type 0} → (X → Y) → Result X ParseFault → List Spanned → Part Y → Type 0
+GivesPart view (Ok x) left read = read ≡ Ok (view x, left)
+GivesPart view (Err e) left read = FailsReading e read
 
 -- a method took what stands next, where it was there
 abbrev pub Takes : Bool → List Spanned → List Spanned → Option (List Spanned) → Type 0

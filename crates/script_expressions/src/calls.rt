@@ -1,6 +1,6 @@
 ghost use Rattle.std.specs.Prelude.{◌≡◌, map, length};
 ghost use Rattle.script_tree.specs.Exprs.{expr_tree, call_tree};
-ghost use Rattle.script_expressions.specs.Reading.{Gives};
+ghost use Rattle.script_expressions.specs.Reading.{GivesPart};
 ghost use Rattle.script_expressions.specs.Expressions.{expression};
 ghost use Rattle.script_expressions.specs.Calls.{place_at, parenthesised, listed, arguments_in, arguments, call_at};
 
@@ -14,7 +14,7 @@ impl<'a> Cursor<'a> {
     /// open.
     #[tactic(auto, unfolding(crate::specs::Calls::call_at))]
     pub fn call(&mut self, alloc: Global, depth: u8) -> Result<CallExpr, ParseFault>
-        ensures read { Gives call_tree result self.new.tokens.now
+        ensures read { GivesPart call_tree result self.new.tokens.now
             (call_at self.old.stop depth self.old.tokens.now) }
         ensures stop { self.new.stop ≡ self.old.stop }
     {
@@ -31,7 +31,7 @@ impl<'a> Cursor<'a> {
     // parentheses.
     #[tactic(auto, unfolding(crate::specs::Calls::place_at))]
     fn place(&mut self, alloc: Global, depth: u8) -> Result<Expr, ParseFault>
-        ensures read { Gives expr_tree result self.new.tokens.now
+        ensures read { GivesPart expr_tree result self.new.tokens.now
             (place_at self.old.stop depth self.old.tokens.now) }
         ensures stop { self.new.stop ≡ self.old.stop }
     {
@@ -60,7 +60,7 @@ impl<'a> Cursor<'a> {
     // An expression in parentheses.
     #[tactic(auto, unfolding(crate::specs::Calls::parenthesised))]
     fn parenthesised(&mut self, alloc: Global, depth: u8) -> Result<Expr, ParseFault>
-        ensures read { Gives expr_tree result self.new.tokens.now
+        ensures read { GivesPart expr_tree result self.new.tokens.now
             (parenthesised self.old.stop depth self.old.tokens.now) }
         ensures stop { self.new.stop ≡ self.old.stop }
     {
@@ -74,7 +74,7 @@ impl<'a> Cursor<'a> {
     // The arguments in their parentheses.
     #[tactic(auto, unfolding(crate::specs::Calls::arguments))]
     fn arguments(&mut self, alloc: Global, depth: u8) -> Result<Items<Expr>, ParseFault>
-        ensures read { Gives (λ args. map expr_tree args.list.items) result self.new.tokens.now
+        ensures read { GivesPart (λ args. map expr_tree args.list.items) result self.new.tokens.now
             (arguments self.old.stop depth self.old.tokens.now) }
         ensures stop { self.new.stop ≡ self.old.stop }
     {
@@ -91,7 +91,7 @@ impl<'a> Cursor<'a> {
     // Expressions with commas between them, and the parenthesis behind the last.
     #[tactic(auto, unfolding(crate::specs::Calls::listed))]
     fn expressions(&mut self, alloc: Global, depth: u8) -> Result<Items<Expr>, ParseFault>
-        ensures read { Gives (λ found. map expr_tree found.list.items) result self.new.tokens.now
+        ensures read { GivesPart (λ found. map expr_tree found.list.items) result self.new.tokens.now
             (listed self.old.stop (expression self.old.stop depth) (length self.old.tokens.now)
             self.old.tokens.now) }
         ensures stop { self.new.stop ≡ self.old.stop }

@@ -1,5 +1,5 @@
 ghost use Rattle.std.specs.Prelude.{◌≡◌};
-ghost use Rattle.script_expressions.specs.Reading.{Gives, Takes};
+ghost use Rattle.script_expressions.specs.Reading.{GivesPart, Takes};
 ghost use Rattle.script_expressions.specs.Tokens.{symbol_number, word_number, is_symbol, is_word, refused, expected, expected_word, name_at, text_at, taken, taken_word};
 
 use script_lexer::{ParseFault, Spanned, Symbol, Token, Word};
@@ -93,7 +93,7 @@ impl<'a> Cursor<'a> {
     /// A symbol that must stand next, and its place.
     #[tactic(auto, unfolding(crate::specs::Tokens::expected))]
     pub fn expect(&mut self, symbol: Symbol) -> Result<u32, ParseFault>
-        ensures read { Gives (λ at. at) result self.new.tokens.now
+        ensures read { GivesPart (λ at. at) result self.new.tokens.now
             (expected self.old.stop symbol self.old.tokens.now) }
         ensures stop { self.new.stop ≡ self.old.stop }
     {
@@ -110,7 +110,7 @@ impl<'a> Cursor<'a> {
     /// A reserved word that must stand next, and its place.
     #[tactic(auto, unfolding(crate::specs::Tokens::expected_word))]
     pub fn expect_word(&mut self, word: Word) -> Result<u32, ParseFault>
-        ensures read { Gives (λ at. at) result self.new.tokens.now
+        ensures read { GivesPart (λ at. at) result self.new.tokens.now
             (expected_word self.old.stop word self.old.tokens.now) }
         ensures stop { self.new.stop ≡ self.old.stop }
     {
@@ -127,7 +127,7 @@ impl<'a> Cursor<'a> {
     /// A name that must stand next.
     #[tactic(auto, unfolding(crate::specs::Tokens::name_at))]
     pub fn name(&mut self) -> Result<Name, ParseFault>
-        ensures read { Gives (λ name. name) result self.new.tokens.now
+        ensures read { GivesPart (λ name. name) result self.new.tokens.now
             (name_at self.old.stop self.old.tokens.now) }
         ensures stop { self.new.stop ≡ self.old.stop }
     {
@@ -147,7 +147,7 @@ impl<'a> Cursor<'a> {
     /// A text that must stand next.
     #[tactic(auto, unfolding(crate::specs::Tokens::text_at))]
     pub fn text(&mut self) -> Result<Chars, ParseFault>
-        ensures read { Gives (λ text. text) result self.new.tokens.now
+        ensures read { GivesPart (λ text. text) result self.new.tokens.now
             (text_at self.old.stop self.old.tokens.now) }
         ensures stop { self.new.stop ≡ self.old.stop }
     {

@@ -1,6 +1,6 @@
 ghost use Rattle.std.specs.Prelude.{◌≡◌};
 ghost use Rattle.script_tree.specs.Exprs.{expr_tree};
-ghost use Rattle.script_expressions.specs.Reading.{Gives, Finds};
+ghost use Rattle.script_expressions.specs.Reading.{GivesPart, Finds};
 ghost use Rattle.script_expressions.specs.Expressions.{operator_at, tiers, operand, expression, enclosed};
 
 use crate::cursor::Cursor;
@@ -26,7 +26,7 @@ impl<'a> Cursor<'a> {
     #[cycle(expression)]
     #[tactic(auto, unfolding(crate::specs::Expressions::expression, crate::specs::Expressions::expression_over))]
     pub fn expression(&mut self, alloc: Global, depth: u8) -> Result<Expr, ParseFault>
-        ensures read { Gives expr_tree result self.new.tokens.now
+        ensures read { GivesPart expr_tree result self.new.tokens.now
             (expression self.old.stop depth self.old.tokens.now) }
         ensures stop { self.new.stop ≡ self.old.stop }
     {
@@ -44,7 +44,7 @@ impl<'a> Cursor<'a> {
         tier: u8,
         room: u8,
     ) -> Result<(Expr, u8), ParseFault>
-        ensures read { Gives (λ x. (expr_tree x.0, x.1)) result self.new.tokens.now
+        ensures read { GivesPart (λ x. (expr_tree x.0, x.1)) result self.new.tokens.now
             (tiers (operand self.old.stop depth) tier room self.old.tokens.now) }
         ensures stop { self.new.stop ≡ self.old.stop }
     {
@@ -92,7 +92,7 @@ impl<'a> Cursor<'a> {
     #[cycle(expression)]
     #[tactic(auto, unfolding(crate::specs::Expressions::operand, crate::specs::Expressions::enclosed))]
     fn operand(&mut self, alloc: Global, depth: u8) -> Result<Expr, ParseFault>
-        ensures read { Gives expr_tree result self.new.tokens.now
+        ensures read { GivesPart expr_tree result self.new.tokens.now
             (operand self.old.stop depth self.old.tokens.now) }
         ensures stop { self.new.stop ≡ self.old.stop }
     {
@@ -118,7 +118,7 @@ impl<'a> Cursor<'a> {
     #[cycle(expression)]
     #[tactic(auto, unfolding(crate::specs::Expressions::enclosed, crate::specs::Expressions::enclosed_over, crate::specs::Expressions::expression))]
     pub(crate) fn enclosed(&mut self, alloc: Global, depth: u8) -> Result<Expr, ParseFault>
-        ensures read { Gives expr_tree result self.new.tokens.now
+        ensures read { GivesPart expr_tree result self.new.tokens.now
             (enclosed self.old.stop depth self.old.tokens.now) }
         ensures stop { self.new.stop ≡ self.old.stop }
     {

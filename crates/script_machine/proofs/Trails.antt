@@ -7,7 +7,7 @@ use Rattle.base_types.specs.declared.calls.Value.{Value}
 use Rattle.script_tree.specs.Programs.{ProgramTree}
 use Rattle.script_holding.specs.Holding.{Holding}
 use Rattle.script_meaning.specs.Requests.{Requests, End, AskLock, AskRaise, AskUnit}
-use Rattle.script_meaning.specs.Play.{Played, Found, next, serve, unit, play_over, writes_of}
+use Rattle.script_meaning.specs.Play.{Played, GrainState, next, serve, unit, play_over, writes_of}
 use Rattle.script_meaning.specs.Trails.{Given, GivenLock, GivenRaise, GivenOutcome, answers_of, asked_of, reads_of, Has}
 use Rattle.script_meaning.proofs.Leads.{Leads, follows_leads, leads_follows, leads_on, leads_rest, leads_is_play}
 use Rattle.std.proofs.lemmas.List.{append-nil}
@@ -18,7 +18,7 @@ use Rattle.script_machine.specs.declared.machine.Machine.{Machine}
 use Rattle.script_machine.specs.declared.machine.Parts.{Parts}
 use Rattle.script_machine.specs.declared.machine.Input.{Input}
 use Rattle.script_machine.specs.declared.machine.Input.TheVariants as input
-use Rattle.script_machine.specs.Machines.{Follows, IsPartsOf, is_over_at, reads_in, answers_in, rest_at, rest, fed, given_by, read_by, answered_by}
+use Rattle.script_machine.specs.Machines.{FollowsTrail, IsPartsOf, is_over_at, reads_in, answers_in, rest_at, rest, fed, given_by, read_by, answered_by}
 
 -- where nothing is given nothing changes
 gives_none : (run : Requests) (trail : List Given) (left : Requests) → Leads run trail left → Leads run (trail ++ []) left
@@ -84,7 +84,7 @@ answers_by (End result has) (input.Unit outcome) = refl
 -- the states of a longer trail
 reads_on : (trail more : List Given) → reads_of (trail ++ more) ≡ reads_of trail ++ reads_of more
 reads_on [] more = refl
-reads_on (GivenLock grain mode state ∷ further) more = ap (λ (l : List Found). (grain, state) ∷ l) (reads_on further more)
+reads_on (GivenLock grain mode state ∷ further) more = ap (λ (l : List GrainState). (grain, state) ∷ l) (reads_on further more)
 reads_on (GivenRaise grain ∷ further) more = reads_on further more
 reads_on (GivenOutcome call depth outcome ∷ further) more = reads_on further more
 
@@ -96,13 +96,13 @@ answers_on (GivenRaise grain ∷ further) more = answers_on further more
 answers_on (GivenOutcome call depth outcome ∷ further) more = ap (λ (l : List Outcome). outcome ∷ l) (answers_on further more)
 
 -- what was given to a machine leads to what is left
-follows_leads_to : (types : ProgramTree) (machine : Machine) (call : Call) (depth : ℕ) (trail : List Given) → Follows types call depth machine trail → Leads (unit types call depth) trail (rest types machine)
+follows_leads_to : (types : ProgramTree) (machine : Machine) (call : Call) (depth : ℕ) (trail : List Given) → FollowsTrail types call depth machine trail → Leads (unit types call depth) trail (rest types machine)
 unfolding next
 follows_leads_to types machine call depth trail follows =
     subst (λ (t : Requests). Leads (unit types call depth) trail t) follows.left (follows_leads (unit types call depth) trail follows.named.each)
 
 -- and what leads there was given to it
-leads_to_follows : (types : ProgramTree) (machine : Machine) (call : Call) (depth : ℕ) (trail : List Given) → Leads (unit types call depth) trail (rest types machine) → reads_in machine ≡ reads_of trail → answers_in machine ≡ answers_of trail → Follows types call depth machine trail
+leads_to_follows : (types : ProgramTree) (machine : Machine) (call : Call) (depth : ℕ) (trail : List Given) → Leads (unit types call depth) trail (rest types machine) → reads_in machine ≡ reads_of trail → answers_in machine ≡ answers_of trail → FollowsTrail types call depth machine trail
 unfolding next
 leads_to_follows types machine call depth trail leads reads answers =
     record {
@@ -113,12 +113,12 @@ leads_to_follows types machine call depth trail leads reads answers =
     }
 
 -- a machine that begins was given nothing
-pub follows_nothing : (types : ProgramTree) (machine : Machine) (call : Call) (depth : ℕ) → rest types machine ≡ unit types call depth → reads_in machine ≡ [] → answers_in machine ≡ [] → Follows types call depth machine []
+pub follows_nothing : (types : ProgramTree) (machine : Machine) (call : Call) (depth : ℕ) → rest types machine ≡ unit types call depth → reads_in machine ≡ [] → answers_in machine ≡ [] → FollowsTrail types call depth machine []
 follows_nothing types machine call depth left reads answers = leads_to_follows types machine call depth [] (sym left) reads answers
 
 -- a machine that was given more
 pub follows_on : (types : ProgramTree) (before machine : Machine) (one : Input) → rest types machine ≡ fed (rest types before) one → reads_in machine ≡ reads_in before ++ read_by (rest types before) one → answers_in machine ≡ answers_in before ++ answered_by (rest types before) one →
-    (call : Call) (depth : ℕ) (trail : List Given) → Follows types call depth before trail → Follows types call depth machine (trail ++ given_by (rest types before) one)
+    (call : Call) (depth : ℕ) (trail : List Given) → FollowsTrail types call depth before trail → FollowsTrail types call depth machine (trail ++ given_by (rest types before) one)
 follows_on types before machine one left reads answers call depth trail follows =
     let more = given_by (rest types before) one in
     let leads = leads_by (unit types call depth) trail (rest types before) one (follows_leads_to types before call depth trail follows) in
@@ -129,7 +129,7 @@ follows_on types before machine one left reads answers call depth trail follows 
 
 -- the parts of a machine that is over are those of the play
 pub parts_of_play : (types : ProgramTree) (machine : Machine) (parts : Parts) (has : Holding) → rest types machine ≡ End parts.result has → parts.writes ≡ writes_of parts.result has → parts.reads ≡ machine.reads → parts.answers ≡ machine.answers →
-    (call : Call) (depth : ℕ) (trail : List Given) → Follows types call depth machine trail → (states : GrainId → List Value) → Has states (reads_of trail) → IsPartsOf parts trail (play_over types call depth states (answers_of trail))
+    (call : Call) (depth : ℕ) (trail : List Given) → FollowsTrail types call depth machine trail → (states : GrainId → List Value) → Has states (reads_of trail) → IsPartsOf parts trail (play_over types call depth states (answers_of trail))
 unfolding play_over
 parts_of_play types machine parts has over writes reads answers call depth trail follows states found =
     let played : serve (unit types call depth) states (answers_of trail) ≡ record { result = parts.result; asked = asked_of trail; reads = reads_of trail; writes = writes_of parts.result has } =

@@ -10,7 +10,7 @@ use Rattle.script_values.specs.Faults.{depth}
 use Rattle.script_holding.specs.Holding.{Holding}
 use Rattle.script_meaning.specs.Requests.{Requests, AskLock, AskRaise, AskUnit, stop}
 use Rattle.script_meaning.specs.Calls.{joined}
-use Rattle.script_meaning.specs.Play.{Found, Want, WantLock, WantRaise, WantUnit, Over, Played, at_start, ends, rest_of, unit}
+use Rattle.script_meaning.specs.Play.{GrainState, Want, WantLock, WantRaise, WantUnit, Over, Played, at_start, ends, rest_of, unit}
 use Rattle.script_meaning.specs.Trails.{Given, GivenLock, GivenRaise, GivenOutcome, IsTrail, answers_of, asked_of, locks_of, reads_of}
 use Rattle.script_machine.specs.declared.callees.Callee.{Callee}
 use Rattle.script_machine.specs.declared.runs.Run.{Run}
@@ -40,7 +40,7 @@ abbrev pub has_begun : Machine → Bool
 has_begun machine = not machine.ready
 
 -- the states that it was given, each with its grain, in the order in which they came
-abbrev pub reads_in : Machine → List Found
+abbrev pub reads_in : Machine → List GrainState
 reads_in machine = machine.reads
 
 -- the outcomes that it was given
@@ -59,7 +59,7 @@ fed (AskUnit call at go) (input.Unit outcome) = go outcome
 fed left one = left
 
 -- the state that was found, with its grain
-abbrev pub read_by : Requests → Input → List Found
+abbrev pub read_by : Requests → Input → List GrainState
 read_by (AskLock grain mode go) (input.Grain state) = (grain, state) ∷ []
 read_by left one = []
 
@@ -114,12 +114,12 @@ abbrev pub is_over : Machine → Bool
 is_over machine = is_over_at machine.ready machine.run.wait
 
 -- a machine keeps the room that its parts need
-pub record HasRoom (machine : Machine) : Type 0 where
+pub record HasRoomForParts (machine : Machine) : Type 0 where
   pub none : machine.writes.items ≡ []
   pub room : length machine.run.has.held ≤ vec_capacity machine.writes
 
 -- a machine was given this while it ran this call as a unit: just what `next` named, and the rest is left
-pub record Follows (types : ProgramTree) (call : Call) (at : ℕ) (machine : Machine) (trail : List Given) : Type 0 where
+pub record FollowsTrail (types : ProgramTree) (call : Call) (at : ℕ) (machine : Machine) (trail : List Given) : Type 0 where
   pub named : IsTrail types call at trail
   pub left : rest_of (unit types call at) (locks_of trail) (answers_of trail) ≡ rest types machine
   pub reads : reads_in machine ≡ reads_of trail

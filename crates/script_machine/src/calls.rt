@@ -3,7 +3,7 @@ ghost use Rattle.script_tree.specs.Exprs.{call_tree, expr_tree};
 ghost use Rattle.script_tree.specs.Stmts.{stmt_tree};
 ghost use Rattle.script_tree.specs.Programs.{ProgramTree, program_tree};
 ghost use Rattle.script_values.specs.Expressions.{values_in};
-ghost use Rattle.script_values.specs.Stops.{Gives};
+ghost use Rattle.script_values.specs.Stops.{GivesOrStops};
 ghost use Rattle.script_holding.specs.Holding.{Holding as Has};
 ghost use Rattle.script_meaning.specs.Calls.{in_own_unit, to_target, to_type, type_from};
 ghost use Rattle.script_machine.specs.Callees.{IsThere, post_of, target_of};
@@ -38,7 +38,7 @@ fn key_of(alloc: Global, place: Value) -> Result<u32, Stop>
 impl Run {
     /// The values of arguments in the topmost frame.
     fn values(&self, alloc: Global, checked: &Checked, args: &[Expr]) -> Result<List<Value>, Stop>
-        ensures { Gives result (values_in (around_here (program_tree checked.now) self.now) (map expr_tree args.now)) }
+        ensures { GivesOrStops result (values_in (around_here (program_tree checked.now) self.now) (map expr_tree args.now)) }
     {
         let scope = self.scope(checked);
         evaluate_all(alloc, args, &scope)

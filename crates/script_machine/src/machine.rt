@@ -6,7 +6,7 @@ ghost use Rattle.script_tree.specs.Programs.{ProgramTree, program_tree};
 ghost use Rattle.script_meaning.specs.Requests.{End};
 ghost use Rattle.script_meaning.specs.Play.{asks, play_over, unit, writes_of};
 ghost use Rattle.script_meaning.specs.Trails.{Given, Has, answers_of, reads_of};
-ghost use Rattle.script_machine.specs.Machines.{Fits, Follows, HasRoom, IsPartsOf, answered_by, answers_in, fed, given_by, has_begun, holding_of, is_done, is_over, read_by, reads_in, rest, asks_raise, pause_for};
+ghost use Rattle.script_machine.specs.Machines.{Fits, FollowsTrail, HasRoomForParts, IsPartsOf, answered_by, answers_in, fed, given_by, has_begun, holding_of, is_done, is_over, read_by, reads_in, rest, asks_raise, pause_for};
 
 use crate::runs::{Run, Wait};
 use crate::starts::Start;
@@ -71,7 +71,7 @@ impl Machine {
         ensures answers { IfOk result (λ machine. answers_in machine ≡ []) }
 
         // Nothing has led to it yet.
-        ensures follows { IfOk result (λ machine. Follows (program_tree checked.now) call depth machine []) }
+        ensures follows { IfOk result (λ machine. FollowsTrail (program_tree checked.now) call depth machine []) }
     {
         let start = Start::of_call(alloc, checked, &call, depth)?;
         Ok(Machine {
@@ -99,12 +99,12 @@ impl Machine {
         // A state found is one more read, and an outcome one more answer.
         ensures reads { IfOk result (λ pause. reads_in self.new ≡ reads_in self.old ++ read_by (rest (program_tree checked.now) self.old) input) }
         ensures answers { IfOk result (λ pause. answers_in self.new ≡ answers_in self.old ++ answered_by (rest (program_tree checked.now) self.old) input) }
-        ensures follows { IfOk result (λ pause. (call : Called) (depth : ℕ) (trail : List Given) → Follows (program_tree checked.now) call depth self.old trail → Follows (program_tree checked.now) call depth self.new (trail ++ given_by (rest (program_tree checked.now) self.old) input)) }
+        ensures follows { IfOk result (λ pause. (call : Called) (depth : ℕ) (trail : List Given) → FollowsTrail (program_tree checked.now) call depth self.old trail → FollowsTrail (program_tree checked.now) call depth self.new (trail ++ given_by (rest (program_tree checked.now) self.old) input)) }
 
         // It has begun, it is over exactly where the pause says so, and its parts need no more memory.
         ensures begun { IfOk result (λ pause. has_begun self.new ≡ true) }
         ensures over { IfOk result (λ pause. is_over self.new ≡ is_done pause) }
-        ensures room { IfOk result (λ pause. HasRoom self.new) }
+        ensures room { IfOk result (λ pause. HasRoomForParts self.new) }
     {
         self.feed(alloc, checked, input)?;
         self.writes.clear();
@@ -226,14 +226,14 @@ impl Machine {
     /// What the unit leaves, once it is over.
     pub fn effect_parts(self) -> Parts
         requires over { is_over self ≡ true }
-        requires room { HasRoom self }
+        requires room { HasRoomForParts self }
         ensures result { (types : ProgramTree) → rest types self ≡ End result.result (holding_of self) }
         ensures writes { result.writes ≡ writes_of result.result (holding_of self) }
         ensures reads { result.reads ≡ reads_in self }
         ensures answers { result.answers ≡ answers_in self }
 
         // They are those of a play of the call over the states that it was given.
-        ensures play { (types : ProgramTree) (call : Called) (depth : ℕ) (trail : List Given) → Follows types call depth self trail → (states : Grain → List GrainValue) → Has states (reads_of trail) → IsPartsOf result trail (play_over types call depth states (answers_of trail)) }
+        ensures play { (types : ProgramTree) (call : Called) (depth : ℕ) (trail : List Given) → FollowsTrail types call depth self trail → (states : Grain → List GrainValue) → Has states (reads_of trail) → IsPartsOf result trail (play_over types call depth states (answers_of trail)) }
     {
         let Machine {
             run,

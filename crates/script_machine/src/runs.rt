@@ -3,7 +3,7 @@ ghost use Rattle.std.specs.Option.{option_copied};
 ghost use Rattle.script_tree.specs.Exprs.{expr_tree};
 ghost use Rattle.script_tree.specs.Stmts.{block_tree, stmt_tree, stmt_trees};
 ghost use Rattle.script_tree.specs.Programs.{ProgramTree, program_tree};
-ghost use Rattle.script_values.specs.Stops.{Gives};
+ghost use Rattle.script_values.specs.Stops.{GivesOrStops};
 ghost use Rattle.script_values.specs.Scopes.{surroundings};
 ghost use Rattle.script_meaning.specs.Requests.{End};
 ghost use Rattle.script_meaning.specs.Calls.{readable};
@@ -81,7 +81,7 @@ impl Run {
 
     /// The value of an expression in the topmost frame.
     pub fn value(&self, alloc: Global, checked: &Checked, expression: &Expr) -> Result<Value, Stop>
-        ensures { Gives result (value_here (program_tree checked.now) self.now (expr_tree expression.now)) }
+        ensures { GivesOrStops result (value_here (program_tree checked.now) self.now (expr_tree expression.now)) }
     {
         let scope = self.scope(checked);
         evaluate(alloc, expression, &scope)

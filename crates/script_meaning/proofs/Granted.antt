@@ -12,7 +12,7 @@ use Rattle.script_holding.specs.declared.held.Held.{Held}
 use Rattle.script_holding.specs.Limits.{unit_limit, grain_limit}
 use Rattle.script_holding.specs.Holding.{mode_at, change, raised}
 use Rattle.script_meaning.specs.Requests.{Requests, End, AskLock, AskRaise, AskUnit}
-use Rattle.script_meaning.specs.Play.{Found, Asked, WantLock, WantRaise, WantUnit, grains_of}
+use Rattle.script_meaning.specs.Play.{GrainState, AskedUnit, WantLock, WantRaise, WantUnit, grains_of}
 use Rattle.script_meaning.specs.Trails.{Given, GivenLock, GivenRaise, GivenOutcome, answers_of, asked_of, reads_of, exclusive_in}
 use Rattle.script_meaning.specs.Laws.{IsChild}
 use Rattle.script_meaning.proofs.Grains.{held_in, mode_at-more, mode_at-added, mode_at-raised, mode_at-raised_other, mode_at-not_raised, mode_at-not_more, grains-raised, length-raised, All-change}
@@ -95,21 +95,21 @@ module _ (types : ProgramTree) (may : Bool) (depth : ℕ) where
       let same : (call, below) ≡ (of, at) = cc in
       let later : GoesOn held (asked + 1) rest after =
       sound_leads (go outcome) rest after held (asked + 1) (sound.2 outcome) leads.1 in
-      ((sound.0, subst (λ (one : Asked). IsChild types depth one) same sound.1, later.0), later.1)
+      ((sound.0, subst (λ (one : AskedUnit). IsChild types depth one) same sound.1, later.0), later.1)
 
   -- no grain that is read was held before, and each is read once
   reads_are_new : (held : List Held) (asked : ℕ) (trail : List Given) → AreGranted held asked trail →
       All (λ one. mode_at one.0 held ≡ None) (reads_of trail)
-  reads_are_new held asked [] granted = All-nil (λ (one : Found). mode_at one.0 held ≡ None)
+  reads_are_new held asked [] granted = All-nil (λ (one : GrainState). mode_at one.0 held ≡ None)
   reads_are_new held asked (GivenLock grain mode state ∷ rest) granted =
-      All-cons (λ (one : Found). mode_at one.0 held ≡ None) (grain, state) (reads_of rest) granted.1
-      (All-weaker (λ (one : Found). mode_at one.0 (held ++ (held_in grain mode ∷ [])) ≡ None)
-      (λ (one : Found). mode_at one.0 held ≡ None)
+      All-cons (λ (one : GrainState). mode_at one.0 held ≡ None) (grain, state) (reads_of rest) granted.1
+      (All-weaker (λ (one : GrainState). mode_at one.0 (held ++ (held_in grain mode ∷ [])) ≡ None)
+      (λ (one : GrainState). mode_at one.0 held ≡ None)
       (λ one e. mode_at-not_more one.0 held (held_in grain mode ∷ []) e) (reads_of rest)
       (reads_are_new (held ++ (held_in grain mode ∷ [])) asked rest granted.3))
   reads_are_new held asked (GivenRaise grain ∷ rest) granted =
-      All-weaker (λ (one : Found). mode_at one.0 (change grain raised held) ≡ None)
-      (λ (one : Found). mode_at one.0 held ≡ None)
+      All-weaker (λ (one : GrainState). mode_at one.0 (change grain raised held) ≡ None)
+      (λ (one : GrainState). mode_at one.0 held ≡ None)
       (λ one e. mode_at-not_raised one.0 grain held e) (reads_of rest)
       (reads_are_new (change grain raised held) asked rest granted.2)
   reads_are_new held asked (GivenOutcome call at outcome ∷ rest) granted = reads_are_new held (asked + 1) rest granted.2
@@ -119,11 +119,11 @@ module _ (types : ProgramTree) (may : Bool) (depth : ℕ) where
       AllPairs (λ one other. one.0 ≢ other.0) (reads_of trail)
   reads_once held asked [] granted = λ i j d below within. absurd (omega (arith, within))
   reads_once held asked (GivenLock grain mode state ∷ rest) granted =
-      let R : Found → Found → Type 0 = λ one other. one.0 ≢ other.0 in
+      let R : GrainState → GrainState → Type 0 = λ one other. one.0 ≢ other.0 in
       let after : List Held = held ++ (held_in grain mode ∷ []) in
       let at : mode_at grain after ≡ Some mode = mode_at-added (held_in grain mode) held granted.1 in
       AllPairs-cons R (grain, state) (reads_of rest)
-      (All-weaker (λ (one : Found). mode_at one.0 after ≡ None) (λ (one : Found). grain ≢ one.0)
+      (All-weaker (λ (one : GrainState). mode_at one.0 after ≡ None) (λ (one : GrainState). grain ≢ one.0)
       (λ one e same. let f : mode_at grain after ≡ None = ap (λ (g : GrainId). mode_at g after) same ∙ e in cc)
       (reads_of rest) (reads_are_new after asked rest granted.3))
       (reads_once after asked rest granted.3)

@@ -13,7 +13,7 @@ use Rattle.base_types.specs.declared.calls.Outcome.{Outcome}
 use Rattle.base_types.specs.declared.calls.Outcome.TheVariants.{Aborted}
 use Rattle.base_types.specs.declared.calls.Value.{Value}
 use Rattle.script_values.specs.Values.{ValueOrFault}
-use Rattle.script_values.specs.Stops.{Stops}
+use Rattle.script_values.specs.Stops.{StopsWith}
 use Rattle.script_values.specs.declared.stops.Stop.{Stop}
 use Rattle.script_values.specs.declared.stops.Stop.TheVariants.{Fault, Memory}
 use Rattle.script_tree.specs.declared.programs.FieldDecl.{FieldDecl}
@@ -22,7 +22,7 @@ use Rattle.script_holding.specs.Limits.{unit_limit, grain_limit}
 use Rattle.script_holding.specs.Holding.{Holding, newly_held, with_held, one_asked}
 use Rattle.script_meaning.specs.Requests.{Requests, End, AskLock, AskRaise, AskUnit, Back, Caught, stop}
 use Rattle.script_meaning.specs.Calls.{answered, locked, in_own_unit, in_range}
-use Rattle.script_meaning.specs.Play.{Asked, Found, Played, asking, serve, found_in, writes_of}
+use Rattle.script_meaning.specs.Play.{AskedUnit, GrainState, Played, asking, serve, found_in, writes_of}
 use Rattle.script_meaning.specs.Playing.{types_in, continued, heard, EndsPlay, Leads}
 use Rattle.script_meaning.specs.declared.frames.World.{World}
 use Rattle.script_meaning.specs.declared.player.Progress.{Progress}
@@ -30,10 +30,10 @@ use Rattle.script_meaning.specs.declared.player.Player.{Player}
 
 -- a fault of the language itself ends the unit
 pub ends_at : (world : World) (has : Holding) (progress : Progress) (why : Stop) (text : List ℕ) (before : Requests) →
-    ((given : ValueOrFault) → given ≡ Err text → Stops why given) → before ≡ stop text has →
+    ((given : ValueOrFault) → given ≡ Err text → StopsWith why given) → before ≡ stop text has →
     EndsPlay world (record { has = has; progress = progress }) progress why before
 ends_at world has progress (Fault found) text before says is =
-    let at : Stops (Fault found) (let g : ValueOrFault = Err text in g) = says (Err text) refl in
+    let at : StopsWith (Fault found) (let g : ValueOrFault = Err text in g) = says (Err text) refl in
     let same : found ≡ text = cc in
     ap (heard world progress) (ap (λ (t : List ℕ). stop t has) same ∙ sym is)
 ends_at world has progress Memory text before says is = tt
@@ -51,7 +51,7 @@ ends_on world player between old (Fault text) middle before part so_far = part �
 ends_on world player between old Memory middle before part so_far = tt
 
 -- a grain's lock that is granted: one more read
-pub heard_lock : (world : World) (asked : List Asked) (reads : List Found) (used : ℕ) (grain : GrainId) (mode : Mode) (go : List Value → Requests) →
+pub heard_lock : (world : World) (asked : List AskedUnit) (reads : List GrainState) (used : ℕ) (grain : GrainId) (mode : Mode) (go : List Value → Requests) →
     let found = found_in (types_in world) world.store.now grain in
     heard world (record { asked = asked; reads = reads ++ ((grain, found) ∷ []); used = used }) (go found)
     ≡ heard world (record { asked = asked; reads = reads; used = used }) (AskLock grain mode go)
@@ -59,7 +59,7 @@ unfolding heard
 heard_lock world asked reads used grain mode go =
     let found = found_in (types_in world) world.store.now grain in
     let rest : Played = serve (go found) (found_in (types_in world) world.store.now) (drop used world.answers.now) in
-    ap (λ (l : List Found). let p : Played = record { result = rest.result; asked = asked ++ rest.asked; reads = l; writes = rest.writes } in p)
+    ap (λ (l : List GrainState). let p : Played = record { result = rest.result; asked = asked ++ rest.asked; reads = l; writes = rest.writes } in p)
     (append_assoc reads ((grain, found) ∷ []) rest.reads)
 
 -- a grain that isn't held is asked for, where there is room for one more
@@ -103,14 +103,14 @@ drop_past (item ∷ items) zero none = absurd (cc)
 drop_past (item ∷ items) (suc i) none = drop_past items i none
 
 -- one more unit that was asked for
-asked_more : (asked : List Asked) (reads : List Found) (one : Asked) (rest : Played) →
+asked_more : (asked : List AskedUnit) (reads : List GrainState) (one : AskedUnit) (rest : Played) →
     continued (asked ++ (one ∷ [])) reads rest ≡ continued asked reads (asking one rest)
 asked_more asked reads one rest =
-    ap (λ (l : List Asked). let p : Played = record { result = rest.result; asked = l; reads = reads ++ rest.reads; writes = rest.writes } in p)
+    ap (λ (l : List AskedUnit). let p : Played = record { result = rest.result; asked = l; reads = reads ++ rest.reads; writes = rest.writes } in p)
     (append_assoc asked (one ∷ []) rest.asked)
 
 -- a unit that is asked for: its answer is the next, or an abort past the last
-pub heard_answer : (world : World) (asked : List Asked) (reads : List Found) (used : ℕ) (call : Call) (depth : ℕ) (go : Outcome → Requests) (outcome : Outcome) →
+pub heard_answer : (world : World) (asked : List AskedUnit) (reads : List GrainState) (used : ℕ) (call : Call) (depth : ℕ) (go : Outcome → Requests) (outcome : Outcome) →
     slice_get world.answers.now used ≡ Some outcome →
     heard world (record { asked = asked ++ ((call, depth) ∷ []); reads = reads; used = used + 1 }) (go outcome)
     ≡ heard world (record { asked = asked; reads = reads; used = used }) (AskUnit call depth go)
@@ -120,7 +120,7 @@ heard_answer world asked reads used call depth go outcome there =
     asked_more asked reads (call, depth) (serve (go outcome) states (drop (used + 1) world.answers.now))
     ∙ ap (λ (answers : List Outcome). continued asked reads (serve (AskUnit call depth go) states answers)) (sym (drop_there world.answers.now used outcome there))
 
-pub heard_abort : (world : World) (asked : List Asked) (reads : List Found) (used : ℕ) (call : Call) (depth : ℕ) (go : Outcome → Requests) →
+pub heard_abort : (world : World) (asked : List AskedUnit) (reads : List GrainState) (used : ℕ) (call : Call) (depth : ℕ) (go : Outcome → Requests) →
     slice_get world.answers.now used ≡ None →
     heard world (record { asked = asked ++ ((call, depth) ∷ []); reads = reads; used = used }) (go Aborted)
     ≡ heard world (record { asked = asked; reads = reads; used = used }) (AskUnit call depth go)

@@ -27,10 +27,10 @@ use Rattle.script_tree.specs.Stmts.{SourceTree, Computed, Called, StmtTree, Bloc
 use Rattle.script_tree.specs.Programs.{MethodTree, TypeTree, ProgramTree}
 use Rattle.script_scopes.specs.Names.{Scope, Setting}
 use Rattle.script_scopes.specs.Statements.{with_name, scope_after}
-use Rattle.script_scopes.specs.Bodies.{IsExpression, IsCall, IsSource, IsStatement, IsBlock, IsElse}
+use Rattle.script_scopes.specs.Bodies.{IsExpressionInScope, IsCallInScope, IsSourceInScope, IsStatementInScope, IsBlockInScope, IsElseInScope}
 use Rattle.script_check.specs.Shapes.{fitted}
 use Rattle.script_check.specs.Programs.{field_names}
-use Rattle.script_check.specs.Accepted.{IsTransacted, IsMethod, IsProgram}
+use Rattle.script_check.specs.Accepted.{IsTransacted, IsAcceptedMethod, IsAcceptedProgram}
 use Rattle.script_values.specs.Expressions.{Locals, put_local, local_named, field_named, values_in}
 use Rattle.script_values.specs.Faults.{budget, depth, units, refusal}
 use Rattle.script_values.specs.Values.{ValueOrFault, is_true}
@@ -70,7 +70,7 @@ stays_held grain at held mode e (Some after) f = (after, refl)
 stays_held grain at held mode e None f =
     absurd (let g : mode_at grain held ≡ None = mode_at-not_raised grain at held f in cc)
 
-module _ (types : ProgramTree) (program : IsProgram types) (Q : List ℕ → Type 0) (own : Says Q) where
+module _ (types : ProgramTree) (program : IsAcceptedProgram types) (Q : List ℕ → Type 0) (own : Says Q) where
   -- a run whose faults are known, where those of the units that it asks for are
   abbrev pub IsSaid : Requests → Type 0
   IsSaid (End result has) = (text : List ℕ) → result ≡ Fault text → Q text
@@ -141,7 +141,7 @@ module _ (types : ProgramTree) (program : IsProgram types) (Q : List ℕ → Typ
   SaidFrames run =
       (floor : List GrainId) (fields : Scope) (site : Site) (method : MethodTree) (locals : Locals) (back : Back) →
       IsPlaced floor site method.kind fields →
-      IsMethod types fields method → ((text : List ℕ) → BlockFails method.body text → Q text) →
+      IsAcceptedMethod types fields method → ((text : List ℕ) → BlockFails method.body text → Q text) →
       Covers (map (λ n. n.text) method.params) locals →
       SaidBack floor back → SaidGo floor (run site method locals back)
 
@@ -379,7 +379,7 @@ module _ (types : ProgramTree) (program : IsProgram types) (Q : List ℕ → Typ
       }
 
       -- an expression in the frame
-      given_said : (scope : Scope) (expression : ExprTree) → IsExpression setting scope expression →
+      given_said : (scope : Scope) (expression : ExprTree) → IsExpressionInScope setting scope expression →
           (locals : Locals) → Covers scope locals →
           (has : Holding) → Kept floor has → IsSaidOf Q own (given types runner site back expression locals has)
       given_said scope expression right locals covers has kept =
@@ -397,7 +397,7 @@ module _ (types : ProgramTree) (program : IsProgram types) (Q : List ℕ → Typ
           let same : found ≡ target = cc in
           let there : numbered (slice_get types grain.kind) target.number ≡ Some target =
           subst (λ (t : Target). numbered (slice_get types grain.kind) t.number ≡ Some t) same is in
-          let method : IsMethod types (field_names target.of_type.fields) target.method =
+          let method : IsAcceptedMethod types (field_names target.of_type.fields) target.method =
           target_is_method types grain.kind target there program in
           enters_said floor runner safe (entered target.method.option site.context) (site.depth + 1) grain target
           (λ passed f. plain_kind target.method.kind target.method.option method.transacted site.context passed f)
@@ -419,7 +419,7 @@ module _ (types : ProgramTree) (program : IsProgram types) (Q : List ℕ → Typ
           (method_of_is (slice_get types number) name found there) args arity onto caught said said' has kept
 
       -- a checked call
-      calls_said : (scope : Scope) (call : CallTree) → IsCall setting scope call → (onto : Back) (caught : Caught) →
+      calls_said : (scope : Scope) (call : CallTree) → IsCallInScope setting scope call → (onto : Back) (caught : Caught) →
           SaidBack floor onto →
           SaidCaught floor caught → (locals : Locals) → Covers scope locals →
           SaidGo floor (calls types runner site back call onto caught locals)
@@ -439,10 +439,10 @@ module _ (types : ProgramTree) (program : IsProgram types) (Q : List ℕ → Typ
           onto caught said said' has kept)))
 
       -- what a local is given
-      sourced_said : (scope : Scope) (source : SourceTree) → IsSource setting scope source → (onto : Value → Next) →
+      sourced_said : (scope : Scope) (source : SourceTree) → IsSourceInScope setting scope source → (onto : Value → Next) →
           ((value : Value) (locals : Locals) → Covers scope locals → SaidGo floor (onto value locals)) →
           SaidNext floor scope (sourced types runner site back source onto)
-      unfolding IsSource
+      unfolding IsSourceInScope
       sourced_said scope (Computed expression) right onto said locals covers has kept =
           with_value_said floor (given types runner site back expression locals has) has _ kept
           (given_said scope expression right locals covers has kept)
@@ -466,7 +466,7 @@ module _ (types : ProgramTree) (program : IsProgram types) (Q : List ℕ → Typ
           said locals covers after (whole, above)
 
       -- turns of a loop
-      turns_said : (scope : Scope) (count : ℕ) (test : ExprTree) → IsExpression setting scope test →
+      turns_said : (scope : Scope) (count : ℕ) (test : ExprTree) → IsExpressionInScope setting scope test →
           (body : Next → Next) →
           ((next : Next) → SaidNext floor scope next → SaidNext floor scope (body next)) → (next : Next) →
           SaidNext floor scope next →
@@ -483,10 +483,10 @@ module _ (types : ProgramTree) (program : IsProgram types) (Q : List ℕ → Typ
 
       module _ (backs : SaidBack floor back) where
         mutual
-          unfolding IsStatement IsBlock IsElse
+          unfolding IsStatementInScope IsBlockInScope IsElseInScope
 
           -- a checked statement, block and second block, where what follows is known
-          does_said : (scope : Scope) (stmt : StmtTree) → IsStatement setting scope stmt →
+          does_said : (scope : Scope) (stmt : StmtTree) → IsStatementInScope setting scope stmt →
               ((text : List ℕ) → StatementFails stmt text → Q text) →
               (next : Next) → SaidNext floor (scope_after scope stmt) next →
               SaidNext floor scope (does types runner site back stmt next)
@@ -540,7 +540,7 @@ module _ (types : ProgramTree) (program : IsProgram types) (Q : List ℕ → Typ
               (put_covers_more scope name.text (Text fault) locals covers) has kept)
               locals covers has kept
 
-          runs_said : (scope : Scope) (block : BlockTree) → IsBlock setting scope block →
+          runs_said : (scope : Scope) (block : BlockTree) → IsBlockInScope setting scope block →
               ((text : List ℕ) → BlockFails block text → Q text) → (next : Next) →
               SaidNext floor scope next → SaidNext floor scope (runs types runner site back block next)
           runs_said scope NoMore right says next said = said
@@ -549,7 +549,7 @@ module _ (types : ProgramTree) (program : IsProgram types) (Q : List ℕ → Typ
               (runs_said (scope_after scope first) rest right.1 (λ text f. says text (inr f)) next
               (λ locals covers. said locals (scope_before scope first locals covers))))
 
-          runs_else_said : (scope : Scope) (block : ElseTree) → IsElse setting scope block →
+          runs_else_said : (scope : Scope) (block : ElseTree) → IsElseInScope setting scope block →
               ((text : List ℕ) → ElseFails block text → Q text) → (next : Next) →
               SaidNext floor scope next → SaidNext floor scope (runs_else types runner site back block next)
           runs_else_said scope NoElse right says next said = said
@@ -580,7 +580,7 @@ module _ (types : ProgramTree) (program : IsProgram types) (Q : List ℕ → Typ
         let same : found ≡ target = cc in
         let there : numbered (slice_get types call.grain.kind) target.number ≡ Some target =
         subst (λ (t : Target). numbered (slice_get types call.grain.kind) t.number ≡ Some t) same is in
-        let method : IsMethod types (field_names target.of_type.fields) target.method =
+        let method : IsAcceptedMethod types (field_names target.of_type.fields) target.method =
         target_is_method types call.grain.kind target there program in
         enters_said [] runner safe (as_first (entered target.method.option false)) at call.grain target
         (λ passed f. plain_kind target.method.kind target.method.option method.transacted false passed

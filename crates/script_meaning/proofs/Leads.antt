@@ -10,7 +10,7 @@ use Rattle.base_types.specs.declared.calls.Outcome.TheVariants.{Aborted}
 use Rattle.base_types.specs.declared.calls.Value.{Value}
 use Rattle.script_holding.specs.Holding.{Holding, same_grain}
 use Rattle.script_meaning.specs.Requests.{Requests, End, AskLock, AskRaise, AskUnit}
-use Rattle.script_meaning.specs.Play.{Found, Asked, Played, Lock, WantLock, WantRaise, WantUnit, Over, serve, writes_of, is_asked, same_mode, rest_of, asks}
+use Rattle.script_meaning.specs.Play.{GrainState, AskedUnit, Played, Lock, WantLock, WantRaise, WantUnit, Over, serve, writes_of, is_asked, same_mode, rest_of, asks}
 use Rattle.script_meaning.specs.Trails.{Given, GivenLock, GivenRaise, GivenOutcome, wanted, locks_of, answers_of, asked_of, reads_of, Has, outcomes}
 use Rattle.script_meaning.proofs.Grains.{is_same_grain}
 
@@ -173,16 +173,16 @@ serve_asked (End result has) states answers = refl
 serve_asked (AskLock grain mode go) states answers = serve_asked (go (states grain)) states answers
 serve_asked (AskRaise grain rest) states answers = serve_asked rest states answers
 serve_asked (AskUnit call depth go) states [] =
-    ap (λ (more : List Asked). (call, depth) ∷ more) (serve_asked (go Aborted) states [])
+    ap (λ (more : List AskedUnit). (call, depth) ∷ more) (serve_asked (go Aborted) states [])
 serve_asked (AskUnit call depth go) states (answer ∷ answers) =
-    ap (λ (more : List Asked). (call, depth) ∷ more) (serve_asked (go answer) states answers)
+    ap (λ (more : List AskedUnit). (call, depth) ∷ more) (serve_asked (go answer) states answers)
 
 -- the states that a play reads are those of its trail
 pub serve_reads : (run : Requests) (states : GrainId → List Value) (answers : List Outcome) →
     (serve run states answers).reads ≡ reads_of (trail_of run states answers)
 serve_reads (End result has) states answers = refl
 serve_reads (AskLock grain mode go) states answers =
-    ap (λ (more : List Found). (grain, states grain) ∷ more) (serve_reads (go (states grain)) states answers)
+    ap (λ (more : List GrainState). (grain, states grain) ∷ more) (serve_reads (go (states grain)) states answers)
 serve_reads (AskRaise grain rest) states answers = serve_reads rest states answers
 serve_reads (AskUnit call depth go) states [] = serve_reads (go Aborted) states []
 serve_reads (AskUnit call depth go) states (answer ∷ answers) = serve_reads (go answer) states answers
@@ -210,9 +210,9 @@ serve_answers (AskUnit call depth go) states (answer ∷ answers) =
 -- the states of its trail are those played over
 pub serve_has : (run : Requests) (states : GrainId → List Value) (answers : List Outcome) →
     Has states (reads_of (trail_of run states answers))
-serve_has (End result has) states answers = All-nil (λ (one : Found). states one.0 ≡ one.1)
+serve_has (End result has) states answers = All-nil (λ (one : GrainState). states one.0 ≡ one.1)
 serve_has (AskLock grain mode go) states answers =
-    All-cons (λ (one : Found). states one.0 ≡ one.1) (grain, states grain) _ refl
+    All-cons (λ (one : GrainState). states one.0 ≡ one.1) (grain, states grain) _ refl
     (serve_has (go (states grain)) states answers)
 serve_has (AskRaise grain rest) states answers = serve_has rest states answers
 serve_has (AskUnit call depth go) states [] = serve_has (go Aborted) states []
@@ -234,11 +234,11 @@ leads_is_trail (AskLock grain mode go) (GivenLock at how state ∷ rest) result 
     let same : grain ≡ at = cc in
     let same_mode : mode ≡ how = cc in
     let first : states at ≡ state =
-    All-head (λ (one : Found). states one.0 ≡ one.1) (at, state) (reads_of rest) found in
+    All-head (λ (one : GrainState). states one.0 ≡ one.1) (at, state) (reads_of rest) found in
     let there : states grain ≡ state = ap states same ∙ first in
     let later : rest ≡ trail_of (go state) states (answers_of rest) =
     leads_is_trail (go state) rest result has states leads.1
-    (All-tail (λ (one : Found). states one.0 ≡ one.1) (at, state) (reads_of rest) found) in
+    (All-tail (λ (one : GrainState). states one.0 ≡ one.1) (at, state) (reads_of rest) found) in
     (λ i. GivenLock (sym same i) (sym same_mode i) state ∷ later i)
     ∙ ap (λ (s : List Value). GivenLock grain mode s ∷ trail_of (go s) states (answers_of rest)) (sym there)
 leads_is_trail (AskLock grain mode go) (GivenRaise at ∷ rest) result has states leads found =

@@ -7,9 +7,9 @@ use Rattle.script_tree.specs.Exprs.{CallTree}
 use Rattle.script_tree.specs.Programs.{MethodTree, TypeTree, ProgramTree}
 use Rattle.script_scopes.specs.Names.{Scope, Setting}
 use Rattle.script_scopes.specs.Expressions.{type_named, method_named}
-use Rattle.script_scopes.specs.Bodies.{IsCall}
+use Rattle.script_scopes.specs.Bodies.{IsCallInScope}
 use Rattle.script_check.specs.Programs.{field_names}
-use Rattle.script_check.specs.Accepted.{IsMethod, IsType, IsProgram}
+use Rattle.script_check.specs.Accepted.{IsAcceptedMethod, IsAcceptedType, IsAcceptedProgram}
 use Rattle.script_meaning.specs.Calls.{Target, type_from, method_from, method_there, numbered, numbered_by, method_of}
 
 -- a method that a look-up found: its type is the one that was looked in, and its number is its own
@@ -64,13 +64,13 @@ All-slice_get P xs i x all e = subst P (get_or_from_slice_get xs i x x e) (all i
 
 -- a target's method is one of the program
 pub target_is_method : (types : ProgramTree) (kind : ℕ) (target : Target) →
-    numbered (slice_get types kind) target.number ≡ Some target → IsProgram types →
-    IsMethod types (field_names target.of_type.fields) target.method
+    numbered (slice_get types kind) target.number ≡ Some target → IsAcceptedProgram types →
+    IsAcceptedMethod types (field_names target.of_type.fields) target.method
 target_is_method types kind target is program =
-    let of_type : IsType types target.of_type =
-    All-slice_get (IsType types) types kind target.of_type program.each
+    let of_type : IsAcceptedType types target.of_type =
+    All-slice_get (IsAcceptedType types) types kind target.of_type program.each
     (numbered_type (slice_get types kind) target.number target is) in
-    All-slice_get (IsMethod types (field_names target.of_type.fields)) target.of_type.methods target.number
+    All-slice_get (IsAcceptedMethod types (field_names target.of_type.fields)) target.of_type.methods target.number
     target.method of_type.methods
     (numbered_method (slice_get types kind) target.number target is)
 
@@ -123,7 +123,7 @@ method_of_named (Some of_type) name target e =
     (ap (λ (t : TypeTree). Some t) is.0, ap (λ (t : TypeTree). method_named t.methods name) (sym is.0) ∙ is.1)
 
 -- a checked call has as many arguments as the method that it finds has parameters
-pub call_has_arity : (setting : Setting) (scope : Scope) (call : CallTree) → IsCall setting scope call →
+pub call_has_arity : (setting : Setting) (scope : Scope) (call : CallTree) → IsCallInScope setting scope call →
     (number : ℕ) (target : Target) →
     type_from 0 call.target.text setting.types ≡ Some number →
     method_of (slice_get setting.types number) call.method.text ≡ Some target →
@@ -175,7 +175,7 @@ method_of_some of_type name method e =
       ap (numbered_by of_type) from.1 ∙ ap (method_there of_type from.0) there,
     )
 
-pub call_finds : (setting : Setting) (scope : Scope) (call : CallTree) → IsCall setting scope call →
+pub call_finds : (setting : Setting) (scope : Scope) (call : CallTree) → IsCallInScope setting scope call →
     (n : ℕ) × (type_from 0 call.target.text setting.types ≡ Some n) × (found : Target)
     × (method_of (slice_get setting.types n) call.method.text ≡ Some found)
 call_finds setting scope call right =

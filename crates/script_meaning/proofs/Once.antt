@@ -5,7 +5,7 @@ use Rattle.std.specs.List.{AllPairs}
 use Rattle.std.proofs.lemmas.List.Elements.{All-nil, All-cons}
 use Rattle.script_holding.specs.Holding.{same_grain}
 use Rattle.script_meaning.specs.Requests.{Requests}
-use Rattle.script_meaning.specs.Play.{Found, rest_of, unit, next}
+use Rattle.script_meaning.specs.Play.{GrainState, rest_of, unit, next}
 use Rattle.script_meaning.specs.Trails.{locks_of, answers_of, reads_of, Has, states_of}
 use Rattle.script_meaning.specs.Laws.{TrailsReadOnce}
 use Rattle.script_meaning.proofs.Grains.{is_same_grain, same_grain_is}
@@ -14,11 +14,11 @@ use Rattle.script_meaning.proofs.Granted.{AreGranted, sound_leads, reads_once}
 use Rattle.script_meaning.proofs.Sound.{unit_sound}
 
 -- each is of another grain
-abbrev AreApart : List Found → Type 0
+abbrev AreApart : List GrainState → Type 0
 AreApart found = AllPairs (λ one other. one.0 ≢ other.0) found
 
 -- a grain that isn't the first is looked for behind it
-passed : (first : Found) (rest : List Found) (one : Found) → first.0 ≢ one.0 → states_of rest one.0 ≡ one.1 → states_of (first ∷ rest) one.0 ≡ one.1
+passed : (first : GrainState) (rest : List GrainState) (one : GrainState) → first.0 ≢ one.0 → states_of rest one.0 ≡ one.1 → states_of (first ∷ rest) one.0 ≡ one.1
 passed first rest one other e = by (same_grain first.0 one.0) refl
   where
     by : (b : Bool) → same_grain first.0 one.0 ≡ b → (if b then first.1 else states_of rest one.0) ≡ one.1
@@ -26,11 +26,11 @@ passed first rest one other e = by (same_grain first.0 one.0) refl
     by false same = e
 
 -- where each is of another grain, each grain's state is the one that was found
-found_apart : (found : List Found) → AreApart found → Has (states_of found) found
-found_apart [] apart = All-nil (λ (one : Found). states_of [] one.0 ≡ one.1)
+found_apart : (found : List GrainState) → AreApart found → Has (states_of found) found
+found_apart [] apart = All-nil (λ (one : GrainState). states_of [] one.0 ≡ one.1)
 found_apart (first ∷ rest) apart =
     let later : Has (states_of rest) rest = found_apart rest (λ i j d below within. apart (suc i) (suc j) d (omega (arith, below)) (omega (arith, within))) in
-    All-cons (λ (one : Found). states_of (first ∷ rest) one.0 ≡ one.1) first rest
+    All-cons (λ (one : GrainState). states_of (first ∷ rest) one.0 ≡ one.1) first rest
     (ap (λ (b : Bool). if b then first.1 else states_of rest first.0) (is_same_grain first.0))
     (λ k d within. passed first rest (slice_index_or rest k d) (apart 0 (suc k) d (omega arith) (omega (arith, within))) (later k d within))
 

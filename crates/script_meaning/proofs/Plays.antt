@@ -16,8 +16,8 @@ use Rattle.script_holding.specs.declared.held.Held.{Held}
 use Rattle.script_holding.specs.Limits.{unit_limit, grain_limit}
 use Rattle.script_holding.specs.Holding.{Holding, mode_at}
 use Rattle.script_meaning.specs.Requests.{Requests, End, AskLock, AskRaise, AskUnit}
-use Rattle.script_meaning.specs.Play.{Found, Asked, Played, grains_of, is_below, states_set, writes_of, serve, rest_of, asks, unit, initial_of, play_over, play, next}
-use Rattle.script_meaning.specs.Trails.{Given, answers_of, asked_of, locks_of, reads_of, exclusive_in, Has, IsWhole, IsShown, outcomes, states_of}
+use Rattle.script_meaning.specs.Play.{GrainState, AskedUnit, Played, grains_of, is_below, states_set, writes_of, serve, rest_of, asks, unit, initial_of, play_over, play, next}
+use Rattle.script_meaning.specs.Trails.{Given, answers_of, asked_of, locks_of, reads_of, exclusive_in, Has, IsWholeTrail, IsShown, outcomes, states_of}
 use Rattle.script_meaning.specs.Laws.{PlayIsNext, NextIsPlay, PlayRestsOnReads, PlayIsAgain, EqualStoresPlayAlike, IsChild, HasEachField, IsOrderly, PlaysAreOrderly, PlainRunsLockNothing, IsMissing, NextIsMissing, TrailsGrow}
 use Rattle.script_meaning.specs.Calls.{Target, numbered}
 use Rattle.script_meaning.specs.Texts.{own_faults, BlockFails, MayFail, FaultsAreKnown}
@@ -32,7 +32,7 @@ use Rattle.script_meaning.proofs.Granted.{held_after, asked_after, AreGranted, G
 use Rattle.script_meaning.proofs.Written.{All-written, length-written, written_ascends}
 
 -- what holds of what was set, and of nothing, holds of what is written
-of_writes : (Q : List Found → Type 0) (result : Outcome) (has : Holding) → Q (states_set has.held) → Q [] →
+of_writes : (Q : List GrainState → Type 0) (result : Outcome) (has : Holding) → Q (states_set has.held) → Q [] →
     Q (writes_of result has)
 of_writes Q (Valued value) has set none = set
 of_writes Q (Fault text) has set none = none
@@ -64,7 +64,7 @@ module _ (types : ProgramTree) (depth : ℕ) (trail : List Given) (result : Outc
   few_reads : length (reads_of trail) ≤ grain_limit
   few_reads =
       let grain_of : Held → GrainId = λ one. one.grain in
-      let first : Found → GrainId = λ one. one.0 in
+      let first : GrainState → GrainId = λ one. one.0 in
       let e : length (map grain_of has.held) ≡ length has.held = length-map has.held grain_of in
       let f : length (map grain_of has.held) ≡ length (grains_of (reads_of trail)) = ap length ends_with_reads in
       let g : length (grains_of (reads_of trail)) ≡ length (reads_of trail) = length-map (reads_of trail) first in
@@ -74,7 +74,7 @@ module _ (types : ProgramTree) (depth : ℕ) (trail : List Given) (result : Outc
   -- written grains are locked exclusive
   writes_are_locked : All (λ one. Contains (exclusive_in trail) one.0) (writes_of result has)
   writes_are_locked =
-      let P : Found → Type 0 = λ one. Contains (exclusive_in trail) one.0 in
+      let P : GrainState → Type 0 = λ one. Contains (exclusive_in trail) one.0 in
       let bares : All (IsIn types true depth (exclusive_in trail)) (map bare has.held) =
       subst (All (IsIn types true depth (exclusive_in trail))) (sym ends.holds)
       (held_is_exclusive types true depth [] [] trail (All-nil (IsIn types true depth []))) in
@@ -86,13 +86,13 @@ module _ (types : ProgramTree) (depth : ℕ) (trail : List Given) (result : Outc
   -- written states have each field
   writes_have_fields : All (λ one. HasEachField types one.0 one.1) (writes_of result has)
   writes_have_fields =
-      let P : Found → Type 0 = λ one. HasEachField types one.0 one.1 in
+      let P : GrainState → Type 0 = λ one. HasEachField types one.0 one.1 in
       of_writes (All P) result has (All-written P has.held (λ k d within set. (ends.fit k d within).whole)) (All-nil P)
 
   -- written grains were read
   writes_were_read : All (λ one. Contains (grains_of (reads_of trail)) one.0) (writes_of result has)
   writes_were_read =
-      let P : Found → Type 0 = λ one. Contains (grains_of (reads_of trail)) one.0 in
+      let P : GrainState → Type 0 = λ one. Contains (grains_of (reads_of trail)) one.0 in
       let grain_of : Held → GrainId = λ one. one.grain in
       let itself : All (Contains (grains_of (reads_of trail))) (map grain_of has.held) =
       subst (λ (gs : List GrainId). All (Contains gs) (map grain_of has.held)) ends_with_reads
@@ -106,7 +106,7 @@ module _ (types : ProgramTree) (depth : ℕ) (trail : List Given) (result : Outc
   writes_ascend =
       let R : GrainId → GrainId → Type 0 = λ one other. one ≢ other in
       let grain_of : Held → GrainId = λ one. one.grain in
-      let first : Found → GrainId = λ one. one.0 in
+      let first : GrainState → GrainId = λ one. one.0 in
       let grains : AllPairs R (grains_of (reads_of trail)) =
       AllPairs-map R first (reads_of trail) (reads_once types true depth [] 0 trail granted) in
       let held : AllPairs (λ one other. one.grain ≢ other.grain) has.held =
@@ -147,12 +147,12 @@ module _ (types : ProgramTree) (call : Call) (depth : ℕ) (states : GrainId →
     result = refl;
     asked = serve_asked run states answers;
     reads = serve_reads run states answers;
-    locked = subst (All (λ (one : Found). Contains (exclusive_in trail) one.0)) (sym (serve_writes run states answers))
+    locked = subst (All (λ (one : GrainState). Contains (exclusive_in trail) one.0)) (sym (serve_writes run states answers))
         (writes_are_locked types depth trail played.result has run_goes_on.0 run_goes_on.1);
   }
 
   -- its trail is what `next` names
-  run_is_whole : IsWhole types call depth trail played.result
+  run_is_whole : IsWholeTrail types call depth trail played.result
   unfolding next
   run_is_whole = record {
     named = record { each = leads_follows run trail (End played.result has) (serve_leads run states answers) };
@@ -169,21 +169,21 @@ module _ (types : ProgramTree) (call : Call) (depth : ℕ) (states : GrainId →
       let asked : asked_of trail ≡ played.asked = sym (serve_asked run states answers) in
       record {
         ended = ends.ended;
-        once = subst (AllPairs (λ (one other : Found). one.0 ≢ other.0)) reads
+        once = subst (AllPairs (λ (one other : GrainState). one.0 ≢ other.0)) reads
             (reads_once types true depth [] 0 trail granted);
-        few_reads = subst (λ (found : List Found). length found ≤ grain_limit) reads
+        few_reads = subst (λ (found : List GrainState). length found ≤ grain_limit) reads
             (few_reads types depth trail played.result has granted ends);
-        ascending = subst (AllPairs (λ (one other : Found). IsTrue (is_below one.0 other.0))) writes
+        ascending = subst (AllPairs (λ (one other : GrainState). IsTrue (is_below one.0 other.0))) writes
             (writes_ascend types depth trail played.result has granted ends);
-        few_writes = subst (λ (found : List Found). length found ≤ grain_limit) writes
+        few_writes = subst (λ (found : List GrainState). length found ≤ grain_limit) writes
             (few_writes types depth trail played.result has granted ends);
         writes_are_read =
-            subst (λ (found : List Found). All (λ (one : Found). Contains (grains_of found) one.0) played.writes) reads
-            (subst (All (λ (one : Found). Contains (grains_of (reads_of trail)) one.0)) writes
+            subst (λ (found : List GrainState). All (λ (one : GrainState). Contains (grains_of found) one.0) played.writes) reads
+            (subst (All (λ (one : GrainState). Contains (grains_of (reads_of trail)) one.0)) writes
             (writes_were_read types depth trail played.result has granted ends));
-        whole_states = subst (All (λ (one : Found). HasEachField types one.0 one.1)) writes
+        whole_states = subst (All (λ (one : GrainState). HasEachField types one.0 one.1)) writes
             (writes_have_fields types depth trail played.result has granted ends);
-        few_units = subst (λ (units : List Asked). length units ≤ unit_limit) asked
+        few_units = subst (λ (units : List AskedUnit). length units ≤ unit_limit) asked
             (let few : 0 + length (asked_of trail) ≤ unit_limit =
             few_asked types true depth [] 0 trail granted (omega arith) in omega (arith, few));
         children = subst (All (IsChild types depth)) asked (all_children types true depth [] 0 trail granted);
@@ -220,7 +220,7 @@ next_is_play_lem types call depth trail result whole states found =
       result = ap (λ (p : Played). p.result) is;
       asked = ap (λ (p : Played). p.asked) is;
       reads = ap (λ (p : Played). p.reads) is;
-      locked = subst (All (λ (one : Found). Contains (exclusive_in trail) one.0))
+      locked = subst (All (λ (one : GrainState). Contains (exclusive_in trail) one.0))
           (ap (λ (p : Played). p.writes) (sym is))
           (writes_are_locked types depth trail result over.0 goes_on.0 goes_on.1);
     }
@@ -273,7 +273,7 @@ missing types depth trail (AskLock grain mode go) granted sound =
     let grains : map (λ one. one.grain) (held_after [] trail) ≡ grains_of (reads_of trail) =
     grains_after types true depth [] 0 trail granted in
     let grain_of : Held → GrainId = λ one. one.grain in
-    let first : Found → GrainId = λ one. one.0 in
+    let first : GrainState → GrainId = λ one. one.0 in
     let e : length (map grain_of (held_after [] trail)) ≡ length (held_after [] trail) =
     length-map (held_after [] trail) grain_of in
     let f : length (map grain_of (held_after [] trail)) ≡ length (grains_of (reads_of trail)) = ap length grains in

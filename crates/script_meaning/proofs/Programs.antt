@@ -7,23 +7,23 @@ use Rattle.std.proofs.lemmas.Option.{slice_get-map}
 use Rattle.std.proofs.lemmas.List.Elements.{All-head, All-tail}
 use Rattle.script_tree.specs.declared.programs.TypeDecl.{TypeDecl}
 use Rattle.script_tree.specs.Programs.{ProgramTree, TypeTree, type_tree, method_tree}
-use Rattle.script_check.specs.Accepted.{IsType, IsProgram}
+use Rattle.script_check.specs.Accepted.{IsAcceptedType, IsAcceptedProgram}
 use Rattle.script_meaning.specs.Calls.{method_from, method_of, numbered, numbered_by}
 use Rattle.script_meaning.specs.Targets.{type_at}
 
-each_there : (all : ProgramTree) (types : List TypeDecl) (kind : ℕ) (of_type : TypeDecl) → All (IsType all) (map type_tree types) →
-    slice_get types kind ≡ Some of_type → IsType all (type_tree of_type)
+each_there : (all : ProgramTree) (types : List TypeDecl) (kind : ℕ) (of_type : TypeDecl) → All (IsAcceptedType all) (map type_tree types) →
+    slice_get types kind ≡ Some of_type → IsAcceptedType all (type_tree of_type)
 each_there all [] kind of_type each there = absurd (cc)
 each_there all (first ∷ types) zero of_type each there =
     let is : first ≡ of_type = cc in
-    let P : TypeDecl → Type 0 = λ t. IsType all (type_tree t) in
-    subst P is (All-head (IsType all) (type_tree first) (map type_tree types) each)
+    let P : TypeDecl → Type 0 = λ t. IsAcceptedType all (type_tree t) in
+    subst P is (All-head (IsAcceptedType all) (type_tree first) (map type_tree types) each)
 each_there all (first ∷ types) (suc kind) of_type each there =
-    each_there all types kind of_type (All-tail (IsType all) (type_tree first) (map type_tree types) each) there
+    each_there all types kind of_type (All-tail (IsAcceptedType all) (type_tree first) (map type_tree types) each) there
 
 -- a type that is found in a program is one of its types
-pub type_there : (types : List TypeDecl) (kind : ℕ) (of_type : TypeDecl) → IsProgram (map type_tree types) →
-    slice_get types kind ≡ Some of_type → IsType (map type_tree types) (type_tree of_type)
+pub type_there : (types : List TypeDecl) (kind : ℕ) (of_type : TypeDecl) → IsAcceptedProgram (map type_tree types) →
+    slice_get types kind ≡ Some of_type → IsAcceptedType (map type_tree types) (type_tree of_type)
 type_there types kind of_type program there = each_there (map type_tree types) types kind of_type program.each there
 
 -- the type of a number, and none

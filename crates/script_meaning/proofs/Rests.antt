@@ -9,7 +9,7 @@ use Rattle.base_types.specs.declared.calls.Outcome.TheVariants.{Aborted}
 use Rattle.base_types.specs.declared.calls.Value.{Value}
 use Rattle.script_holding.specs.Holding.{same_grain}
 use Rattle.script_meaning.specs.Requests.{Requests, End, AskLock, AskRaise, AskUnit}
-use Rattle.script_meaning.specs.Play.{Found, Played, serve, reading, asking}
+use Rattle.script_meaning.specs.Play.{GrainState, Played, serve, reading, asking}
 use Rattle.script_meaning.specs.Trails.{Has, outcomes, states_of}
 use Rattle.script_meaning.proofs.Grains.{is_same_grain, same_grain_is}
 
@@ -52,11 +52,11 @@ serve_rests (End result has) states other answers more found same = refl
 serve_rests (AskLock grain mode go) states other answers more found same =
     let played : Played = serve (go (states grain)) states answers in
     let here : other grain ≡ states grain =
-    All-head (λ (one : Found). other one.0 ≡ one.1) (grain, states grain) played.reads found in
+    All-head (λ (one : GrainState). other one.0 ≡ one.1) (grain, states grain) played.reads found in
     ap (λ (state : List Value). reading (grain, state) (serve (go state) other more)) here
     ∙ ap (λ (p : Played). reading (grain, states grain) p)
     (serve_rests (go (states grain)) states other answers more
-    (All-tail (λ (one : Found). other one.0 ≡ one.1) (grain, states grain) played.reads found) same)
+    (All-tail (λ (one : GrainState). other one.0 ≡ one.1) (grain, states grain) played.reads found) same)
 serve_rests (AskRaise grain rest) states other answers more found same =
     serve_rests rest states other answers more found same
 serve_rests (AskUnit call depth go) states other answers more found same =
@@ -80,18 +80,18 @@ serve_rests (AskUnit call depth go) states other answers more found same =
     ∙ sym is
 
 -- the states that were found are those of the grains, where one function gave them all
-pub states_of_has : (states : GrainId → List Value) (found : List Found) → Has states found →
+pub states_of_has : (states : GrainId → List Value) (found : List GrainState) → Has states found →
     Has (states_of found) found
-states_of_has states [] has = All-nil (λ (one : Found). states_of [] one.0 ≡ one.1)
+states_of_has states [] has = All-nil (λ (one : GrainState). states_of [] one.0 ≡ one.1)
 states_of_has states (first ∷ rest) has =
-    let P : Found → Type 0 = λ one. states_of (first ∷ rest) one.0 ≡ one.1 in
-    let Q : Found → Type 0 = λ one. states one.0 ≡ one.1 in
+    let P : GrainState → Type 0 = λ one. states_of (first ∷ rest) one.0 ≡ one.1 in
+    let Q : GrainState → Type 0 = λ one. states one.0 ≡ one.1 in
     let tail : Has states rest = All-tail Q first rest has in
     let again : Has (states_of rest) rest = states_of_has states rest tail in
     let head : states first.0 ≡ first.1 = All-head Q first rest has in
     let here : states_of (first ∷ rest) first.0 ≡ first.1 =
     ap (λ (b : Bool). if b then first.1 else states_of rest first.0) (is_same_grain first.0) in
-    let later : (one : Found) → states one.0 ≡ one.1 → states_of rest one.0 ≡ one.1 →
+    let later : (one : GrainState) → states one.0 ≡ one.1 → states_of rest one.0 ≡ one.1 →
     states_of (first ∷ rest) one.0 ≡ one.1 = λ one q r.
     (elim (same_grain first.0 one.0) as
     (λ b. same_grain first.0 one.0 ≡ b → (if b then first.1 else states_of rest one.0) ≡ one.1)

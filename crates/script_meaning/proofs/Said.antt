@@ -17,7 +17,7 @@ use Rattle.script_tree.specs.declared.options.MethodKind.TheVariants.{Plain}
 use Rattle.script_tree.specs.declared.programs.FieldDecl.{FieldDecl}
 use Rattle.script_tree.specs.Exprs.{ExprTree, Constant, Variable, TheKey, Prefixed, Joined}
 use Rattle.script_scopes.specs.Names.{Scope, Setting}
-use Rattle.script_scopes.specs.Bodies.{IsVariable, IsExpression}
+use Rattle.script_scopes.specs.Bodies.{IsVariable, IsExpressionInScope}
 use Rattle.script_check.specs.Programs.{field_names}
 use Rattle.script_values.specs.Expressions.{Locals, Surroundings, put_local, local_named, field_from, field_named, known, field_value, or_field, named, and_so_on, or_so_on, between, value_in, one_more, values_in}
 use Rattle.script_values.specs.Faults.{overflow, divide, kind, key, too_long, budget, depth, units, grains, refusal, aborted}
@@ -290,9 +290,9 @@ module _ (Q : List ℕ → Type 0) (own : Says Q) where
         )))
 
     -- a checked expression, and checked arguments
-    pub value_in_said : (expression : ExprTree) → IsExpression setting scope expression →
+    pub value_in_said : (expression : ExprTree) → IsExpressionInScope setting scope expression →
         IsSaidOf (value_in around expression)
-    unfolding IsExpression
+    unfolding IsExpressionInScope
     value_in_said (Constant literal) right = tt
     value_in_said (Variable name) right = named_said name right
     value_in_said TheKey right = tt
@@ -309,10 +309,10 @@ module _ (Q : List ℕ → Type 0) (own : Says Q) where
     one_more_said (Ok value) (Err fault) said said' = said'
     one_more_said (Ok value) (Ok values) said said' = tt
 
-    pub values_in_said : (args : List ExprTree) → All (IsExpression setting scope) args →
+    pub values_in_said : (args : List ExprTree) → All (IsExpressionInScope setting scope) args →
         IsSaidOf (values_in around args)
     values_in_said [] right = tt
     values_in_said (first ∷ rest) right =
         one_more_said (value_in around first) (values_in around rest)
-        (value_in_said first (All-head (IsExpression setting scope) first rest right))
-        (values_in_said rest (All-tail (IsExpression setting scope) first rest right))
+        (value_in_said first (All-head (IsExpressionInScope setting scope) first rest right))
+        (values_in_said rest (All-tail (IsExpressionInScope setting scope) first rest right))

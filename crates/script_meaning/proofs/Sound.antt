@@ -28,9 +28,9 @@ use Rattle.script_tree.specs.Stmts.{SourceTree, Computed, Called, StmtTree, Bloc
 use Rattle.script_tree.specs.Programs.{MethodTree, TypeTree, ProgramTree}
 use Rattle.script_scopes.specs.Names.{Scope, Setting}
 use Rattle.script_scopes.specs.Statements.{with_name, scope_after}
-use Rattle.script_scopes.specs.Bodies.{IsCall, IsSource, IsStatement, IsBlock, IsElse}
+use Rattle.script_scopes.specs.Bodies.{IsCallInScope, IsSourceInScope, IsStatementInScope, IsBlockInScope, IsElseInScope}
 use Rattle.script_check.specs.Programs.{field_names}
-use Rattle.script_check.specs.Accepted.{IsMethod, IsProgram}
+use Rattle.script_check.specs.Accepted.{IsAcceptedMethod, IsAcceptedProgram}
 use Rattle.script_check.specs.Shapes.{value_of}
 use Rattle.script_values.specs.Expressions.{Locals, Surroundings, put_local, field_named, value_in, one_more, values_in}
 use Rattle.script_values.specs.Faults.{key, units, grains, unknown}
@@ -154,7 +154,7 @@ module _ (types : ProgramTree) where
     SoundFrames at run =
         (floor : List GrainId) (fields : Scope) (site : Site) (method : MethodTree) (locals : Locals) (back : Back) →
         site.depth ≡ at → IsPlaced floor site →
-        (IsProgram types → IsMethod types fields method) → SoundBack floor back →
+        (IsAcceptedProgram types → IsAcceptedMethod types fields method) → SoundBack floor back →
         SoundGo floor (run site method locals back)
 
     -- what runs deeper frames does it so
@@ -296,14 +296,14 @@ module _ (types : ProgramTree) where
       pub joins : way ≡ Joined → may ≡ true
       pub passes : (context : Bool) → way ≡ Plain context → context ≡ true → may ≡ true
       pub begins : way ≡ NewUnit → (entered target.method.option false ≡ NewUnit) × (depth < at)
-          × (IsProgram types → length args ≡ length target.method.params)
+          × (IsAcceptedProgram types → length args ≡ length target.method.params)
 
     -- a frame that joins
     joined_sound : (floor : List GrainId) (fields : Scope)
         (run : Site → MethodTree → Locals → Back → Holding → Requests) (at : ℕ) → SoundFrames at run → may ≡ true →
         (kind : MethodKind) (grain : GrainId) (of_type : TypeTree) (method : MethodTree) (locals : Locals)
         (back : Back) → slice_get types grain.kind ≡ Some of_type →
-        (IsProgram types → IsMethod types fields method) → SoundBack floor back →
+        (IsAcceptedProgram types → IsAcceptedMethod types fields method) → SoundBack floor back →
         SoundGo floor (joined kind grain of_type.fields
         (run (record { fields = of_type.fields; kind = kind; grain = grain; context = true; depth = at }) method
         locals back))
@@ -340,9 +340,9 @@ module _ (types : ProgramTree) where
     enters_sound floor (Some run) at safe NewUnit grain target args allowed is back caught sound sound' has kept =
         let call : Call = record { grain = grain; method = target.number; args = args } in
         let begins : (entered target.method.option false ≡ NewUnit) × (depth < at)
-        × (IsProgram types → length args ≡ length target.method.params) = allowed.begins refl in
+        × (IsAcceptedProgram types → length args ≡ length target.method.params) = allowed.begins refl in
         let transaction : IsTransaction types call = (target, is, begins.0) in
-        let arity : IsProgram types → HasArity types call =
+        let arity : IsAcceptedProgram types → HasArity types call =
         λ program other e. let same : target ≡ other = cc in
         begins.2 program ∙ ap (λ (t : Target). length t.method.params) same in
         let child : IsChild types depth (call, at) =
@@ -370,7 +370,7 @@ module _ (types : ProgramTree) where
     -- how a method's option lets it be entered from a frame
     entered_way : (at : ℕ) (context : Bool) (target : Target) (args : List Value) (chosen : TxnOption) →
         target.method.option ≡ chosen → (context ≡ true → may ≡ true) → depth < at →
-        (IsProgram types → length args ≡ length target.method.params) → IsWay at (entered chosen context) target args
+        (IsAcceptedProgram types → length args ≡ length target.method.params) → IsWay at (entered chosen context) target args
     entered_way at false target args option.Create e within deeper arity =
         record {
           joins = λ e. absurd (cc);
@@ -421,7 +421,7 @@ module _ (types : ProgramTree) where
       -- a call of a method
       to_target_sound : (grain : GrainId) (target : Option Target) →
           ((found : Target) → target ≡ Some found → numbered (slice_get types grain.kind) found.number ≡ Some found) →
-          (args : List Value) → (IsProgram types → (found : Target) → target ≡ Some found →
+          (args : List Value) → (IsAcceptedProgram types → (found : Target) → target ≡ Some found →
           length args ≡ length found.method.params) →
           (onto : Back) (caught : Caught) → SoundBack floor onto → SoundCaught floor caught →
           SoundGo floor (to_target runner site grain target args onto caught)
@@ -434,7 +434,7 @@ module _ (types : ProgramTree) where
 
       -- a call on a grain of a type
       to_type_sound : (number : Option ℕ) (at : ℕ) (name : List ℕ) (args : List Value) →
-          (IsProgram types → (n : ℕ) (found : Target) → number ≡ Some n →
+          (IsAcceptedProgram types → (n : ℕ) (found : Target) → number ≡ Some n →
           method_of (slice_get types n) name ≡ Some found → length args ≡ length found.method.params) →
           (onto : Back) (caught : Caught) → SoundBack floor onto → SoundCaught floor caught →
           SoundGo floor (to_type types runner site number at name args onto caught)
@@ -445,7 +445,7 @@ module _ (types : ProgramTree) where
           (λ program found e. arity program number found refl e) onto caught sound sound' has kept
 
       -- a call
-      calls_sound : (scope : Scope) (call : CallTree) → (IsProgram types → IsCall setting scope call) →
+      calls_sound : (scope : Scope) (call : CallTree) → (IsAcceptedProgram types → IsCallInScope setting scope call) →
           (onto : Back) (caught : Caught) → SoundBack floor onto → SoundCaught floor caught →
           SoundNext floor (calls types runner site back call onto caught)
       calls_sound scope call right onto caught sound sound' locals has kept =
@@ -458,10 +458,10 @@ module _ (types : ProgramTree) where
           onto caught sound sound' has kept)))
 
       -- what a local is given
-      sourced_sound : (scope : Scope) (source : SourceTree) → (IsProgram types → IsSource setting scope source) →
+      sourced_sound : (scope : Scope) (source : SourceTree) → (IsAcceptedProgram types → IsSourceInScope setting scope source) →
           (onto : Value → Next) → ((value : Value) → SoundNext floor (onto value)) →
           SoundNext floor (sourced types runner site back source onto)
-      unfolding IsSource
+      unfolding IsSourceInScope
       sourced_sound scope (Computed expression) right onto sound locals has kept =
           with_value_sound floor (given types runner site back expression locals has) has _ kept
           (λ value. sound value locals has kept)
@@ -513,10 +513,10 @@ module _ (types : ProgramTree) where
 
       module _ (backs : SoundBack floor back) where
         mutual
-          unfolding IsStatement IsBlock IsElse
+          unfolding IsStatementInScope IsBlockInScope IsElseInScope
 
           -- a statement, a block and a second block, where what follows is sound
-          does_sound : (scope : Scope) (stmt : StmtTree) → (IsProgram types → IsStatement setting scope stmt) →
+          does_sound : (scope : Scope) (stmt : StmtTree) → (IsAcceptedProgram types → IsStatementInScope setting scope stmt) →
               (next : Next) → SoundNext floor next →
               SoundNext floor (does types runner site back stmt next)
           does_sound scope (Bind name value) right next sound =
@@ -550,7 +550,7 @@ module _ (types : ProgramTree) where
               (λ fault has kept. runs_sound (with_name scope name) otherwise (λ p. (right p).1) next sound
               (put_local name.text (Text fault) locals) has kept) locals has kept
 
-          runs_sound : (scope : Scope) (block : BlockTree) → (IsProgram types → IsBlock setting scope block) →
+          runs_sound : (scope : Scope) (block : BlockTree) → (IsAcceptedProgram types → IsBlockInScope setting scope block) →
               (next : Next) → SoundNext floor next →
               SoundNext floor (runs types runner site back block next)
           runs_sound scope NoMore right next sound = sound
@@ -558,7 +558,7 @@ module _ (types : ProgramTree) where
               step_sound floor _ (does_sound scope first (λ p. (right p).0) _
               (runs_sound (scope_after scope first) rest (λ p. (right p).1) next sound))
 
-          runs_else_sound : (scope : Scope) (block : ElseTree) → (IsProgram types → IsElse setting scope block) →
+          runs_else_sound : (scope : Scope) (block : ElseTree) → (IsAcceptedProgram types → IsElseInScope setting scope block) →
               (next : Next) → SoundNext floor next →
               SoundNext floor (runs_else types runner site back block next)
           runs_else_sound scope NoElse right next sound = sound

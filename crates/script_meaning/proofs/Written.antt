@@ -6,7 +6,7 @@ use Rattle.std.proofs.lemmas.List.Elements.{All-nil, All-cons, All-head, All-tai
 use Rattle.std.proofs.lemmas.List.Kept.{AllPairs-cons}
 use Rattle.base_types.specs.declared.calls.GrainId.{GrainId}
 use Rattle.script_holding.specs.declared.held.Held.{Held}
-use Rattle.script_meaning.specs.Play.{Found, is_below, insert, states_set}
+use Rattle.script_meaning.specs.Play.{GrainState, is_below, insert, states_set}
 use Rattle.script_meaning.proofs.Lists.{pairs_first, pairs_rest}
 
 -- the order of grains is an order, of which any two have one
@@ -18,9 +18,9 @@ below_trans one other third e f = grind (arith)
 below_or_above : (one other : GrainId) → one ≢ other → is_below one other ≡ false → IsTrue (is_below other one)
 below_or_above one other differ e = grind (arith)
 
-module _ (P : Found → Type 0) where
+module _ (P : GrainState → Type 0) where
   -- what holds of a list and of one more holds of the longer one
-  All-insert : (one : Found) (found : List Found) → P one → All P found → All P (insert one found)
+  All-insert : (one : GrainState) (found : List GrainState) → P one → All P found → All P (insert one found)
   All-insert one [] holds all = All-cons P one [] holds all
   All-insert one (first ∷ rest) holds all =
       elim (is_below one.0 first.0) as (λ b. All P (if b then one ∷ first ∷ rest else first ∷ insert one rest)) [
@@ -44,7 +44,7 @@ module _ (P : Found → Type 0) where
       ]) (All-head Q first rest all)
 
 -- it is longer by one
-length-insert : (one : Found) (found : List Found) → length (insert one found) ≡ length found + 1
+length-insert : (one : GrainState) (found : List GrainState) → length (insert one found) ≡ length found + 1
 length-insert one [] = refl
 length-insert one (first ∷ rest) =
     elim (is_below one.0 first.0) as
@@ -64,11 +64,11 @@ length-written (first ∷ rest) =
     ]
 
 -- one grain is below another
-abbrev Below : Found → Found → Type 0
+abbrev Below : GrainState → GrainState → Type 0
 Below one other = IsTrue (is_below one.0 other.0)
 
 -- and it ascends, where the grain was not in it
-insert_ascends : (one : Found) (found : List Found) → AllPairs Below found → All (λ other. one.0 ≢ other.0) found →
+insert_ascends : (one : GrainState) (found : List GrainState) → AllPairs Below found → All (λ other. one.0 ≢ other.0) found →
     AllPairs Below (insert one found)
 insert_ascends one [] pairs differ = AllPairs-cons Below one [] (All-nil (Below one)) pairs
 insert_ascends one (first ∷ rest) pairs differ =
@@ -81,9 +81,9 @@ insert_ascends one (first ∷ rest) pairs differ =
           pairs
       | false ↦ λ e. AllPairs-cons Below first (insert one rest)
           (All-insert (Below first) one rest
-          (below_or_above one.0 first.0 (All-head (λ (other : Found). one.0 ≢ other.0) first rest differ) e) above)
+          (below_or_above one.0 first.0 (All-head (λ (other : GrainState). one.0 ≢ other.0) first rest differ) e) above)
           (insert_ascends one rest (pairs_rest Below first rest pairs)
-          (All-tail (λ (other : Found). one.0 ≢ other.0) first rest differ))
+          (All-tail (λ (other : GrainState). one.0 ≢ other.0) first rest differ))
     ]) refl
 
 -- what is written ascends, where no grain is held twice

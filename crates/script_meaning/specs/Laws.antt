@@ -11,27 +11,27 @@ use Rattle.base_types.specs.Stores.{state_in}
 use Rattle.script_tree.specs.Exprs.{ExprTree}
 use Rattle.script_tree.specs.Stmts.{BlockTree, Repeat}
 use Rattle.script_tree.specs.Programs.{TypeTree, ProgramTree}
-use Rattle.script_check.specs.Accepted.{IsProgram}
+use Rattle.script_check.specs.Accepted.{IsAcceptedProgram}
 use Rattle.script_values.specs.Expressions.{Locals}
 use Rattle.script_holding.specs.Holding.{Holding}
 use Rattle.script_holding.specs.Limits.{depth_limit, unit_limit, grain_limit}
 use Rattle.script_meaning.specs.Requests.{Back, with_value}
 use Rattle.script_meaning.specs.Calls.{Site, Target, numbered}
 use Rattle.script_meaning.specs.Statements.{Next, step, by_truth, given, does, runs, deep}
-use Rattle.script_meaning.specs.Play.{IsTransaction, Asked, Played, Lock, Want, WantLock, WantRaise, WantUnit, Over, grains_of, is_below, play_over, play, next}
-use Rattle.script_meaning.specs.Trails.{Given, wanted, locks_of, answers_of, reads_of, exclusive_in, Has, IsTrail, IsWhole, IsShown, outcomes, states_of}
+use Rattle.script_meaning.specs.Play.{IsTransaction, AskedUnit, Played, Lock, Want, WantLock, WantRaise, WantUnit, Over, grains_of, is_below, play_over, play, next}
+use Rattle.script_meaning.specs.Trails.{Given, wanted, locks_of, answers_of, reads_of, exclusive_in, Has, IsTrail, IsWholeTrail, IsShown, outcomes, states_of}
 
 -- a play is a run of `next` to its end, over states of the store and the outcomes of the children
 abbrev pub PlayIsNext : Type 0
 PlayIsNext = (types : ProgramTree) (call : Call) (depth : ℕ) (states : GrainId → List Value) (answers : List Outcome) →
     let played = play_over types call depth states answers in
-    (trail : List Given) × IsWhole types call depth trail played.result × IsShown trail played.result played
+    (trail : List Given) × IsWholeTrail types call depth trail played.result × IsShown trail played.result played
     × (answers_of trail ≡ outcomes (length played.asked) answers) × Has states (reads_of trail)
 
 -- and each run of `next` to its end is a play, over every store with the states that it found
 abbrev pub NextIsPlay : Type 0
 NextIsPlay = (types : ProgramTree) (call : Call) (depth : ℕ) (trail : List Given) (result : Outcome) →
-    IsWhole types call depth trail result →
+    IsWholeTrail types call depth trail result →
     (states : GrainId → List Value) → Has states (reads_of trail) →
     IsShown trail result (play_over types call depth states (answers_of trail))
 
@@ -62,11 +62,11 @@ HasArity types call = (target : Target) → numbered (slice_get types call.grain
 
 -- a unit that may be asked for by one whose first frame has this depth: a transaction of its own, deeper than that
 -- frame and no deeper than a frame may be, and with the right arguments where the program was checked
-pub record IsChild (types : ProgramTree) (depth : ℕ) (asked : Asked) : Type 0 where
+pub record IsChild (types : ProgramTree) (depth : ℕ) (asked : AskedUnit) : Type 0 where
   pub transaction : IsTransaction types asked.0
   pub deeper : depth < asked.1
   pub not_too_deep : asked.1 ≤ depth_limit
-  pub arity : IsProgram types → HasArity types asked.0
+  pub arity : IsAcceptedProgram types → HasArity types asked.0
 
 -- a state with as many values as its grain's type has fields
 abbrev pub HasEachField : ProgramTree → GrainId → List Value → Type 0

@@ -53,50 +53,50 @@ IsTransaction types call =
     (target : Target) × (numbered (slice_get types call.grain.kind) call.method ≡ Some target) × (entered target.method.option false ≡ NewUnit)
 
 -- a grain, and a state of it
-abbrev pub Found : Type 0
-Found = GrainId × List Value
+abbrev pub GrainState : Type 0
+GrainState = GrainId × List Value
 
 -- the grains of these states
-abbrev pub grains_of : List Found → List GrainId
+abbrev pub grains_of : List GrainState → List GrainId
 grains_of found = map (λ one. one.0) found
 
 -- a unit that was asked for: its call, and the depth of its first frame
-abbrev pub Asked : Type 0
-Asked = Call × ℕ
+abbrev pub AskedUnit : Type 0
+AskedUnit = Call × ℕ
 
 -- what a run gives: its result, the units that it asks for, the grains in the order of their first locks with
 -- the states found, and the grains that it set with their last states, ascending
 pub record Played : Type 0 where
   pub result : Outcome
-  pub asked : List Asked
-  pub reads : List Found
-  pub writes : List Found
+  pub asked : List AskedUnit
+  pub reads : List GrainState
+  pub writes : List GrainState
 
 -- grains in order: by type, then key
 abbrev pub is_below : GrainId → GrainId → Bool
 is_below one other = nat_lt one.kind other.kind || (nat_eq one.kind other.kind && nat_lt one.key other.key)
 
 -- one more grain in an ascending list
-abbrev pub insert : Found → List Found → List Found
+abbrev pub insert : GrainState → List GrainState → List GrainState
 insert one [] = one ∷ []
 insert one (first ∷ rest) = if is_below one.0 first.0 then one ∷ first ∷ rest else first ∷ insert one rest
 
 -- the held grains that were set, ascending, with their working states
-abbrev pub states_set : List Held → List Found
+abbrev pub states_set : List Held → List GrainState
 states_set [] = []
 states_set (first ∷ rest) = if first.written then insert (first.grain, first.state) (states_set rest) else states_set rest
 
 -- what a unit writes: nothing, unless it ended with a value
-abbrev pub writes_of : Outcome → Holding → List Found
+abbrev pub writes_of : Outcome → Holding → List GrainState
 writes_of (Valued value) has = states_set has.held
 writes_of (Fault text) has = []
 writes_of Aborted has = []
 
 -- one more read, and one more unit, in front
-abbrev pub reading : Found → Played → Played
+abbrev pub reading : GrainState → Played → Played
 reading found played = record { result = played.result; asked = played.asked; reads = found ∷ played.reads; writes = played.writes }
 
-abbrev pub asking : Asked → Played → Played
+abbrev pub asking : AskedUnit → Played → Played
 asking asked played = record { result = played.result; asked = asked ∷ played.asked; reads = played.reads; writes = played.writes }
 
 -- A run over these states, where the units that it asks for have these outcomes in order; a unit past the

@@ -10,7 +10,7 @@ use Rattle.script_holding.specs.Holding.{Holding}
 use Rattle.script_meaning.specs.Requests.{Requests, Back, Caught, stop}
 use Rattle.script_meaning.specs.Calls.{Site, Runner}
 use Rattle.script_meaning.specs.Statements.{Next, around, runs, deep}
-use Rattle.script_meaning.specs.Play.{Asked, Found, Played, ends, serve, found_in}
+use Rattle.script_meaning.specs.Play.{AskedUnit, GrainState, Played, ends, serve, found_in}
 use Rattle.script_meaning.specs.declared.flows.Flow.{Flow}
 use Rattle.script_meaning.specs.declared.flows.Flow.TheVariants as flow
 use Rattle.script_meaning.specs.declared.flows.Answer.{Answer}
@@ -44,7 +44,7 @@ plays_method world site method locals back has =
     runs (types_in world) (below world site.depth) site back method.body (λ after has. back (Int (pos 0)) has) locals has
 
 -- what a play gives whose first part asked for these units and read these grains
-abbrev pub continued : List Asked → List Found → Played → Played
+abbrev pub continued : List AskedUnit → List GrainState → Played → Played
 continued asked reads rest =
     record { result = rest.result; asked = asked ++ rest.asked; reads = reads ++ rest.reads; writes = rest.writes }
 

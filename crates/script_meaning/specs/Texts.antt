@@ -10,7 +10,7 @@ use Rattle.script_tree.specs.declared.options.EntryRefusal.TheVariants.{NoTransa
 use Rattle.script_tree.specs.Stmts.{StmtTree, BlockTree, ElseTree, Bind, Rebind, SetField, Perform, Choose, Repeat, Give, FailWith, Try, NoMore, Then, NoElse, Else}
 use Rattle.script_tree.specs.Programs.{ProgramTree}
 use Rattle.script_check.specs.Shapes.{fitted}
-use Rattle.script_check.specs.Accepted.{IsProgram}
+use Rattle.script_check.specs.Accepted.{IsAcceptedProgram}
 use Rattle.script_values.specs.Faults.{overflow, divide, kind, key, too_long, budget, depth, units, grains, refusal, aborted}
 use Rattle.script_meaning.specs.Calls.{Target, numbered}
 use Rattle.script_meaning.specs.Play.{play_over}
@@ -60,5 +60,5 @@ pub record IsCallOf (types : ProgramTree) (call : Call) : Type 0 where
 abbrev pub FaultsAreKnown : Type 0
 FaultsAreKnown = (types : ProgramTree) (call : Call) (depth : ℕ) (states : GrainId → List Value)
     (answers : List Outcome) (text : List ℕ) →
-    IsProgram types → IsCallOf types call → (play_over types call depth states answers).result ≡ Fault text →
+    IsAcceptedProgram types → IsCallOf types call → (play_over types call depth states answers).result ≡ Fault text →
     Contains own_faults text ⊎ MayFail types text ⊎ Contains answers (Fault text)

@@ -10,7 +10,7 @@ use Rattle.base_types.specs.declared.calls.Outcome.TheVariants.{Aborted}
 use Rattle.base_types.specs.declared.calls.Value.{Value}
 use Rattle.script_tree.specs.Programs.{ProgramTree}
 use Rattle.script_holding.specs.Holding.{same_grain}
-use Rattle.script_meaning.specs.Play.{Found, Asked, Lock, Want, WantLock, WantRaise, WantUnit, Over, Played, next}
+use Rattle.script_meaning.specs.Play.{GrainState, AskedUnit, Lock, Want, WantLock, WantRaise, WantUnit, Over, Played, next}
 
 -- a lock with the grain's state, an exclusive lock in place of a shared one, or the outcome of a child
 pub data Given : Type 0 where
@@ -37,13 +37,13 @@ answers_of (GivenLock grain mode state ∷ rest) = answers_of rest
 answers_of (GivenRaise grain ∷ rest) = answers_of rest
 answers_of (GivenOutcome call depth outcome ∷ rest) = outcome ∷ answers_of rest
 
-abbrev pub asked_of : List Given → List Asked
+abbrev pub asked_of : List Given → List AskedUnit
 asked_of [] = []
 asked_of (GivenLock grain mode state ∷ rest) = asked_of rest
 asked_of (GivenRaise grain ∷ rest) = asked_of rest
 asked_of (GivenOutcome call depth outcome ∷ rest) = (call, depth) ∷ asked_of rest
 
-abbrev pub reads_of : List Given → List Found
+abbrev pub reads_of : List Given → List GrainState
 reads_of [] = []
 reads_of (GivenLock grain mode state ∷ rest) = (grain, state) ∷ reads_of rest
 reads_of (GivenRaise grain ∷ rest) = reads_of rest
@@ -61,7 +61,7 @@ exclusive_in (GivenRaise grain ∷ rest) = grain ∷ exclusive_in rest
 exclusive_in (GivenOutcome call depth outcome ∷ rest) = exclusive_in rest
 
 -- these are the states of these grains
-abbrev pub Has : (GrainId → List Value) → List Found → Type 0
+abbrev pub Has : (GrainId → List Value) → List GrainState → Type 0
 Has states found = All (λ one. states one.0 ≡ one.1) found
 
 -- a unit was given just what `next` named, one after the other
@@ -70,7 +70,7 @@ pub record IsTrail (types : ProgramTree) (call : Call) (depth : ℕ) (trail : Li
       next types call depth (locks_of before) (answers_of before) ≡ wanted one
 
 -- and then it was over with this result
-pub record IsWhole (types : ProgramTree) (call : Call) (depth : ℕ) (trail : List Given) (result : Outcome) : Type 0 where
+pub record IsWholeTrail (types : ProgramTree) (call : Call) (depth : ℕ) (trail : List Given) (result : Outcome) : Type 0 where
   pub named : IsTrail types call depth trail
   pub over : next types call depth (locks_of trail) (answers_of trail) ≡ Over result
 
@@ -88,6 +88,6 @@ outcomes (suc n) [] = Aborted ∷ outcomes n []
 outcomes (suc n) (answer ∷ answers) = answer ∷ outcomes n answers
 
 -- the states that were found, no values for every other grain
-abbrev pub states_of : List Found → GrainId → List Value
+abbrev pub states_of : List GrainState → GrainId → List Value
 states_of [] grain = []
 states_of (first ∷ rest) grain = if same_grain first.0 grain then first.1 else states_of rest grain

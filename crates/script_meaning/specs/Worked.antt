@@ -20,7 +20,7 @@ use Rattle.script_tree.specs.Exprs.{ExprTree, CallTree, Constant, Variable, TheK
 use Rattle.script_tree.specs.Stmts.{Computed, Called, StmtTree, Bind, Rebind, SetField, Perform, Choose, Repeat, Give, FailWith, Try, NoElse, block_tree}
 use Rattle.script_tree.specs.Programs.{MethodTree, TypeTree, ProgramTree}
 use Rattle.script_check.specs.Programs.{program_fault}
-use Rattle.script_meaning.specs.Play.{Found, Asked, Played, Lock, WantLock, WantRaise, WantUnit, Over, play_over, next}
+use Rattle.script_meaning.specs.Play.{GrainState, AskedUnit, Played, Lock, WantLock, WantRaise, WantUnit, Over, play_over, next}
 
 -- names, and expressions
 abbrev pub name : List ℕ → Name
@@ -140,7 +140,7 @@ int n = Int (pos n)
 abbrev pub call : GrainId → ℕ → List Value → Call
 call grain method args = record { grain = grain; method = method; args = args }
 
-abbrev pub gives : Outcome → List Asked → List Found → List Found → Played
+abbrev pub gives : Outcome → List AskedUnit → List GrainState → List GrainState → Played
 gives result asked reads writes = record { result = result; asked = asked; reads = reads; writes = writes }
 
 -- a value for each of 64 children

@@ -1,7 +1,7 @@
 ghost use Rattle.std.specs.Prelude.{◌≡◌, IfOk, slice_get};
 ghost use Rattle.std.specs.Option.{option_copied};
 ghost use Rattle.script_tree.specs.Programs.{program_tree};
-ghost use Rattle.script_check.specs.Accepted.{IsProgram};
+ghost use Rattle.script_check.specs.Accepted.{IsAcceptedProgram};
 ghost use Rattle.script_meaning.specs.Play.{initial_of, found_in};
 ghost use Rattle.script_meaning.specs.Playing.{types_in};
 
@@ -32,7 +32,7 @@ pub struct Site<'a> {
 /// The state of a grain that was never written: its type's initial fields, or no values where the program has
 /// no such type.
 pub fn initial(alloc: Global, program: &Program, grain: GrainId) -> Result<State, AllocError>
-    requires { IsProgram (program_tree program.now) }
+    requires { IsAcceptedProgram (program_tree program.now) }
     ensures { IfOk result (λ state. state ≡ initial_of (slice_get (program_tree program.now) grain.kind)) }
 {
     match program.types.get(grain.kind as usize) {
@@ -45,7 +45,7 @@ impl<'a> World<'a> {
     /// The types of the program.
     pub fn types(&self) -> &'a [TypeDecl]
         ensures same { result.now ≡ self.now.program.now.types.list.items }
-        ensures checked { IsProgram (types_in self.now) }
+        ensures checked { IsAcceptedProgram (types_in self.now) }
     {
         self.program.program().types.as_slice()
     }

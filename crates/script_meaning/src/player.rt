@@ -6,7 +6,7 @@ ghost use Rattle.script_tree.specs.Stmts.{SetField};
 ghost use Rattle.script_tree.specs.Programs.{ProgramTree};
 ghost use Rattle.script_values.specs.Expressions.{value_in, values_in};
 ghost use Rattle.script_values.specs.Scopes.{surroundings};
-ghost use Rattle.script_values.specs.Stops.{Gives};
+ghost use Rattle.script_values.specs.Stops.{GivesOrStops};
 ghost use Rattle.script_holding.specs.Holding.{Holding as Has, mode_at};
 ghost use Rattle.script_meaning.specs.Requests.{Requests, Back, Caught, with_value};
 ghost use Rattle.script_meaning.specs.Calls.{Runner, locked, joined, in_own_unit, answered, with_key, readable, settable};
@@ -108,7 +108,7 @@ impl Player {
         expression: &Expr,
         locals: &[Local],
     ) -> Result<Value, Stop>
-        ensures { Gives result (value_in (surrounds (site_of site.now) locals.now self.now.has) (expr_tree expression.now)) }
+        ensures { GivesOrStops result (value_in (surrounds (site_of site.now) locals.now self.now.has) (expr_tree expression.now)) }
     {
         let scope = self.scope(site, locals);
         evaluate(alloc, expression, &scope)
@@ -122,7 +122,7 @@ impl Player {
         args: &[Expr],
         locals: &[Local],
     ) -> Result<List<Value>, Stop>
-        ensures { Gives result (values_in (surrounds (site_of site.now) locals.now self.now.has) (map expr_tree args.now)) }
+        ensures { GivesOrStops result (values_in (surrounds (site_of site.now) locals.now self.now.has) (map expr_tree args.now)) }
     {
         let scope = self.scope(site, locals);
         evaluate_all(alloc, args, &scope)

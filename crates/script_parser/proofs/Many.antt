@@ -6,7 +6,7 @@ use Rattle.script_lexer.specs.declared.faults.ParseFault.{ParseFault}
 use Rattle.script_lexer.specs.declared.tokens.Spanned.{Spanned}
 use Rattle.script_lexer.specs.declared.tokens.Symbol.TheVariants as symbol
 use Rattle.script_lexer.specs.declared.tokens.Word.{Word}
-use Rattle.script_expressions.specs.Reading.{Part, Read, ◌>>=◌, Fails}
+use Rattle.script_expressions.specs.Reading.{Part, Read, ◌>>=◌, FailsReading}
 use Rattle.script_expressions.specs.Tokens.{taken, taken_word}
 use Rattle.script_expressions.proofs.Many.{with_front, regroup}
 use Rattle.script_expressions.proofs.Steps.{fails_is, fails_bind}
@@ -26,7 +26,7 @@ module _ (stop : ParseFault) (one : Read StmtTree) where
       let step : with_front front (statements stop one n ts) ≡ Ok (front, after) = rw (en, b) (ap (λ (l : List StmtTree). Ok (l, after)) (append-nil front)) in
       sym h ∙ step
 
-  pub statements_fail : (e : ParseFault) (n m : ℕ) (front : List StmtTree) (ts : List Spanned) (total : Part (List StmtTree)) → n ≡ suc m → taken symbol.RightBrace ts ≡ None → Fails e (one ts) → with_front front (statements stop one n ts) ≡ total → Fails e total
+  pub statements_fail : (e : ParseFault) (n m : ℕ) (front : List StmtTree) (ts : List Spanned) (total : Part (List StmtTree)) → n ≡ suc m → taken symbol.RightBrace ts ≡ None → FailsReading e (one ts) → with_front front (statements stop one n ts) ≡ total → FailsReading e total
   unfolding statements
   statements_fail e n m front ts total en b f h =
       let step : with_front front (statements stop one n ts) ≡ with_front front (one ts >>= λ s. statements stop one m s.1 >>= λ r. Ok (s.0 ∷ r.0, r.1)) = rw (en, b) refl in
@@ -51,7 +51,7 @@ module _ (A : Type 0) (w : Word) (one : Read A) where
       let step : with_front front (repeated w one n ts) ≡ Ok (front, ts) = rw en (ap (λ (l : List A). Ok (l, ts)) (append-nil front)) in
       sym h ∙ step
 
-  pub repeated_fails : (e : ParseFault) (n m : ℕ) (front : List A) (ts us : List Spanned) (total : Part (List A)) → n ≡ suc m → taken_word w ts ≡ Some us → Fails e (one us) → with_front front (repeated w one n ts) ≡ total → Fails e total
+  pub repeated_fails : (e : ParseFault) (n m : ℕ) (front : List A) (ts us : List Spanned) (total : Part (List A)) → n ≡ suc m → taken_word w ts ≡ Some us → FailsReading e (one us) → with_front front (repeated w one n ts) ≡ total → FailsReading e total
   unfolding repeated
   repeated_fails e n m front ts us total en b f h =
       let step : with_front front (repeated w one n ts) ≡ with_front front (one us >>= λ x. repeated w one m x.1 >>= λ r. Ok (x.0 ∷ r.0, r.1)) = rw (en, b) refl in

@@ -13,7 +13,7 @@ use Rattle.script_lexer.specs.declared.tokens.Word.TheVariants as word
 use Rattle.script_lexer.specs.Lexing.{lexed, end_of}
 use Rattle.script_lexer.specs.Reading.{Ends, IsLexed}
 use Rattle.script_lexer.proofs.Laws.{lexed_reads}
-use Rattle.script_expressions.specs.Reading.{◌>>=◌, Part, Fails, Makes}
+use Rattle.script_expressions.specs.Reading.{◌>>=◌, Part, FailsReading, Makes}
 use Rattle.script_expressions.proofs.Sound.{ok_is}
 use Rattle.script_expressions.specs.Grammar.{IsOperator}
 use Rattle.script_expressions.proofs.Local.{Goes, Kept, Refused, Split}
@@ -149,7 +149,7 @@ refuses text e f =
     let l = lexed_reads text in
     record { tokens = (lexed text).0; stop = (lexed text).1; lexed = l; explains = over_refused (lexed text).1 (lexed text).0 e (lexed_ends text (lexed text).0 (lexed text).1 l) f }
 
-fault_refuses : (text : List ℕ) (e : ParseFault) → Fails e (program_of text) → IsRefusal text e
+fault_refuses : (text : List ℕ) (e : ParseFault) → FailsReading e (program_of text) → IsRefusal text e
 fault_refuses text (Unexpected at) f = refuses text (Unexpected at) f
 fault_refuses text (BadToken at) f = refuses text (BadToken at) f
 fault_refuses text (TooDeep at) f = refuses text (TooDeep at) f

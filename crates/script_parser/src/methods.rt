@@ -1,7 +1,7 @@
 ghost use Rattle.std.specs.Prelude.{◌≡◌, length, bytes_eq};
 ghost use Rattle.script_tree.specs.Stmts.{stmt_trees, block_tree};
 ghost use Rattle.script_tree.specs.Programs.{method_tree};
-ghost use Rattle.script_expressions.specs.Reading.{Gives};
+ghost use Rattle.script_expressions.specs.Reading.{GivesPart};
 ghost use Rattle.script_expressions.specs.Tokens.{name_at};
 ghost use Rattle.script_expressions.specs.Calls.{listed};
 ghost use Rattle.script_parser.specs.Methods.{option_word, kind_word, option_named, kind_named, option_at, kind_at, params_at, method_at};
@@ -73,7 +73,7 @@ fn kind_of(name: &Chars) -> Option<MethodKind>
 // An option's word, and its place.
 #[tactic(auto, unfolding(crate::specs::Methods::option_at))]
 fn option(cursor: &mut Cursor<'_>) -> Result<(TxnOption, u32), ParseFault>
-    ensures read { Gives (λ x. (x.0, x.1)) result cursor.new.tokens.now
+    ensures read { GivesPart (λ x. (x.0, x.1)) result cursor.new.tokens.now
         (option_at cursor.old.stop cursor.old.tokens.now) }
     ensures stop { cursor.new.stop ≡ cursor.old.stop }
 {
@@ -96,7 +96,7 @@ fn option(cursor: &mut Cursor<'_>) -> Result<(TxnOption, u32), ParseFault>
 // A kind's word.
 #[tactic(auto, unfolding(crate::specs::Methods::kind_at))]
 fn kind(cursor: &mut Cursor<'_>) -> Result<MethodKind, ParseFault>
-    ensures read { Gives (λ x. x) result cursor.new.tokens.now
+    ensures read { GivesPart (λ x. x) result cursor.new.tokens.now
         (kind_at cursor.old.stop cursor.old.tokens.now) }
     ensures stop { cursor.new.stop ≡ cursor.old.stop }
 {
@@ -119,7 +119,7 @@ fn kind(cursor: &mut Cursor<'_>) -> Result<MethodKind, ParseFault>
 // Names with commas between them, and the parenthesis behind the last.
 #[tactic(auto, unfolding(script_expressions::specs::Calls::listed))]
 fn names(alloc: Global, cursor: &mut Cursor<'_>) -> Result<Items<Name>, ParseFault>
-    ensures read { Gives (λ found. found.list.items) result cursor.new.tokens.now
+    ensures read { GivesPart (λ found. found.list.items) result cursor.new.tokens.now
         (listed cursor.old.stop (name_at cursor.old.stop) (length cursor.old.tokens.now) cursor.old.tokens.now) }
     ensures stop { cursor.new.stop ≡ cursor.old.stop }
 {
@@ -138,7 +138,7 @@ fn names(alloc: Global, cursor: &mut Cursor<'_>) -> Result<Items<Name>, ParseFau
 // The parameters in their parentheses.
 #[tactic(auto, unfolding(crate::specs::Methods::params_at))]
 fn params(alloc: Global, cursor: &mut Cursor<'_>, depth: u8) -> Result<Items<Name>, ParseFault>
-    ensures read { Gives (λ found. found.list.items) result cursor.new.tokens.now
+    ensures read { GivesPart (λ found. found.list.items) result cursor.new.tokens.now
         (params_at cursor.old.stop depth cursor.old.tokens.now) }
     ensures stop { cursor.new.stop ≡ cursor.old.stop }
 {
@@ -159,7 +159,7 @@ pub(crate) fn read_method(
     cursor: &mut Cursor<'_>,
     depth: u8,
 ) -> Result<Method, ParseFault>
-    ensures read { Gives method_tree result cursor.new.tokens.now
+    ensures read { GivesPart method_tree result cursor.new.tokens.now
         (method_at cursor.old.stop depth cursor.old.tokens.now) }
     ensures stop { cursor.new.stop ≡ cursor.old.stop }
 {

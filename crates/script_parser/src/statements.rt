@@ -1,6 +1,6 @@
 ghost use Rattle.std.specs.Prelude.{◌≡◌, length};
 ghost use Rattle.script_tree.specs.Stmts.{source_tree, stmt_tree, stmt_trees, else_tree};
-ghost use Rattle.script_expressions.specs.Reading.{Gives};
+ghost use Rattle.script_expressions.specs.Reading.{GivesPart};
 ghost use Rattle.script_parser.specs.Statements.{source_at, let_at, assign_at, set_at, call_statement_at, if_at, else_at, while_at, return_at, fail_at, attempt_at, statement_over, statements, block};
 
 use script_expressions::Cursor;
@@ -11,7 +11,7 @@ use std::alloc::Global;
 // What a local is given: a call's answer, or an expression's value.
 #[tactic(auto, unfolding(crate::specs::Statements::source_at))]
 fn source(alloc: Global, cursor: &mut Cursor<'_>, depth: u8) -> Result<Source, ParseFault>
-    ensures read { Gives source_tree result cursor.new.tokens.now
+    ensures read { GivesPart source_tree result cursor.new.tokens.now
         (source_at cursor.old.stop depth cursor.old.tokens.now) }
     ensures stop { cursor.new.stop ≡ cursor.old.stop }
 {
@@ -27,7 +27,7 @@ fn source(alloc: Global, cursor: &mut Cursor<'_>, depth: u8) -> Result<Source, P
 
 #[tactic(auto, unfolding(crate::specs::Statements::let_at))]
 fn declaration(alloc: Global, cursor: &mut Cursor<'_>, depth: u8) -> Result<Stmt, ParseFault>
-    ensures read { Gives stmt_tree result cursor.new.tokens.now
+    ensures read { GivesPart stmt_tree result cursor.new.tokens.now
         (let_at cursor.old.stop depth cursor.old.tokens.now) }
     ensures stop { cursor.new.stop ≡ cursor.old.stop }
 {
@@ -45,7 +45,7 @@ fn assignment(
     depth: u8,
     name: Name,
 ) -> Result<Stmt, ParseFault>
-    ensures read { Gives stmt_tree result cursor.new.tokens.now
+    ensures read { GivesPart stmt_tree result cursor.new.tokens.now
         (assign_at cursor.old.stop depth name cursor.old.tokens.now) }
     ensures stop { cursor.new.stop ≡ cursor.old.stop }
 {
@@ -57,7 +57,7 @@ fn assignment(
 
 #[tactic(auto, unfolding(crate::specs::Statements::set_at))]
 fn field_write(alloc: Global, cursor: &mut Cursor<'_>, depth: u8) -> Result<Stmt, ParseFault>
-    ensures read { Gives stmt_tree result cursor.new.tokens.now
+    ensures read { GivesPart stmt_tree result cursor.new.tokens.now
         (set_at cursor.old.stop depth cursor.old.tokens.now) }
     ensures stop { cursor.new.stop ≡ cursor.old.stop }
 {
@@ -70,7 +70,7 @@ fn field_write(alloc: Global, cursor: &mut Cursor<'_>, depth: u8) -> Result<Stmt
 
 #[tactic(auto, unfolding(crate::specs::Statements::call_statement_at))]
 fn call_statement(alloc: Global, cursor: &mut Cursor<'_>, depth: u8) -> Result<Stmt, ParseFault>
-    ensures read { Gives stmt_tree result cursor.new.tokens.now
+    ensures read { GivesPart stmt_tree result cursor.new.tokens.now
         (call_statement_at cursor.old.stop depth cursor.old.tokens.now) }
     ensures stop { cursor.new.stop ≡ cursor.old.stop }
 {
@@ -81,7 +81,7 @@ fn call_statement(alloc: Global, cursor: &mut Cursor<'_>, depth: u8) -> Result<S
 
 #[tactic(auto, unfolding(crate::specs::Statements::return_at))]
 fn answer(alloc: Global, cursor: &mut Cursor<'_>, depth: u8) -> Result<Stmt, ParseFault>
-    ensures read { Gives stmt_tree result cursor.new.tokens.now
+    ensures read { GivesPart stmt_tree result cursor.new.tokens.now
         (return_at cursor.old.stop depth cursor.old.tokens.now) }
     ensures stop { cursor.new.stop ≡ cursor.old.stop }
 {
@@ -92,7 +92,7 @@ fn answer(alloc: Global, cursor: &mut Cursor<'_>, depth: u8) -> Result<Stmt, Par
 
 #[tactic(auto, unfolding(crate::specs::Statements::fail_at))]
 fn failure(cursor: &mut Cursor<'_>) -> Result<Stmt, ParseFault>
-    ensures read { Gives stmt_tree result cursor.new.tokens.now
+    ensures read { GivesPart stmt_tree result cursor.new.tokens.now
         (fail_at cursor.old.stop cursor.old.tokens.now) }
     ensures stop { cursor.new.stop ≡ cursor.old.stop }
 {
@@ -104,7 +104,7 @@ fn failure(cursor: &mut Cursor<'_>) -> Result<Stmt, ParseFault>
 #[cycle(block)]
 #[tactic(auto, unfolding(crate::specs::Statements::if_at))]
 fn choice(alloc: Global, cursor: &mut Cursor<'_>, depth: u8) -> Result<Stmt, ParseFault>
-    ensures read { Gives stmt_tree result cursor.new.tokens.now
+    ensures read { GivesPart stmt_tree result cursor.new.tokens.now
         (if_at cursor.old.stop depth (block cursor.old.stop depth) cursor.old.tokens.now) }
     ensures stop { cursor.new.stop ≡ cursor.old.stop }
 {
@@ -121,7 +121,7 @@ fn other_block(
     cursor: &mut Cursor<'_>,
     depth: u8,
 ) -> Result<Option<Items<Stmt>>, ParseFault>
-    ensures read { Gives else_tree result cursor.new.tokens.now
+    ensures read { GivesPart else_tree result cursor.new.tokens.now
         (else_at cursor.old.stop (block cursor.old.stop depth) cursor.old.tokens.now) }
     ensures stop { cursor.new.stop ≡ cursor.old.stop }
 {
@@ -135,7 +135,7 @@ fn other_block(
 #[cycle(block)]
 #[tactic(auto, unfolding(crate::specs::Statements::while_at))]
 fn repetition(alloc: Global, cursor: &mut Cursor<'_>, depth: u8) -> Result<Stmt, ParseFault>
-    ensures read { Gives stmt_tree result cursor.new.tokens.now
+    ensures read { GivesPart stmt_tree result cursor.new.tokens.now
         (while_at cursor.old.stop depth (block cursor.old.stop depth) cursor.old.tokens.now) }
     ensures stop { cursor.new.stop ≡ cursor.old.stop }
 {
@@ -147,7 +147,7 @@ fn repetition(alloc: Global, cursor: &mut Cursor<'_>, depth: u8) -> Result<Stmt,
 #[cycle(block)]
 #[tactic(auto, unfolding(crate::specs::Statements::attempt_at))]
 fn attempt(alloc: Global, cursor: &mut Cursor<'_>, depth: u8, at: u32) -> Result<Stmt, ParseFault>
-    ensures read { Gives stmt_tree result cursor.new.tokens.now
+    ensures read { GivesPart stmt_tree result cursor.new.tokens.now
         (attempt_at cursor.old.stop depth (block cursor.old.stop depth) at cursor.old.tokens.now) }
     ensures stop { cursor.new.stop ≡ cursor.old.stop }
 {
@@ -164,7 +164,7 @@ fn attempt(alloc: Global, cursor: &mut Cursor<'_>, depth: u8, at: u32) -> Result
 #[cycle(block)]
 #[tactic(auto, unfolding(crate::specs::Statements::statement_over))]
 fn statement(alloc: Global, cursor: &mut Cursor<'_>, depth: u8) -> Result<Stmt, ParseFault>
-    ensures read { Gives stmt_tree result cursor.new.tokens.now
+    ensures read { GivesPart stmt_tree result cursor.new.tokens.now
         (statement_over cursor.old.stop depth (block cursor.old.stop depth) cursor.old.tokens.now) }
     ensures stop { cursor.new.stop ≡ cursor.old.stop }
 {
@@ -198,7 +198,7 @@ pub(crate) fn read_block(
     cursor: &mut Cursor<'_>,
     depth: u8,
 ) -> Result<Items<Stmt>, ParseFault>
-    ensures read { Gives (λ body. stmt_trees body.list.items) result cursor.new.tokens.now
+    ensures read { GivesPart (λ body. stmt_trees body.list.items) result cursor.new.tokens.now
         (block cursor.old.stop depth cursor.old.tokens.now) }
     ensures stop { cursor.new.stop ≡ cursor.old.stop }
 {
@@ -217,7 +217,7 @@ fn read_statements(
     cursor: &mut Cursor<'_>,
     depth: u8,
 ) -> Result<Items<Stmt>, ParseFault>
-    ensures read { Gives (λ body. stmt_trees body.list.items) result cursor.new.tokens.now
+    ensures read { GivesPart (λ body. stmt_trees body.list.items) result cursor.new.tokens.now
         (statements cursor.old.stop (statement_over cursor.old.stop depth (block cursor.old.stop depth))
         (length cursor.old.tokens.now) cursor.old.tokens.now) }
     ensures stop { cursor.new.stop ≡ cursor.old.stop }

@@ -1,6 +1,6 @@
 ghost use Rattle.std.specs.Prelude.{◌≡◌, length, map};
 ghost use Rattle.script_tree.specs.Programs.{method_tree, type_tree};
-ghost use Rattle.script_expressions.specs.Reading.{Gives};
+ghost use Rattle.script_expressions.specs.Reading.{GivesPart};
 ghost use Rattle.script_lexer.specs.declared.tokens.Word.TheVariants as word;
 ghost use Rattle.script_parser.specs.Methods.{method_at};
 ghost use Rattle.script_parser.specs.Types.{initial_at, number_at, field_at, repeated, type_at};
@@ -14,7 +14,7 @@ use std::alloc::Global;
 // A number that must stand next, with its sign turned.
 #[tactic(auto, unfolding(crate::specs::Types::number_at))]
 fn negative(cursor: &mut Cursor<'_>) -> Result<Literal, ParseFault>
-    ensures read { Gives (λ x. x) result cursor.new.tokens.now
+    ensures read { GivesPart (λ x. x) result cursor.new.tokens.now
         (number_at cursor.old.stop cursor.old.tokens.now) }
     ensures stop { cursor.new.stop ≡ cursor.old.stop }
 {
@@ -33,7 +33,7 @@ fn negative(cursor: &mut Cursor<'_>) -> Result<Literal, ParseFault>
 // What a field has at first: a number, which may have a sign, or a text.
 #[tactic(auto, unfolding(crate::specs::Types::initial_at))]
 fn initial(cursor: &mut Cursor<'_>) -> Result<Literal, ParseFault>
-    ensures read { Gives (λ x. x) result cursor.new.tokens.now
+    ensures read { GivesPart (λ x. x) result cursor.new.tokens.now
         (initial_at cursor.old.stop cursor.old.tokens.now) }
     ensures stop { cursor.new.stop ≡ cursor.old.stop }
 {
@@ -61,7 +61,7 @@ fn initial(cursor: &mut Cursor<'_>) -> Result<Literal, ParseFault>
 // A field, behind its first word.
 #[tactic(auto, unfolding(crate::specs::Types::field_at))]
 fn field(cursor: &mut Cursor<'_>) -> Result<FieldDecl, ParseFault>
-    ensures read { Gives (λ x. x) result cursor.new.tokens.now
+    ensures read { GivesPart (λ x. x) result cursor.new.tokens.now
         (field_at cursor.old.stop cursor.old.tokens.now) }
     ensures stop { cursor.new.stop ≡ cursor.old.stop }
 {
@@ -75,7 +75,7 @@ fn field(cursor: &mut Cursor<'_>) -> Result<FieldDecl, ParseFault>
 // The fields that stand next.
 #[tactic(auto, unfolding(crate::specs::Types::repeated))]
 fn fields(alloc: Global, cursor: &mut Cursor<'_>) -> Result<Items<FieldDecl>, ParseFault>
-    ensures read { Gives (λ found. found.list.items) result cursor.new.tokens.now
+    ensures read { GivesPart (λ found. found.list.items) result cursor.new.tokens.now
         (repeated word.Field (field_at cursor.old.stop) (length cursor.old.tokens.now) cursor.old.tokens.now) }
     ensures stop { cursor.new.stop ≡ cursor.old.stop }
 {
@@ -93,7 +93,7 @@ fn fields(alloc: Global, cursor: &mut Cursor<'_>) -> Result<Items<FieldDecl>, Pa
 // The methods that stand next.
 #[tactic(auto, unfolding(crate::specs::Types::repeated))]
 fn methods(alloc: Global, cursor: &mut Cursor<'_>, depth: u8) -> Result<Items<Method>, ParseFault>
-    ensures read { Gives (λ found. map method_tree found.list.items) result cursor.new.tokens.now
+    ensures read { GivesPart (λ found. map method_tree found.list.items) result cursor.new.tokens.now
         (repeated word.Method (method_at cursor.old.stop depth) (length cursor.old.tokens.now) cursor.old.tokens.now) }
     ensures stop { cursor.new.stop ≡ cursor.old.stop }
 {
@@ -111,7 +111,7 @@ fn methods(alloc: Global, cursor: &mut Cursor<'_>, depth: u8) -> Result<Items<Me
 // A type, behind its first word. As many as `depth` more braces, parentheses and prefix operators may be open.
 #[tactic(auto, unfolding(crate::specs::Types::type_at))]
 fn read_type(alloc: Global, cursor: &mut Cursor<'_>, depth: u8) -> Result<TypeDecl, ParseFault>
-    ensures read { Gives type_tree result cursor.new.tokens.now
+    ensures read { GivesPart type_tree result cursor.new.tokens.now
         (type_at cursor.old.stop depth cursor.old.tokens.now) }
     ensures stop { cursor.new.stop ≡ cursor.old.stop }
 {
@@ -133,7 +133,7 @@ pub(crate) fn types(
     cursor: &mut Cursor<'_>,
     depth: u8,
 ) -> Result<Items<TypeDecl>, ParseFault>
-    ensures read { Gives (λ found. map type_tree found.list.items) result cursor.new.tokens.now
+    ensures read { GivesPart (λ found. map type_tree found.list.items) result cursor.new.tokens.now
         (repeated word.Type (type_at cursor.old.stop depth) (length cursor.old.tokens.now) cursor.old.tokens.now) }
     ensures stop { cursor.new.stop ≡ cursor.old.stop }
 {

@@ -16,19 +16,19 @@ use Rattle.script_tree.specs.Stmts.{SourceTree, Computed, Called, StmtTree, Bloc
 use Rattle.script_tree.specs.Programs.{MethodTree, TypeTree}
 use Rattle.script_scopes.specs.declared.faults.CheckFault.{CheckFault}
 use Rattle.script_scopes.specs.declared.faults.CheckFault.TheVariants.{UnknownName, TwiceNamed}
-use Rattle.script_scopes.specs.Found.{Found, ◌<|>◌}
+use Rattle.script_scopes.specs.Found.{FirstFault, ◌<|>◌}
 use Rattle.script_scopes.specs.Names.{Scope, Setting, is_in, taken_fault, local_fault, reading_fault, writing_fault, variable_fault, assigned_fault, set_fault}
 use Rattle.script_scopes.specs.Expressions.{expression_fault, arguments_fault, type_named, method_named, arity_fault, target_fault, call_fault}
 use Rattle.script_scopes.specs.Statements.{source_fault, with_name, scope_after, statement_fault, block_fault, else_fault}
-use Rattle.script_scopes.specs.Bodies.{IsVariable, IsNewLocal, IsExpression, IsCall, IsSource, IsStatement, IsBlock, IsElse}
+use Rattle.script_scopes.specs.Bodies.{IsVariable, IsNewLocal, IsExpressionInScope, IsCallInScope, IsSourceInScope, IsStatementInScope, IsBlockInScope, IsElseInScope}
 use Rattle.script_scopes.proofs.Founds.{goes_on}
 
 -- two pieces have no fault exactly where neither has
-pub both : (a b : Found) → (a <|> b) ≡ None → (a ≡ None) × (b ≡ None)
+pub both : (a b : FirstFault) → (a <|> b) ≡ None → (a ≡ None) × (b ≡ None)
 both None b e = (refl, e)
 both (Some f) b e = absurd cc
 
-pub pair_iff : {A B : Type 0} (a b : Found) → ((a ≡ None) ↔ A) → ((b ≡ None) ↔ B) → ((a <|> b) ≡ None) ↔ (A × B)
+pub pair_iff : {A B : Type 0} (a b : FirstFault) → ((a ≡ None) ↔ A) → ((b ≡ None) ↔ B) → ((a <|> b) ≡ None) ↔ (A × B)
 pair_iff a b p q = ((λ e. let s = both a b e in (p.0 s.0, q.0 s.1)), (λ h. goes_on a b (p.1 h.0) ∙ q.1 h.1))
 
 -- a test that must fail, and one that must hold
@@ -77,23 +77,23 @@ pub set_iff : (setting : Setting) (name : Name) → (set_fault setting name ≡ 
 set_iff setting name = set_cases (is_in setting.fields name.text) setting.kind name.at (is_in-Decides setting.fields name.text)
 
 -- nothing is at fault where there is nothing to be at fault
-nothing_iff : ((let found : Found = None in found) ≡ None) ↔ Unit {0}
+nothing_iff : ((let found : FirstFault = None in found) ≡ None) ↔ Unit {0}
 nothing_iff = ((λ e. tt), (λ t. refl))
 
-pub expression_iff : (setting : Setting) (scope : Scope) (e : ExprTree) → (expression_fault setting scope e ≡ None) ↔ IsExpression setting scope e
-unfolding expression_fault IsExpression
+pub expression_iff : (setting : Setting) (scope : Scope) (e : ExprTree) → (expression_fault setting scope e ≡ None) ↔ IsExpressionInScope setting scope e
+unfolding expression_fault IsExpressionInScope
 expression_iff setting scope (Constant value) = nothing_iff
 expression_iff setting scope (Variable name) = variable_iff setting scope name
 expression_iff setting scope TheKey = nothing_iff
 expression_iff setting scope (Prefixed op of) = expression_iff setting scope of
 expression_iff setting scope (Joined op left right) = pair_iff (expression_fault setting scope left) (expression_fault setting scope right) (expression_iff setting scope left) (expression_iff setting scope right)
 
-pub arguments_iff : (setting : Setting) (scope : Scope) (args : List ExprTree) → (arguments_fault setting scope args ≡ None) ↔ All (IsExpression setting scope) args
+pub arguments_iff : (setting : Setting) (scope : Scope) (args : List ExprTree) → (arguments_fault setting scope args ≡ None) ↔ All (IsExpressionInScope setting scope) args
 unfolding arguments_fault
-arguments_iff setting scope [] = ((λ e. All-nil (IsExpression setting scope)), (λ h. refl))
+arguments_iff setting scope [] = ((λ e. All-nil (IsExpressionInScope setting scope)), (λ h. refl))
 arguments_iff setting scope (x ∷ xs) =
     let p = pair_iff (expression_fault setting scope x) (arguments_fault setting scope xs) (expression_iff setting scope x) (arguments_iff setting scope xs) in
-    ((λ e. let s = p.0 e in All-cons (IsExpression setting scope) x xs s.0 s.1), (λ h. p.1 (All-head (IsExpression setting scope) x xs h, All-tail (IsExpression setting scope) x xs h)))
+    ((λ e. let s = p.0 e in All-cons (IsExpressionInScope setting scope) x xs s.0 s.1), (λ h. p.1 (All-head (IsExpressionInScope setting scope) x xs h, All-tail (IsExpressionInScope setting scope) x xs h)))
 
 -- the method of a call
 arity_right : (call : CallTree) (found : Option MethodTree) → arity_fault call found ≡ None → (m : MethodTree) × (found ≡ Some m) × (length call.args ≡ length m.params)
@@ -103,7 +103,7 @@ arity_right call (Some m) e = (m, refl, (holds_iff (nat_eq (length call.args) (l
 arity_back : (call : CallTree) (found : Option MethodTree) (m : MethodTree) → found ≡ Some m → length call.args ≡ length m.params → arity_fault call found ≡ None
 arity_back call found m e a = ap (arity_fault call) e ∙ (holds_iff (nat_eq (length call.args) (length m.params)) _ (Decides-eqb (length call.args) (length m.params))).1 a
 
-call_right : (setting : Setting) (scope : Scope) (call : CallTree) (found : Option TypeTree) → type_named setting.types call.target.text ≡ found → target_fault setting scope call found ≡ None → IsCall setting scope call
+call_right : (setting : Setting) (scope : Scope) (call : CallTree) (found : Option TypeTree) → type_named setting.types call.target.text ≡ found → target_fault setting scope call found ≡ None → IsCallInScope setting scope call
 call_right setting scope call None is e = absurd cc
 call_right setting scope call (Some t) is e =
     let outer = both (expression_fault setting scope call.place <|> arity_fault call (method_named t.methods call.method.text)) (arguments_fault setting scope call.args) e in
@@ -111,7 +111,7 @@ call_right setting scope call (Some t) is e =
     let m = arity_right call (method_named t.methods call.method.text) inner.1 in
     record { target = t; is_target = is; method = m.0; is_method = m.1; arity = m.2; place = (expression_iff setting scope call.place).0 inner.0; args = (arguments_iff setting scope call.args).0 outer.1 }
 
-pub call_iff : (setting : Setting) (scope : Scope) (call : CallTree) → (call_fault setting scope call ≡ None) ↔ IsCall setting scope call
+pub call_iff : (setting : Setting) (scope : Scope) (call : CallTree) → (call_fault setting scope call ≡ None) ↔ IsCallInScope setting scope call
 unfolding call_fault
 call_iff setting scope call = (
   (λ e. call_right setting scope call (type_named setting.types call.target.text) refl e),
@@ -121,15 +121,15 @@ call_iff setting scope call = (
       ∙ (arguments_iff setting scope call.args).1 h.args),
 )
 
-pub source_iff : (setting : Setting) (scope : Scope) (s : SourceTree) → (source_fault setting scope s ≡ None) ↔ IsSource setting scope s
-unfolding source_fault IsSource
+pub source_iff : (setting : Setting) (scope : Scope) (s : SourceTree) → (source_fault setting scope s ≡ None) ↔ IsSourceInScope setting scope s
+unfolding source_fault IsSourceInScope
 source_iff setting scope (Computed value) = expression_iff setting scope value
 source_iff setting scope (Called call) = call_iff setting scope call
 
 mutual
-  unfolding statement_fault IsStatement
+  unfolding statement_fault IsStatementInScope
 
-  pub statement_iff : (setting : Setting) (scope : Scope) (s : StmtTree) → (statement_fault setting scope s ≡ None) ↔ IsStatement setting scope s
+  pub statement_iff : (setting : Setting) (scope : Scope) (s : StmtTree) → (statement_fault setting scope s ≡ None) ↔ IsStatementInScope setting scope s
   statement_iff setting scope (Bind name value) = pair_iff (local_fault setting scope name) (source_fault setting scope value) (local_iff setting scope name) (source_iff setting scope value)
   statement_iff setting scope (Rebind name value) = pair_iff (assigned_fault scope name) (source_fault setting scope value) (assigned_iff scope name) (source_iff setting scope value)
   statement_iff setting scope (SetField name value) = pair_iff (set_fault setting name) (expression_fault setting scope value) (set_iff setting name) (expression_iff setting scope value)
@@ -148,10 +148,10 @@ mutual
       (block_iff setting (with_name scope name) block))
       (block_iff setting (with_name scope name) other)
 
-  pub block_iff : (setting : Setting) (scope : Scope) (b : BlockTree) → (block_fault setting scope b ≡ None) ↔ IsBlock setting scope b
+  pub block_iff : (setting : Setting) (scope : Scope) (b : BlockTree) → (block_fault setting scope b ≡ None) ↔ IsBlockInScope setting scope b
   block_iff setting scope NoMore = nothing_iff
   block_iff setting scope (Then first rest) = pair_iff (statement_fault setting scope first) (block_fault setting (scope_after scope first) rest) (statement_iff setting scope first) (block_iff setting (scope_after scope first) rest)
 
-  pub else_iff : (setting : Setting) (scope : Scope) (o : ElseTree) → (else_fault setting scope o ≡ None) ↔ IsElse setting scope o
+  pub else_iff : (setting : Setting) (scope : Scope) (o : ElseTree) → (else_fault setting scope o ≡ None) ↔ IsElseInScope setting scope o
   else_iff setting scope NoElse = nothing_iff
   else_iff setting scope (Else block) = block_iff setting scope block

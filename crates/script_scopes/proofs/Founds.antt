@@ -2,10 +2,10 @@
 use Rattle.std.proofs.Common.{◌≡◌, ◌≢◌, Some, None, refl, sym, ap, ◌∙◌}
 use Rattle.script_scopes.specs.declared.faults.CheckFault.{CheckFault}
 use Rattle.script_scopes.specs.declared.faults.CheckFault.TheVariants.{UnknownName, TwiceNamed, Arity, FieldInPlain, SetInRead, TooMany, NeedsTransaction, Memory}
-use Rattle.script_scopes.specs.Found.{Found, ◌<|>◌, Fails}
+use Rattle.script_scopes.specs.Found.{FirstFault, ◌<|>◌, Fails}
 
 -- the first of two is the first
-pub fails_first : (e : CheckFault) (a b : Found) → Fails e a → Fails e (a <|> b)
+pub fails_first : (e : CheckFault) (a b : FirstFault) → Fails e a → Fails e (a <|> b)
 fails_first Memory a b h = tt
 fails_first (UnknownName at) a b h = ap (λ x. x <|> b) h
 fails_first (TwiceNamed at) a b h = ap (λ x. x <|> b) h
@@ -16,7 +16,7 @@ fails_first (TooMany at) a b h = ap (λ x. x <|> b) h
 fails_first (NeedsTransaction at) a b h = ap (λ x. x <|> b) h
 
 -- the same text has the same fault
-pub fails_is : (e : CheckFault) (a b : Found) → a ≡ b → Fails e a → Fails e b
+pub fails_is : (e : CheckFault) (a b : FirstFault) → a ≡ b → Fails e a → Fails e b
 fails_is Memory a b h f = tt
 fails_is (UnknownName at) a b h f = sym h ∙ f
 fails_is (TwiceNamed at) a b h f = sym h ∙ f
@@ -27,11 +27,11 @@ fails_is (TooMany at) a b h f = sym h ∙ f
 fails_is (NeedsTransaction at) a b h f = sym h ∙ f
 
 -- where the first piece has no fault the second decides
-pub goes_on : (a b : Found) → a ≡ None → (a <|> b) ≡ b
+pub goes_on : (a b : FirstFault) → a ≡ None → (a <|> b) ≡ b
 goes_on a b h = ap (λ x. x <|> b) h
 
 -- a fault that is no want of memory is the first
-pub fails_some : (e : CheckFault) (a : Found) → Fails e a → e ≢ Memory → a ≡ Some e
+pub fails_some : (e : CheckFault) (a : FirstFault) → Fails e a → e ≢ Memory → a ≡ Some e
 fails_some Memory a h n = absurd (n refl)
 fails_some (UnknownName at) a h n = h
 fails_some (TwiceNamed at) a h n = h

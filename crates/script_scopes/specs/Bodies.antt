@@ -19,48 +19,48 @@ abbrev pub IsNewLocal : Setting → Scope → Name → Type 0
 IsNewLocal setting scope name = (¬ Contains setting.fields name.text) × (¬ Contains scope name.text)
 
 -- an expression each of whose names stands for a value
-unfoldable pub IsExpression : Setting → Scope → ExprTree → Type 0
-IsExpression setting scope (Constant value) = Unit {0}
-IsExpression setting scope (Variable name) = IsVariable setting scope name
-IsExpression setting scope TheKey = Unit {0}
-IsExpression setting scope (Prefixed op of) = IsExpression setting scope of
-IsExpression setting scope (Joined op left right) = IsExpression setting scope left × IsExpression setting scope right
+unfoldable pub IsExpressionInScope : Setting → Scope → ExprTree → Type 0
+IsExpressionInScope setting scope (Constant value) = Unit {0}
+IsExpressionInScope setting scope (Variable name) = IsVariable setting scope name
+IsExpressionInScope setting scope TheKey = Unit {0}
+IsExpressionInScope setting scope (Prefixed op of) = IsExpressionInScope setting scope of
+IsExpressionInScope setting scope (Joined op left right) = IsExpressionInScope setting scope left × IsExpressionInScope setting scope right
 
 -- a call of a method that is there, with as many arguments as parameters
-pub record IsCall (setting : Setting) (scope : Scope) (call : CallTree) : Type 0 where
+pub record IsCallInScope (setting : Setting) (scope : Scope) (call : CallTree) : Type 0 where
   pub target : TypeTree
   pub is_target : type_named setting.types call.target.text ≡ Some target
   pub method : MethodTree
   pub is_method : method_named target.methods call.method.text ≡ Some method
   pub arity : length call.args ≡ length method.params
-  pub place : IsExpression setting scope call.place
-  pub args : All (IsExpression setting scope) call.args
+  pub place : IsExpressionInScope setting scope call.place
+  pub args : All (IsExpressionInScope setting scope) call.args
 
 -- what a local is given
-unfoldable pub IsSource : Setting → Scope → SourceTree → Type 0
-IsSource setting scope (Computed value) = IsExpression setting scope value
-IsSource setting scope (Called call) = IsCall setting scope call
+unfoldable pub IsSourceInScope : Setting → Scope → SourceTree → Type 0
+IsSourceInScope setting scope (Computed value) = IsExpressionInScope setting scope value
+IsSourceInScope setting scope (Called call) = IsCallInScope setting scope call
 
 unfoldable mutual
   -- a statement, with these parameters and locals in scope
-  pub IsStatement : Setting → Scope → StmtTree → Type 0
-  IsStatement setting scope (Bind name value) = IsNewLocal setting scope name × IsSource setting scope value
-  IsStatement setting scope (Rebind name value) = Contains scope name.text × IsSource setting scope value
-  IsStatement setting scope (SetField name value) = (Contains setting.fields name.text × (setting.kind ≡ Update)) × IsExpression setting scope value
-  IsStatement setting scope (Perform call) = IsCall setting scope call
-  IsStatement setting scope (Choose test block other) = (IsExpression setting scope test × IsBlock setting scope block) × IsElse setting scope other
-  IsStatement setting scope (Repeat test block) = IsExpression setting scope test × IsBlock setting scope block
-  IsStatement setting scope (Give value) = IsExpression setting scope value
-  IsStatement setting scope (FailWith text) = Unit {0}
-  IsStatement setting scope (Try at name call block other) =
-      ((IsNewLocal setting scope name × IsCall setting scope call) × IsBlock setting (with_name scope name) block) × IsBlock setting (with_name scope name) other
+  pub IsStatementInScope : Setting → Scope → StmtTree → Type 0
+  IsStatementInScope setting scope (Bind name value) = IsNewLocal setting scope name × IsSourceInScope setting scope value
+  IsStatementInScope setting scope (Rebind name value) = Contains scope name.text × IsSourceInScope setting scope value
+  IsStatementInScope setting scope (SetField name value) = (Contains setting.fields name.text × (setting.kind ≡ Update)) × IsExpressionInScope setting scope value
+  IsStatementInScope setting scope (Perform call) = IsCallInScope setting scope call
+  IsStatementInScope setting scope (Choose test block other) = (IsExpressionInScope setting scope test × IsBlockInScope setting scope block) × IsElseInScope setting scope other
+  IsStatementInScope setting scope (Repeat test block) = IsExpressionInScope setting scope test × IsBlockInScope setting scope block
+  IsStatementInScope setting scope (Give value) = IsExpressionInScope setting scope value
+  IsStatementInScope setting scope (FailWith text) = Unit {0}
+  IsStatementInScope setting scope (Try at name call block other) =
+      ((IsNewLocal setting scope name × IsCallInScope setting scope call) × IsBlockInScope setting (with_name scope name) block) × IsBlockInScope setting (with_name scope name) other
 
   -- a block: each statement with the names that stand behind the one before it
-  pub IsBlock : Setting → Scope → BlockTree → Type 0
-  IsBlock setting scope NoMore = Unit {0}
-  IsBlock setting scope (Then first rest) = IsStatement setting scope first × IsBlock setting (scope_after scope first) rest
+  pub IsBlockInScope : Setting → Scope → BlockTree → Type 0
+  IsBlockInScope setting scope NoMore = Unit {0}
+  IsBlockInScope setting scope (Then first rest) = IsStatementInScope setting scope first × IsBlockInScope setting (scope_after scope first) rest
 
   -- the second block of an `if`
-  pub IsElse : Setting → Scope → ElseTree → Type 0
-  IsElse setting scope NoElse = Unit {0}
-  IsElse setting scope (Else block) = IsBlock setting scope block
+  pub IsElseInScope : Setting → Scope → ElseTree → Type 0
+  IsElseInScope setting scope NoElse = Unit {0}
+  IsElseInScope setting scope (Else block) = IsBlockInScope setting scope block

@@ -4,31 +4,31 @@ use Rattle.script_scopes.specs.declared.faults.CheckFault.{CheckFault}
 use Rattle.script_scopes.specs.declared.faults.CheckFault.TheVariants.{Memory}
 
 -- the first fault of a piece of text, none where nothing is at fault
-abbrev pub Found : Type 0
-Found = Option CheckFault
+abbrev pub FirstFault : Type 0
+FirstFault = Option CheckFault
 
 -- the first fault of two pieces, one behind the other
 infixl 10 ◌<|>◌
-abbrev pub ◌<|>◌ : Found → Found → Found
+abbrev pub ◌<|>◌ : FirstFault → FirstFault → FirstFault
 None <|> later = later
 (Some fault) <|> later = Some fault
 
 -- this fault is the first, where it isn't want of memory, which may come in place of any answer
-abbrev pub Fails : CheckFault → Found → Type 0
+abbrev pub Fails : CheckFault → FirstFault → Type 0
 Fails Memory found = Unit {0}
 Fails fault found = found ≡ Some fault
 
 -- a check goes through exactly where nothing is at fault, and else answers the first fault
-abbrev pub Answers : {A : Type 0} → Result A CheckFault → Found → Type 0
+abbrev pub Answers : {A : Type 0} → Result A CheckFault → FirstFault → Type 0
 Answers (Ok done) found = found ≡ None
 Answers (Err fault) found = Fails fault found
 
 -- the same, for a check that leaves this in place of what was there
-abbrev pub Leaves : {A B : Type 0} → Result A CheckFault → Found → B → B → Type 0
+abbrev pub Leaves : {A B : Type 0} → Result A CheckFault → FirstFault → B → B → Type 0
 Leaves (Ok done) found left wanted = (found ≡ None) × (left ≡ wanted)
 Leaves (Err fault) found left wanted = Fails fault found
 
 -- the same, for a check that makes a value
-abbrev pub Gives : {A B : Type 0} → (A → B) → Result A CheckFault → Found → B → Type 0
+abbrev pub Gives : {A B : Type 0} → (A → B) → Result A CheckFault → FirstFault → B → Type 0
 Gives view (Ok made) found wanted = (found ≡ None) × (view made ≡ wanted)
 Gives view (Err fault) found wanted = Fails fault found

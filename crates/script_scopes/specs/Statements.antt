@@ -2,12 +2,12 @@
 use Rattle.std.specs.Prelude.{[], ◌∷◌, ◌++◌, None}
 use Rattle.script_tree.specs.declared.expressions.Name.{Name}
 use Rattle.script_tree.specs.Stmts.{SourceTree, Computed, Called, StmtTree, BlockTree, ElseTree, Bind, Rebind, SetField, Perform, Choose, Repeat, Give, FailWith, Try, NoMore, Then, NoElse, Else}
-use Rattle.script_scopes.specs.Found.{Found, ◌<|>◌}
+use Rattle.script_scopes.specs.Found.{FirstFault, ◌<|>◌}
 use Rattle.script_scopes.specs.Names.{Scope, Setting, local_fault, assigned_fault, set_fault}
 use Rattle.script_scopes.specs.Expressions.{expression_fault, call_fault}
 
 -- what a local is given
-unfoldable pub source_fault : Setting → Scope → SourceTree → Found
+unfoldable pub source_fault : Setting → Scope → SourceTree → FirstFault
 source_fault setting scope (Computed value) = expression_fault setting scope value
 source_fault setting scope (Called call) = call_fault setting scope call
 
@@ -29,7 +29,7 @@ scope_after scope (Try at name call block other) = scope
 
 unfoldable mutual
   -- a statement; the name of an `attempt` stands in its two blocks
-  pub statement_fault : Setting → Scope → StmtTree → Found
+  pub statement_fault : Setting → Scope → StmtTree → FirstFault
   statement_fault setting scope (Bind name value) = local_fault setting scope name <|> source_fault setting scope value
   statement_fault setting scope (Rebind name value) = assigned_fault scope name <|> source_fault setting scope value
   statement_fault setting scope (SetField name value) = set_fault setting name <|> expression_fault setting scope value
@@ -42,11 +42,11 @@ unfoldable mutual
       local_fault setting scope name <|> call_fault setting scope call <|> block_fault setting (with_name scope name) block <|> block_fault setting (with_name scope name) other
 
   -- a block, each statement with the names that stand behind the one before it
-  pub block_fault : Setting → Scope → BlockTree → Found
+  pub block_fault : Setting → Scope → BlockTree → FirstFault
   block_fault setting scope NoMore = None
   block_fault setting scope (Then first rest) = statement_fault setting scope first <|> block_fault setting (scope_after scope first) rest
 
   -- the second block of an `if`
-  pub else_fault : Setting → Scope → ElseTree → Found
+  pub else_fault : Setting → Scope → ElseTree → FirstFault
   else_fault setting scope NoElse = None
   else_fault setting scope (Else block) = block_fault setting scope block

@@ -9,14 +9,14 @@ use Rattle.script_values.specs.Values.{ValueOrFault, then_value, combined}
 use Rattle.script_values.specs.Expressions.{between}
 
 -- this fault is given, where it isn't want of memory, which may come in place of any answer
-abbrev pub Stops : {A : Type 0} → Stop → Result A (List ℕ) → Type 0
-Stops (Fault text) given = given ≡ Err text
-Stops Memory given = Unit {0}
+abbrev pub StopsWith : {A : Type 0} → Stop → Result A (List ℕ) → Type 0
+StopsWith (Fault text) given = given ≡ Err text
+StopsWith Memory given = Unit {0}
 
 -- the answer is what is given: the same value, or the same fault
-abbrev pub Gives : {A : Type 0} → Result A Stop → Result A (List ℕ) → Type 0
-Gives (Ok value) given = given ≡ Ok value
-Gives (Err stop) given = Stops stop given
+abbrev pub GivesOrStops : {A : Type 0} → Result A Stop → Result A (List ℕ) → Type 0
+GivesOrStops (Ok value) given = given ≡ Ok value
+GivesOrStops (Err stop) given = StopsWith stop given
 
 -- the number in a value, none in a text
 abbrev pub number_in : Value → Option ℤ
@@ -27,4 +27,4 @@ number_in (Text text) = None
 abbrev pub Decides : Result (Option Value) Stop → BinaryOp → Value → Type 0
 Decides (Ok (Some value)) op left = (right : ValueOrFault) → between op left right ≡ Ok value
 Decides (Ok None) op left = (right : ValueOrFault) → between op left right ≡ then_value right (combined op left)
-Decides (Err stop) op left = (right : ValueOrFault) → Stops stop (between op left right)
+Decides (Err stop) op left = (right : ValueOrFault) → StopsWith stop (between op left right)

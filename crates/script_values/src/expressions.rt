@@ -1,7 +1,7 @@
 ghost use Rattle.std.specs.Prelude.{map};
 ghost use Rattle.script_tree.specs.Exprs.{expr_tree};
 ghost use Rattle.script_values.specs.Expressions.{named, value_in, values_in, between};
-ghost use Rattle.script_values.specs.Stops.{Gives};
+ghost use Rattle.script_values.specs.Stops.{GivesOrStops};
 ghost use Rattle.script_values.specs.Scopes.{surroundings};
 
 use crate::locals::local_value;
@@ -16,7 +16,7 @@ use std::alloc::Global;
 
 /// What a name stands for: the parameter or local, else the field.
 fn named(alloc: Global, name: &Chars, scope: &Scope) -> Result<Value, Stop>
-    ensures { Gives result (named (surroundings scope.now) name.now) }
+    ensures { GivesOrStops result (named (surroundings scope.now) name.now) }
 {
     if let Some(value) = local_value(scope.locals, name) {
         return Ok(value.copy()?);
@@ -33,7 +33,7 @@ fn named(alloc: Global, name: &Chars, scope: &Scope) -> Result<Value, Stop>
 /// The value of an expression, or the fault that ends the unit. The right operand of `&&` and `||` is evaluated
 /// only where the left one doesn't decide; of the other operators both are, and then their kinds are tested.
 pub fn evaluate(alloc: Global, expression: &Expr, scope: &Scope) -> Result<Value, Stop>
-    ensures { Gives result (value_in (surroundings scope.now) (expr_tree expression.now)) }
+    ensures { GivesOrStops result (value_in (surroundings scope.now) (expr_tree expression.now)) }
 {
     match expression {
         Expr::Literal(literal) => Ok(value_of(alloc, literal)?),
@@ -57,7 +57,7 @@ pub fn evaluate(alloc: Global, expression: &Expr, scope: &Scope) -> Result<Value
 /// The values of expressions, from left to right, or the fault of the first that has one.
 #[tactic(auto, using(crate::proofs::Lists::one_more_behind))]
 pub fn evaluate_all(alloc: Global, expressions: &[Expr], scope: &Scope) -> Result<List<Value>, Stop>
-    ensures { Gives result (values_in (surroundings scope.now) (map expr_tree expressions.now)) }
+    ensures { GivesOrStops result (values_in (surroundings scope.now) (map expr_tree expressions.now)) }
 {
     let mut values = List::new(alloc);
     for expression in expressions {

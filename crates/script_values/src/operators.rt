@@ -1,6 +1,6 @@
 ghost use Rattle.std.specs.Prelude.{◌≡◌, ◌++◌};
 ghost use Rattle.script_values.specs.Reasons.{number_given};
-ghost use Rattle.script_values.specs.Stops.{Gives, Decides, number_in};
+ghost use Rattle.script_values.specs.Stops.{GivesOrStops, Decides, number_in};
 ghost use Rattle.script_values.specs.Values.{with_number, joined_text, truth, prefixed, of_texts, of_kinds, combined};
 
 use crate::numbers::{is_true, of_numbers, prefixed, truth};
@@ -22,7 +22,7 @@ pub fn as_number(value: &Value) -> Option<i64>
 
 /// A number as a value, or the stop of its reason.
 fn given(alloc: Global, number: Result<i64, Reason>) -> Result<Value, Stop>
-    ensures { Gives result (number_given number) }
+    ensures { GivesOrStops result (number_given number) }
 {
     match number {
         Ok(number) => Ok(Value::Int(number)),
@@ -39,7 +39,7 @@ fn truth_value(holds: bool) -> Value
 
 /// An operator before a value.
 pub fn prefixed_value(alloc: Global, op: UnaryOp, value: &Value) -> Result<Value, Stop>
-    ensures { Gives result (with_number value.now (prefixed op)) }
+    ensures { GivesOrStops result (with_number value.now (prefixed op)) }
 {
     match value {
         Value::Int(number) => given(alloc, prefixed(op, *number)),
@@ -49,7 +49,7 @@ pub fn prefixed_value(alloc: Global, op: UnaryOp, value: &Value) -> Result<Value
 
 /// Two texts as one, the right one behind the left one.
 fn join(alloc: Global, left: &Text, right: &Text) -> Result<Value, Stop>
-    ensures { Gives result (joined_text (left.now ++ right.now)) }
+    ensures { GivesOrStops result (joined_text (left.now ++ right.now)) }
 {
     let mut text = String::from_str(alloc, left.as_str())?;
     text.push_str(right.as_str())?;
@@ -61,7 +61,7 @@ fn join(alloc: Global, left: &Text, right: &Text) -> Result<Value, Stop>
 
 /// An operator between two texts.
 fn of_texts(alloc: Global, op: BinaryOp, left: &Text, right: &Text) -> Result<Value, Stop>
-    ensures { Gives result (of_texts op left.now right.now) }
+    ensures { GivesOrStops result (of_texts op left.now right.now) }
 {
     match op {
         BinaryOp::Add => join(alloc, left, right),
@@ -82,7 +82,7 @@ fn of_texts(alloc: Global, op: BinaryOp, left: &Text, right: &Text) -> Result<Va
 
 /// An operator between a number and a text.
 fn of_kinds(alloc: Global, op: BinaryOp) -> Result<Value, Stop>
-    ensures { Gives result (of_kinds op) }
+    ensures { GivesOrStops result (of_kinds op) }
 {
     match op {
         BinaryOp::Eq => Ok(truth_value(false)),
@@ -103,7 +103,7 @@ fn of_kinds(alloc: Global, op: BinaryOp) -> Result<Value, Stop>
 
 /// An operator between two values.
 pub fn combined(alloc: Global, op: BinaryOp, left: &Value, right: &Value) -> Result<Value, Stop>
-    ensures { Gives result (combined op left.now right.now) }
+    ensures { GivesOrStops result (combined op left.now right.now) }
 {
     match (left, right) {
         (Value::Int(left), Value::Int(right)) => given(alloc, of_numbers(op, *left, *right)),

@@ -1,6 +1,6 @@
 ghost use Rattle.std.specs.Prelude.{◌≡◌, ℕ, List, Result, Err};
 ghost use Rattle.script_values.specs.Reasons.{reason_text};
-ghost use Rattle.script_values.specs.Stops.{Stops};
+ghost use Rattle.script_values.specs.Stops.{StopsWith};
 ghost use Rattle.script_values.specs.Values.{ValueOrFault};
 ghost use Rattle.script_values.specs.declared.stops.Stop.TheVariants.{Memory};
 
@@ -33,7 +33,7 @@ impl<T: Drop> From<AllocFailed<T>> for Stop {
 
 /// The stop of this fault.
 pub fn stop_at(alloc: Global, reason: Reason) -> Stop
-    ensures { (given : ValueOrFault) → given ≡ Err (reason_text reason) → Stops result given }
+    ensures { (given : ValueOrFault) → given ≡ Err (reason_text reason) → StopsWith result given }
 {
     match fault_of(alloc, reason) {
         Ok(text) => Stop::Fault(text),

@@ -11,7 +11,7 @@ use Rattle.host_trait.proofs.Moments.{both, weaker, in_turn, later, all_late, we
 use Rattle.host_trait.proofs.Runs.{settled_image}
 use Rattle.silo_spec.specs.Silos.{manager, IsSilo, IsNewSilo}
 use Rattle.silo_spec.specs.Moments.{IsAsAtEntry, IsUntouched}
-use Rattle.silo_spec.specs.Making.{IsBeside, StaysBeside, IsEarly, IsUnsynced, FromFirstSync, IsNewAt, Makes}
+use Rattle.silo_spec.specs.Making.{IsBeside, StaysBeside, IsEarly, IsUnsynced, FromFirstSync, IsNewAt, CameThisFar}
 use Rattle.silo_opening.proofs.Closing.{cases_settled, own_early, settled_no_silo}
 
 -- a file is a silo's or isn't
@@ -109,7 +109,7 @@ module _ (old mid : World) (disk : mid.disk ≡ old.disk) (output : mid.output �
     new_so_far lasts lacks = while (IsNewAt magic text) (λ image is silo. absurd (settled_no_silo magic (old.disk manager).seen (moment_of old) lasts lacks image is silo))
 
     -- how far the call came, seen from the first
-    pub makes_from : (new : World) → (IsSilo magic (old.disk manager).seen → IsUntouched mid new) → Makes magic text mid new → Makes magic text old new
+    pub makes_from : (new : World) → (IsSilo magic (old.disk manager).seen → IsUntouched mid new) → CameThisFar magic text mid new → CameThisFar magic text old new
     makes_from new kept makes = elim (cases_silo magic (old.disk manager).seen) [
       | inl silo ↦ inl (untouched_from new (kept silo))
       | inr lacks ↦
@@ -118,7 +118,7 @@ module _ (old mid : World) (disk : mid.disk ≡ old.disk) (output : mid.output �
             | inr pending ↦ pending_from pending makes
           ]
     ] where
-      settled_from : old.disk manager ≡ settled (old.disk manager).seen → (IsSilo magic (old.disk manager).seen → ⊥) → Makes magic text mid new → Makes magic text old new
+      settled_from : old.disk manager ≡ settled (old.disk manager).seen → (IsSilo magic (old.disk manager).seen → ⊥) → CameThisFar magic text mid new → CameThisFar magic text old new
       settled_from lasts lacks (inl u) = inl (untouched_from new u)
       settled_from lasts lacks (inr (inl u)) = inr (inr (record {
         moments = all_late (IsEarly old) (IsNewAt magic text) (both (IsNewAt magic text) (new_so_far lasts lacks) (weaker _ _ (λ m e. early_new lasts lacks m (early_from m e)) u.moments));
@@ -130,7 +130,7 @@ module _ (old mid : World) (disk : mid.disk ≡ old.disk) (output : mid.output �
         now = f.now;
       }))
 
-      pending_from : old.disk manager ≢ settled (old.disk manager).seen → Makes magic text mid new → Makes magic text old new
+      pending_from : old.disk manager ≢ settled (old.disk manager).seen → CameThisFar magic text mid new → CameThisFar magic text old new
       pending_from pending (inl u) = inl (untouched_from new u)
       pending_from pending (inr (inl u)) = inr (inl (record {
         moments = both (IsEarly old) (while (IsEarly old) (own_early old pending)) (weaker _ _ early_from u.moments);

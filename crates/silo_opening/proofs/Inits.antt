@@ -13,7 +13,7 @@ use Rattle.program_file.specs.Programs.{text_limit, program_in}
 use Rattle.program_file.specs.Answers.{named_place, IsFaultOf}
 use Rattle.silo_spec.specs.Silos.{manager, program_file, IsSilo, IsNewSilo}
 use Rattle.silo_spec.specs.Moments.{IsUntouched}
-use Rattle.silo_spec.specs.Making.{StaysBeside, Makes}
+use Rattle.silo_spec.specs.Making.{StaysBeside, CameThisFar}
 use Rattle.promise_spec.specs.Logs.{magic}
 use Rattle.promise_spec.specs.Words.{Manner}
 use Rattle.promise_spec.specs.Commands.{MakesSilo, MakesAs, IsProgramText}
@@ -84,7 +84,7 @@ module _ (A : Type 0) (manner : Manner) (asked : List (List ℕ)) (old mid : Wor
       → MakesSilo (ended_with manner asked old mid before after (failed {A = A} (in_program fault (named_place fault))))
   program_refused fault end small is = program_by fault (named_place fault) end small is
 
-  module _ (new : World) (beside : StaysBeside mid new) (makes : Makes magic old.input mid new) (kept : IsSilo magic (mid.disk manager).seen → IsUntouched mid new) (text : IsProgramText (ended_with {A = A} manner asked old new before after (Err InitFault.Memory))) where
+  module _ (new : World) (beside : StaysBeside mid new) (makes : CameThisFar magic old.input mid new) (kept : IsSilo magic (mid.disk manager).seen → IsUntouched mid new) (text : IsProgramText (ended_with {A = A} manner asked old new before after (Err InitFault.Memory))) where
     -- the manager file is as it was at first
     same_log : (mid.disk manager).seen ≡ (old.disk manager).seen
     same_log = ap (λ (d : Disk). (d manager).seen) disk

@@ -6,7 +6,7 @@ use Rattle.gate_block.specs.Log.{first_gate}
 use Rattle.silo_spec.specs.Silos.{manager, program_file, IsSilo, HasProgram, IsNewSilo, new_header}
 use Rattle.promise_spec.specs.Logs.{magic}
 use Rattle.silo_spec.specs.Moments.{IsUntouched}
-use Rattle.silo_spec.specs.Making.{IsMade, IsNewAt, IsUnsynced, FromFirstSync, Makes}
+use Rattle.silo_spec.specs.Making.{IsMade, IsNewAt, IsUnsynced, FromFirstSync, CameThisFar}
 use Rattle.silo_opening.specs.Steps.{HasNoSilo}
 use Rattle.silo_opening.proofs.Closing.{first_then, first_weaker}
 use Rattle.silo_opening.proofs.Filling.{new_log, new_silo}
@@ -43,12 +43,12 @@ no_silo_new : (text : List ℕ) (m : Moment) → HasNoSilo magic m → IsNewAt m
 no_silo_new text m none image is silo = absurd (none image is silo)
 
 -- the first two steps came so far
-pub so_far : (text : List ℕ) (old new : World) → IsUntouched old new ⊎ (IsUnsynced old new ⊎ FromFirstSync (HasNoSilo magic) old new) → Makes magic text old new
+pub so_far : (text : List ℕ) (old new : World) → IsUntouched old new ⊎ (IsUnsynced old new ⊎ FromFirstSync (HasNoSilo magic) old new) → CameThisFar magic text old new
 so_far text old new (inl untouched) = inl untouched
 so_far text old new (inr (inl unsynced)) = inr (inl unsynced)
 so_far text old new (inr (inr first)) = inr (inr (first_weaker (HasNoSilo magic) (IsNewAt magic text) old new (no_silo_new text) first))
 
 -- and the later ones behind them
-pub came_on : (text : List ℕ) (old mid new : World) → FromFirstSync (HasNoSilo magic) old mid → Passes (IsNewAt magic text) mid.past new.past → IsNewAt magic text (moment_of new) → Makes magic text old new
+pub came_on : (text : List ℕ) (old mid new : World) → FromFirstSync (HasNoSilo magic) old mid → Passes (IsNewAt magic text) mid.past new.past → IsNewAt magic text (moment_of new) → CameThisFar magic text old new
 came_on text old mid new first moments now =
     inr (inr (first_then (IsNewAt magic text) old mid new (first_weaker (HasNoSilo magic) (IsNewAt magic text) old mid (no_silo_new text) first) moments now))

@@ -13,11 +13,11 @@ abbrev pub IsNamedOtherwise : List ℕ → List ℕ → Type 0
 IsNamedOtherwise magic file = (length file < 16) ⊎ (take 8 (drop 1 file) ≢ magic)
 
 -- what the first bytes of a manager file say
-abbrev pub IsFront : List ℕ → Front → List ℕ → Type 0
-IsFront magic Empty file = file ≡ []
-IsFront magic Silo file = IsSilo magic file
-IsFront magic Open file = (0 < length file) × IsNamedOtherwise magic file
-IsFront magic Closed file = (0 < length file) × (slice_index file 0 ≢ 1)
+abbrev pub ShowsFront : List ℕ → Front → List ℕ → Type 0
+ShowsFront magic Empty file = file ≡ []
+ShowsFront magic Silo file = IsSilo magic file
+ShowsFront magic Open file = (0 < length file) × IsNamedOtherwise magic file
+ShowsFront magic Closed file = (0 < length file) × (slice_index file 0 ≢ 1)
 
 -- the manager file is as it was, or what was read of it lasts now
 abbrev pub IsLookedAt : FileState → FileState → Type 0

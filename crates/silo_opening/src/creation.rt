@@ -13,8 +13,8 @@ ghost use Rattle.silo_spec.specs.Moments.{IsUntouched};
 ghost use Rattle.silo_opening.specs.declared.faults.CreateFault.{CreateFault};
 ghost use Rattle.silo_opening.specs.declared.creation.Front.{Front};
 ghost use Rattle.silo_opening.specs.Counts.{CreateFaulted};
-ghost use Rattle.silo_spec.specs.Making.{IsMade, StaysBeside, IsUnsynced, FromFirstSync, IsNewAt, Makes};
-ghost use Rattle.silo_opening.specs.Steps.{IsFront, Looks, SyncsFor, ClosesBy, MayClose, HasNoSilo, IsShut};
+ghost use Rattle.silo_spec.specs.Making.{IsMade, StaysBeside, IsUnsynced, FromFirstSync, IsNewAt, CameThisFar};
+ghost use Rattle.silo_opening.specs.Steps.{ShowsFront, Looks, SyncsFor, ClosesBy, MayClose, HasNoSilo, IsShut};
 
 use crate::faults::CreateFault;
 use host_trait::{Failed, FileId, Host, read_full, write_synced};
@@ -72,7 +72,7 @@ pub fn create<H: Host>(host: &mut H, program: &[u8]) -> Result<(), CreateFault>
 
     // A crash at any moment leaves a folder of before but for the header gate, until the first sync has succeeded, and
     // from then on no silo or a new one.
-    ensures moments { IsTrue H.tells → Makes magic program.now (H.world host.old) (H.world host.new) }
+    ensures moments { IsTrue H.tells → CameThisFar magic program.now (H.world host.old) (H.world host.new) }
 
     // No other file changes, and no output or input.
     ensures beside { IsTrue H.tells → StaysBeside (H.world host.old) (H.world host.new) }
@@ -127,7 +127,7 @@ fn prepare<H: Host>(host: &mut H) -> Result<(), CreateFault>
 // Step one: looks at the manager file, and makes what it reads last.
 fn look<H: Host>(host: &mut H) -> Result<Front, Failed>
     ensures looks { IsTrue H.tells → Looks (H.world host.old) (H.world host.new) }
-    ensures shows { IfOk result (λ front. IsTrue H.tells → IsFront magic front ((H.world host.old).disk manager).seen) }
+    ensures shows { IfOk result (λ front. IsTrue H.tells → ShowsFront magic front ((H.world host.old).disk manager).seen) }
     ensures syncs { IfOk result (λ front. IsTrue H.tells → SyncsFor front (H.world host.old) (H.world host.new)) }
     ensures faults { Counted (File manager) result (H.faults host.old) (H.faults host.new) }
     ensures ready { StaysReady (H.is_ready host.old) (H.is_ready host.new) }
@@ -143,7 +143,7 @@ fn look<H: Host>(host: &mut H) -> Result<Front, Failed>
 // What the first bytes of a manager file that has bytes say.
 fn read_front<H: Host>(host: &mut H) -> Result<Front, Failed>
     requires { IsTrue H.tells → 0 < length ((H.world host.old).disk manager).seen }
-    ensures shows { IfOk result (λ front. IsTrue H.tells → IsFront magic front ((H.world host.old).disk manager).seen) }
+    ensures shows { IfOk result (λ front. IsTrue H.tells → ShowsFront magic front ((H.world host.old).disk manager).seen) }
     ensures some { IfOk result (λ front. front ≢ Front.Empty) }
     ensures asked { IsTrue H.tells → OnlyAsked (H.world host.old) (H.world host.new) }
     ensures faults { Counted (File manager) result (H.faults host.old) (H.faults host.new) }

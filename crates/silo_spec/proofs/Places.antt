@@ -2,7 +2,7 @@
 use Rattle.std.proofs.Common.{◌≡◌, inl, inr, ℕ, ◌+◌, List, [], ◌∷◌, ◌++◌, length, map, refl, sym, ◌∙◌, ap, subst}
 use Rattle.gate_block.specs.Log.{first_gate, open_blocks}
 use Rattle.silo_spec.specs.Units.{Logged, body_of, AreUnits, last_from}
-use Rattle.silo_spec.specs.Damage.{IsBodyAbove, HasBadBlock, HasBadBody, IsDamagedAt}
+use Rattle.silo_spec.specs.Damage.{IsBodyAbove, HasBadBlock, HasBadBody, IsLogDamagedAt}
 use Rattle.silo_spec.proofs.Bodies.{unit_same, body_above}
 
 head_same : (x y : List ℕ) (xs ys : List (List ℕ)) → x ∷ xs ≡ y ∷ ys → x ≡ y
@@ -34,7 +34,7 @@ bodies_there file p q a b =
 apart : (file : List ℕ) (p q : ℕ) → HasBadBlock file p → HasBadBody file q → ⊥
 apart file p q a b = b.broken (body_above a.log b.log 0 b.body b.later a.units b.units (sym a.bodies ∙ b.bodies))
 
-pub one_place : (file : List ℕ) (p q : ℕ) → IsDamagedAt file p → IsDamagedAt file q → p ≡ q
+pub one_place : (file : List ℕ) (p q : ℕ) → IsLogDamagedAt file p → IsLogDamagedAt file q → p ≡ q
 one_place file p q (inl a) (inl b) = a.at ∙ sym b.at
 one_place file p q (inl a) (inr b) = absurd (apart file p q a b)
 one_place file p q (inr a) (inl b) = absurd (apart file q p b a)

@@ -28,5 +28,5 @@ pub record HasBadBody (file : List ℕ) (place : ℕ) : Type 0 where
 
 -- The manager file is damaged at this place: the length field of the first open block that isn't whole, or whose body isn't
 -- that of a unit above the one before it.
-abbrev pub IsDamagedAt : List ℕ → ℕ → Type 0
-IsDamagedAt file place = HasBadBlock file place ⊎ HasBadBody file place
+abbrev pub IsLogDamagedAt : List ℕ → ℕ → Type 0
+IsLogDamagedAt file place = HasBadBlock file place ⊎ HasBadBody file place

@@ -53,5 +53,5 @@ pub record FromFirstSync (P : Moment → Type 0) (old new : World) : Type 0 wher
 
 -- How far a call came: nothing was written at all, or no sync has succeeded yet, or the first has, and from its return
 -- on each image that is a silo is one of this program with an empty log.
-abbrev pub Makes : List ℕ → List ℕ → World → World → Type 0
-Makes magic text old new = IsUntouched old new ⊎ (IsUnsynced old new ⊎ FromFirstSync (IsNewAt magic text) old new)
+abbrev pub CameThisFar : List ℕ → List ℕ → World → World → Type 0
+CameThisFar magic text old new = IsUntouched old new ⊎ (IsUnsynced old new ⊎ FromFirstSync (IsNewAt magic text) old new)

@@ -5,8 +5,8 @@ use Rattle.host_trait.specs.Disk.{MayLeave}
 use Rattle.host_trait.specs.World.{World, Moment, Image, Disk, IsImage, Passes, moment_of}
 use Rattle.silo_spec.specs.Silos.{manager}
 use Rattle.silo_spec.specs.Units.{Logged}
-use Rattle.silo_spec.specs.Logs.{IsLog}
-use Rattle.silo_spec.specs.Journals.{Settlement, units_of, replies_of}
+use Rattle.silo_spec.specs.Logs.{IsCounterLog}
+use Rattle.silo_spec.specs.Journals.{CounterSettlement, units_of, replies_of}
 
 -- this is a first part of these bytes
 abbrev pub IsFrontOf : List ℕ → List ℕ → Type 0
@@ -15,20 +15,20 @@ IsFrontOf front bytes = (rest : List ℕ) × (bytes ≡ front ++ rest)
 -- The journal is cut in three: the lines whose replies are in the output whole, further ones whose units are in the
 -- image's log too, and later ones. The log is the opening log and the units of the first two. Behind the whole replies
 -- the output has a first part of the reply to a line whose unit is logged, or of none.
-pub record Keeps (magic : List ℕ) (opening : List Logged) (journal : List Settlement) (before : List ℕ) (m : Moment) (image : Image) : Type 0 where
-  pub said : List Settlement
-  pub unsaid : List Settlement
-  pub later : List Settlement
+pub record KeepsCounters (magic : List ℕ) (opening : List Logged) (journal : List CounterSettlement) (before : List ℕ) (m : Moment) (image : Image) : Type 0 where
+  pub said : List CounterSettlement
+  pub unsaid : List CounterSettlement
+  pub later : List CounterSettlement
   pub cut : journal ≡ said ++ (unsaid ++ later)
   pub gate : ℕ
-  pub log : IsLog magic image (opening ++ units_of (said ++ unsaid)) gate
+  pub log : IsCounterLog magic image (opening ++ units_of (said ++ unsaid)) gate
   pub rest : List ℕ
   pub front : IsFrontOf rest (replies_of unsaid)
   pub output : m.output ≡ before ++ (replies_of said ++ rest)
 
 -- each image of the moment keeps the journal
-abbrev pub AllKeep : List ℕ → List Logged → List Settlement → List ℕ → Moment → Type 0
-AllKeep magic opening journal before m = (image : Image) → IsImage m.disk image → Keeps magic opening journal before m image
+abbrev pub AllKeepCounters : List ℕ → List Logged → List CounterSettlement → List ℕ → Moment → Type 0
+AllKeepCounters magic opening journal before m = (image : Image) → IsImage m.disk image → KeepsCounters magic opening journal before m image
 
 -- nothing was emitted, and each image is one of those at entry
 pub record IsAsAtEntry (old : World) (m : Moment) : Type 0 where

@@ -6,14 +6,14 @@ use Rattle.host_trait.specs.World.{World, Moment, Image, IsImage, moment_of}
 use Rattle.host_trait.proofs.Moments.{weaker, in_turn}
 use Rattle.silo_spec.specs.Silos.{manager, program_file, counter_magic, IsSilo, IsNewSilo}
 use Rattle.silo_spec.specs.declared.units.Logged.{Logged}
-use Rattle.silo_spec.specs.Logs.{IsLog}
-use Rattle.silo_spec.specs.Damage.{IsDamagedAt}
+use Rattle.silo_spec.specs.Logs.{IsCounterLog}
+use Rattle.silo_spec.specs.Damage.{IsLogDamagedAt}
 use Rattle.silo_spec.specs.Journals.{journal_of}
-use Rattle.silo_spec.specs.Moments.{AllKeep, IsUntouched, KeepsOthers, OnlyLogChanges, KeepsHeader}
-use Rattle.silo_spec.specs.Settling.{Stands}
+use Rattle.silo_spec.specs.Moments.{AllKeepCounters, IsUntouched, KeepsOthers, OnlyLogChanges, KeepsHeader}
+use Rattle.silo_spec.specs.Settling.{CounterStands}
 use Rattle.opening.specs.declared.faults.CreateFault.{CreateFault}
 use Rattle.opening.specs.declared.faults.CreateFault.TheVariants as faults
-use Rattle.silo_spec.specs.Making.{Makes, IsMade, StaysBeside}
+use Rattle.silo_spec.specs.Making.{CameThisFar, IsMade, StaysBeside}
 use Rattle.silo_top.specs.declared.status.Status.{Status}
 use Rattle.silo_top.specs.declared.status.Status.TheVariants.{Done, BadUse, Memory, ReadFault, WriteFault, DiskFault, NotASilo, AlreadyASilo, Damaged, InputTooLong}
 use Rattle.silo_top.specs.Runs.{counter_program, input_limit, IsMaking, EndsAs, IsServed, IsCarried}
@@ -40,11 +40,11 @@ fault_file : (a b : FileId) → faults.DiskFault a ≡ faults.DiskFault b → a 
 fault_file a b is = cc
 
 -- a new silo was made
-pub made_new : (old new : World) (text : List ℕ) (x : Unit {0}) → text ≡ counter_program → Makes counter_magic text old new → StaysBeside old new
+pub made_new : (old new : World) (text : List ℕ) (x : Unit {0}) → text ≡ counter_program → CameThisFar counter_magic text old new → StaysBeside old new
     → (IsSilo counter_magic (old.disk manager).seen → (fine x ≡ Err faults.AlreadyASilo) ⊎ (fine x ≡ Err (faults.DiskFault manager)))
     → ((image : Image) → IsImage new.disk image → IsNewSilo counter_magic text image) → IsMade counter_magic text new.disk → IsMaking Done old new
 made_new old new text x is moments beside named made files = record {
-  moments = subst (λ (t : List ℕ). Makes counter_magic t old new) is moments;
+  moments = subst (λ (t : List ℕ). CameThisFar counter_magic t old new) is moments;
   beside = beside;
   ends = (
     λ silo. elim (named silo) [ inl e ↦ no_fault x faults.AlreadyASilo e | inr e ↦ no_fault x (faults.DiskFault manager) e ],
@@ -54,11 +54,11 @@ made_new old new text x is moments beside named made files = record {
 }
 
 -- a call on a file failed
-pub made_in_part : (old new : World) (text : List ℕ) (file : FileId) (e : CreateFault) → e ≡ faults.DiskFault file → ((file ≡ manager) ⊎ (file ≡ program_file)) → text ≡ counter_program → Makes counter_magic text old new → StaysBeside old new
+pub made_in_part : (old new : World) (text : List ℕ) (file : FileId) (e : CreateFault) → e ≡ faults.DiskFault file → ((file ≡ manager) ⊎ (file ≡ program_file)) → text ≡ counter_program → CameThisFar counter_magic text old new → StaysBeside old new
     → (IsSilo counter_magic (old.disk manager).seen → (failed e ≡ Err faults.AlreadyASilo) ⊎ (failed e ≡ Err (faults.DiskFault manager)))
     → (IsSilo counter_magic (old.disk manager).seen → IsUntouched old new) → IsMaking (DiskFault file) old new
 made_in_part old new text file e fault which is moments beside named untouched = record {
-  moments = subst (λ (t : List ℕ). Makes counter_magic t old new) is moments;
+  moments = subst (λ (t : List ℕ). CameThisFar counter_magic t old new) is moments;
   beside = beside;
   ends = (
     which,
@@ -75,11 +75,11 @@ made_in_part old new text file e fault which is moments beside named untouched =
 -- ---- run
 
 -- where opening ends the log stands
-pub opened_stands : (w0 w1 : World) (log : List Logged) (gate : ℕ) → ((file : FileId) → MayLeave (w1.disk file) (w1.disk file).seen) → ((image : Image) → IsImage w1.disk image → IsLog counter_magic image log gate)
-    → w1.disk manager ≡ settled (w0.disk manager).seen → Stands counter_magic log gate w1.disk
+pub opened_stands : (w0 w1 : World) (log : List Logged) (gate : ℕ) → ((file : FileId) → MayLeave (w1.disk file) (w1.disk file).seen) → ((image : Image) → IsImage w1.disk image → IsCounterLog counter_magic image log gate)
+    → w1.disk manager ≡ settled (w0.disk manager).seen → CounterStands counter_magic log gate w1.disk
 opened_stands w0 w1 log gate stay logs lasts =
     let seen : Image = λ file. (w1.disk file).seen in
-    let has : IsLog counter_magic seen log gate = logs seen stay in
+    let has : IsCounterLog counter_magic seen log gate = logs seen stay in
     record {
       still = lasts ∙ ap (λ (s : FileState). settled s.seen) (sym lasts);
       silo = has.silo;
@@ -114,10 +114,10 @@ ends_from (Damaged file place) opening w0 w1 w2 input output ends = ends
 ends_from (InputTooLong line) opening w0 w1 w2 input output ends = (unbegun_from opening w0 w1 w2 output ends.0, ends.1, subst (λ (b : List ℕ). input_limit < length b) input ends.2)
 
 -- a silo was opened and served
-pub carried : (status : Status) (w0 w1 w2 : World) (log : List Logged) (gate : ℕ) → ((file : FileId) → MayLeave (w1.disk file) (w1.disk file).seen) → IsUntouched w0 w1 → w1.input ≡ w0.input → ((image : Image) → IsImage w1.disk image → IsLog counter_magic image log gate)
-    → ((place : ℕ) → IsDamagedAt (w0.disk manager).seen place → ⊥) → KeepsOthers w0.disk (moment_of w1) → OnlyLogChanges w1 w2 → KeepsHeader (take 15 (w0.disk manager).seen) w1 w2 → IsServed status log w1 w2 → IsCarried status w0 w2
+pub carried : (status : Status) (w0 w1 w2 : World) (log : List Logged) (gate : ℕ) → ((file : FileId) → MayLeave (w1.disk file) (w1.disk file).seen) → IsUntouched w0 w1 → w1.input ≡ w0.input → ((image : Image) → IsImage w1.disk image → IsCounterLog counter_magic image log gate)
+    → ((place : ℕ) → IsLogDamagedAt (w0.disk manager).seen place → ⊥) → KeepsOthers w0.disk (moment_of w1) → OnlyLogChanges w1 w2 → KeepsHeader (take 15 (w0.disk manager).seen) w1 w2 → IsServed status log w1 w2 → IsCarried status w0 w2
 carried status w0 w1 w2 log gate stay untouched input logs undamaged others after headed served =
-    let keeps : (m : Moment) → AllKeep counter_magic log (journal_of log w1.input) w1.output m → AllKeep counter_magic log (journal_of log w0.input) w0.output m =
+    let keeps : (m : Moment) → AllKeepCounters counter_magic log (journal_of log w1.input) w1.output m → AllKeepCounters counter_magic log (journal_of log w0.input) w0.output m =
     seen_from log (journal_of log w1.input) (journal_of log w0.input) w1.output w0.output (ap (λ (b : List ℕ). journal_of log b) input) untouched.now.quiet in
     let beside : (m : Moment) → KeepsOthers w1.disk m → KeepsOthers w0.disk m = λ m keeps_others file other. keeps_others file other ∙ others file other in
     record {

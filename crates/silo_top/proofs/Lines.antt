@@ -11,9 +11,9 @@ use Rattle.silo_spec.specs.Silos.{manager, counter_magic}
 use Rattle.silo_spec.specs.declared.units.Logged.{Logged}
 use Rattle.silo_spec.specs.Units.{IsUnit, AreUnits, last_from, after_logged, replayed_from, replayed}
 use Rattle.silo_spec.specs.Totals.{Totals, no_totals, totals_after}
-use Rattle.silo_spec.specs.Journals.{Settlement, settlement_of, settlements_from, journal_of, units_of, replies_of, logged_by}
-use Rattle.silo_spec.specs.Moments.{AllKeep}
-use Rattle.silo_spec.specs.Settling.{Stands, IsSettling}
+use Rattle.silo_spec.specs.Journals.{CounterSettlement, settlement_of, settlements_from, journal_of, units_of, replies_of, logged_by}
+use Rattle.silo_spec.specs.Moments.{AllKeepCounters}
+use Rattle.silo_spec.specs.Settling.{CounterStands, IsSettling}
 use Rattle.silo_spec.specs.Ends.{IsCut, IsInDoubt}
 use Rattle.silo_top.specs.Settled.{IsReplied, IsReplyCut}
 use Rattle.silo_top.proofs.Standing.{stands_as, stands_closed, logs_as, stands_images, none_sealing}
@@ -21,22 +21,22 @@ use Rattle.silo_top.proofs.Settles.{unsettled}
 
 -- ---- lists of settlements
 
-units_of-append : (a b : List Settlement) → units_of (a ++ b) ≡ units_of a ++ units_of b
+units_of-append : (a b : List CounterSettlement) → units_of (a ++ b) ≡ units_of a ++ units_of b
 units_of-append [] b = refl
 units_of-append (s ∷ a) b = ap (λ (l : List Logged). s.logged ++ l) (units_of-append a b) ∙ sym (append_assoc s.logged (units_of a) (units_of b))
 
-replies_of-append : (a b : List Settlement) → replies_of (a ++ b) ≡ replies_of a ++ replies_of b
+replies_of-append : (a b : List CounterSettlement) → replies_of (a ++ b) ≡ replies_of a ++ replies_of b
 replies_of-append [] b = refl
 replies_of-append (s ∷ a) b = ap (λ (l : List ℕ). s.reply ++ l) (replies_of-append a b) ∙ sym (append_assoc s.reply (replies_of a) (replies_of b))
 
 -- the log with the units of one line more
-pub log_push : (opening : List Logged) (said : List Settlement) (s : Settlement) → opening ++ units_of (said ++ s ∷ []) ≡ (opening ++ units_of said) ++ s.logged
+pub log_push : (opening : List Logged) (said : List CounterSettlement) (s : CounterSettlement) → opening ++ units_of (said ++ s ∷ []) ≡ (opening ++ units_of said) ++ s.logged
 log_push opening said s =
     ap (λ (l : List Logged). opening ++ l) (units_of-append said (s ∷ []) ∙ ap (λ (l : List Logged). units_of said ++ l) (append-nil s.logged))
     ∙ sym (append_assoc opening (units_of said) s.logged)
 
 -- the output with one reply more
-pub output_push : (before : List ℕ) (said : List Settlement) (s : Settlement) → before ++ replies_of (said ++ s ∷ []) ≡ (before ++ replies_of said) ++ s.reply
+pub output_push : (before : List ℕ) (said : List CounterSettlement) (s : CounterSettlement) → before ++ replies_of (said ++ s ∷ []) ≡ (before ++ replies_of said) ++ s.reply
 output_push before said s =
     ap (λ (l : List ℕ). before ++ l) (replies_of-append said (s ∷ []) ∙ ap (λ (l : List ℕ). replies_of said ++ l) (append-nil s.reply))
     ∙ sym (append_assoc before (replies_of said) s.reply)
@@ -80,8 +80,8 @@ opening_last opening = sym (replayed_last no_totals opening)
 
 -- ---- what the images keep while a line is settled
 
-module _ (opening : List Logged) (journal said : List Settlement) (s : Settlement) (later : List Settlement) (before : List ℕ) (cut : journal ≡ said ++ (s ∷ later)) where
-  pub keeps_settling : (m : Moment) → IsSettling counter_magic (opening ++ units_of said) s (before ++ replies_of said) m → AllKeep counter_magic opening journal before m
+module _ (opening : List Logged) (journal said : List CounterSettlement) (s : CounterSettlement) (later : List CounterSettlement) (before : List ℕ) (cut : journal ≡ said ++ (s ∷ later)) where
+  pub keeps_settling : (m : Moment) → IsSettling counter_magic (opening ++ units_of said) s (before ++ replies_of said) m → AllKeepCounters counter_magic opening journal before m
   keeps_settling m settling image left = elim (settling image left) [
     | inl old ↦ record {
       said = said;
@@ -89,7 +89,7 @@ module _ (opening : List Logged) (journal said : List Settlement) (s : Settlemen
       later = s ∷ later;
       cut = cut;
       gate = old.gate;
-      log = logs_as counter_magic _ _ old.gate image (ap (λ (l : List Settlement). opening ++ units_of l) (sym (append-nil said))) old.has;
+      log = logs_as counter_magic _ _ old.gate image (ap (λ (l : List CounterSettlement). opening ++ units_of l) (sym (append-nil said))) old.has;
       rest = [];
       front = ([], refl);
       output = old.output ∙ ap (λ (l : List ℕ). before ++ l) (sym (append-nil (replies_of said)));
@@ -108,14 +108,14 @@ module _ (opening : List Logged) (journal said : List Settlement) (s : Settlemen
   ]
 
 -- an image keeps the journal between two lines
-pub keeps_standing : (opening : List Logged) (journal said later : List Settlement) (before : List ℕ) (gate : ℕ) (m : Moment) → journal ≡ said ++ later → Stands counter_magic (opening ++ units_of said) gate m.disk → m.output ≡ before ++ replies_of said → AllKeep counter_magic opening journal before m
+pub keeps_standing : (opening : List Logged) (journal said later : List CounterSettlement) (before : List ℕ) (gate : ℕ) (m : Moment) → journal ≡ said ++ later → CounterStands counter_magic (opening ++ units_of said) gate m.disk → m.output ≡ before ++ replies_of said → AllKeepCounters counter_magic opening journal before m
 keeps_standing opening journal said later before gate m cut stands output image left = record {
   said = said;
   unsaid = [];
   later = later;
   cut = cut;
   gate = gate;
-  log = logs_as counter_magic _ _ gate image (ap (λ (l : List Settlement). opening ++ units_of l) (sym (append-nil said))) (stands_images counter_magic (opening ++ units_of said) gate m.disk stands image left);
+  log = logs_as counter_magic _ _ gate image (ap (λ (l : List CounterSettlement). opening ++ units_of l) (sym (append-nil said))) (stands_images counter_magic (opening ++ units_of said) gate m.disk stands image left);
   rest = [];
   front = ([], refl);
   output = output ∙ ap (λ (l : List ℕ). before ++ l) (sym (append-nil (replies_of said)));
@@ -124,14 +124,14 @@ keeps_standing opening journal said later before gate m cut stands output image 
 -- ---- where a run stands between two lines
 
 pub record Progress (opening : List Logged) (input : List ℕ) (old now : World) (totals : Totals) (n : ℕ) (rest : List ℕ) (gate : ℕ) : Type 0 where
-  pub said : List Settlement
+  pub said : List CounterSettlement
   pub cut : journal_of opening input ≡ said ++ settlements_from totals n (lines_of rest)
-  pub stands : Stands counter_magic (opening ++ units_of said) gate now.disk
+  pub stands : CounterStands counter_magic (opening ++ units_of said) gate now.disk
   pub last : last_from 0 (opening ++ units_of said) ≡ totals.units
   pub output : now.output ≡ old.output ++ replies_of said
-  pub moments : Passes (AllKeep counter_magic opening (journal_of opening input) old.output) old.past now.past
+  pub moments : Passes (AllKeepCounters counter_magic opening (journal_of opening input) old.output) old.past now.past
 
-pub progress_begun : (opening : List Logged) (input : List ℕ) (old : World) (totals : Totals) (gate : ℕ) → Stands counter_magic opening gate old.disk → totals ≡ replayed opening → Progress opening input old old totals 1 input gate
+pub progress_begun : (opening : List Logged) (input : List ℕ) (old : World) (totals : Totals) (gate : ℕ) → CounterStands counter_magic opening gate old.disk → totals ≡ replayed opening → Progress opening input old old totals 1 input gate
 progress_begun opening input old totals gate stands is = record {
   said = [];
   cut = ap (λ (t : Totals). settlements_from t 1 (lines_of input)) (sym is);
@@ -146,13 +146,13 @@ pub gate_closed : (opening : List Logged) (input : List ℕ) (old now : World) (
 gate_closed opening input old now totals n rest gate p = stands_closed counter_magic (opening ++ units_of p.said) gate now.disk p.stands
 
 module _ (opening : List Logged) (input : List ℕ) (old now : World) (totals : Totals) (n : ℕ) (rest : List ℕ) (gate : ℕ) (line tail : List ℕ) (p : Progress opening input old now totals n rest gate) (first : lines_of rest ≡ line ∷ lines_of tail) where
-  s : Settlement
+  s : CounterSettlement
   s = settlement_of totals n line
 
   cut_here : journal_of opening input ≡ p.said ++ (settlement_of totals n line ∷ settlements_from (totals_after totals (request_of line)) (n + 1) (lines_of tail))
   cut_here = p.cut ∙ ap (λ (l : List (List ℕ)). p.said ++ settlements_from totals n l) first
 
-  pub line_moments : (next : World) → Passes (IsSettling counter_magic (opening ++ units_of p.said) (settlement_of totals n line) now.output) now.past next.past → Passes (AllKeep counter_magic opening (journal_of opening input) old.output) old.past next.past
+  pub line_moments : (next : World) → Passes (IsSettling counter_magic (opening ++ units_of p.said) (settlement_of totals n line) now.output) now.past next.past → Passes (AllKeepCounters counter_magic opening (journal_of opening input) old.output) old.past next.past
   line_moments next settling = both _ p.moments (weaker _ _ (λ m settles.
       keeps_settling opening (journal_of opening input) p.said (settlement_of totals n line) _ old.output cut_here m
       (subst (λ (o : List ℕ). IsSettling counter_magic (opening ++ units_of p.said) (settlement_of totals n line) o m) p.output settles)) settling)
@@ -198,7 +198,7 @@ module _ (opening : List Logged) (input : List ℕ) (old now : World) (totals : 
   }
 
 -- before a line is settled nothing of it is there
-pub not_settled : (log : List Logged) (s : Settlement) (gate : ℕ) (w : World) → Stands counter_magic log gate w.disk → IsSettling counter_magic log s w.output (moment_of w)
+pub not_settled : (log : List Logged) (s : CounterSettlement) (gate : ℕ) (w : World) → CounterStands counter_magic log gate w.disk → IsSettling counter_magic log s w.output (moment_of w)
 not_settled log s gate w stands = unsettled log s w.output (moment_of w) (none_sealing log gate w stands s.logged)
 
 -- a unit below the limit has a number after it

@@ -4,10 +4,10 @@ use Rattle.host_trait.specs.World.{World, Moment, Passes, moment_of}
 use Rattle.host_trait.proofs.Moments.{both, weaker, same_moment}
 use Rattle.silo_spec.specs.Silos.{manager, counter_magic}
 use Rattle.silo_spec.specs.declared.units.Logged.{Logged}
-use Rattle.silo_spec.specs.Journals.{Settlement, journal_of, units_of, replies_of}
-use Rattle.silo_spec.specs.Moments.{AllKeep}
-use Rattle.silo_spec.specs.Settling.{Stands, IsSettling}
-use Rattle.silo_spec.specs.Ends.{IsUnbegun, IsDone, IsStopped, IsCut, IsInDoubt}
+use Rattle.silo_spec.specs.Journals.{CounterSettlement, journal_of, units_of, replies_of}
+use Rattle.silo_spec.specs.Moments.{AllKeepCounters}
+use Rattle.silo_spec.specs.Settling.{CounterStands, IsSettling}
+use Rattle.silo_spec.specs.Ends.{IsUnbegun, IsCounterDone, IsStopped, IsCut, IsInDoubt}
 use Rattle.silo_top.specs.declared.status.Status.TheVariants.{Done, Memory, ReadFault, WriteFault, DiskFault, InputTooLong}
 use Rattle.silo_top.specs.Runs.{input_limit, IsServed}
 use Rattle.silo_top.proofs.Standing.{stands_as, stands_on, stands_images}
@@ -16,15 +16,15 @@ use Rattle.silo_top.proofs.Lines.{keeps_settling, keeps_standing}
 -- ---- what each end keeps
 
 -- all lines are carried
-done_keeps : (opening : List Logged) (journal : List Settlement) (old new : World) → IsDone counter_magic opening journal old new → AllKeep counter_magic opening journal old.output (moment_of new)
+done_keeps : (opening : List Logged) (journal : List CounterSettlement) (old new : World) → IsCounterDone counter_magic opening journal old new → AllKeepCounters counter_magic opening journal old.output (moment_of new)
 done_keeps opening journal old new d = keeps_standing opening journal journal [] old.output d.gate (moment_of new) (sym (append-nil journal)) d.stands d.output
 
 -- a first part of the lines is carried
-stopped_keeps : (opening : List Logged) (journal : List Settlement) (old new : World) → IsStopped counter_magic opening journal old new → AllKeep counter_magic opening journal old.output (moment_of new)
+stopped_keeps : (opening : List Logged) (journal : List CounterSettlement) (old new : World) → IsStopped counter_magic opening journal old new → AllKeepCounters counter_magic opening journal old.output (moment_of new)
 stopped_keeps opening journal old new s = keeps_standing opening journal s.said s.later old.output s.gate (moment_of new) s.cut s.stands s.output
 
 -- and a first part of one more reply is in the output
-cut_keeps : (opening : List Logged) (journal : List Settlement) (old new : World) → IsCut counter_magic opening journal old new → AllKeep counter_magic opening journal old.output (moment_of new)
+cut_keeps : (opening : List Logged) (journal : List CounterSettlement) (old new : World) → IsCut counter_magic opening journal old new → AllKeepCounters counter_magic opening journal old.output (moment_of new)
 cut_keeps opening journal old new c =
     let settling : IsSettling counter_magic (opening ++ units_of c.said) c.last (old.output ++ replies_of c.said) (moment_of new) = λ image left. inr (record {
       gate = c.gate;
@@ -36,7 +36,7 @@ cut_keeps opening journal old new c =
     keeps_settling opening journal c.said c.last c.later old.output c.cut (moment_of new) settling
 
 -- or one more unit may be logged
-doubt_keeps : (opening : List Logged) (journal : List Settlement) (old new : World) → IsInDoubt counter_magic opening journal old new → AllKeep counter_magic opening journal old.output (moment_of new)
+doubt_keeps : (opening : List Logged) (journal : List CounterSettlement) (old new : World) → IsInDoubt counter_magic opening journal old new → AllKeepCounters counter_magic opening journal old.output (moment_of new)
 doubt_keeps opening journal old new d =
     let settling : IsSettling counter_magic (opening ++ units_of d.said) d.last (old.output ++ replies_of d.said) (moment_of new) = λ image left. elim (d.images image left) [
       | inl without ↦ inl (record { gate = without.0; has = without.1; output = d.output })
@@ -46,12 +46,12 @@ doubt_keeps opening journal old new d =
 
 -- ---- the same from an earlier entry, since which nothing was emitted
 
-pub seen_from : (opening : List Logged) (j k : List Settlement) (before from : List ℕ) → j ≡ k → before ≡ from → (m : Moment) → AllKeep counter_magic opening j before m → AllKeep counter_magic opening k from m
-seen_from opening j k before from same output m keeps = subst (λ (o : List ℕ). AllKeep counter_magic opening k o m) output (subst (λ (l : List Settlement). AllKeep counter_magic opening l before m) same keeps)
+pub seen_from : (opening : List Logged) (j k : List CounterSettlement) (before from : List ℕ) → j ≡ k → before ≡ from → (m : Moment) → AllKeepCounters counter_magic opening j before m → AllKeepCounters counter_magic opening k from m
+seen_from opening j k before from same output m keeps = subst (λ (o : List ℕ). AllKeepCounters counter_magic opening k o m) output (subst (λ (l : List CounterSettlement). AllKeepCounters counter_magic opening l before m) same keeps)
 
-module _ (opening : List Logged) (j k : List Settlement) (w0 w1 w2 : World) (same : j ≡ k) (output : w1.output ≡ w0.output) where
-  pub done_from : IsDone counter_magic opening j w1 w2 → IsDone counter_magic opening k w0 w2
-  done_from d = subst (λ (l : List Settlement). IsDone counter_magic opening l w0 w2) same (record { gate = d.gate; stands = d.stands; output = d.output ∙ ap (λ (o : List ℕ). o ++ replies_of j) output })
+module _ (opening : List Logged) (j k : List CounterSettlement) (w0 w1 w2 : World) (same : j ≡ k) (output : w1.output ≡ w0.output) where
+  pub done_from : IsCounterDone counter_magic opening j w1 w2 → IsCounterDone counter_magic opening k w0 w2
+  done_from d = subst (λ (l : List CounterSettlement). IsCounterDone counter_magic opening l w0 w2) same (record { gate = d.gate; stands = d.stands; output = d.output ∙ ap (λ (o : List ℕ). o ++ replies_of j) output })
 
   pub stopped_from : IsStopped counter_magic opening j w1 w2 → IsStopped counter_magic opening k w0 w2
   stopped_from s = record { said = s.said; later = s.later; cut = sym same ∙ s.cut; gate = s.gate; stands = s.stands; output = s.output ∙ ap (λ (o : List ℕ). o ++ replies_of s.said) output }
@@ -67,17 +67,17 @@ unbegun_from opening w0 w1 w2 output u = record { gate = u.gate; stands = u.stan
 
 -- ---- before the first line
 
-module _ (opening : List Logged) (gate : ℕ) (w0 w1 : World) (stands : Stands counter_magic opening gate w0.disk) (output : w1.output ≡ w0.output) (disk : w1.disk ≡ w0.disk) (reading : Passes (λ m. m ≡ moment_of w0) w0.past w1.past) where
-  keeps_first : AllKeep counter_magic opening (journal_of opening w0.input) w0.output (moment_of w0)
+module _ (opening : List Logged) (gate : ℕ) (w0 w1 : World) (stands : CounterStands counter_magic opening gate w0.disk) (output : w1.output ≡ w0.output) (disk : w1.disk ≡ w0.disk) (reading : Passes (λ m. m ≡ moment_of w0) w0.past w1.past) where
+  keeps_first : AllKeepCounters counter_magic opening (journal_of opening w0.input) w0.output (moment_of w0)
   keeps_first = keeps_standing opening (journal_of opening w0.input) [] (journal_of opening w0.input) w0.output gate (moment_of w0) refl (stands_as counter_magic opening (opening ++ []) gate w0.disk (sym (append-nil opening)) stands) (sym (append-nil w0.output))
 
-  read_moments : Passes (AllKeep counter_magic opening (journal_of opening w0.input) w0.output) w0.past w1.past
-  read_moments = weaker _ _ (λ m is. subst (λ (n : Moment). AllKeep counter_magic opening (journal_of opening w0.input) w0.output n) (sym is) keeps_first) reading
+  read_moments : Passes (AllKeepCounters counter_magic opening (journal_of opening w0.input) w0.output) w0.past w1.past
+  read_moments = weaker _ _ (λ m is. subst (λ (n : Moment). AllKeepCounters counter_magic opening (journal_of opening w0.input) w0.output n) (sym is) keeps_first) reading
 
-  read_now : AllKeep counter_magic opening (journal_of opening w0.input) w0.output (moment_of w1)
-  read_now = subst (λ (n : Moment). AllKeep counter_magic opening (journal_of opening w0.input) w0.output n) (sym (same_moment w0 w1 output disk)) keeps_first
+  read_now : AllKeepCounters counter_magic opening (journal_of opening w0.input) w0.output (moment_of w1)
+  read_now = subst (λ (n : Moment). AllKeepCounters counter_magic opening (journal_of opening w0.input) w0.output n) (sym (same_moment w0 w1 output disk)) keeps_first
 
-  read_stands : Stands counter_magic opening gate w1.disk
+  read_stands : CounterStands counter_magic opening gate w1.disk
   read_stands = stands_on counter_magic opening gate w0.disk w1.disk disk stands
 
   unbegun : IsUnbegun counter_magic opening w0 w1
@@ -107,18 +107,18 @@ module _ (opening : List Logged) (gate : ℕ) (w0 w1 : World) (stands : Stands c
 
   -- ---- the lines
 
-  module _ (w2 : World) (bytes : List ℕ) (whole : w0.input ≡ bytes) (carrying : Passes (AllKeep counter_magic opening (journal_of opening bytes) w1.output) w1.past w2.past) where
+  module _ (w2 : World) (bytes : List ℕ) (whole : w0.input ≡ bytes) (carrying : Passes (AllKeepCounters counter_magic opening (journal_of opening bytes) w1.output) w1.past w2.past) where
     journal_same : journal_of opening bytes ≡ journal_of opening w0.input
     journal_same = ap (λ (b : List ℕ). journal_of opening b) (sym whole)
 
-    from_entry : (m : Moment) → AllKeep counter_magic opening (journal_of opening bytes) w1.output m → AllKeep counter_magic opening (journal_of opening w0.input) w0.output m
+    from_entry : (m : Moment) → AllKeepCounters counter_magic opening (journal_of opening bytes) w1.output m → AllKeepCounters counter_magic opening (journal_of opening w0.input) w0.output m
     from_entry = seen_from opening (journal_of opening bytes) (journal_of opening w0.input) w1.output w0.output journal_same output
 
-    all_moments : Passes (AllKeep counter_magic opening (journal_of opening w0.input) w0.output) w0.past w2.past
+    all_moments : Passes (AllKeepCounters counter_magic opening (journal_of opening w0.input) w0.output) w0.past w2.past
     all_moments = both _ read_moments (weaker _ _ from_entry carrying)
 
     -- all was carried
-    pub served_done : IsDone counter_magic opening (journal_of opening bytes) w1 w2 → w2.input ≡ [] → length w0.input ≤ input_limit → IsServed Done opening w0 w2
+    pub served_done : IsCounterDone counter_magic opening (journal_of opening bytes) w1 w2 → w2.input ≡ [] → length w0.input ≤ input_limit → IsServed Done opening w0 w2
     served_done done end short = record {
       moments = all_moments;
       now = from_entry (moment_of w2) (done_keeps opening (journal_of opening bytes) w1 w2 done);

@@ -5,15 +5,15 @@ use Rattle.host_trait.specs.World.{World, Moment, Emitted, Passes, moment_of}
 use Rattle.host_trait.proofs.Moments.{both, one}
 use Rattle.silo_spec.specs.Silos.{counter_magic}
 use Rattle.silo_spec.specs.declared.units.Logged.{Logged}
-use Rattle.silo_spec.specs.Journals.{Settlement}
+use Rattle.silo_spec.specs.Journals.{CounterSettlement}
 use Rattle.silo_spec.specs.Moments.{IsFrontOf}
-use Rattle.silo_spec.specs.Settling.{Stands, IsSettling}
+use Rattle.silo_spec.specs.Settling.{CounterStands, IsSettling}
 use Rattle.silo_top.specs.Prepared.{IsSealingUnit}
 use Rattle.silo_top.specs.Settled.{IsReplied, IsReplyCut}
 use Rattle.silo_top.proofs.Standing.{stands_images, stands_on}
 
 -- before the reply nothing of it is in the output
-pub unsettled : (log : List Logged) (s : Settlement) (before : List ℕ) (m : Moment) → IsSealingUnit log s.logged before m → IsSettling counter_magic log s before m
+pub unsettled : (log : List Logged) (s : CounterSettlement) (before : List ℕ) (m : Moment) → IsSealingUnit log s.logged before m → IsSettling counter_magic log s before m
 unsettled log s before m sealing image left = elim (sealing.images image left) [
   | inl old ↦ inl (record { gate = old.0; has = old.1; output = sealing.output })
   | inr new ↦ inr (record { gate = new.0; has = new.1; rest = []; front = (s.reply, refl); output = sealing.output ∙ sym (append-nil before) })
@@ -23,11 +23,11 @@ unsettled log s before m sealing image left = elim (sealing.images image left) [
 pub front_taken : (n : ℕ) (bytes : List ℕ) → IsFrontOf (take n bytes) bytes
 front_taken n bytes = (drop n bytes, sym (take-append-drop n bytes))
 
-module _ (log : List Logged) (s : Settlement) (before reply : List ℕ) (is_reply : reply ≡ s.reply) (next : ℕ) (w1 w2 : World) (stands : Stands counter_magic (log ++ s.logged) next w1.disk) (quiet : w1.output ≡ before) (n : ℕ) (emitted : Emitted n reply w1 w2) where
+module _ (log : List Logged) (s : CounterSettlement) (before reply : List ℕ) (is_reply : reply ≡ s.reply) (next : ℕ) (w1 w2 : World) (stands : CounterStands counter_magic (log ++ s.logged) next w1.disk) (quiet : w1.output ≡ before) (n : ℕ) (emitted : Emitted n reply w1 w2) where
   part : w2.output ≡ before ++ take n s.reply
   part = emitted.output ∙ ap (λ (o : List ℕ). o ++ take n reply) quiet ∙ ap (λ (r : List ℕ). before ++ take n r) is_reply
 
-  stands2 : Stands counter_magic (log ++ s.logged) next w2.disk
+  stands2 : CounterStands counter_magic (log ++ s.logged) next w2.disk
   stands2 = stands_on counter_magic (log ++ s.logged) next w1.disk w2.disk emitted.disk stands
 
   -- while the reply is emitted the unit is in each image's log

@@ -10,8 +10,8 @@ use Rattle.gate_block.specs.Log.{LogsUpTo}
 use Rattle.silo_spec.specs.Silos.{manager, counter_magic, IsSilo}
 use Rattle.silo_spec.specs.declared.units.Logged.{Logged}
 use Rattle.silo_spec.specs.Units.{body_of, AreUnits}
-use Rattle.silo_spec.specs.Logs.{IsLog}
-use Rattle.silo_spec.specs.Settling.{Stands}
+use Rattle.silo_spec.specs.Logs.{IsCounterLog}
+use Rattle.silo_spec.specs.Settling.{CounterStands}
 use Rattle.silo_top.specs.Seals.{Rests, IsSealing, IsSealed}
 use Rattle.silo_top.specs.Prepared.{IsSealingUnit}
 
@@ -37,7 +37,7 @@ pub bodies_push : (log : List Logged) (unit : Logged) → map body_of (log ++ un
 bodies_push [] unit = refl
 bodies_push (l ∷ log) unit = ap (λ (bs : List (List ℕ)). body_of l ∷ bs) (bodies_push log unit)
 
-module _ (magic : List ℕ) (log : List Logged) (gate : ℕ) (disk : Disk) (stands : Stands magic log gate disk) where
+module _ (magic : List ℕ) (log : List Logged) (gate : ℕ) (disk : Disk) (stands : CounterStands magic log gate disk) where
   pub stands_rest : Rests (map body_of log) gate disk
   stands_rest = record { still = stands.still; blocks = stands.blocks }
 
@@ -45,7 +45,7 @@ module _ (magic : List ℕ) (log : List Logged) (gate : ℕ) (disk : Disk) (stan
   stands_closed = closed_log (map body_of log) gate (disk manager).seen stands.blocks
 
   -- each image has the log
-  pub stands_images : (image : Image) → IsImage disk image → IsLog magic image log gate
+  pub stands_images : (image : Image) → IsImage disk image → IsCounterLog magic image log gate
   stands_images image left =
       let is : image manager ≡ (disk manager).seen = settled_only (disk manager).seen (image manager) (subst (λ (s : FileState). MayLeave s (image manager)) stands.still (left manager)) in
       record {
@@ -55,19 +55,19 @@ module _ (magic : List ℕ) (log : List Logged) (gate : ℕ) (disk : Disk) (stan
       }
 
 -- with the same log in other words
-pub stands_as : (magic : List ℕ) (log other : List Logged) (gate : ℕ) (disk : Disk) → log ≡ other → Stands magic log gate disk → Stands magic other gate disk
-stands_as magic log other gate disk same stands = subst (λ (l : List Logged). Stands magic l gate disk) same stands
+pub stands_as : (magic : List ℕ) (log other : List Logged) (gate : ℕ) (disk : Disk) → log ≡ other → CounterStands magic log gate disk → CounterStands magic other gate disk
+stands_as magic log other gate disk same stands = subst (λ (l : List Logged). CounterStands magic l gate disk) same stands
 
-pub logs_as : (magic : List ℕ) (log other : List Logged) (gate : ℕ) (image : Image) → log ≡ other → IsLog magic image log gate → IsLog magic image other gate
-logs_as magic log other gate image same is = subst (λ (l : List Logged). IsLog magic image l gate) same is
+pub logs_as : (magic : List ℕ) (log other : List Logged) (gate : ℕ) (image : Image) → log ≡ other → IsCounterLog magic image log gate → IsCounterLog magic image other gate
+logs_as magic log other gate image same is = subst (λ (l : List Logged). IsCounterLog magic image l gate) same is
 
 -- on another disk that is the same
-pub stands_on : (magic : List ℕ) (log : List Logged) (gate : ℕ) (old new : Disk) → new ≡ old → Stands magic log gate old → Stands magic log gate new
-stands_on magic log gate old new same stands = subst (λ (d : Disk). Stands magic log gate d) (sym same) stands
+pub stands_on : (magic : List ℕ) (log : List Logged) (gate : ℕ) (old new : Disk) → new ≡ old → CounterStands magic log gate old → CounterStands magic log gate new
+stands_on magic log gate old new same stands = subst (λ (d : Disk). CounterStands magic log gate d) (sym same) stands
 
 -- ---- one unit is sealed
 
-module _ (log : List Logged) (gate : ℕ) (w0 : World) (stands : Stands counter_magic log gate w0.disk) (unit : Logged) (body : List ℕ) (is_body : body ≡ body_of unit) (units : AreUnits 0 (log ++ unit ∷ [])) where
+module _ (log : List Logged) (gate : ℕ) (w0 : World) (stands : CounterStands counter_magic log gate w0.disk) (unit : Logged) (body : List ℕ) (is_body : body ≡ body_of unit) (units : AreUnits 0 (log ++ unit ∷ [])) where
   more : (g : ℕ) (c : List ℕ) → LogsUpTo (map body_of log ++ body ∷ []) g c → LogsUpTo (map body_of (log ++ unit ∷ [])) g c
   more g c logs = subst (λ (bs : List (List ℕ)). LogsUpTo bs g c) (ap (λ (b : List ℕ). map body_of log ++ b ∷ []) is_body ∙ sym (bodies_push log unit)) logs
 
@@ -82,7 +82,7 @@ module _ (log : List Logged) (gate : ℕ) (w0 : World) (stands : Stands counter_
         ];
   }
 
-  pub unit_sealed : (new : World) → IsSealed (map body_of log) body gate w0 new → Stands counter_magic (log ++ unit ∷ []) (gate + length (block_of body)) new.disk
+  pub unit_sealed : (new : World) → IsSealed (map body_of log) body gate w0 new → CounterStands counter_magic (log ++ unit ∷ []) (gate + length (block_of body)) new.disk
   unit_sealed new sealed = record {
     still = sealed.rests.still;
     silo = silo_same counter_magic (w0.disk manager).seen (new.disk manager).seen stands.silo sealed.header (long_log _ (gate + length (block_of body)) (new.disk manager).seen sealed.rests.blocks);
@@ -91,5 +91,5 @@ module _ (log : List Logged) (gate : ℕ) (w0 : World) (stands : Stands counter_
   }
 
 -- a line without a unit seals nothing
-pub none_sealing : (log : List Logged) (gate : ℕ) (w : World) → Stands counter_magic log gate w.disk → (logged : List Logged) → IsSealingUnit log logged w.output (moment_of w)
+pub none_sealing : (log : List Logged) (gate : ℕ) (w : World) → CounterStands counter_magic log gate w.disk → (logged : List Logged) → IsSealingUnit log logged w.output (moment_of w)
 none_sealing log gate w stands logged = record { output = refl; images = λ image left. inl (gate, stands_images counter_magic log gate w.disk stands image left) }

@@ -8,12 +8,12 @@ use Rattle.host_trait.specs.Faults.{NoneFailed, FailedOn}
 use Rattle.host_trait.specs.World.{World, Image, IsImage, Passes, PassesTwice, moment_of}
 use Rattle.silo_spec.specs.declared.units.Logged.{Logged}
 use Rattle.silo_spec.specs.Silos.{manager, program_file, counter_magic, IsSilo, IsNewSilo}
-use Rattle.silo_spec.specs.Logs.{IsLog}
-use Rattle.silo_spec.specs.Damage.{IsDamagedAt}
+use Rattle.silo_spec.specs.Logs.{IsCounterLog}
+use Rattle.silo_spec.specs.Damage.{IsLogDamagedAt}
 use Rattle.silo_spec.specs.Journals.{journal_of}
-use Rattle.silo_spec.specs.Moments.{AllKeep, IsAsAtEntry, IsUntouched, KeepsOthers, HasHeader}
-use Rattle.silo_spec.specs.Ends.{IsUnbegun, IsDone, IsStopped, IsCut, IsInDoubt}
-use Rattle.silo_spec.specs.Making.{Makes, IsMade, StaysBeside}
+use Rattle.silo_spec.specs.Moments.{AllKeepCounters, IsAsAtEntry, IsUntouched, KeepsOthers, HasHeader}
+use Rattle.silo_spec.specs.Ends.{IsUnbegun, IsCounterDone, IsStopped, IsCut, IsInDoubt}
+use Rattle.silo_spec.specs.Making.{CameThisFar, IsMade, StaysBeside}
 use Rattle.silo_top.specs.declared.status.Status.{Status}
 use Rattle.silo_top.specs.declared.status.Status.TheVariants.{Done, BadUse, Memory, ReadFault, WriteFault, DiskFault, NotASilo, AlreadyASilo, Damaged, InputTooLong}
 
@@ -42,28 +42,28 @@ input_limit = 16777216
 
 -- Why a run was refused before its first line: what the manager file reads at entry shows it. Want of memory is free, and a
 -- fault is shown by its count.
-abbrev pub IsRefusedBy : Status → World → Type 0
-IsRefusedBy Done old = ⊥
-IsRefusedBy BadUse old = ⊥
-IsRefusedBy Memory old = Unit {0}
-IsRefusedBy ReadFault old = ⊥
-IsRefusedBy WriteFault old = ⊥
-IsRefusedBy (DiskFault file) old = file ≡ manager
-IsRefusedBy NotASilo old = IsSilo counter_magic (old.disk manager).seen → ⊥
-IsRefusedBy AlreadyASilo old = ⊥
-IsRefusedBy (Damaged file place) old = (file ≡ manager) × IsSilo counter_magic (old.disk manager).seen × IsDamagedAt (old.disk manager).seen place
-IsRefusedBy (InputTooLong line) old = ⊥
+abbrev pub IsRefusedAs : Status → World → Type 0
+IsRefusedAs Done old = ⊥
+IsRefusedAs BadUse old = ⊥
+IsRefusedAs Memory old = Unit {0}
+IsRefusedAs ReadFault old = ⊥
+IsRefusedAs WriteFault old = ⊥
+IsRefusedAs (DiskFault file) old = file ≡ manager
+IsRefusedAs NotASilo old = IsSilo counter_magic (old.disk manager).seen → ⊥
+IsRefusedAs AlreadyASilo old = ⊥
+IsRefusedAs (Damaged file place) old = (file ≡ manager) × IsSilo counter_magic (old.disk manager).seen × IsLogDamagedAt (old.disk manager).seen place
+IsRefusedAs (InputTooLong line) old = ⊥
 
 -- nothing was emitted or pulled, no read has changed, and no outcome of a crash was added
 pub record IsRefused (status : Status) (old new : World) : Type 0 where
   pub untouched : IsUntouched old new
   pub input : new.input ≡ old.input
-  pub cause : IsRefusedBy status old
+  pub cause : IsRefusedAs status old
 
 -- What stands at the end of a run whose opening log was this one. The input was read whole unless reading it failed, or it was
 -- too long, or there was no memory.
 abbrev pub EndsAs : Status → List Logged → World → World → Type 0
-EndsAs Done opening old new = IsDone counter_magic opening (journal_of opening old.input) old new × (new.input ≡ []) × (length old.input ≤ input_limit)
+EndsAs Done opening old new = IsCounterDone counter_magic opening (journal_of opening old.input) old new × (new.input ≡ []) × (length old.input ≤ input_limit)
 EndsAs BadUse opening old new = ⊥
 EndsAs Memory opening old new = IsStopped counter_magic opening (journal_of opening old.input) old new
 EndsAs ReadFault opening old new = IsUnbegun counter_magic opening old new
@@ -77,8 +77,8 @@ EndsAs (InputTooLong line) opening old new = IsUnbegun counter_magic opening old
 -- From an opened log on: at each moment and at the end each image keeps the journal of the input's lines, played one after
 -- another from where that log stands.
 pub record IsServed (status : Status) (opening : List Logged) (old new : World) : Type 0 where
-  pub moments : Passes (AllKeep counter_magic opening (journal_of opening old.input) old.output) old.past new.past
-  pub now : AllKeep counter_magic opening (journal_of opening old.input) old.output (moment_of new)
+  pub moments : Passes (AllKeepCounters counter_magic opening (journal_of opening old.input) old.output) old.past new.past
+  pub now : AllKeepCounters counter_magic opening (journal_of opening old.input) old.output (moment_of new)
   pub ends : EndsAs status opening old new
 
 -- The folder read as an undamaged silo with this log. Until it was opened each image was one of those at entry; from then on, and
@@ -87,10 +87,10 @@ pub record IsServed (status : Status) (opening : List Logged) (old new : World) 
 pub record IsCarried (status : Status) (old new : World) : Type 0 where
   pub opening : List Logged
   pub gate : ℕ
-  pub read : IsLog counter_magic (λ file. (old.disk file).seen) opening gate
-  pub undamaged : (place : ℕ) → IsDamagedAt (old.disk manager).seen place → ⊥
-  pub moments : PassesTwice (IsAsAtEntry old) (AllKeep counter_magic opening (journal_of opening old.input) old.output) old.past new.past
-  pub now : AllKeep counter_magic opening (journal_of opening old.input) old.output (moment_of new)
+  pub read : IsCounterLog counter_magic (λ file. (old.disk file).seen) opening gate
+  pub undamaged : (place : ℕ) → IsLogDamagedAt (old.disk manager).seen place → ⊥
+  pub moments : PassesTwice (IsAsAtEntry old) (AllKeepCounters counter_magic opening (journal_of opening old.input) old.output) old.past new.past
+  pub now : AllKeepCounters counter_magic opening (journal_of opening old.input) old.output (moment_of new)
   pub others : PassesTwice (IsAsAtEntry old) (KeepsOthers old.disk) old.past new.past
   pub others_now : KeepsOthers old.disk (moment_of new)
   pub header : PassesTwice (IsAsAtEntry old) (HasHeader (take 15 (old.disk manager).seen)) old.past new.past
@@ -121,7 +121,7 @@ MakesAs (InputTooLong line) old new = ⊥
 
 -- What `init` does, at each moment and at its end: nothing but the two files of a new silo changes.
 pub record IsMaking (status : Status) (old new : World) : Type 0 where
-  pub moments : Makes counter_magic counter_program old new
+  pub moments : CameThisFar counter_magic counter_program old new
   pub beside : StaysBeside old new
   pub ends : MakesAs status old new
 

@@ -4,10 +4,10 @@ ghost use Rattle.host_trait.specs.Files.{StaysReady};
 ghost use Rattle.host_trait.specs.World.{Passes, moment_of};
 ghost use Rattle.gate_block.specs.Gates.{IsClosedAt};
 ghost use Rattle.request_wire.specs.Request.{request_of};
-ghost use Rattle.silo_spec.specs.Ends.{IsDone, IsStopped, IsCut, IsInDoubt};
+ghost use Rattle.silo_spec.specs.Ends.{IsCounterDone, IsStopped, IsCut, IsInDoubt};
 ghost use Rattle.silo_spec.specs.Journals.{settlement_of, journal_of};
-ghost use Rattle.silo_spec.specs.Moments.{AllKeep, OnlyLogChanges, HasHeader, KeepsHeader};
-ghost use Rattle.silo_spec.specs.Settling.{Stands, IsSettling};
+ghost use Rattle.silo_spec.specs.Moments.{AllKeepCounters, OnlyLogChanges, HasHeader, KeepsHeader};
+ghost use Rattle.silo_spec.specs.Settling.{CounterStands, IsSettling};
 ghost use Rattle.silo_spec.specs.Silos.{manager, counter_magic};
 ghost use Rattle.silo_spec.specs.Totals.{counter_shape, totals_after};
 ghost use Rattle.silo_spec.specs.Units.{last_from, replayed};
@@ -87,19 +87,19 @@ fn carry_line<H: Host, G: Gate>(
     requires short { length line.now ≤ 16777216 }
     requires closed { IsTrue H.tells → IsClosedAt running.old.gate_at ((H.world host.old).disk manager).seen }
 
-    ensures moments { IsTrue H.tells → (log : List Logged) → Stands counter_magic log running.old.gate_at (H.world host.old).disk
+    ensures moments { IsTrue H.tells → (log : List Logged) → CounterStands counter_magic log running.old.gate_at (H.world host.old).disk
         → last_from 0 log ≡ (totals_of running.old.counters).units
         → Passes (IsSettling counter_magic log (settlement_of (totals_of running.old.counters) number line.now) (H.world host.old).output)
         (H.world host.old).past (H.world host.new).past }
-    ensures now { IsTrue H.tells → (log : List Logged) → Stands counter_magic log running.old.gate_at (H.world host.old).disk
+    ensures now { IsTrue H.tells → (log : List Logged) → CounterStands counter_magic log running.old.gate_at (H.world host.old).disk
         → last_from 0 log ≡ (totals_of running.old.counters).units
         → IsSettling counter_magic log (settlement_of (totals_of running.old.counters) number line.now) (H.world host.old).output
         (moment_of (H.world host.new)) }
-    ensures ok { OnOk result (IsTrue H.tells → (log : List Logged) → Stands counter_magic log running.old.gate_at (H.world host.old).disk
+    ensures ok { OnOk result (IsTrue H.tells → (log : List Logged) → CounterStands counter_magic log running.old.gate_at (H.world host.old).disk
         → last_from 0 log ≡ (totals_of running.old.counters).units
         → IsReplied log (settlement_of (totals_of running.old.counters) number line.now) running.new.gate_at (H.world host.old) (H.world host.new)) }
     ensures cut { IfErr result (λ e. e ≡ RunFault.WriteFault → IsTrue H.tells → (log : List Logged)
-        → Stands counter_magic log running.old.gate_at (H.world host.old).disk
+        → CounterStands counter_magic log running.old.gate_at (H.world host.old).disk
         → last_from 0 log ≡ (totals_of running.old.counters).units
         → IsReplyCut log (settlement_of (totals_of running.old.counters) number line.now) (H.world host.old) (H.world host.new)) }
     ensures quiet { IfErr result (λ e. e ≡ RunFault.DiskFault → IsTrue H.tells
@@ -114,7 +114,7 @@ fn carry_line<H: Host, G: Gate>(
     ensures calm { OnOk result (NoneFailed (H.faults host.old) (H.faults host.new)) }
     ensures counts { IfErr result (λ e. RunFaulted e (H.faults host.old) (H.faults host.new)) }
     ensures others { IsTrue H.tells → OnlyLogChanges (H.world host.old) (H.world host.new) }
-    ensures header { IsTrue H.tells → (log : List Logged) (header : List ℕ) → Stands counter_magic log running.old.gate_at (H.world host.old).disk
+    ensures header { IsTrue H.tells → (log : List Logged) (header : List ℕ) → CounterStands counter_magic log running.old.gate_at (H.world host.old).disk
         → HasHeader header (moment_of (H.world host.old)) → KeepsHeader header (H.world host.old) (H.world host.new) }
     ensures input { IsTrue H.tells → (H.world host.new).input ≡ (H.world host.old).input }
 {
@@ -141,36 +141,36 @@ pub fn carry_lines<H: Host, G: Gate>(
 ) -> Result<(), RunFault>
     requires limit { length input.now ≤ INPUT_LIMIT }
     requires place { running.old.gate_at < 2 ^ 63 }
-    requires stands { IsTrue H.tells → (opening : List Logged) × Stands counter_magic opening running.old.gate_at (H.world host.old).disk
+    requires stands { IsTrue H.tells → (opening : List Logged) × CounterStands counter_magic opening running.old.gate_at (H.world host.old).disk
         × (totals_of running.old.counters ≡ replayed opening) }
 
-    ensures moments { IsTrue H.tells → (opening : List Logged) → Stands counter_magic opening running.old.gate_at (H.world host.old).disk
+    ensures moments { IsTrue H.tells → (opening : List Logged) → CounterStands counter_magic opening running.old.gate_at (H.world host.old).disk
         → totals_of running.old.counters ≡ replayed opening
-        → Passes (AllKeep counter_magic opening (journal_of opening input.now) (H.world host.old).output) (H.world host.old).past (H.world host.new).past }
-    ensures done { OnOk result (IsTrue H.tells → (opening : List Logged) → Stands counter_magic opening running.old.gate_at (H.world host.old).disk
+        → Passes (AllKeepCounters counter_magic opening (journal_of opening input.now) (H.world host.old).output) (H.world host.old).past (H.world host.new).past }
+    ensures done { OnOk result (IsTrue H.tells → (opening : List Logged) → CounterStands counter_magic opening running.old.gate_at (H.world host.old).disk
         → totals_of running.old.counters ≡ replayed opening
-        → IsDone counter_magic opening (journal_of opening input.now) (H.world host.old) (H.world host.new)) }
+        → IsCounterDone counter_magic opening (journal_of opening input.now) (H.world host.old) (H.world host.new)) }
     ensures memory { IfErr result (λ e. e ≡ RunFault.Memory → IsTrue H.tells → (opening : List Logged)
-        → Stands counter_magic opening running.old.gate_at (H.world host.old).disk
+        → CounterStands counter_magic opening running.old.gate_at (H.world host.old).disk
         → totals_of running.old.counters ≡ replayed opening
         → IsStopped counter_magic opening (journal_of opening input.now) (H.world host.old) (H.world host.new)) }
     ensures limit { IfErr result (λ e. e ≡ RunFault.UnitLimit → IsTrue H.tells → (opening : List Logged)
-        → Stands counter_magic opening running.old.gate_at (H.world host.old).disk
+        → CounterStands counter_magic opening running.old.gate_at (H.world host.old).disk
         → totals_of running.old.counters ≡ replayed opening
         → IsStopped counter_magic opening (journal_of opening input.now) (H.world host.old) (H.world host.new)) }
     ensures last { IfErr result (λ e. e ≡ RunFault.UnitLimit → 2 ^ 63 - 1 ≤ (totals_of running.new.counters).units) }
     ensures cut { IfErr result (λ e. e ≡ RunFault.WriteFault → IsTrue H.tells → (opening : List Logged)
-        → Stands counter_magic opening running.old.gate_at (H.world host.old).disk
+        → CounterStands counter_magic opening running.old.gate_at (H.world host.old).disk
         → totals_of running.old.counters ≡ replayed opening
         → IsCut counter_magic opening (journal_of opening input.now) (H.world host.old) (H.world host.new)) }
     ensures doubt { IfErr result (λ e. e ≡ RunFault.DiskFault → IsTrue H.tells → (opening : List Logged)
-        → Stands counter_magic opening running.old.gate_at (H.world host.old).disk
+        → CounterStands counter_magic opening running.old.gate_at (H.world host.old).disk
         → totals_of running.old.counters ≡ replayed opening
         → IsInDoubt counter_magic opening (journal_of opening input.now) (H.world host.old) (H.world host.new)) }
     ensures calm { OnOk result (NoneFailed (H.faults host.old) (H.faults host.new)) }
     ensures counts { IfErr result (λ e. RunFaulted e (H.faults host.old) (H.faults host.new)) }
     ensures others { IsTrue H.tells → OnlyLogChanges (H.world host.old) (H.world host.new) }
-    ensures header { IsTrue H.tells → (opening : List Logged) (header : List ℕ) → Stands counter_magic opening running.old.gate_at (H.world host.old).disk
+    ensures header { IsTrue H.tells → (opening : List Logged) (header : List ℕ) → CounterStands counter_magic opening running.old.gate_at (H.world host.old).disk
         → totals_of running.old.counters ≡ replayed opening
         → HasHeader header (moment_of (H.world host.old)) → KeepsHeader header (H.world host.old) (H.world host.new) }
     ensures input { IsTrue H.tells → (H.world host.new).input ≡ (H.world host.old).input }

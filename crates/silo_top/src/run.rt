@@ -3,7 +3,7 @@ ghost use Rattle.host_trait.specs.World.{moment_of};
 ghost use Rattle.silo_spec.specs.Silos.{manager, counter_magic};
 ghost use Rattle.silo_spec.specs.Units.{AreUnits};
 ghost use Rattle.silo_spec.specs.Moments.{OnlyLogChanges, HasHeader, KeepsHeader};
-ghost use Rattle.silo_spec.specs.Settling.{Stands};
+ghost use Rattle.silo_spec.specs.Settling.{CounterStands};
 ghost use Rattle.silo_top.specs.Runs.{is_word, is_init, is_run, counter_program, Runs, IsServed, IsMaking, Faulted};
 
 use crate::counters::Counters;
@@ -47,7 +47,7 @@ fn init<H: Host>(host: &mut H) -> Status
 fn serve<H: Host, G: Gate>(alloc: Global, opened: Opened, host: &mut H, gate: &G) -> Status
     requires place { opened.gate_at < 2 ^ 63 }
     requires units { AreUnits 0 opened.log }
-    requires stands { IsTrue H.tells → Stands counter_magic opened.log opened.gate_at (H.world host.old).disk }
+    requires stands { IsTrue H.tells → CounterStands counter_magic opened.log opened.gate_at (H.world host.old).disk }
     ensures served { IsTrue H.tells → IsServed result opened.log (H.world host.old) (H.world host.new) }
     ensures others { IsTrue H.tells → OnlyLogChanges (H.world host.old) (H.world host.new) }
     ensures header { IsTrue H.tells → (header : List ℕ) → HasHeader header (moment_of (H.world host.old))

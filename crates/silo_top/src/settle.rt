@@ -7,8 +7,8 @@ ghost use Rattle.silo_spec.specs.Moments.{OnlyLogChanges, HasHeader, KeepsHeader
 ghost use Rattle.silo_spec.specs.Silos.{manager, counter_magic};
 ghost use Rattle.silo_spec.specs.declared.units.Logged.{Logged};
 ghost use Rattle.silo_spec.specs.Units.{AreUnits};
-ghost use Rattle.silo_spec.specs.Journals.{Settlement};
-ghost use Rattle.silo_spec.specs.Settling.{Stands, IsSettling};
+ghost use Rattle.silo_spec.specs.Journals.{CounterSettlement};
+ghost use Rattle.silo_spec.specs.Settling.{CounterStands, IsSettling};
 ghost use Rattle.silo_top.specs.Counts.{RunFaulted};
 ghost use Rattle.silo_top.specs.Prepared.{HoldsUnit, Prepares, IsSealingUnit};
 ghost use Rattle.silo_top.specs.Settled.{IsReplied, IsReplyCut};
@@ -31,22 +31,22 @@ pub fn seal_unit<H: Host, G: Gate>(
     requires unit { (logged : List Logged) × HoldsUnit unit.now logged }
     requires closed { IsTrue H.tells → IsClosedAt gate_at ((H.world host.old).disk manager).seen }
 
-    ensures moments { IsTrue H.tells → (log logged : List Logged) → Stands counter_magic log gate_at (H.world host.old).disk
+    ensures moments { IsTrue H.tells → (log logged : List Logged) → CounterStands counter_magic log gate_at (H.world host.old).disk
         → HoldsUnit unit.now logged → AreUnits 0 (log ++ logged)
         → Passes (IsSealingUnit log logged (H.world host.old).output) (H.world host.old).past (H.world host.new).past }
-    ensures now { IsTrue H.tells → (log logged : List Logged) → Stands counter_magic log gate_at (H.world host.old).disk
+    ensures now { IsTrue H.tells → (log logged : List Logged) → CounterStands counter_magic log gate_at (H.world host.old).disk
         → HoldsUnit unit.now logged → AreUnits 0 (log ++ logged)
         → IsSealingUnit log logged (H.world host.old).output (moment_of (H.world host.new)) }
-    ensures ok { IfOk result (λ next. IsTrue H.tells → (log logged : List Logged) → Stands counter_magic log gate_at (H.world host.old).disk
+    ensures ok { IfOk result (λ next. IsTrue H.tells → (log logged : List Logged) → CounterStands counter_magic log gate_at (H.world host.old).disk
         → HoldsUnit unit.now logged → AreUnits 0 (log ++ logged)
-        → Stands counter_magic (log ++ logged) next (H.world host.new).disk) }
+        → CounterStands counter_magic (log ++ logged) next (H.world host.new).disk) }
     ensures next { IfOk result (λ next. next < 2 ^ 63) }
     ensures fault { IfErr result (λ e. e ≡ RunFault.DiskFault) }
     ensures calm { OnOk result (NoneFailed (H.faults host.old) (H.faults host.new)) }
     ensures counts { IfErr result (λ e. RunFaulted e (H.faults host.old) (H.faults host.new)) }
     ensures quiet { IsTrue H.tells → (H.world host.new).output ≡ (H.world host.old).output }
     ensures others { IsTrue H.tells → OnlyLogChanges (H.world host.old) (H.world host.new) }
-    ensures header { IsTrue H.tells → (log : List Logged) (header : List ℕ) → Stands counter_magic log gate_at (H.world host.old).disk
+    ensures header { IsTrue H.tells → (log : List Logged) (header : List ℕ) → CounterStands counter_magic log gate_at (H.world host.old).disk
         → HasHeader header (moment_of (H.world host.old)) → KeepsHeader header (H.world host.old) (H.world host.new) }
     ensures input { IsTrue H.tells → (H.world host.new).input ≡ (H.world host.old).input }
     ensures ready { StaysReady (H.is_ready host.old) (H.is_ready host.new) }
@@ -70,19 +70,19 @@ pub fn settle<H: Host, G: Gate>(
     line: &Prepared,
 ) -> Result<u64, RunFault>
     requires place { gate_at < 2 ^ 63 }
-    requires line { (s : Settlement) × Prepares line.now s }
+    requires line { (s : CounterSettlement) × Prepares line.now s }
     requires closed { IsTrue H.tells → IsClosedAt gate_at ((H.world host.old).disk manager).seen }
 
-    ensures moments { IsTrue H.tells → (log : List Logged) (s : Settlement) → Stands counter_magic log gate_at (H.world host.old).disk
+    ensures moments { IsTrue H.tells → (log : List Logged) (s : CounterSettlement) → CounterStands counter_magic log gate_at (H.world host.old).disk
         → Prepares line.now s → AreUnits 0 (log ++ s.logged)
         → Passes (IsSettling counter_magic log s (H.world host.old).output) (H.world host.old).past (H.world host.new).past }
-    ensures now { IsTrue H.tells → (log : List Logged) (s : Settlement) → Stands counter_magic log gate_at (H.world host.old).disk
+    ensures now { IsTrue H.tells → (log : List Logged) (s : CounterSettlement) → CounterStands counter_magic log gate_at (H.world host.old).disk
         → Prepares line.now s → AreUnits 0 (log ++ s.logged)
         → IsSettling counter_magic log s (H.world host.old).output (moment_of (H.world host.new)) }
-    ensures ok { IfOk result (λ next. IsTrue H.tells → (log : List Logged) (s : Settlement) → Stands counter_magic log gate_at (H.world host.old).disk
+    ensures ok { IfOk result (λ next. IsTrue H.tells → (log : List Logged) (s : CounterSettlement) → CounterStands counter_magic log gate_at (H.world host.old).disk
         → Prepares line.now s → AreUnits 0 (log ++ s.logged)
         → IsReplied log s next (H.world host.old) (H.world host.new)) }
-    ensures cut { IfErr result (λ e. e ≡ RunFault.WriteFault → IsTrue H.tells → (log : List Logged) (s : Settlement) → Stands counter_magic log gate_at (H.world host.old).disk
+    ensures cut { IfErr result (λ e. e ≡ RunFault.WriteFault → IsTrue H.tells → (log : List Logged) (s : CounterSettlement) → CounterStands counter_magic log gate_at (H.world host.old).disk
         → Prepares line.now s → AreUnits 0 (log ++ s.logged)
         → IsReplyCut log s (H.world host.old) (H.world host.new)) }
     ensures quiet { IfErr result (λ e. e ≡ RunFault.DiskFault → IsTrue H.tells
@@ -93,7 +93,7 @@ pub fn settle<H: Host, G: Gate>(
     ensures calm { OnOk result (NoneFailed (H.faults host.old) (H.faults host.new)) }
     ensures counts { IfErr result (λ e. RunFaulted e (H.faults host.old) (H.faults host.new)) }
     ensures others { IsTrue H.tells → OnlyLogChanges (H.world host.old) (H.world host.new) }
-    ensures header { IsTrue H.tells → (log : List Logged) (header : List ℕ) → Stands counter_magic log gate_at (H.world host.old).disk
+    ensures header { IsTrue H.tells → (log : List Logged) (header : List ℕ) → CounterStands counter_magic log gate_at (H.world host.old).disk
         → HasHeader header (moment_of (H.world host.old)) → KeepsHeader header (H.world host.old) (H.world host.new) }
     ensures input { IsTrue H.tells → (H.world host.new).input ≡ (H.world host.old).input }
     ensures ready { StaysReady (H.is_ready host.old) (H.is_ready host.new) }

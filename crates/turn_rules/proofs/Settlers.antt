@@ -13,7 +13,7 @@ use Rattle.script_tree.specs.Programs.{ProgramTree}
 use Rattle.promise_spec.specs.Cores.{state_before}
 use Rattle.promise_spec.specs.Gotten.{Got, got_from}
 use Rattle.promise_spec.specs.UnitRule.{Basis, IsDue}
-use Rattle.core_model.specs.Settler.{Makes, Step, Votes, Decides, Seals, Learns, Writes, Takes, Rests, settler_step}
+use Rattle.core_model.specs.Settler.{MakesEvent, Step, Votes, Decides, Seals, Learns, Writes, Takes, Rests, settler_step}
 use Rattle.promise_spec.specs.TurnRule.{OfSettler, IsTurn, KeepsTurnRule, can_begin, movers, mover_of, picked, picks_used}
 use Rattle.turn_rules.specs.Going.{is_begin, is_own}
 
@@ -62,7 +62,7 @@ halt-run [] w n = refl
 halt-run (e ∷ es) w n = halt-run es (step w e) (λ at f there a. n (suc at) f there a) ∙ halt-step w e (n 0 e refl)
 
 -- no step makes a stop
-no-halt-step : (s : Step) → Makes s Halt → ⊥
+no-halt-step : (s : Step) → MakesEvent s Halt → ⊥
 no-halt-step (Votes n g) m = (let e = m.1 in absurd cc)
 no-halt-step (Decides n) m = absurd cc
 no-halt-step (Seals n) (inl m) = absurd cc
@@ -81,7 +81,7 @@ never-halted types lines width picks r keeps =
     (keeps at e (record { there = there; applied = a }))).2)
 
 -- the settler's events
-pub settlers : (s : Step) (e : CoreEvent) → Makes s e → (mover_of e ≡ OfSettler) × (is_begin e ≡ false)
+pub settlers : (s : Step) (e : CoreEvent) → MakesEvent s e → (mover_of e ≡ OfSettler) × (is_begin e ≡ false)
 settlers (Votes n g) e m = subst (λ (x : CoreEvent). (mover_of x ≡ OfSettler) × (is_begin x ≡ false)) (sym m.1) (refl, refl)
 settlers (Decides n) e m = subst (λ (x : CoreEvent). (mover_of x ≡ OfSettler) × (is_begin x ≡ false)) (sym m) (refl, refl)
 settlers (Seals n) e (inl m) = subst (λ (x : CoreEvent). (mover_of x ≡ OfSettler) × (is_begin x ≡ false)) (sym m) (refl, refl)
@@ -93,7 +93,7 @@ settlers Takes e m = subst (λ (x : CoreEvent). (mover_of x ≡ OfSettler) × (i
 settlers Rests e m = absurd m
 
 -- and is due
-pub settlers-due : (around : Basis) (w : CoreState) (got : UnitNo → List Got) (s : Step) (e : CoreEvent) → Makes s e → IsDue around w got e
+pub settlers-due : (around : Basis) (w : CoreState) (got : UnitNo → List Got) (s : Step) (e : CoreEvent) → MakesEvent s e → IsDue around w got e
 settlers-due around w got (Votes n g) e m = subst (IsDue around w got) (sym m.1) tt
 settlers-due around w got (Decides n) e m = subst (IsDue around w got) (sym m) tt
 settlers-due around w got (Seals n) e (inl m) = subst (IsDue around w got) (sym m) tt
@@ -105,7 +105,7 @@ settlers-due around w got Takes e m = subst (IsDue around w got) (sym m) tt
 settlers-due around w got Rests e m = absurd m
 
 -- no event of a settler is a unit's own
-pub settlers-others : (u : UnitNo) (s : Step) (e : CoreEvent) → Makes s e → is_own u e ≡ false
+pub settlers-others : (u : UnitNo) (s : Step) (e : CoreEvent) → MakesEvent s e → is_own u e ≡ false
 settlers-others u (Votes n g) e m = ap (is_own u) m.1
 settlers-others u (Decides n) e m = ap (is_own u) m
 settlers-others u (Seals n) e (inl m) = ap (is_own u) m

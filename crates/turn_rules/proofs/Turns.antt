@@ -15,7 +15,7 @@ use Rattle.core_model.proofs.Replied.{no-change}
 use Rattle.promise_spec.specs.Cores.{applied_from}
 use Rattle.promise_spec.specs.Gotten.{got_in}
 use Rattle.promise_spec.specs.UnitRule.{Basis}
-use Rattle.core_model.specs.Settler.{Makes, settler_step}
+use Rattle.core_model.specs.Settler.{MakesEvent, settler_step}
 use Rattle.promise_spec.specs.TurnRule.{Mover, OfLine, OfUnit, OfSettler, IsTurn, can_begin, mover_of, takes_pick, picked, units_of, units_from}
 use Rattle.turn_rules.specs.Going.{with_event, is_begin, MayCome, IsNext, movers_in, next_pick}
 use Rattle.turn_rules.specs.Carried.{AreKept, movers_of, is_kept}
@@ -104,7 +104,7 @@ module _ (l : TurnLoop) (t : IsTurning l) where
       subst (λ (o : Mover). IsTurn (can_begin l.width (length l.basis.lines) l.run (ends l.run)) (picked (movers_in l.basis.types l.run) (next_pick l.picks l.run)) (ends l.run) e o) (sym is) turn
 
   -- the settler's step
-  pub turn-settler : (e : CoreEvent) → IsPicked l OfSettler → Makes (settler_step (ends l.run)) e → applies (ends l.run) e ≡ true → IsTurning (turned l e l.units (l.used + 1))
+  pub turn-settler : (e : CoreEvent) → IsPicked l OfSettler → MakesEvent (settler_step (ends l.run)) e → applies (ends l.run) e ≡ true → IsTurning (turned l e l.units (l.used + 1))
   turn-settler e turn makes a =
       let s = settlers (settler_step (ends l.run)) e makes in
       record {

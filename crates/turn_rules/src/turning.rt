@@ -6,7 +6,7 @@ ghost use Rattle.core_model.specs.CoreState.{UnitNo, Call};
 ghost use Rattle.core_model.specs.Events.{applies};
 ghost use Rattle.core_model.specs.Legal.{Run, ends};
 ghost use Rattle.promise_spec.specs.UnitRule.{Basis};
-ghost use Rattle.core_model.specs.Settler.{Makes, settler_step};
+ghost use Rattle.core_model.specs.Settler.{MakesEvent, settler_step};
 ghost use Rattle.promise_spec.specs.TurnRule.{OfLine, OfUnit, OfSettler, mover_of};
 ghost use Rattle.turn_rules.specs.Going.{with_event, is_begin, MayCome};
 ghost use Rattle.turn_rules.specs.Carried.{is_kept, movers_of};
@@ -32,7 +32,7 @@ pub fn turns_go_on()
         → MayCome l.basis l.run (Begin (Child u index depth) call false)
         → applies (ends l.run) (Begin (Child u index depth) call false) ≡ true
         → IsTurning (turned l (Begin (Child u index depth) call false) (with_new l) (l.used + 1)) }
-    ensures settler { (l : TurnLoop) → IsTurning l → (e : CoreEvent) → IsPicked l OfSettler → Makes (settler_step (ends l.run)) e
+    ensures settler { (l : TurnLoop) → IsTurning l → (e : CoreEvent) → IsPicked l OfSettler → MakesEvent (settler_step (ends l.run)) e
         → applies (ends l.run) e ≡ true → IsTurning (turned l e l.units (l.used + 1)) }
     ensures dropped { (l : TurnLoop) → IsTurning l → (stays : UnitNo → Bool) → ((u : UnitNo) → is_kept (ends l.run) u ≡ true → stays u ≡ true)
         → IsTurning (record l { units = filter stays l.units }) }

@@ -23,7 +23,7 @@ use Rattle.script_meaning.specs.Trails.{Given, answers_of}
 use Rattle.script_machine.specs.declared.machine.Machine.{Machine}
 use Rattle.script_machine.specs.declared.machine.Pause.{Pause}
 use Rattle.script_machine.specs.declared.machine.Pause.TheVariants.{NeedGrain, NeedUnit, Done}
-use Rattle.script_machine.specs.Machines.{Follows, has_begun, rest}
+use Rattle.script_machine.specs.Machines.{FollowsTrail, has_begun, rest}
 use Rattle.promise_spec.specs.Serial.{depth_of}
 use Rattle.turn_rules.specs.Going.{with_event}
 use Rattle.worker_rules.specs.Stories.{Told, is_load}
@@ -225,7 +225,7 @@ module _ (may : CoreEvent → Bool) (types : ProgramTree) (s t : Sight) (c : Car
       call = call;
       depth = depth;
       at_work = record {
-        follows = subst (λ (x : Call). Follows types x (depth_of c.origin) work'.machine k.trail) (sym same) (subst (λ (m : Machine). Follows types work.call (depth_of c.origin) m k.trail) (sym machine) k.at_work.follows);
+        follows = subst (λ (x : Call). FollowsTrail types x (depth_of c.origin) work'.machine k.trail) (sym same) (subst (λ (m : Machine). FollowsTrail types work.call (depth_of c.origin) m k.trail) (sym machine) k.at_work.follows);
         started = ap has_begun machine ∙ k.at_work.started;
         held = held ∙ k.at_work.held;
         sources = ap length sources ∙ k.at_work.sources;

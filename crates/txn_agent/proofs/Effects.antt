@@ -11,7 +11,7 @@ use Rattle.script_meaning.specs.Trails.{Given, answers_of, exclusive_in, reads_o
 use Rattle.script_meaning.proofs.Once.{trails_read_once_lem}
 use Rattle.script_meaning.proofs.Plays.{next_is_play_lem}
 use Rattle.script_machine.specs.declared.machine.Parts.{Parts}
-use Rattle.script_machine.specs.Machines.{Follows, IsPartsOf, holding_of, reads_in, rest}
+use Rattle.script_machine.specs.Machines.{FollowsTrail, IsPartsOf, holding_of, reads_in, rest}
 use Rattle.promise_spec.specs.Serial.{depth_of}
 use Rattle.promise_spec.specs.UnitRule.{played_by}
 use Rattle.txn_agent.specs.declared.work.Carried.{Carried}
@@ -19,7 +19,7 @@ use Rattle.txn_agent.specs.declared.work.Work.{Work}
 use Rattle.txn_agent.specs.Working.{IsEffectOf, found_by, source_of}
 use Rattle.txn_agent.proofs.Trails.{asked-answered, next-own}
 
-module _ (types : ProgramTree) (c : Carried) (work : Work) (trail : List Given) (follows : Follows types work.call (depth_of c.origin) work.machine trail) where
+module _ (types : ProgramTree) (c : Carried) (work : Work) (trail : List Given) (follows : FollowsTrail types work.call (depth_of c.origin) work.machine trail) where
   -- the states that were found are those of the reads
   states-found : Has (states_of (reads_of trail)) (reads_of trail)
   states-found = (trails_read_once_lem types work.call (depth_of c.origin) trail follows.named).found

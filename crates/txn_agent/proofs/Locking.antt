@@ -23,7 +23,7 @@ use Rattle.core_model.specs.Events.{applies, does, holds_alone, is_allowed, not_
 use Rattle.core_model.specs.Legal.{Run, ends}
 use Rattle.core_model.proofs.Puts.{grain-at, grain-same, put-same}
 use Rattle.script_tree.specs.Programs.{ProgramTree}
-use Rattle.script_meaning.specs.Play.{Found, IsTransaction, grains_of}
+use Rattle.script_meaning.specs.Play.{GrainState, IsTransaction, grains_of}
 use Rattle.script_meaning.specs.Trails.{Given, GivenLock, GivenRaise, exclusive_in, reads_of}
 use Rattle.turn_rules.specs.Going.{with_event}
 use Rattle.turn_rules.specs.Links.{HasTrail}
@@ -248,7 +248,7 @@ module _ (types : ProgramTree) (r : Run) (c : Carried) (work work' : Work) (trai
         locks = λ h. locks-by r c.unit g mode told-again.0 (λ k hs. holds_lock c.unit hs ≡ any (same_grain k) (grains_of (reads_of trail)))
             (λ k e. own-lock r c.unit g mode told-again.0 ((ends r).cells.holds g) ∙ sym (ap (λ (z : GrainId). any (same_grain z) (grains_of (reads_of trail))) e ∙ held))
             (λ k n. p.linked.locks k) h
-            ∙ sym (ap (λ (l : List Found). any (same_grain h) (grains_of l)) same-reads);
+            ∙ sym (ap (λ (l : List GrainState). any (same_grain h) (grains_of l)) same-reads);
         alone = λ h. locks-by r c.unit g mode told-again.0 (λ k hs. any (λ (x : Hold). is_hold_of c.unit x && is_update x.mode) hs ≡ any (same_grain k) (exclusive_in trail ++ (g ∷ [])))
             (λ k e. own-alone r c.unit g mode told-again.0 ((ends r).cells.holds g) ∙ ap is_update update ∙ sym (any-that (exclusive_in trail) g k e))
             (λ k n. p.linked.alone k ∙ sym (any-other (exclusive_in trail) g k n)) h

@@ -21,7 +21,7 @@ use Rattle.core_model.specs.Tests.{all, answered_by, is_answer, is_decided, is_e
 use Rattle.core_model.specs.Events.{can, holds_alone, is_of_call}
 use Rattle.core_model.specs.Legal.{Run, ends}
 use Rattle.script_tree.specs.Programs.{ProgramTree}
-use Rattle.script_meaning.specs.Play.{Found, IsTransaction, Played, asks, next, play_over}
+use Rattle.script_meaning.specs.Play.{GrainState, IsTransaction, Played, asks, next, play_over}
 use Rattle.script_meaning.specs.Trails.{Given, GivenLock, GivenRaise, GivenOutcome, answers_of, exclusive_in, locks_of, states_of}
 use Rattle.script_meaning.proofs.Plays.{plain_runs_lock_nothing_lem}
 use Rattle.script_machine.specs.declared.machine.Pause.TheVariants.{NeedGrain, NeedUnit}
@@ -125,8 +125,8 @@ reads-are [] (y ∷ ys) e f = absurd cc
 reads-are (x ∷ xs) [] e f = absurd cc
 reads-are (x ∷ xs) (y ∷ ys) e f =
     let front : found_by x ≡ found_by y = cc in
-    let g : x.grain ≡ y.grain = ap (λ (z : Found). z.0) front in
-    let s : x.state ≡ y.state = ap (λ (z : Found). z.1) front in
+    let g : x.grain ≡ y.grain = ap (λ (z : GrainState). z.0) front in
+    let s : x.state ≡ y.state = ap (λ (z : GrainState). z.1) front in
     let u : x.source ≡ y.source = cc in
     let more : map found_by xs ≡ map found_by ys = cc in
     let others : map source_of xs ≡ map source_of ys = cc in

@@ -18,14 +18,14 @@ use Rattle.core_model.specs.Events.{applies}
 use Rattle.core_model.specs.Tests.{any, first_grain, is_before, is_over, outcome_of}
 use Rattle.core_model.specs.Legal.{Run, ends}
 use Rattle.script_tree.specs.Programs.{ProgramTree}
-use Rattle.script_meaning.specs.Play.{Found, IsTransaction, grains_of}
+use Rattle.script_meaning.specs.Play.{GrainState, IsTransaction, grains_of}
 use Rattle.script_meaning.specs.Trails.{Given, GivenLock, GivenRaise, GivenOutcome, answers_of, exclusive_in, reads_of}
 use Rattle.script_machine.specs.declared.machine.Machine.{Machine}
 use Rattle.script_machine.specs.declared.machine.Input.{Input}
 use Rattle.script_machine.specs.declared.machine.Input.TheVariants as input
 use Rattle.script_machine.specs.declared.machine.Pause.{Pause}
 use Rattle.script_machine.specs.declared.machine.Pause.TheVariants.{NeedGrain}
-use Rattle.script_machine.specs.Machines.{AnswersRequest, Follows, asks_raise, given_by, has_begun, rest}
+use Rattle.script_machine.specs.Machines.{AnswersRequest, FollowsTrail, asks_raise, given_by, has_begun, rest}
 use Rattle.promise_spec.specs.Serial.{depth_of}
 use Rattle.promise_spec.specs.Gotten.{given_by as given_in}
 use Rattle.turn_rules.proofs.Linked.{heard}
@@ -53,8 +53,8 @@ at-work-more : (types : ProgramTree) (c : Carried) (work work' : Work) (trail : 
     IsAtWork types c work trail kids → IsResumed types work.machine work'.machine in_ pause → given_by (rest types work.machine) in_ ≡ one ∷ [] → work'.call ≡ work.call →
     work'.held ≡ grains_of (reads_of (trail ++ (one ∷ []))) → length work'.sources ≡ length (reads_of (trail ++ (one ∷ []))) → work'.kids ≡ kids' → IsAtWork types c work' (trail ++ (one ∷ [])) kids'
 at-work-more types c work work' trail one kids kids' in_ pause m resumed gives call held sources count = record {
-  follows = subst (λ (x : Call). Follows types x (depth_of c.origin) work'.machine (trail ++ (one ∷ []))) (sym call)
-      (subst (λ (l : List Given). Follows types work.call (depth_of c.origin) work'.machine (trail ++ l)) gives (resumed.follows work.call (depth_of c.origin) trail m.follows));
+  follows = subst (λ (x : Call). FollowsTrail types x (depth_of c.origin) work'.machine (trail ++ (one ∷ []))) (sym call)
+      (subst (λ (l : List Given). FollowsTrail types work.call (depth_of c.origin) work'.machine (trail ++ l)) gives (resumed.follows work.call (depth_of c.origin) trail m.follows));
   started = resumed.begun;
   held = held;
   sources = sources;
@@ -159,7 +159,7 @@ heard_known may types s t c work work' child o pause counts k l told call held s
               plainly = λ is x. w.linked.plainly is (subst (λ (z : Call). IsTransaction types z) call x);
               found = w.linked.found ∙ sym reads;
               sources = w.linked.sources ∙ sym sources;
-              locks = λ g. w.linked.locks g ∙ sym (ap (λ (f : List Found). any (same_grain g) (grains_of f)) reads);
+              locks = λ g. w.linked.locks g ∙ sym (ap (λ (f : List GrainState). any (same_grain g) (grains_of f)) reads);
               alone = λ g. w.linked.alone g ∙ sym (ap (any (same_grain g)) exclusive);
             };
             given = heard (run_seen t) c.unit child k.call k.depth k.trail o w.awaits (known-some (outcome_of (ends (run_seen t)) child) o told);
@@ -168,13 +168,13 @@ heard_known may types s t c work work' child o pause counts k l told call held s
 
 -- ---- a unit that has just begun
 
-pub new_known : (types : ProgramTree) (s : Sight) (c : Carried) (call : Call) (machine : Machine) (work : Work) (pause : Pause) → Follows types call (depth_of c.origin) machine [] → IsResumed types machine work.machine input.First pause →
+pub new_known : (types : ProgramTree) (s : Sight) (c : Carried) (call : Call) (machine : Machine) (work : Work) (pause : Pause) → FollowsTrail types call (depth_of c.origin) machine [] → IsResumed types machine work.machine input.First pause →
     work.call ≡ call → work.held ≡ [] → work.sources ≡ [] → work.kids ≡ 0 → IfOwn c s (λ r. IsNew types r c call) → KnowsPaused types s c work pause
 new_known types s c call machine work pause follows resumed same held sources kids new = record {
   trail = [];
   at_work = record {
-    follows = subst (λ (x : Call). Follows types x (depth_of c.origin) work.machine []) (sym same)
-        (subst (λ (l : List Given). Follows types call (depth_of c.origin) work.machine ([] ++ l)) (start-answer (rest types machine)) (resumed.follows call (depth_of c.origin) [] follows));
+    follows = subst (λ (x : Call). FollowsTrail types x (depth_of c.origin) work.machine []) (sym same)
+        (subst (λ (l : List Given). FollowsTrail types call (depth_of c.origin) work.machine ([] ++ l)) (start-answer (rest types machine)) (resumed.follows call (depth_of c.origin) [] follows));
     started = resumed.begun;
     held = held;
     sources = ap length sources;

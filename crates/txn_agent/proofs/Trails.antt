@@ -14,7 +14,7 @@ use Rattle.script_tree.specs.Programs.{ProgramTree}
 use Rattle.script_holding.specs.Limits.{unit_limit}
 use Rattle.script_meaning.specs.Laws.{IsMissing}
 use Rattle.script_meaning.specs.Requests.{Requests, End, AskLock, AskRaise, AskUnit}
-use Rattle.script_meaning.specs.Play.{Found, Want, WantLock, WantRaise, WantUnit, Over, asks, grains_of, next}
+use Rattle.script_meaning.specs.Play.{GrainState, Want, WantLock, WantRaise, WantUnit, Over, asks, grains_of, next}
 use Rattle.script_meaning.specs.Trails.{Given, GivenLock, GivenRaise, GivenOutcome, IsTrail, answers_of, asked_of, exclusive_in, locks_of, reads_of}
 use Rattle.script_meaning.proofs.Plays.{next_is_missing_lem}
 use Rattle.script_machine.specs.declared.machine.Input.{Input}
@@ -22,14 +22,14 @@ use Rattle.script_machine.specs.declared.machine.Input.TheVariants as input
 use Rattle.script_machine.specs.declared.machine.Machine.{Machine}
 use Rattle.script_machine.specs.declared.machine.Pause.{Pause}
 use Rattle.script_machine.specs.declared.machine.Pause.TheVariants.{NeedGrain, NeedUnit, Done}
-use Rattle.script_machine.specs.Machines.{AnswersRequest, Follows, HasRoom, asks_raise, given_by, has_begun, is_done, is_over, pause_for, rest}
+use Rattle.script_machine.specs.Machines.{AnswersRequest, FollowsTrail, HasRoomForParts, asks_raise, given_by, has_begun, is_done, is_over, pause_for, rest}
 
 -- ---- one more was given
 
 -- what was read
 pub reads-last : (trail : List Given) (one : Given) → reads_of (trail ++ (one ∷ [])) ≡ reads_of trail ++ reads_of (one ∷ [])
 reads-last [] one = refl
-reads-last (GivenLock g mode s ∷ trail) one = ap (λ (l : List Found). (g, s) ∷ l) (reads-last trail one)
+reads-last (GivenLock g mode s ∷ trail) one = ap (λ (l : List GrainState). (g, s) ∷ l) (reads-last trail one)
 reads-last (GivenRaise g ∷ trail) one = reads-last trail one
 reads-last (GivenOutcome call d o ∷ trail) one = reads-last trail one
 
@@ -52,7 +52,7 @@ exclusive-last (GivenRaise g ∷ trail) one = ap (λ (l : List GrainId). g ∷ l
 exclusive-last (GivenOutcome call d o ∷ trail) one = exclusive-last trail one
 
 -- the grains of one more read
-pub grains-last : (found : List Found) (one : Found) → grains_of (found ++ (one ∷ [])) ≡ grains_of found ++ (one.0 ∷ [])
+pub grains-last : (found : List GrainState) (one : GrainState) → grains_of (found ++ (one ∷ [])) ≡ grains_of found ++ (one.0 ∷ [])
 grains-last [] one = refl
 grains-last (x ∷ found) one = ap (λ (l : List GrainId). x.0 ∷ l) (grains-last found one)
 
@@ -172,14 +172,14 @@ over-wants (WantUnit call depth) o e = absurd cc
 over-wants (Over q) o e = (let a : q ≡ o = cc in ap Over a)
 
 -- what comes first in what a machine has left is what its trail leads to
-pub next-own : (types : ProgramTree) (call : Call) (depth : ℕ) (machine : Machine) (trail : List Given) → Follows types call depth machine trail → next types call depth (locks_of trail) (answers_of trail) ≡ asks (rest types machine)
+pub next-own : (types : ProgramTree) (call : Call) (depth : ℕ) (machine : Machine) (trail : List Given) → FollowsTrail types call depth machine trail → next types call depth (locks_of trail) (answers_of trail) ≡ asks (rest types machine)
 unfolding next
 next-own types call depth machine trail f = ap asks f.left
 
 -- What a machine is after it was given more, and its pause.
 pub record IsResumed (types : ProgramTree) (old new : Machine) (one : Input) (pause : Pause) : Type 0 where
   pub asks_for : pause ≡ pause_for (asks (rest types new))
-  pub follows : (call : Call) (depth : ℕ) (trail : List Given) → Follows types call depth old trail → Follows types call depth new (trail ++ given_by (rest types old) one)
+  pub follows : (call : Call) (depth : ℕ) (trail : List Given) → FollowsTrail types call depth old trail → FollowsTrail types call depth new (trail ++ given_by (rest types old) one)
   pub begun : has_begun new ≡ true
   pub over : is_over new ≡ is_done pause
-  pub room : HasRoom new
+  pub room : HasRoomForParts new

@@ -5,10 +5,10 @@ use Rattle.core_model.specs.CoreState.{UnitNo}
 use Rattle.core_model.specs.declared.effects.Effect.{Effect}
 use Rattle.core_model.specs.declared.effects.Read.{Read}
 use Rattle.script_tree.specs.Programs.{ProgramTree}
-use Rattle.script_meaning.specs.Play.{Found, Over, asks, grains_of}
+use Rattle.script_meaning.specs.Play.{GrainState, Over, asks, grains_of}
 use Rattle.script_meaning.specs.Trails.{Given, answers_of, exclusive_in, reads_of}
 use Rattle.script_machine.specs.declared.machine.Pause.{Pause}
-use Rattle.script_machine.specs.Machines.{Follows, HasRoom, has_begun, is_done, is_over, pause_for, rest}
+use Rattle.script_machine.specs.Machines.{FollowsTrail, HasRoomForParts, has_begun, is_done, is_over, pause_for, rest}
 use Rattle.promise_spec.specs.Serial.{depth_of}
 use Rattle.promise_spec.specs.UnitRule.{IsPlayOf}
 use Rattle.txn_agent.specs.declared.work.Carried.{Carried}
@@ -16,7 +16,7 @@ use Rattle.txn_agent.specs.declared.work.Work.{Work}
 
 -- The machine runs the unit's call, and was given this; what it was granted and has begun is counted along.
 pub record IsAtWork (types : ProgramTree) (c : Carried) (work : Work) (trail : List Given) (begun : ℕ) : Type 0 where
-  pub follows : Follows types work.call (depth_of c.origin) work.machine trail
+  pub follows : FollowsTrail types work.call (depth_of c.origin) work.machine trail
   pub started : has_begun work.machine ≡ true
   pub held : work.held ≡ grains_of (reads_of trail)
   pub sources : length work.sources ≡ length (reads_of trail)
@@ -26,10 +26,10 @@ pub record IsAtWork (types : ProgramTree) (c : Carried) (work : Work) (trail : L
 pub record IsReady (types : ProgramTree) (work : Work) (pause : Pause) : Type 0 where
   pub asks_for : pause ≡ pause_for (asks (rest types work.machine))
   pub over : is_over work.machine ≡ is_done pause
-  pub room : HasRoom work.machine
+  pub room : HasRoomForParts work.machine
 
 -- what was found, and by whom it was written
-abbrev pub found_by : Read → Found
+abbrev pub found_by : Read → GrainState
 found_by read = (read.grain, read.state)
 
 abbrev pub source_of : Read → UnitNo

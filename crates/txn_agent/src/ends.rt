@@ -4,7 +4,7 @@ ghost use Rattle.core_model.specs.Tests.{first_grain, first_of_two, is_before};
 ghost use Rattle.core_access.specs.Sights.{Counts};
 ghost use Rattle.script_tree.specs.Programs.{ProgramTree, program_tree};
 ghost use Rattle.script_meaning.specs.Trails.{Given};
-ghost use Rattle.script_machine.specs.Machines.{Follows, HasRoom, is_over, reads_in};
+ghost use Rattle.script_machine.specs.Machines.{FollowsTrail, HasRoomForParts, is_over, reads_in};
 ghost use Rattle.script_machine.specs.declared.machine.Pause.TheVariants.{Done as IsAtEnd};
 ghost use Rattle.promise_spec.specs.Serial.{depth_of};
 ghost use Rattle.txn_agent.specs.declared.work.Doing.TheVariants.{Frees as FreesAll};
@@ -50,9 +50,9 @@ fn effect_of(
     work: Work,
 ) -> Result<(Effect, List<GrainId>), AllocError>
     requires over { is_over work.machine ≡ true }
-    requires room { HasRoom work.machine }
+    requires room { HasRoomForParts work.machine }
     requires sources { length work.sources ≡ length (reads_in work.machine) }
-    ensures effect { IfOk result (λ made. (types : ProgramTree) (trail : AList Given) → Follows types work.call (depth_of carried.origin) work.machine trail → IsEffectOf types carried work trail made.0) }
+    ensures effect { IfOk result (λ made. (types : ProgramTree) (trail : AList Given) → FollowsTrail types work.call (depth_of carried.origin) work.machine trail → IsEffectOf types carried work trail made.0) }
     ensures held { IfOk result (λ made. made.1 ≡ work.held) }
 {
     let Work {

@@ -5,7 +5,7 @@ use Rattle.host_trait.specs.World.{Disk}
 use Rattle.gate_block.specs.Log.{LogsUpTo}
 use Rattle.silo_spec.specs.Silos.{manager, counter_magic}
 use Rattle.silo_spec.specs.Units.{body_of}
-use Rattle.silo_spec.specs.Damage.{IsDamagedAt}
+use Rattle.silo_spec.specs.Damage.{IsLogDamagedAt}
 use Rattle.opening.specs.declared.faults.OpenFault.{OpenFault}
 use Rattle.opening.specs.Reading.{Stays}
 use Rattle.opening.proofs.Blocks.{log_is_whole}
@@ -23,7 +23,7 @@ pub returns-in_err-opened-clause-damaged : goal.returns-in_err-opened-clause-dam
 returns-in_err-opened-clause-damaged g c =
     let p = err_from_is_err_and c.from_residual.result c.from_residual.ensures.1 in
     rw (p.1, p.2) λ file place is told.
-    subst (λ (bytes : List ℕ). IsDamagedAt bytes place) (c.is_silo.ensures.run told).seen (c.in_err-opened.ensures.damaged file place (other_value _ (OpenFault.Damaged file place) is) told)
+    subst (λ (bytes : List ℕ). IsLogDamagedAt bytes place) (c.is_silo.ensures.run told).seen (c.in_err-opened.ensures.damaged file place (other_value _ (OpenFault.Damaged file place) is) told)
 
 pub returns-in_err-opened-clause-untouched : goal.returns-in_err-opened-clause-untouched
 returns-in_err-opened-clause-untouched g c told = untouched 1 _ _ (run_only_asked manager Stays 1 _ _ _ (c.is_silo.ensures.run told) (c.read_log.ensures.asked told))
@@ -41,7 +41,7 @@ returns-clause-log g c told =
 pub returns-clause-undamaged : goal.returns-clause-undamaged
 returns-clause-undamaged g c told place damaged =
     let opened = c.in_ok-opened.opened in
-    let damaged_there = subst (λ (bytes : List ℕ). IsDamagedAt bytes place) (sym (c.is_silo.ensures.run told).seen) damaged in
+    let damaged_there = subst (λ (bytes : List ℕ). IsLogDamagedAt bytes place) (sym (c.is_silo.ensures.run told).seen) damaged in
     log_is_whole opened.log opened.gate_at ((g.H.Host.world c.is_silo.new.host).disk manager).seen (c.in_ok-opened.ensures.log told) c.in_ok-opened.ensures.units place damaged_there
 
 pub returns-clause-untouched : goal.returns-clause-untouched

@@ -8,7 +8,7 @@ use Rattle.gate_block.specs.Log.{HasBlocks}
 use Rattle.silo_spec.specs.Silos.{manager}
 use Rattle.silo_spec.specs.declared.units.Logged.{Logged}
 use Rattle.silo_spec.specs.Units.{body_of, AreUnits, last_from}
-use Rattle.silo_spec.specs.Damage.{IsDamagedAt}
+use Rattle.silo_spec.specs.Damage.{IsLogDamagedAt}
 use Rattle.silo_spec.proofs.Bodies.{AreUnits-push, last_from-push}
 use Rattle.opening.specs.declared.faults.OpenFault.{OpenFault}
 use Rattle.opening.specs.Reading.{IsBroken, IsBlockAt, IsNext}
@@ -28,7 +28,7 @@ returns-in_err-logged-clause-damaged g c =
     subst (λ (d : Disk). IsBroken c.loop-log.above (found_at gate (d manager).seen)) (inv.asked told).disk (c.in_err-logged.ensures.broken file place (other_value _ (OpenFault.Damaged file place) is) told) in
     let behind : IsBroken (last_from 0 log) (found_at gate seen) = subst (λ (n : ℕ). IsBroken n (found_at gate seen)) inv.above broken in
     let at : place ≡ gate + 1 = (c.in_err-logged.ensures.place file place (other_value _ (OpenFault.Damaged file place) is)).1 in
-    subst (λ (n : ℕ). IsDamagedAt seen n) (sym at) (broken_at log gate seen (found_at gate seen) (inv.whole told) inv.units refl behind)
+    subst (λ (n : ℕ). IsLogDamagedAt seen n) (sym at) (broken_at log gate seen (found_at gate seen) (inv.whole told) inv.units refl behind)
 
 pub returns-in_err-logged-clause-asked : goal.returns-in_err-logged-clause-asked
 returns-in_err-logged-clause-asked g c told = asked_then _ _ _ (c.loop-log.invariant.asked told) (c.next_unit.ensures.asked told)

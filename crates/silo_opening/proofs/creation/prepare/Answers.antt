@@ -4,7 +4,7 @@ use Rattle.silo_spec.specs.Silos.{manager}
 use Rattle.promise_spec.specs.Logs.{magic}
 use Rattle.silo_opening.specs.declared.creation.Front.{Front}
 use Rattle.silo_opening.specs.declared.creation.Front.TheVariants.{Empty, Open, Closed}
-use Rattle.silo_opening.specs.Steps.{IsFront, SyncsFor}
+use Rattle.silo_opening.specs.Steps.{ShowsFront, SyncsFor}
 use Rattle.silo_opening.proofs.Looking.{looks_untouched, looks_beside, log_run_beside, beside_then}
 use Rattle.silo_opening.proofs.Closing.{once_first, once_closed, closed_first, tried, on_ok}
 use Rattle.silo_opening.proofs.creation.prepare.Goals as goal
@@ -31,7 +31,7 @@ pub returns-in_err-map_err-in-Ok-Empty-clause-moments : goal.returns-in_err-map_
 returns-in_err-map_err-in-Ok-Empty-clause-moments g c told =
     let w0 = g.H.Host.world c.args.host.now in
     let w1 = g.H.Host.world c.look.new.host in
-    let shows : IsFront magic Empty (w0.disk manager).seen = subst (λ (front : Front). IsFront magic front (w0.disk manager).seen) c.in-Ok-Empty.field-0-is (c.in-Ok-Empty.ensures.shows told) in
+    let shows : ShowsFront magic Empty (w0.disk manager).seen = subst (λ (front : Front). ShowsFront magic front (w0.disk manager).seen) c.in-Ok-Empty.field-0-is (c.in-Ok-Empty.ensures.shows told) in
     let syncs : SyncsFor Empty w0 w1 = subst (λ (front : Front). SyncsFor front w0 w1) c.in-Ok-Empty.field-0-is (c.in-Ok-Empty.ensures.syncs told) in
     tried magic w0 w1 syncs shows _ (c.close_header.ensures.run told) (c.close_header.ensures.tried told)
 
@@ -43,7 +43,7 @@ pub returns-in_err-map_err-in-Ok-Open-clause-moments : goal.returns-in_err-map_e
 returns-in_err-map_err-in-Ok-Open-clause-moments g c told =
     let w0 = g.H.Host.world c.args.host.now in
     let w1 = g.H.Host.world c.look.new.host in
-    let shows : IsFront magic Open (w0.disk manager).seen = subst (λ (front : Front). IsFront magic front (w0.disk manager).seen) c.in-Ok-Open.field-0-is (c.in-Ok-Open.ensures.shows told) in
+    let shows : ShowsFront magic Open (w0.disk manager).seen = subst (λ (front : Front). ShowsFront magic front (w0.disk manager).seen) c.in-Ok-Open.field-0-is (c.in-Ok-Open.ensures.shows told) in
     let syncs : SyncsFor Open w0 w1 = subst (λ (front : Front). SyncsFor front w0 w1) c.in-Ok-Open.field-0-is (c.in-Ok-Open.ensures.syncs told) in
     inr (inr (once_closed magic w0 w1 _ syncs shows.1 (c.close_header-in-Ok-Open.ensures.run told)))
 
@@ -55,7 +55,7 @@ pub returns-in_ok-map_err-in-Ok-Empty-clause-first : goal.returns-in_ok-map_err-
 returns-in_ok-map_err-in-Ok-Empty-clause-first g c told =
     let w0 = g.H.Host.world c.args.host.now in
     let w1 = g.H.Host.world c.look.new.host in
-    let shows : IsFront magic Empty (w0.disk manager).seen = subst (λ (front : Front). IsFront magic front (w0.disk manager).seen) c.in-Ok-Empty.field-0-is (c.in-Ok-Empty.ensures.shows told) in
+    let shows : ShowsFront magic Empty (w0.disk manager).seen = subst (λ (front : Front). ShowsFront magic front (w0.disk manager).seen) c.in-Ok-Empty.field-0-is (c.in-Ok-Empty.ensures.shows told) in
     let syncs : SyncsFor Empty w0 w1 = subst (λ (front : Front). SyncsFor front w0 w1) c.in-Ok-Empty.field-0-is (c.in-Ok-Empty.ensures.syncs told) in
     let ok : is_ok c.close_header.result ≡ true = search rules in
     closed_first magic w0 w1 syncs shows _ (c.close_header.ensures.run told) (on_ok _ c.close_header.result c.close_header.ensures.synced ok told)
@@ -64,7 +64,7 @@ pub returns-in_ok-map_err-in-Ok-Empty-clause-moments : goal.returns-in_ok-map_er
 returns-in_ok-map_err-in-Ok-Empty-clause-moments g c told =
     let w0 = g.H.Host.world c.args.host.now in
     let w1 = g.H.Host.world c.look.new.host in
-    let shows : IsFront magic Empty (w0.disk manager).seen = subst (λ (front : Front). IsFront magic front (w0.disk manager).seen) c.in-Ok-Empty.field-0-is (c.in-Ok-Empty.ensures.shows told) in
+    let shows : ShowsFront magic Empty (w0.disk manager).seen = subst (λ (front : Front). ShowsFront magic front (w0.disk manager).seen) c.in-Ok-Empty.field-0-is (c.in-Ok-Empty.ensures.shows told) in
     let syncs : SyncsFor Empty w0 w1 = subst (λ (front : Front). SyncsFor front w0 w1) c.in-Ok-Empty.field-0-is (c.in-Ok-Empty.ensures.syncs told) in
     tried magic w0 w1 syncs shows _ (c.close_header.ensures.run told) (c.close_header.ensures.tried told)
 
@@ -76,7 +76,7 @@ pub returns-in_ok-map_err-in-Ok-Open-clause-first : goal.returns-in_ok-map_err-i
 returns-in_ok-map_err-in-Ok-Open-clause-first g c told =
     let w0 = g.H.Host.world c.args.host.now in
     let w1 = g.H.Host.world c.look.new.host in
-    let shows : IsFront magic Open (w0.disk manager).seen = subst (λ (front : Front). IsFront magic front (w0.disk manager).seen) c.in-Ok-Open.field-0-is (c.in-Ok-Open.ensures.shows told) in
+    let shows : ShowsFront magic Open (w0.disk manager).seen = subst (λ (front : Front). ShowsFront magic front (w0.disk manager).seen) c.in-Ok-Open.field-0-is (c.in-Ok-Open.ensures.shows told) in
     let syncs : SyncsFor Open w0 w1 = subst (λ (front : Front). SyncsFor front w0 w1) c.in-Ok-Open.field-0-is (c.in-Ok-Open.ensures.syncs told) in
     once_closed magic w0 w1 _ syncs shows.1 (c.close_header-in-Ok-Open.ensures.run told)
 
@@ -84,7 +84,7 @@ pub returns-in_ok-map_err-in-Ok-Open-clause-moments : goal.returns-in_ok-map_err
 returns-in_ok-map_err-in-Ok-Open-clause-moments g c told =
     let w0 = g.H.Host.world c.args.host.now in
     let w1 = g.H.Host.world c.look.new.host in
-    let shows : IsFront magic Open (w0.disk manager).seen = subst (λ (front : Front). IsFront magic front (w0.disk manager).seen) c.in-Ok-Open.field-0-is (c.in-Ok-Open.ensures.shows told) in
+    let shows : ShowsFront magic Open (w0.disk manager).seen = subst (λ (front : Front). ShowsFront magic front (w0.disk manager).seen) c.in-Ok-Open.field-0-is (c.in-Ok-Open.ensures.shows told) in
     let syncs : SyncsFor Open w0 w1 = subst (λ (front : Front). SyncsFor front w0 w1) c.in-Ok-Open.field-0-is (c.in-Ok-Open.ensures.syncs told) in
     inr (inr (once_closed magic w0 w1 _ syncs shows.1 (c.close_header-in-Ok-Open.ensures.run told)))
 
@@ -96,7 +96,7 @@ pub returns-in-Ok-Closed-clause-first : goal.returns-in-Ok-Closed-clause-first
 returns-in-Ok-Closed-clause-first g c told =
     let w0 = g.H.Host.world c.args.host.now in
     let w1 = g.H.Host.world c.look.new.host in
-    let shows : IsFront magic Closed (w0.disk manager).seen = subst (λ (front : Front). IsFront magic front (w0.disk manager).seen) c.in-Ok-Closed.field-0-is (c.in-Ok-Closed.ensures.shows told) in
+    let shows : ShowsFront magic Closed (w0.disk manager).seen = subst (λ (front : Front). ShowsFront magic front (w0.disk manager).seen) c.in-Ok-Closed.field-0-is (c.in-Ok-Closed.ensures.shows told) in
     let syncs : SyncsFor Closed w0 w1 = subst (λ (front : Front). SyncsFor front w0 w1) c.in-Ok-Closed.field-0-is (c.in-Ok-Closed.ensures.syncs told) in
     once_first magic w0 w1 syncs (λ silo. shows.1 silo.gate)
 
@@ -104,7 +104,7 @@ pub returns-in-Ok-Closed-clause-moments : goal.returns-in-Ok-Closed-clause-momen
 returns-in-Ok-Closed-clause-moments g c told =
     let w0 = g.H.Host.world c.args.host.now in
     let w1 = g.H.Host.world c.look.new.host in
-    let shows : IsFront magic Closed (w0.disk manager).seen = subst (λ (front : Front). IsFront magic front (w0.disk manager).seen) c.in-Ok-Closed.field-0-is (c.in-Ok-Closed.ensures.shows told) in
+    let shows : ShowsFront magic Closed (w0.disk manager).seen = subst (λ (front : Front). ShowsFront magic front (w0.disk manager).seen) c.in-Ok-Closed.field-0-is (c.in-Ok-Closed.ensures.shows told) in
     let syncs : SyncsFor Closed w0 w1 = subst (λ (front : Front). SyncsFor front w0 w1) c.in-Ok-Closed.field-0-is (c.in-Ok-Closed.ensures.syncs told) in
     inr (inr (once_first magic w0 w1 syncs (λ silo. shows.1 silo.gate)))
 

@@ -8,7 +8,7 @@ use Rattle.promise_spec.specs.Logs.{magic}
 use Rattle.promise_spec.specs.Words.{Manner}
 use Rattle.promise_spec.specs.Commands.{MakesSilo, IsProgramText}
 use Rattle.silo_spec.specs.Silos.{IsNewSilo}
-use Rattle.silo_spec.specs.Making.{Makes}
+use Rattle.silo_spec.specs.Making.{CameThisFar}
 use Rattle.silo_opening.specs.declared.faults.CreateFault.{CreateFault}
 use Rattle.silo_opening.specs.declared.making.InitFault.{InitFault}
 use Rattle.silo_opening.specs.Counts.{CreateFaulted, InitFaulted}
@@ -70,7 +70,7 @@ returns-in-Ok-create-clause-makes g c told manner asked =
       reads = ap program_in same ∙ c.in-Ok-accept.ensures;
     } in
     is_made (Unit {0}) manner asked old mid before after (c.read_input.ensures.disk told) (c.read_input.ensures.output told) (c.read_input.ensures.moments told)
-    new (c.create.ensures.beside told) (subst (λ (t : List ℕ). Makes magic t mid new) (sym again) (c.create.ensures.moments told)) (c.create.ensures.untouched told) reads
+    new (c.create.ensures.beside told) (subst (λ (t : List ℕ). CameThisFar magic t mid new) (sym again) (c.create.ensures.moments told)) (c.create.ensures.untouched told) reads
     tt (λ image is. subst (λ (t : List ℕ). IsNewSilo magic t image) (sym again) (c.in-Ok-create.ensures.made told image is))
     (λ silo. made_no_fault tt _ _ (c.in-Ok-create.ensures.silo told silo))
 
@@ -98,7 +98,7 @@ returns-clause-makes g c told manner asked =
     } in
     subst (λ (e : InitFault). MakesSilo (ended_with {A = Unit {0}} manner asked old new before after (failed e))) (sym c.creation_fault.ensures)
     (creation_refused (Unit {0}) manner asked old mid before after (c.read_input.ensures.disk told) (c.read_input.ensures.output told) (c.read_input.ensures.moments told)
-    new (c.create.ensures.beside told) (subst (λ (t : List ℕ). Makes magic t mid new) (sym again) (c.create.ensures.moments told)) (c.create.ensures.untouched told) reads
+    new (c.create.ensures.beside told) (subst (λ (t : List ℕ). CameThisFar magic t mid new) (sym again) (c.create.ensures.moments told)) (c.create.ensures.untouched told) reads
     fault (subst (λ (f : Channel → ℕ). CreateFaulted fault f after) (same_counts before between c.in-Ok.ensures.calm) c.in-Err-create.ensures.fault)
     (λ is. (c.in-Err-create.ensures.already is told, c.in-Err-create.ensures.lasts is told))
     (c.in-Err-create.ensures.silo told))

@@ -1,5 +1,5 @@
 use Rattle.std.proofs.Common.{ℕ, ◌+◌, ◌++◌, map, subst, sym}
-use Rattle.silo_spec.specs.Settling.{Stands}
+use Rattle.silo_spec.specs.Settling.{CounterStands}
 use Rattle.host_trait.specs.World.{moment_of}
 use Rattle.silo_spec.specs.Silos.{counter_magic}
 use Rattle.silo_spec.specs.Units.{body_of}
@@ -18,7 +18,7 @@ pub returns-in-Ok-clause-now : goal.returns-in-Ok-clause-now
 returns-in-Ok-clause-now g c = λ told log logged stands holds units. by_now c.args.unit.now c.in-Some.held c.in-Some.is c.as_slice.result.now c.as_slice.ensures log logged holds c.args.gate_at (g.H.Host.world c.args.host.now) stands units (moment_of (g.H.Host.world c.seal.new.host)) (c.seal.ensures.now told (map body_of log) (stands_rest counter_magic log c.args.gate_at (g.H.Host.world c.args.host.now).disk stands))
 
 pub returns-in-Ok-clause-ok : goal.returns-in-Ok-clause-ok
-returns-in-Ok-clause-ok g c = λ told log logged stands holds units. subst (λ (n : ℕ). Stands counter_magic (log ++ logged) (c.args.gate_at + n) (g.H.Host.world c.seal.new.host).disk) (sym c.len.ensures) (by_sealed c.args.unit.now c.in-Some.held c.in-Some.is c.as_slice.result.now c.as_slice.ensures log logged holds c.args.gate_at (g.H.Host.world c.args.host.now) stands units (g.H.Host.world c.seal.new.host) (c.in-Ok.ensures.ok told (map body_of log) (stands_rest counter_magic log c.args.gate_at (g.H.Host.world c.args.host.now).disk stands)))
+returns-in-Ok-clause-ok g c = λ told log logged stands holds units. subst (λ (n : ℕ). CounterStands counter_magic (log ++ logged) (c.args.gate_at + n) (g.H.Host.world c.seal.new.host).disk) (sym c.len.ensures) (by_sealed c.args.unit.now c.in-Some.held c.in-Some.is c.as_slice.result.now c.as_slice.ensures log logged holds c.args.gate_at (g.H.Host.world c.args.host.now) stands units (g.H.Host.world c.seal.new.host) (c.in-Ok.ensures.ok told (map body_of log) (stands_rest counter_magic log c.args.gate_at (g.H.Host.world c.args.host.now).disk stands)))
 
 pub returns-in-Err-clause-moments : goal.returns-in-Err-clause-moments
 returns-in-Err-clause-moments g c = λ told log logged stands holds units. by_moments c.args.unit.now c.in-Some.held c.in-Some.is c.as_slice.result.now c.as_slice.ensures log logged holds c.args.gate_at (g.H.Host.world c.args.host.now) stands units (g.H.Host.world c.args.host.now).past (g.H.Host.world c.seal.new.host).past (c.seal.ensures.moments told (map body_of log) (stands_rest counter_magic log c.args.gate_at (g.H.Host.world c.args.host.now).disk stands))

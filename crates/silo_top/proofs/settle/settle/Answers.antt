@@ -4,8 +4,8 @@ use Rattle.host_trait.proofs.Moments.{weaker}
 use Rattle.silo_spec.specs.Silos.{counter_magic}
 use Rattle.silo_spec.specs.declared.units.Logged.{Logged}
 use Rattle.silo_spec.specs.Units.{AreUnits}
-use Rattle.silo_spec.specs.Journals.{Settlement}
-use Rattle.silo_spec.specs.Settling.{Stands}
+use Rattle.silo_spec.specs.Journals.{CounterSettlement}
+use Rattle.silo_spec.specs.Settling.{CounterStands}
 use Rattle.silo_top.specs.Prepared.{Prepares}
 use Rattle.silo_top.specs.Settled.{IsReplyCut}
 use Rattle.silo_top.proofs.Beside.{beside_both, beside_emit}
@@ -33,7 +33,7 @@ returns-clause-now g c = λ told log s stands prepares units. replying log s (g.
 
 pub returns-in_err-emit-clause-cut : goal.returns-in_err-emit-clause-cut
 returns-in_err-emit-clause-cut g c =
-    let stop : IsTrue g.H.Host.tells → (log : List Logged) (s : Settlement) → Stands counter_magic log c.args.gate_at (g.H.Host.world c.args.host.now).disk → Prepares c.args.line.now s → AreUnits 0 (log ++ s.logged) → IsReplyCut log s (g.H.Host.world c.args.host.now) (g.H.Host.world c.emit.new.self) =
+    let stop : IsTrue g.H.Host.tells → (log : List Logged) (s : CounterSettlement) → CounterStands counter_magic log c.args.gate_at (g.H.Host.world c.args.host.now).disk → Prepares c.args.line.now s → AreUnits 0 (log ++ s.logged) → IsReplyCut log s (g.H.Host.world c.args.host.now) (g.H.Host.world c.emit.new.self) =
     λ told log s stands prepares units. reply_cut log s (g.H.Host.world c.args.host.now).output c.as_slice.result.now (c.as_slice.ensures ∙ prepares.reply) c.in_ok-next.next (g.H.Host.world c.seal_unit.new.host) (g.H.Host.world c.emit.new.self) (c.in_ok-next.ensures.ok told log s.logged stands prepares.unit units) (c.seal_unit.ensures.quiet told) (c.emit.ensures.part told).0 (c.emit.ensures.part told).1 (g.H.Host.world c.args.host.now) refl in
     search rules
 

@@ -3,7 +3,7 @@ use Rattle.std.proofs.lemmas.Bool.{ne_eqb}
 use Rattle.std.proofs.lemmas.Result.{err_from_is_err_and}
 use Rattle.script_tree.specs.Exprs.{expr_tree}
 use Rattle.script_lexer.specs.declared.faults.ParseFault.{ParseFault}
-use Rattle.script_expressions.specs.Reading.{Fails}
+use Rattle.script_expressions.specs.Reading.{FailsReading}
 use Rattle.script_expressions.specs.Expressions.{tiers, operand}
 use Rattle.script_expressions.proofs.Steps.{chain_none, chain_end, chain_full, chain_goes, chain_compared, chain_fails, fails_is}
 use Rattle.script_expressions.proofs.cursor.Cursor.+expression.Goals as goal
@@ -22,7 +22,7 @@ tier-returns-in_err-right-clause-read t c =
     let p = err_from_is_err_and c.from_residual-in_err-right.result c.from_residual-in_err-right.ensures.1 in
     let kept = c.in-Some.ensures.stop ∙ c.loop-turn.invariant.kept in
     let side = tiers (operand c.args.self.now.stop c.args.depth) (c.args.tier - 1) in
-    let right = subst (λ (s : ParseFault). Fails c.in_err-right.field-0.0 (tiers (operand s c.args.depth) (c.args.tier - 1) (c.loop-turn.spare - 1) c.operator.new.self.tokens.now)) kept c.in_err-right.ensures.read in
+    let right = subst (λ (s : ParseFault). FailsReading c.in_err-right.field-0.0 (tiers (operand s c.args.depth) (c.args.tier - 1) (c.loop-turn.spare - 1) c.operator.new.self.tokens.now)) kept c.in_err-right.ensures.read in
     rw (p.1, p.2) (fails_is _ _ _ c.loop-turn.invariant.so_far (chain_fails side c.args.tier _ (33 - c.loop-turn.turn) (33 - (c.loop-turn.turn + 1)) (expr_tree c.loop-turn.left) c.loop-turn.spare (c.loop-turn.spare - 1) ((c.in-Some.op, c.in-Some.at), c.operator.new.self.tokens.now) c.loop-turn.self.tokens.now (omega arith) (omega arith) c.in-Some.ensures.found right))
 
 pub tier-returns-then-tier-eq-COMPARISON-clause-read :
