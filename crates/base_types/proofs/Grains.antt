@@ -19,8 +19,8 @@ both_equal Equal Less e = absurd (cc e)
 both_equal Equal Greater e = absurd (cc e)
 both_equal Equal Equal e = (refl, refl)
 
-same_grain : (a b : GrainId) → is_at (grain_cmp a) b ≡ true → a ≡ b
-same_grain a b e =
+same_by_order : (a b : GrainId) → is_at (grain_cmp a) b ≡ true → a ≡ b
+same_by_order a b e =
     let equal = both_equal (nat_cmp a.kind b.kind) (nat_cmp a.key b.key) e in
     let kind : a.kind ≡ b.kind = exact_unsigned a.kind b.kind equal.0 in
     let key : a.key ≡ b.key = exact_unsigned a.key b.key equal.1 in
@@ -33,7 +33,7 @@ other_grain a b other = by_test (is_at (grain_cmp a) b) refl
   where
     by_test : (t : Bool) → is_at (grain_cmp a) b ≡ t → is_at (grain_cmp a) b ≡ false
     by_test false e = e
-    by_test true e = absurd (other (cc (same_grain a b e)))
+    by_test true e = absurd (other (cc (same_by_order a b e)))
 
 pub puts_state : (old new : Store) (grain : GrainId) (state : List Value) → Updates grain_cmp old.states new.states grain (Some state) → PutsState old new grain state
 puts_state old new grain state updates = record { put = updates.1; others = λ other differs. updates.2 other (other_grain grain other differs) }
@@ -62,4 +62,4 @@ no_end true (Some kept) none = absurd (cc (none refl))
 pub same_ends : (old new : Ends) (grain : GrainId) → has_room old grain ≡ false → Updates grain_cmp old.ends new.ends grain (Some None) → (other : GrainId) → end_in new other ≡ end_in old other
 same_ends old new grain none updates other =
     ap option_flatten (updates.0 other)
-    ∙ no_end (is_at (grain_cmp grain) other) (get grain_cmp old.ends other) (λ e. ap (has_room old) (sym (same_grain grain other e)) ∙ none)
+    ∙ no_end (is_at (grain_cmp grain) other) (get grain_cmp old.ends other) (λ e. ap (has_room old) (sym (same_by_order grain other e)) ∙ none)

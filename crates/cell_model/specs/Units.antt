@@ -1,7 +1,8 @@
 -- Units and grains by their numbers, and members of lists.
-use Rattle.std.specs.Prelude.{List, [], ◌∷◌, Bool, ◌&&◌, Option, Some, None, ◌==◌, nat_lt, if◌then◌else◌, ◌≡◌, ◌⊎◌}
+use Rattle.std.specs.Prelude.{List, [], ◌∷◌, Bool, Option, Some, None, ◌==◌, nat_lt, if◌then◌else◌, ◌≡◌, ◌⊎◌}
 pub use Rattle.base_types.specs.declared.calls.UnitNo.{UnitNo}
 pub use Rattle.base_types.specs.declared.calls.GrainId.{GrainId}
+pub use Rattle.base_types.specs.Grains.{same_grain}
 
 -- nobody, whose version is the opening state
 abbrev pub nobody : UnitNo
@@ -10,10 +11,6 @@ nobody = record { 0 = 0 }
 -- the two are one unit
 abbrev pub same_unit : UnitNo → UnitNo → Bool
 same_unit a b = a.0 == b.0
-
--- the two are one grain
-abbrev pub same_grain : GrainId → GrainId → Bool
-same_grain a b = (a.kind == b.kind) && (a.key == b.key)
 
 -- the older of the two
 abbrev pub older : UnitNo → UnitNo → UnitNo

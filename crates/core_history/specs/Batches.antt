@@ -3,7 +3,7 @@ use Rattle.std.specs.Prelude.{◌≡◌, ℕ, ◌+◌, List, [], ◌∷◌, ◌+
 use Rattle.std.specs.List.{list_all as all, flat_map, take_while}
 use Rattle.core_model.specs.CoreState.{UnitNo, Member}
 use Rattle.core_model.specs.declared.events.CoreEvent.{CoreEvent}
-use Rattle.core_model.specs.declared.events.CoreEvent.TheVariants.{Take}
+use Rattle.core_model.specs.declared.events.CoreEvent.TheVariants.{Bad, Begin, Grant, Refuse, Finish, EndPlain, EndSnapshot, Release, Take, Vote, Decide, Sealed, NotSealed, Doubt, Learn, Emitted, Halt, Want, Load}
 use Rattle.core_history.specs.Histories.{Applied}
 use Rattle.core_history.specs.Units.{finish_order, held, reads_in}
 
@@ -26,7 +26,24 @@ next_batch h batches = take_while (holds_nothing h) (take 64 (waiting_in h batch
 -- the batches with the next one, where the event takes it
 abbrev pub with_taken : List Applied → List (List UnitNo) → CoreEvent → List (List UnitNo)
 with_taken front batches Take = batches ++ next_batch front batches ∷ []
-with_taken front batches _ = batches
+with_taken front batches (Bad line why) = batches
+with_taken front batches (Begin origin call plain) = batches
+with_taken front batches (Grant v k new) = batches
+with_taken front batches (Refuse v k new) = batches
+with_taken front batches (Finish v effect) = batches
+with_taken front batches (EndPlain v effect) = batches
+with_taken front batches (EndSnapshot v at outcome) = batches
+with_taken front batches (Release v k) = batches
+with_taken front batches (Vote n k kept) = batches
+with_taken front batches (Decide n) = batches
+with_taken front batches (Sealed n) = batches
+with_taken front batches (NotSealed n) = batches
+with_taken front batches (Doubt n) = batches
+with_taken front batches (Learn v k) = batches
+with_taken front batches Emitted = batches
+with_taken front batches Halt = batches
+with_taken front batches (Want v k) = batches
+with_taken front batches (Load k v state) = batches
 
 -- those that a history takes after what stands in front of it
 abbrev pub batches_from : List Applied → List (List UnitNo) → List Applied → List (List UnitNo)

@@ -7,7 +7,7 @@ use Rattle.core_model.specs.CoreState.{UnitNo, GrainId, Mode, Outcome, Entry, Se
 use Rattle.core_model.specs.Tests.{is_before}
 use Rattle.core_model.specs.Causes.{Settles, IsAbort}
 use Rattle.core_model.specs.declared.events.CoreEvent.{CoreEvent}
-use Rattle.core_model.specs.declared.events.CoreEvent.TheVariants.{Bad, Refuse, EndPlain, EndSnapshot, Vote, Decide, Sealed, NotSealed, Doubt}
+use Rattle.core_model.specs.declared.events.CoreEvent.TheVariants.{Bad, Begin, Grant, Refuse, Finish, EndPlain, EndSnapshot, Release, Take, Vote, Decide, Sealed, NotSealed, Doubt, Learn, Emitted, Halt, Want, Load}
 use Rattle.core_history.specs.Histories.{Applied, Happened}
 use Rattle.core_history.specs.Units.{BeganFor, held, reads_in, result_in, WroteIn}
 use Rattle.core_history.specs.Batches.{InBatch}
@@ -53,7 +53,24 @@ pub record WasVotedDown (front : List Applied) (e : CoreEvent) (u : UnitNo) (g :
 -- where a batch isn't on disk, all its units are dead from then on.
 abbrev pub once_decided : List Applied → Applied → CoreEvent → List Applied
 once_decided front at (Decide n) = front ++ at ∷ []
-once_decided front at _ = front
+once_decided front at (Bad line why) = front
+once_decided front at (Begin origin call plain) = front
+once_decided front at (Grant v k new) = front
+once_decided front at (Refuse v k new) = front
+once_decided front at (Finish v effect) = front
+once_decided front at (EndPlain v effect) = front
+once_decided front at (EndSnapshot v seen outcome) = front
+once_decided front at (Release v k) = front
+once_decided front at Take = front
+once_decided front at (Vote n k kept) = front
+once_decided front at (Sealed n) = front
+once_decided front at (NotSealed n) = front
+once_decided front at (Doubt n) = front
+once_decided front at (Learn v k) = front
+once_decided front at Emitted = front
+once_decided front at Halt = front
+once_decided front at (Want v k) = front
+once_decided front at (Load k v state) = front
 
 -- The unit's batch is settled; no file that the unit wrote failed, and the other is the oldest of its dependencies that were
 -- dead once the batch was decided.
@@ -74,7 +91,22 @@ abbrev pub EndedWith : List Applied → CoreEvent → UnitNo → Outcome → Typ
 EndedWith front (EndPlain v effect) u result = (v ≡ u) × (effect.result ≡ result)
 EndedWith front (EndSnapshot v at outcome) u result = (v ≡ u) × (outcome ≡ result)
 EndedWith front (Sealed n) u result = CouldCommit front n u × (result_in u front ≡ Some result)
-EndedWith front _ u result = ⊥
+EndedWith front (Bad line why) u result = ⊥
+EndedWith front (Begin origin call plain) u result = ⊥
+EndedWith front (Grant v k new) u result = ⊥
+EndedWith front (Refuse v k new) u result = ⊥
+EndedWith front (Finish v effect) u result = ⊥
+EndedWith front (Release v k) u result = ⊥
+EndedWith front Take u result = ⊥
+EndedWith front (Vote n k kept) u result = ⊥
+EndedWith front (Decide n) u result = ⊥
+EndedWith front (NotSealed n) u result = ⊥
+EndedWith front (Doubt n) u result = ⊥
+EndedWith front (Learn v k) u result = ⊥
+EndedWith front Emitted u result = ⊥
+EndedWith front Halt u result = ⊥
+EndedWith front (Want v k) u result = ⊥
+EndedWith front (Load k v state) u result = ⊥
 
 -- why an event, after what had happened in front of it, settles a unit so
 abbrev pub CauseIn : List Applied → Applied → UnitNo → Settled → Type 0
@@ -89,7 +121,12 @@ CauseIn front at u (settled.Bad why) = (line : ℕ) × (at.event ≡ Bad line wh
 -- a bad line has nobody's unit and its own number; every other entry has the line that its unit began for
 abbrev pub HasLineIn : List Applied → CoreEvent → Entry → Settled → Type 0
 HasLineIn front e x (settled.Bad why) = (x.unit ≡ nobody) × (e ≡ Bad x.line why)
-HasLineIn front e x _ = BeganFor front x.unit x.line
+HasLineIn front e x (settled.Done result) = BeganFor front x.unit x.line
+HasLineIn front e x (settled.Lock by g) = BeganFor front x.unit x.line
+HasLineIn front e x (settled.Vote g) = BeganFor front x.unit x.line
+HasLineIn front e x (settled.Dependency on) = BeganFor front x.unit x.line
+HasLineIn front e x settled.Disk = BeganFor front x.unit x.line
+HasLineIn front e x settled.InDoubt = BeganFor front x.unit x.line
 
 -- an event of the history settled the entry, with its cause
 pub record IsCausedIn (h : List Applied) (x : Entry) : Type 0 where

@@ -3,7 +3,7 @@ use Rattle.std.specs.Prelude.{◌≡◌, ℕ, List, ◌∷◌, ◌++◌}
 use Rattle.core_model.specs.declared.effects.Read.{Read}
 use Rattle.core_model.specs.CoreState.{UnitNo, GrainId, Member}
 use Rattle.core_model.specs.declared.events.CoreEvent.{CoreEvent}
-use Rattle.core_model.specs.declared.events.CoreEvent.TheVariants.{Grant, Decide, Sealed, NotSealed, Doubt, Learn}
+use Rattle.core_model.specs.declared.events.CoreEvent.TheVariants.{Bad, Begin, Grant, Refuse, Finish, EndPlain, EndSnapshot, Release, Take, Vote, Decide, Sealed, NotSealed, Doubt, Learn, Emitted, Halt, Want, Load}
 use Rattle.core_history.specs.Histories.{Applied, Happened}
 use Rattle.core_history.specs.Units.{reads_in}
 use Rattle.core_history.specs.Batches.{InBatch}
@@ -29,7 +29,23 @@ pub record IsDecidedDead (h : List Applied) (u : UnitNo) : Type 0 where
 abbrev pub TakesOff : CoreEvent → UnitNo → GrainId → Type 0
 TakesOff (Grant u k mode) v g = k ≡ g
 TakesOff (Learn u k) v g = (u ≡ v) × (k ≡ g)
-TakesOff _ v g = ⊥
+TakesOff (Bad line why) v g = ⊥
+TakesOff (Begin origin call plain) v g = ⊥
+TakesOff (Refuse u k new) v g = ⊥
+TakesOff (Finish u effect) v g = ⊥
+TakesOff (EndPlain u effect) v g = ⊥
+TakesOff (EndSnapshot u at outcome) v g = ⊥
+TakesOff (Release u k) v g = ⊥
+TakesOff Take v g = ⊥
+TakesOff (Vote n k kept) v g = ⊥
+TakesOff (Decide n) v g = ⊥
+TakesOff (Sealed n) v g = ⊥
+TakesOff (NotSealed n) v g = ⊥
+TakesOff (Doubt n) v g = ⊥
+TakesOff Emitted v g = ⊥
+TakesOff Halt v g = ⊥
+TakesOff (Want u k) v g = ⊥
+TakesOff (Load k u state) v g = ⊥
 
 -- The one unit's version of the grain is the other's, or was made from one that stands on it: the unit read the grain from
 -- a unit whose version does.

@@ -38,7 +38,12 @@ abbrev pub same_outcome : Outcome → Outcome → Bool
 same_outcome (outcome.Value a) (outcome.Value b) = same_value a b
 same_outcome (outcome.Fault a) (outcome.Fault b) = same_text a b
 same_outcome outcome.Aborted outcome.Aborted = true
-same_outcome _ _ = false
+same_outcome (outcome.Value a) (outcome.Fault b) = false
+same_outcome (outcome.Value a) outcome.Aborted = false
+same_outcome (outcome.Fault a) (outcome.Value b) = false
+same_outcome (outcome.Fault a) outcome.Aborted = false
+same_outcome outcome.Aborted (outcome.Value b) = false
+same_outcome outcome.Aborted (outcome.Fault b) = false
 
 -- two calls
 abbrev pub same_call : Call → Call → Bool
@@ -48,7 +53,8 @@ same_call a b = same_grain a.grain b.grain && ((a.method == b.method) && same_st
 abbrev pub same_origin : Origin → Origin → Bool
 same_origin (Line a) (Line b) = a == b
 same_origin (Child p i d) (Child q j e) = same_unit p q && ((i == j) && (d == e))
-same_origin _ _ = false
+same_origin (Line a) (Child q j e) = false
+same_origin (Child p i d) (Line b) = false
 
 -- two reads
 abbrev pub same_read : Read → Read → Bool

@@ -64,8 +64,13 @@ MakesEvent Rests e = ⊥
 
 -- the settler has something to do
 abbrev pub has_step : Step → Bool
+has_step (Votes number g) = true
+has_step (Decides number) = true
+has_step (Seals number) = true
+has_step (Learns u g) = true
+has_step Writes = true
+has_step Takes = true
 has_step Rests = false
-has_step step = true
 
 -- the unit's version, where it wrote the grain
 abbrev pub version_of : UnitNo → Option (List Value) → List Version

@@ -1,18 +1,21 @@
 -- Files: their slots and names, and which calls a file may be given to.
 use Rattle.std.specs.Prelude.{ℕ, ◌≤◌, ◌==◌, ◌&&◌, Bool, false, IsTrue, List, ◌++◌, codes, decimal}
 use Rattle.base_types.specs.declared.calls.GrainId.{GrainId}
+pub use Rattle.base_types.specs.Grains.{same_grain}
 use Rattle.host_trait.specs.declared.channels.FileId.{FileId}
 use Rattle.host_trait.specs.declared.channels.FileId.TheVariants.{Program, Manager, Grain}
-
-abbrev pub same_grain : GrainId → GrainId → Bool
-same_grain a b = (a.kind == b.kind) && (a.key == b.key)
 
 -- whether two names are one file's
 abbrev pub same_file : FileId → FileId → Bool
 same_file (Program a) (Program b) = a == b
+same_file (Program a) (Manager b) = false
+same_file (Program a) (Grain b y) = false
+same_file (Manager a) (Program b) = false
 same_file (Manager a) (Manager b) = a == b
+same_file (Manager a) (Grain b y) = false
+same_file (Grain a x) (Program b) = false
+same_file (Grain a x) (Manager b) = false
 same_file (Grain a x) (Grain b y) = (a == b) && same_grain x y
-same_file _ _ = false
 
 abbrev pub slot_of : FileId → ℕ
 slot_of (Program slot) = slot

@@ -27,7 +27,18 @@ module _ (stop : ParseFault) where
   -- the key that begins with a word, or with a token, at a place, before tokens; all of them are the last
   abbrev pub word_place : ℕ → Word → List Spanned → Read ExprTree
   word_place depth word.Key ts all = Ok (TheKey, ts)
-  word_place depth _ ts all = parenthesised depth all
+  word_place depth word.Type ts all = parenthesised depth all
+  word_place depth word.Field ts all = parenthesised depth all
+  word_place depth word.Method ts all = parenthesised depth all
+  word_place depth word.Let ts all = parenthesised depth all
+  word_place depth word.Set ts all = parenthesised depth all
+  word_place depth word.If ts all = parenthesised depth all
+  word_place depth word.Else ts all = parenthesised depth all
+  word_place depth word.While ts all = parenthesised depth all
+  word_place depth word.Return ts all = parenthesised depth all
+  word_place depth word.Fail ts all = parenthesised depth all
+  word_place depth word.Call ts all = parenthesised depth all
+  word_place depth word.Attempt ts all = parenthesised depth all
 
   abbrev pub place_from : ℕ → Token → ℕ → List Spanned → Read ExprTree
   place_from depth (token.Int n) at ts all = Ok (Constant (literal.Int n), ts)

@@ -30,13 +30,42 @@ pub data Beginning : Type 0 where
 -- how it begins with a word, a symbol, a token at a place
 abbrev pub word_starts : Word → Beginning
 word_starts word.Key = Whole TheKey
-word_starts _ = Never
+word_starts word.Type = Never
+word_starts word.Field = Never
+word_starts word.Method = Never
+word_starts word.Let = Never
+word_starts word.Set = Never
+word_starts word.If = Never
+word_starts word.Else = Never
+word_starts word.While = Never
+word_starts word.Return = Never
+word_starts word.Fail = Never
+word_starts word.Call = Never
+word_starts word.Attempt = Never
 
 abbrev pub symbol_starts : Symbol → Beginning
 symbol_starts symbol.Minus = Prefix unary.Minus
 symbol_starts symbol.Not = Prefix unary.Not
 symbol_starts symbol.LeftParen = Open
-symbol_starts _ = Never
+symbol_starts symbol.LeftBrace = Never
+symbol_starts symbol.RightBrace = Never
+symbol_starts symbol.RightParen = Never
+symbol_starts symbol.Semicolon = Never
+symbol_starts symbol.Comma = Never
+symbol_starts symbol.Dot = Never
+symbol_starts symbol.Assign = Never
+symbol_starts symbol.Plus = Never
+symbol_starts symbol.Star = Never
+symbol_starts symbol.Slash = Never
+symbol_starts symbol.Percent = Never
+symbol_starts symbol.Less = Never
+symbol_starts symbol.Greater = Never
+symbol_starts symbol.LessEqual = Never
+symbol_starts symbol.GreaterEqual = Never
+symbol_starts symbol.Equal = Never
+symbol_starts symbol.NotEqual = Never
+symbol_starts symbol.And = Never
+symbol_starts symbol.Or = Never
 
 abbrev pub starts : Token → ℕ → Beginning
 starts (token.Name s) at = Whole (Variable (record { text = s; at = at }))
@@ -67,7 +96,15 @@ symbol_joins symbol.Greater = Some (3, op.Gt)
 symbol_joins symbol.GreaterEqual = Some (3, op.Ge)
 symbol_joins symbol.And = Some (4, op.And)
 symbol_joins symbol.Or = Some (5, op.Or)
-symbol_joins _ = None
+symbol_joins symbol.LeftBrace = None
+symbol_joins symbol.RightBrace = None
+symbol_joins symbol.LeftParen = None
+symbol_joins symbol.RightParen = None
+symbol_joins symbol.Semicolon = None
+symbol_joins symbol.Comma = None
+symbol_joins symbol.Dot = None
+symbol_joins symbol.Assign = None
+symbol_joins symbol.Not = None
 
 abbrev pub joins : Token → Option (ℕ × BinaryOp)
 joins (token.Symbol s) = symbol_joins s

@@ -1,6 +1,7 @@
 -- What a unit has while it runs: steps that are left, units that it asked for, grains that it holds.
-use Rattle.std.specs.Prelude.{ℕ, ◌+◌, Bool, true, false, ◌&&◌, if◌then◌else◌, nat_eq, List, [], ◌∷◌, map, length, slice_set, Option, Some, None}
+use Rattle.std.specs.Prelude.{ℕ, ◌+◌, true, false, if◌then◌else◌, nat_eq, List, [], ◌∷◌, map, length, slice_set, Option, Some, None}
 use Rattle.base_types.specs.declared.calls.GrainId.{GrainId}
+pub use Rattle.base_types.specs.Grains.{same_grain}
 use Rattle.base_types.specs.declared.calls.Mode.{Mode}
 use Rattle.base_types.specs.declared.calls.Mode.TheVariants.{Update}
 use Rattle.base_types.specs.declared.calls.Value.{Value}
@@ -14,10 +15,6 @@ pub record Holding : Type 0 where
   pub left : ℕ
   pub asked : ℕ
   pub held : List Held
-
--- the same grain
-abbrev pub same_grain : GrainId → GrainId → Bool
-same_grain one other = nat_eq one.kind other.kind && nat_eq one.key other.key
 
 -- the grain among those held
 abbrev pub held_at : GrainId → List Held → Option Held

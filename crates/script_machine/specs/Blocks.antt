@@ -2,7 +2,7 @@
 use Rattle.std.specs.Prelude.{ℕ, zero, suc, ◌+◌, List, [], ◌∷◌, Option, Some, None}
 use Rattle.base_types.specs.declared.calls.Value.{Value}
 use Rattle.base_types.specs.declared.calls.Value.TheVariants.{Text}
-use Rattle.script_tree.specs.Stmts.{StmtTree, BlockTree, ElseTree, Bind, Rebind, Choose, Repeat, Try, NoMore, Then, NoElse, Else}
+use Rattle.script_tree.specs.Stmts.{StmtTree, BlockTree, ElseTree, Bind, Rebind, SetField, Perform, Choose, Repeat, Give, FailWith, Try, NoMore, Then, NoElse, Else}
 use Rattle.script_tree.specs.Programs.{ProgramTree}
 use Rattle.script_values.specs.Expressions.{put_local}
 use Rattle.script_meaning.specs.Requests.{Back, stop}
@@ -39,7 +39,19 @@ part_of Second (Choose test block other) = else_block other
 part_of First (Repeat test block) = block
 part_of First (Try at name call block other) = block
 part_of Second (Try at name call block other) = other
-part_of part stmt = NoMore
+part_of First (Bind name source) = NoMore
+part_of First (Rebind name source) = NoMore
+part_of First (SetField name value) = NoMore
+part_of First (Perform call) = NoMore
+part_of First (Give value) = NoMore
+part_of First (FailWith text) = NoMore
+part_of Second (Bind name source) = NoMore
+part_of Second (Rebind name source) = NoMore
+part_of Second (SetField name value) = NoMore
+part_of Second (Perform call) = NoMore
+part_of Second (Repeat test block) = NoMore
+part_of Second (Give value) = NoMore
+part_of Second (FailWith text) = NoMore
 
 -- the same, no statements where there is no statement
 abbrev pub part_at : Part → Option StmtTree → BlockTree
@@ -54,7 +66,15 @@ module _ (types : ProgramTree) (runner : Runner) (site : Site) (back : Back) whe
   -- what follows the end of a block of this statement: a loop begins its next turn
   abbrev pub outer : Option StmtTree → Next → Next
   outer (Some (Repeat test block)) next = does types runner site back (Repeat test block) next
-  outer stmt next = next
+  outer None next = next
+  outer (Some (Bind name source)) next = next
+  outer (Some (Rebind name source)) next = next
+  outer (Some (SetField name value)) next = next
+  outer (Some (Perform call)) next = next
+  outer (Some (Choose test block other)) next = next
+  outer (Some (Give value)) next = next
+  outer (Some (FailWith text)) next = next
+  outer (Some (Try at name call block other)) next = next
 
   -- the same, where the statement is looked up in the block around it
   abbrev pub follows : BlockTree → Next → OpenBlock → Next
@@ -70,9 +90,23 @@ module _ (types : ProgramTree) (runner : Runner) (site : Site) (back : Back) whe
   received (Some (Bind name source)) next value = λ locals. next (put_local name.text value locals)
   received (Some (Rebind name source)) next value = λ locals. next (put_local name.text value locals)
   received (Some (Try at name call block other)) next value = λ locals. runs types runner site back block next (put_local name.text value locals)
-  received stmt next value = next
+  received None next value = next
+  received (Some (SetField name given)) next value = next
+  received (Some (Perform call)) next value = next
+  received (Some (Choose test block other)) next value = next
+  received (Some (Repeat test block)) next value = next
+  received (Some (Give given)) next value = next
+  received (Some (FailWith text)) next value = next
 
   -- and with the fault of a unit of its own
   abbrev pub caught : Option StmtTree → Next → List ℕ → Next
   caught (Some (Try at name call block other)) next text = λ locals. runs types runner site back other next (put_local name.text (Text text) locals)
-  caught stmt next text = λ locals. stop text
+  caught None next text = λ locals. stop text
+  caught (Some (Bind name source)) next text = λ locals. stop text
+  caught (Some (Rebind name source)) next text = λ locals. stop text
+  caught (Some (SetField name value)) next text = λ locals. stop text
+  caught (Some (Perform call)) next text = λ locals. stop text
+  caught (Some (Choose test block other)) next text = λ locals. stop text
+  caught (Some (Repeat test block)) next text = λ locals. stop text
+  caught (Some (Give value)) next text = λ locals. stop text
+  caught (Some (FailWith why)) next text = λ locals. stop text

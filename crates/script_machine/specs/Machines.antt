@@ -8,7 +8,7 @@ use Rattle.script_tree.specs.declared.options.MethodKind.{MethodKind}
 use Rattle.script_tree.specs.Programs.{ProgramTree}
 use Rattle.script_values.specs.Faults.{depth}
 use Rattle.script_holding.specs.Holding.{Holding}
-use Rattle.script_meaning.specs.Requests.{Requests, AskLock, AskRaise, AskUnit, stop}
+use Rattle.script_meaning.specs.Requests.{Requests, End, AskLock, AskRaise, AskUnit, stop}
 use Rattle.script_meaning.specs.Calls.{joined}
 use Rattle.script_meaning.specs.Play.{GrainState, Want, WantLock, WantRaise, WantUnit, Over, Played, at_start, ends, rest_of, unit}
 use Rattle.script_meaning.specs.Trails.{Given, GivenLock, GivenRaise, GivenOutcome, IsTrail, answers_of, asked_of, locks_of, reads_of}
@@ -56,36 +56,75 @@ abbrev pub fed : Requests → Input → Requests
 fed (AskLock grain mode go) (input.Grain state) = go state
 fed (AskRaise grain left) input.Held = left
 fed (AskUnit call at go) (input.Unit outcome) = go outcome
-fed left one = left
+fed (End result has) one = End result has
+fed (AskLock grain mode go) input.First = AskLock grain mode go
+fed (AskLock grain mode go) input.Held = AskLock grain mode go
+fed (AskLock grain mode go) (input.Unit outcome) = AskLock grain mode go
+fed (AskRaise grain left) input.First = AskRaise grain left
+fed (AskRaise grain left) (input.Grain state) = AskRaise grain left
+fed (AskRaise grain left) (input.Unit outcome) = AskRaise grain left
+fed (AskUnit call at go) input.First = AskUnit call at go
+fed (AskUnit call at go) (input.Grain state) = AskUnit call at go
+fed (AskUnit call at go) input.Held = AskUnit call at go
 
 -- the state that was found, with its grain
 abbrev pub read_by : Requests → Input → List GrainState
 read_by (AskLock grain mode go) (input.Grain state) = (grain, state) ∷ []
-read_by left one = []
+read_by (End result has) one = []
+read_by (AskLock grain mode go) input.First = []
+read_by (AskLock grain mode go) input.Held = []
+read_by (AskLock grain mode go) (input.Unit outcome) = []
+read_by (AskRaise grain left) one = []
+read_by (AskUnit call at go) one = []
 
 -- the outcome that came
 abbrev pub answered_by : Requests → Input → List Outcome
 answered_by (AskUnit call at go) (input.Unit outcome) = outcome ∷ []
-answered_by left one = []
+answered_by (End result has) one = []
+answered_by (AskLock grain mode go) one = []
+answered_by (AskRaise grain left) one = []
+answered_by (AskUnit call at go) input.First = []
+answered_by (AskUnit call at go) (input.Grain state) = []
+answered_by (AskUnit call at go) input.Held = []
 
 -- what an input gives, with what it answers
 abbrev pub given_by : Requests → Input → List Given
 given_by (AskLock grain mode go) (input.Grain state) = GivenLock grain mode state ∷ []
 given_by (AskRaise grain left) input.Held = GivenRaise grain ∷ []
 given_by (AskUnit call at go) (input.Unit outcome) = GivenOutcome call at outcome ∷ []
-given_by left one = []
+given_by (End result has) one = []
+given_by (AskLock grain mode go) input.First = []
+given_by (AskLock grain mode go) input.Held = []
+given_by (AskLock grain mode go) (input.Unit outcome) = []
+given_by (AskRaise grain left) input.First = []
+given_by (AskRaise grain left) (input.Grain state) = []
+given_by (AskRaise grain left) (input.Unit outcome) = []
+given_by (AskUnit call at go) input.First = []
+given_by (AskUnit call at go) (input.Grain state) = []
+given_by (AskUnit call at go) input.Held = []
 
 -- the input answers what is asked for
 abbrev pub AnswersRequest : Requests → Input → Type 0
 AnswersRequest (AskLock grain mode go) (input.Grain state) = Unit {0}
 AnswersRequest (AskRaise grain left) input.Held = Unit {0}
 AnswersRequest (AskUnit call at go) (input.Unit outcome) = Unit {0}
-AnswersRequest left one = ⊥
+AnswersRequest (End result has) one = ⊥
+AnswersRequest (AskLock grain mode go) input.First = ⊥
+AnswersRequest (AskLock grain mode go) input.Held = ⊥
+AnswersRequest (AskLock grain mode go) (input.Unit outcome) = ⊥
+AnswersRequest (AskRaise grain left) input.First = ⊥
+AnswersRequest (AskRaise grain left) (input.Grain state) = ⊥
+AnswersRequest (AskRaise grain left) (input.Unit outcome) = ⊥
+AnswersRequest (AskUnit call at go) input.First = ⊥
+AnswersRequest (AskUnit call at go) (input.Grain state) = ⊥
+AnswersRequest (AskUnit call at go) input.Held = ⊥
 
 -- the first input fits always, another one where it answers what a machine past its start asks for
 abbrev pub Fits : ProgramTree → Machine → Input → Type 0
 Fits types machine input.First = Unit {0}
-Fits types machine one = (has_begun machine ≡ true) × AnswersRequest (rest types machine) one
+Fits types machine (input.Grain state) = (has_begun machine ≡ true) × AnswersRequest (rest types machine) (input.Grain state)
+Fits types machine input.Held = (has_begun machine ≡ true) × AnswersRequest (rest types machine) input.Held
+Fits types machine (input.Unit outcome) = (has_begun machine ≡ true) × AnswersRequest (rest types machine) (input.Unit outcome)
 
 -- the pause that asks for this
 abbrev pub pause_for : Want → Pause
@@ -97,17 +136,23 @@ pause_for (Over outcome) = Done outcome
 -- an exclusive lock in place of a shared one is asked for
 abbrev pub asks_raise : Requests → Bool
 asks_raise (AskRaise grain left) = true
-asks_raise left = false
+asks_raise (End result has) = false
+asks_raise (AskLock grain mode go) = false
+asks_raise (AskUnit call at go) = false
 
 -- the pause says that the run is over
 abbrev pub is_done : Pause → Bool
 is_done (Done outcome) = true
-is_done pause = false
+is_done (NeedGrain grain mode) = false
+is_done (NeedUnit call at) = false
 
 -- a run that is not ready and has an outcome is over
 abbrev pub is_over_at : Bool → Wait → Bool
 is_over_at false (wait.Over outcome) = true
-is_over_at ready waits = false
+is_over_at true waits = false
+is_over_at false (wait.Lock grain mode) = false
+is_over_at false (wait.Raise grain) = false
+is_over_at false (wait.Child call at) = false
 
 -- the machine's run is over
 abbrev pub is_over : Machine → Bool

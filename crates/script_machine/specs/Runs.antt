@@ -5,7 +5,7 @@ use Rattle.base_types.specs.declared.calls.Mode.{Mode}
 use Rattle.base_types.specs.declared.calls.Value.{Value}
 use Rattle.script_tree.specs.Exprs.{ExprTree, CallTree}
 use Rattle.script_tree.specs.declared.statements.Stmt.{Stmt}
-use Rattle.script_tree.specs.Stmts.{Called, StmtTree, Bind, Rebind, Perform, Try, NoMore, Then, stmt_tree}
+use Rattle.script_tree.specs.Stmts.{Computed, Called, StmtTree, Bind, Rebind, SetField, Perform, Choose, Repeat, Give, FailWith, Try, NoMore, Then, stmt_tree}
 use Rattle.script_tree.specs.Programs.{ProgramTree}
 use Rattle.script_values.specs.declared.stops.Stop.{Stop}
 use Rattle.script_values.specs.declared.stops.Stop.TheVariants.{Fault, Memory}
@@ -156,7 +156,13 @@ call_in (Bind name (Called call)) = Some call
 call_in (Rebind name (Called call)) = Some call
 call_in (Perform call) = Some call
 call_in (Try at name call block other) = Some call
-call_in stmt = None
+call_in (Bind name (Computed value)) = None
+call_in (Rebind name (Computed value)) = None
+call_in (SetField name value) = None
+call_in (Choose test block other) = None
+call_in (Repeat test block) = None
+call_in (Give value) = None
+call_in (FailWith text) = None
 
 -- what follows the statement at which the topmost frame stands
 abbrev pub next_here : ProgramTree → Run → Next

@@ -135,7 +135,8 @@ pub record Lock : Type 0 where
 abbrev pub same_mode : Mode → Mode → Bool
 same_mode Read Read = true
 same_mode Update Update = true
-same_mode one other = false
+same_mode Read Update = false
+same_mode Update Read = false
 
 -- a lock is the one that was asked for
 abbrev pub is_asked : Lock → GrainId → Mode → Bool

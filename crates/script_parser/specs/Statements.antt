@@ -107,7 +107,11 @@ module _ (stop : ParseFault) where
   word_begins depth blocks word.Return at ts = return_at depth ts
   word_begins depth blocks word.Fail at ts = fail_at ts
   word_begins depth blocks word.Attempt at ts = attempt_at depth blocks at ts
-  word_begins depth blocks _ at ts = Err (Unexpected at)
+  word_begins depth blocks word.Type at ts = Err (Unexpected at)
+  word_begins depth blocks word.Field at ts = Err (Unexpected at)
+  word_begins depth blocks word.Method at ts = Err (Unexpected at)
+  word_begins depth blocks word.Else at ts = Err (Unexpected at)
+  word_begins depth blocks word.Key at ts = Err (Unexpected at)
 
   abbrev pub statement_from : ℕ → Read (List StmtTree) → Token → ℕ → Read StmtTree
   statement_from depth blocks (token.Name s) at ts = assign_at depth (record { text = s; at = at }) ts

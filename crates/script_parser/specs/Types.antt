@@ -44,7 +44,27 @@ module _ (stop : ParseFault) where
 
   abbrev pub symbol_initial : Symbol → ℕ → Read Literal
   symbol_initial symbol.Minus at ts = number_at ts
-  symbol_initial _ at ts = Err (Unexpected at)
+  symbol_initial symbol.LeftBrace at ts = Err (Unexpected at)
+  symbol_initial symbol.RightBrace at ts = Err (Unexpected at)
+  symbol_initial symbol.LeftParen at ts = Err (Unexpected at)
+  symbol_initial symbol.RightParen at ts = Err (Unexpected at)
+  symbol_initial symbol.Semicolon at ts = Err (Unexpected at)
+  symbol_initial symbol.Comma at ts = Err (Unexpected at)
+  symbol_initial symbol.Dot at ts = Err (Unexpected at)
+  symbol_initial symbol.Assign at ts = Err (Unexpected at)
+  symbol_initial symbol.Plus at ts = Err (Unexpected at)
+  symbol_initial symbol.Star at ts = Err (Unexpected at)
+  symbol_initial symbol.Slash at ts = Err (Unexpected at)
+  symbol_initial symbol.Percent at ts = Err (Unexpected at)
+  symbol_initial symbol.Less at ts = Err (Unexpected at)
+  symbol_initial symbol.Greater at ts = Err (Unexpected at)
+  symbol_initial symbol.LessEqual at ts = Err (Unexpected at)
+  symbol_initial symbol.GreaterEqual at ts = Err (Unexpected at)
+  symbol_initial symbol.Equal at ts = Err (Unexpected at)
+  symbol_initial symbol.NotEqual at ts = Err (Unexpected at)
+  symbol_initial symbol.And at ts = Err (Unexpected at)
+  symbol_initial symbol.Or at ts = Err (Unexpected at)
+  symbol_initial symbol.Not at ts = Err (Unexpected at)
 
   abbrev pub initial_from : Token → ℕ → Read Literal
   initial_from (token.Int n) at ts = Ok (literal.Int n, ts)

@@ -2,6 +2,7 @@
 use Rattle.std.specs.Prelude.{List, [], ◌∷◌, Bool, true, ◌&&◌, not, ◌||◌, ◌==◌, nat_lt, if◌then◌else◌, ◌≡◌, ◌⊎◌, ℤ, pos, ◌+ℤ◌, ⊤}
 pub use Rattle.std.specs.List.{list_any as any, list_all as all}
 pub use Rattle.base_types.specs.declared.calls.GrainId.{GrainId}
+pub use Rattle.base_types.specs.Grains.{same_grain}
 pub use Rattle.silo_nodes.specs.declared.packets.TxnId.{TxnId}
 pub use Rattle.silo_nodes.specs.declared.packets.Shift.{Shift}
 pub use Rattle.silo_nodes.specs.declared.packets.Packet.{Packet}
@@ -22,10 +23,6 @@ Distinct (x ∷ xs) = (Member x xs → ⊥) × Distinct xs
 -- the two are one transaction
 abbrev pub same_txn : TxnId → TxnId → Bool
 same_txn a b = (a.epoch == b.epoch) && (a.number == b.number)
-
--- the two are one grain
-abbrev pub same_grain : GrainId → GrainId → Bool
-same_grain a b = (a.kind == b.kind) && (a.key == b.key)
 
 -- the shifts move that grain
 abbrev pub touches : GrainId → List Shift → Bool

@@ -46,7 +46,24 @@ is_own u (Load g v state) = false
 -- a unit begins
 abbrev pub is_begin : CoreEvent → Bool
 is_begin (Begin origin call plain) = true
-is_begin _ = false
+is_begin (Bad line why) = false
+is_begin (Grant v g mode) = false
+is_begin (Refuse v g mode) = false
+is_begin (Finish v effect) = false
+is_begin (EndPlain v effect) = false
+is_begin (EndSnapshot v at outcome) = false
+is_begin (Release v g) = false
+is_begin Take = false
+is_begin (Vote n g kept) = false
+is_begin (Decide n) = false
+is_begin (Sealed n) = false
+is_begin (NotSealed n) = false
+is_begin (Doubt n) = false
+is_begin (Learn v g) = false
+is_begin Emitted = false
+is_begin Halt = false
+is_begin (Want v g) = false
+is_begin (Load g v state) = false
 
 -- the event keeps the unit rule, where it applies
 abbrev pub MayCome : Basis → Run → CoreEvent → Type 0
