@@ -9,7 +9,7 @@ use Rattle.base_types.specs.declared.shapes.Shape.{Shape}
 use Rattle.field_codec.specs.declared.faults.CodecFault.TheVariants.{BadOrder, Unknown}
 use Rattle.field_codec.specs.Spelling.{spelling_of_values, spelling_of_origin, spelling_of_call, CallFits, spelling_of_outcome, AnswerFits, ResultFits}
 use Rattle.field_codec.specs.Chained.{Chained}
-use Rattle.field_codec.specs.Reading.{whole, refused, field, choice, known, number_at, count_at}
+use Rattle.field_codec.specs.Reading.{whole, refused, field, choice, when_known, number_at, count_at}
 use Rattle.field_codec.specs.declared.units.Numbers.{Numbers}
 use Rattle.field_codec.specs.Units.{may_be_unit}
 use Rattle.field_codec.specs.Fields.{exactly_at, unit_at, origin_at, answer_at, result_at}
@@ -57,7 +57,7 @@ module _ (shape : Shape) where
   MethodFits call = (params : ℕ) × (params_in shape call.grain.kind call.method ≡ Some params) × ValuesFitExactly 8 params call.args
 
   method_behind : (g : GrainId) (m from : ℕ) → Reads from (λ (c : Call). (Any c × (c.grain ≡ g)) × (c.method ≡ m)) (λ c. spelling_of_values c.args) MethodFits
-      (known (params_in shape g.kind m) (Unknown from) λ params. field (exactly_at 8 params) λ args there. whole (record { grain = g; method = m; args = args }))
+      (when_known (params_in shape g.kind m) (Unknown from) λ params. field (exactly_at 8 params) λ args there. whole (record { grain = g; method = m; args = args }))
   method_behind g m from =
       let P : Call → Type 0 = λ c. (Any c × (c.grain ≡ g)) × (c.method ≡ m) in
       let here : (c : Call) → P c → params_in shape c.grain.kind c.method ≡ params_in shape g.kind m = λ c p i. params_in shape (p.0.1 i).kind (p.1 i) in

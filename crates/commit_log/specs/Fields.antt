@@ -8,7 +8,7 @@ use Rattle.base_types.specs.declared.shapes.Shape.{Shape}
 use Rattle.field_codec.specs.declared.faults.CodecFault.{CodecFault}
 use Rattle.field_codec.specs.declared.faults.CodecFault.TheVariants.{BadOrder, Unknown}
 use Rattle.field_codec.specs.declared.units.Numbers.{Numbers}
-use Rattle.field_codec.specs.Reading.{Reader, whole_text, whole, refused, field, choice, known, chain, number_at, count_at, list_at}
+use Rattle.field_codec.specs.Reading.{Reader, whole_text, whole, refused, field, choice, when_known, chain, number_at, count_at, list_at}
 use Rattle.field_codec.specs.Fields.{exactly_at, unit_at, origin_at, answer_at, result_at}
 use Rattle.commit_log.specs.declared.records.Written.{Written}
 use Rattle.commit_log.specs.declared.records.CommitRecord.{CommitRecord}
@@ -21,7 +21,7 @@ grain_in shape = field (number_at w16) λ kind place. choice (nat_lt kind (lengt
 
 -- a call of one of the program's methods
 unfoldable pub call_in : Shape → Reader Call
-call_in shape = field (grain_in shape) λ grain place. field (number_at w16) λ method here. known (params_in shape grain.kind method) (Unknown here) λ params. field (exactly_at 8 params) λ args there.
+call_in shape = field (grain_in shape) λ grain place. field (number_at w16) λ method here. when_known (params_in shape grain.kind method) (Unknown here) λ params. field (exactly_at 8 params) λ args there.
     whole (record { grain = grain; method = method; args = args })
 
 -- a write on a grain that is above the one before it; where it isn't, the fault names the write's first byte

@@ -9,7 +9,7 @@ use Rattle.core_model.specs.Tests.{any, all, is_final, is_good, outcome_of, wait
 use Rattle.core_model.specs.Chains.{WroteGrain}
 use Rattle.core_model.specs.Changes.{swept, swept_by}
 use Rattle.core_model.specs.Learning.{to_learn, next_learn}
-use Rattle.core_model.specs.Settler.{Votes, Decides, Learns, Seals, Writes, Takes, Rests, MakesEvent, first_unvoted, undecided_step, batch_step, learn_step, last_step, later_step, version_of, version_to_write, to_commit, Step, settler_step, step_of, work_in, write_work}
+use Rattle.core_model.specs.Settler.{Votes, Decides, Learns, Seals, Writes, Takes, Rests, MakesEvent, first_unvoted, undecided_step, batch_step, learn_step, last_step, later_step, version_written, version_to_write, to_commit, Step, settler_step, step_of, work_in, write_work}
 use Rattle.core_model.specs.Steps.{StepApplies, ShowsVersions, TellsDecided}
 use Rattle.core_model.specs.Events.{CoreEvent, Take, Vote, Decide, Sealed, NotSealed, Doubt, Learn, Emitted, applies, can, does, step, run, is_allowed, is_open, is_judged, is_after_doubt, is_after_halt}
 use Rattle.core_model.specs.Effects.{effect_of}
@@ -235,7 +235,7 @@ shows-step w Rests left = refl
 pub step-shown : (r : Run) → step_of (work_in (ends r) (settler_step (ends r))) ≡ settler_step (ends r)
 step-shown r = shows-step (ends r) (settler_step (ends r)) (λ q. writes-left r q)
 
-version-only : (u : UnitNo) (o : Option (List Value)) (x : Version) → Member x (version_of u o) → (x.unit ≡ u) × (o ≡ Some x.state)
+version-only : (u : UnitNo) (o : Option (List Value)) (x : Version) → Member x (version_written u o) → (x.unit ≡ u) × (o ≡ Some x.state)
 version-only u None x m = absurd m
 version-only u (Some v) x (inl q) = (ap (λ (y : Version). y.unit) q, ap (λ (y : Version). Some y.state) (sym q))
 version-only u (Some v) x (inr m) = absurd m
@@ -249,13 +249,13 @@ shows-versions w b g = record {
   all = λ u m n wrote. (
     record { unit = u; state = wrote.0 },
     member-flat (version_to_write w g) (members w b) (record { unit = u; state = wrote.0 }) u m
-        (subst (Member (record { unit = u; state = wrote.0 })) (sym (cond-false (has_bad_source w u) [] (version_of u (state_written g (w.manager.writes u))) n ∙ ap (version_of u) wrote.1)) (inl refl)),
+        (subst (Member (record { unit = u; state = wrote.0 })) (sym (cond-false (has_bad_source w u) [] (version_written u (state_written g (w.manager.writes u))) n ∙ ap (version_written u) wrote.1)) (inl refl)),
     refl,
   );
 }
   where
     by : (u : UnitNo) (x : Version) → Member x (version_to_write w g u) → (has_bad_source w u ≡ false) × (x.unit ≡ u) × (state_written g (w.manager.writes u) ≡ Some x.state)
-    by u x = cond_both (has_bad_source w u) [] (version_of u (state_written g (w.manager.writes u))) (λ xs. Member x xs → (has_bad_source w u ≡ false) × (x.unit ≡ u) × (state_written g (w.manager.writes u) ≡ Some x.state))
+    by u x = cond_both (has_bad_source w u) [] (version_written u (state_written g (w.manager.writes u))) (λ xs. Member x xs → (has_bad_source w u ≡ false) × (x.unit ≡ u) × (state_written g (w.manager.writes u) ≡ Some x.state))
         (λ h m. absurd m)
         (λ h m. (let t = version-only u (state_written g (w.manager.writes u)) x m in (h, t.0, t.1)))
 

@@ -233,18 +233,25 @@ with_decisions w b ds = record w {
 abbrev pub seal : Verdict → Verdict
 seal Chosen = Committed
 seal Condemned = Aborted
-seal v = v
+seal Open = Open
+seal Committed = Committed
+seal Aborted = Aborted
 
 -- where it never will be
 abbrev pub spoil : Verdict → Verdict
 spoil Chosen = Aborted
 spoil Condemned = Aborted
-spoil v = v
+spoil Open = Open
+spoil Committed = Committed
+spoil Aborted = Aborted
 
 -- where nobody knows
 abbrev pub leave : Verdict → Verdict
 leave Condemned = Aborted
-leave v = v
+leave Open = Open
+leave Chosen = Chosen
+leave Committed = Committed
+leave Aborted = Aborted
 
 -- what a unit's line is told: its cause, or the given answer where it could commit
 abbrev pub told : Settled → Decision → Settled

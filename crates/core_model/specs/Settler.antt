@@ -73,13 +73,13 @@ has_step Takes = true
 has_step Rests = false
 
 -- the unit's version, where it wrote the grain
-abbrev pub version_of : UnitNo → Option (List Value) → List Version
-version_of u None = []
-version_of u (Some state) = record { unit = u; state = state } ∷ []
+abbrev pub version_written : UnitNo → Option (List Value) → List Version
+version_written u None = []
+version_written u (Some state) = record { unit = u; state = state } ∷ []
 
 -- the grain's version that goes to its file, none where the unit read from one that is aborted, or to abort
 abbrev pub version_to_write : CoreState → GrainId → UnitNo → List Version
-version_to_write w g u = if has_bad_source w u then [] else version_of u (state_written g (w.manager.writes u))
+version_to_write w g u = if has_bad_source w u then [] else version_written u (state_written g (w.manager.writes u))
 
 -- the grain's versions of the open batch, in batch order
 abbrev pub versions_to_write : CoreState → Option Batch → GrainId → List Version

@@ -34,7 +34,7 @@ use Rattle.promise_spec.specs.Courses.{Observed, Course, order, lines, opening_s
 use Rattle.promise_spec.specs.Explained.{IsExplained}
 use Rattle.promise_spec.specs.Promise.{IsAnswered}
 use Rattle.promise_spec.specs.Replies.{IsTrueOf}
-use Rattle.promise_spec.specs.Loads.{load_calls, AskFor, is_committed, is_faulted, is_aborted, how_many_lines, KeepsLoad}
+use Rattle.promise_spec.specs.Loads.{load_calls, AskFor, line_valued, is_faulted, line_aborted, how_many_lines, KeepsLoad}
 use Rattle.promise_spec.proofs.Lists.{get_seam}
 use Rattle.promise_spec.proofs.OneLog.{one_log}
 use Rattle.promise_spec.proofs.Journaled.{numbered_front}
@@ -197,16 +197,16 @@ module _ (p : Program) (r : Observed) (c : Course) (is : IsExplained p r c) (num
   no_aborted e (inr plain) = (plays_are_orderly_lem p.types plain.call 1 (new_silo p.types).states plain.answers).ended plain.result
 
   -- an entry is of exactly one of three kinds
-  one_kind : (e : Entry) → Member e c.entries → IsOneOf (is_aborted e.what) (is_committed e.what) (is_faulted e.what)
+  one_kind : (e : Entry) → Member e c.entries → IsOneOf (line_aborted e.what) (line_valued e.what) (is_faulted e.what)
   one_kind e there = by e.what refl
     where
-      kind : (s : Settled) → e.what ≡ s → IsOneOf (is_aborted s) (is_committed s) (is_faulted s) → IsOneOf (is_aborted e.what) (is_committed e.what) (is_faulted e.what)
-      kind s q one = subst (λ (x : Settled). IsOneOf (is_aborted x) (is_committed x) (is_faulted x)) (sym q) one
+      kind : (s : Settled) → e.what ≡ s → IsOneOf (line_aborted s) (line_valued s) (is_faulted s) → IsOneOf (line_aborted e.what) (line_valued e.what) (is_faulted e.what)
+      kind s q one = subst (λ (x : Settled). IsOneOf (line_aborted x) (line_valued x) (is_faulted x)) (sym q) one
 
       cause : (s : Settled) → e.what ≡ s → let k = caused e there in HasCause (run (begins (core_run p c)) k.before) k.event (step (run (begins (core_run p c)) k.before) k.event) e.unit s
       cause s q = (let k = caused e there in subst (HasCause (run (begins (core_run p c)) k.before) k.event (step (run (begins (core_run p c)) k.before) k.event) e.unit) q k.cause)
 
-      by : (s : Settled) → e.what ≡ s → IsOneOf (is_aborted e.what) (is_committed e.what) (is_faulted e.what)
+      by : (s : Settled) → e.what ≡ s → IsOneOf (line_aborted e.what) (line_valued e.what) (is_faulted e.what)
       by (settled.Done (outcome.Value value)) q = kind (settled.Done (outcome.Value value)) q refl
       by (settled.Done (outcome.Fault text)) q = kind (settled.Done (outcome.Fault text)) q refl
       by (settled.Done outcome.Aborted) q = absurd (no_aborted e (subst (IsTrueOf p r c e) q (replies_true p r c is numbered front e there)))
@@ -224,9 +224,9 @@ module _ (p : Program) (r : Observed) (c : Course) (is : IsExplained p r c) (num
           absurd (calls t.0 why (is.units (length k.before) (Bad t.0 why) (subst (AppliesAt (core_run p c) (length k.before)) t.1 (at_cause (core_run p c) e k)))))
 
   -- so the three counts add up
-  pub counted : how_many_lines is_aborted c.entries + (how_many_lines is_committed c.entries + how_many_lines is_faulted c.entries) ≡ length (lines r)
+  pub counted : how_many_lines line_aborted c.entries + (how_many_lines line_valued c.entries + how_many_lines is_faulted c.entries) ≡ length (lines r)
   counted =
-      counts_three (λ (e : Entry). is_aborted e.what) (λ (e : Entry). is_committed e.what) (λ (e : Entry). is_faulted e.what) c.entries one_kind
+      counts_three (λ (e : Entry). line_aborted e.what) (λ (e : Entry). line_valued e.what) (λ (e : Entry). is_faulted e.what) c.entries one_kind
       ∙ as_many_lines c.entries (replies_once p r c is front) (λ e there. (replies_within p r c is front e there).0) (length (lines r)) (λ e there. (replies_within p r c is front e there).1) answered
 
 -- ---- a load
@@ -260,5 +260,5 @@ module _ (p : Program) (n seed : ℕ) (r : Observed) (c : Course) (keeps : Keeps
   undoubted (inr fault) doubt = keeps.ended.undoubted fault doubt
 
   -- a load that told its summary, or failed while it did, counts each line once
-  pub load_counted : (r.ending ≡ ending.Done) ⊎ (r.ending ≡ ending.WriteFault) → how_many_lines is_aborted c.entries + (how_many_lines is_committed c.entries + how_many_lines is_faulted c.entries) ≡ length (lines r)
+  pub load_counted : (r.ending ≡ ending.Done) ⊎ (r.ending ≡ ending.WriteFault) → how_many_lines line_aborted c.entries + (how_many_lines line_valued c.entries + how_many_lines is_faulted c.entries) ≡ length (lines r)
   load_counted ends = counted p r c keeps.explained opening_numbered keeps.ordered.serial keeps.settled (keeps.ended.done ends) (undoubted ends) no_bad_line

@@ -21,7 +21,7 @@ use Rattle.core_model.proofs.Kept.{Kept}
 use Rattle.core_model.proofs.Children.{Kin}
 use Rattle.core_model.proofs.Growth.{Grows, grows-outcome}
 use Rattle.script_tree.specs.Programs.{ProgramTree}
-use Rattle.script_meaning.specs.Play.{GrainState, Want, WantLock, WantRaise, WantUnit, Over, grains_of, next}
+use Rattle.script_meaning.specs.Play.{GrainState, Want, WantLock, WantRaise, WantUnit, Over, grains_with_states, next}
 use Rattle.script_meaning.specs.Laws.{IsMissing}
 use Rattle.script_meaning.specs.Trails.{Given, locks_of, answers_of, reads_of, IsTrail}
 use Rattle.script_meaning.proofs.Plays.{next_is_missing_lem}
@@ -286,16 +286,16 @@ reader-holds opening w u r k running m =
     any-member (is_hold_of u) (w.cells.holds r.grain) h.0 h.1 (same_unit-is h.0.unit u h.2)
 
 -- a grain of the reads is that of a read, and the other way round
-read-there : (rs : List Read) (fs : List GrainState) (g : GrainId) → fs ≡ map found rs → Contains (grains_of fs) g → (r : Read) × Member r rs × (r.grain ≡ g)
+read-there : (rs : List Read) (fs : List GrainState) (g : GrainId) → fs ≡ map found rs → Contains (grains_with_states fs) g → (r : Read) × Member r rs × (r.grain ≡ g)
 read-there rs fs g e there =
-    let t = map-member (λ (f : GrainState). f.0) fs g (contains-member (grains_of fs) g there.0 there.1 there.2) in
+    let t = map-member (λ (f : GrainState). f.0) fs g (contains-member (grains_with_states fs) g there.0 there.1 there.2) in
     let r = map-member found rs t.0 (subst (Member t.0) e t.1) in
     (r.0, r.1, ap (λ (f : GrainState). f.0) r.2 ∙ t.2)
 
-there-read : (rs : List Read) (fs : List GrainState) (g : GrainId) (r : Read) → fs ≡ map found rs → Member r rs → r.grain ≡ g → Contains (grains_of fs) g
+there-read : (rs : List Read) (fs : List GrainState) (g : GrainId) (r : Read) → fs ≡ map found rs → Member r rs → r.grain ≡ g → Contains (grains_with_states fs) g
 there-read rs fs g r e m same =
-    subst (Contains (grains_of fs)) same
-    (member-contains (grains_of fs) r.grain (member-map (λ (f : GrainState). f.0) fs (found r) (subst (Member (found r)) (sym e) (member-map found rs r m))))
+    subst (Contains (grains_with_states fs)) same
+    (member-contains (grains_with_states fs) r.grain (member-map (λ (f : GrainState). f.0) fs (found r) (subst (Member (found r)) (sym e) (member-map found rs r m))))
 
 -- not both
 both-ways : (b : Bool) → b ≡ true → b ≡ false → ⊥

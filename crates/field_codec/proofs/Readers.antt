@@ -3,7 +3,7 @@ use Rattle.std.proofs.Common.{◌≡◌, ℕ, ◌+◌, ◌≤◌, ◌⊎◌, inl
 use Rattle.std.proofs.lemmas.List.{take_at, drop_at}
 use Rattle.field_codec.specs.declared.faults.CodecFault.{CodecFault}
 use Rattle.field_codec.specs.Spelling.{Stands}
-use Rattle.field_codec.specs.Reading.{AreBytes, and_then, Reader, whole, refused, field, choice, known}
+use Rattle.field_codec.specs.Reading.{AreBytes, and_then, Reader, whole, refused, field, choice, when_known}
 use Rattle.field_codec.specs.Results.{place_of, GivesRead, FindsSpelling, Only}
 use Rattle.field_codec.specs.Apart.{AreApart}
 use Rattle.field_codec.proofs.Standing.{stands_both, stands_first, stands_second, stands_empty, stands_end}
@@ -62,11 +62,11 @@ then get spell Fits read low P rest RestFits k first others = record {
       let two = (others b.0.0 at).takes bytes b.0.1 c end are (stands_end bytes at b.0.1 (spell b.0.0) le one.2) b.2 in
       let is : b.0.0 ≡ get c = sym two.0.1 in
       (two.0.0, (subst Fits is one.1, two.1), stands_both bytes at b.0.1 end (spell (get c)) (rest c) (subst (λ a. Stands bytes at (spell a) b.0.1) is one.2) two.2);
-  again = λ bytes at c end le known fits stands.
+  again = λ bytes at c end le when_known fits stands.
       let mid = at + length (spell (get c)) in
       let here = stands_first bytes at end (spell (get c)) (rest c) stands in
       let one = first.again bytes at (get c) mid le tt fits.0 here in
-      let two = (others (get c) at).again bytes mid c end (stands_end bytes at mid (spell (get c)) le here) (known, refl) fits.1 (stands_second bytes at end (spell (get c)) (rest c) stands) in
+      let two = (others (get c) at).again bytes mid c end (stands_end bytes at mid (spell (get c)) le here) (when_known, refl) fits.1 (stands_second bytes at end (spell (get c)) (rest c) stands) in
       rw one two;
   falls = λ bytes at fault are low_le le e.
       elim (then_err (read bytes at) (λ x. k x.0 at bytes x.1) fault e) [
@@ -94,10 +94,10 @@ then get spell Fits read low P rest RestFits k first others = record {
 -- all is read
 pub done : {C : Type 0} (low : ℕ) (P : C → Type 0) (c : C) → P c → ((d : C) → P d → d ≡ c) → Reads low P (λ d. []) (λ d. Unit {0}) (whole c)
 unfolding whole
-done low P c known only = record {
+done low P c when_known only = record {
   takes = λ bytes at d end are le e.
       let is = ok_is c d at end e in
-      (subst P is.0 known, tt, subst (λ (n : ℕ). Stands bytes at [] n) is.1 (stands_empty bytes at));
+      (subst P is.0 when_known, tt, subst (λ (n : ℕ). Stands bytes at [] n) is.1 (stands_empty bytes at));
   again = λ bytes at d end le also fits stands.
       let one : d ≡ c = only d also in
       let two : end ≡ at = omega (arith, stands.end_at) in
@@ -116,8 +116,8 @@ choose low P spell Fits false k l this other = other refl
 
 -- what is there goes on, and where nothing is, no value does
 pub where_known : {A C : Type 0} (low : ℕ) (P : C → Type 0) (spell : C → List ℕ) (Fits : C → Type 0) (o : Option A) (fault : CodecFault) (k : A → Reader C) → place_of fault ≡ low
-    → ((a : A) → o ≡ Some a → Reads low P spell Fits (k a)) → (o ≡ None → (c : C) → P c → Fits c → ⊥) → Reads low P spell Fits (known o fault k)
-unfolding known
+    → ((a : A) → o ≡ Some a → Reads low P spell Fits (k a)) → (o ≡ None → (c : C) → P c → Fits c → ⊥) → Reads low P spell Fits (when_known o fault k)
+unfolding when_known
 where_known low P spell Fits (Some a) fault k placed there none = there a refl
 where_known low P spell Fits None fault k placed there none = record {
   takes = λ bytes at c end are le e. absurd cc;
@@ -136,7 +136,7 @@ pub never : {C : Type 0} (low : ℕ) (P : C → Type 0) (spell : C → List ℕ)
 unfolding refused
 never low P spell Fits fault placed none = record {
   takes = λ bytes at c end are le e. absurd cc;
-  again = λ bytes at c end le known fits stands. absurd (none c known fits);
+  again = λ bytes at c end le when_known fits stands. absurd (none c when_known fits);
   falls = λ bytes at other are low_le le e.
       let is : fault ≡ other = cc in
       subst (λ (f : CodecFault). place_of f ≤ length bytes) is (omega (arith, placed));
@@ -151,13 +151,13 @@ pub put_in : {A C : Type 0} (f : A → C) (spell : A → List ℕ) (Fits : A →
     → ((c : C) → P c → AllFit c → (a : A) × (c ≡ f a) × Fits a) → ((a : A) → P (f a)) → ((a : A) → Fits a → all (f a) ≡ spell a) → ((a : A) → Fits a → AllFit (f a))
     → Reads low Any spell Fits read → Reads low P all AllFit (field read (λ a place. whole (f a)))
 unfolding field whole
-put_in {A} {C} f spell Fits read low P all AllFit back known same into reads = record {
+put_in {A} {C} f spell Fits read low P all AllFit back when_known same into reads = record {
   takes = λ bytes at c end are le e.
       let b = then_ok (read bytes at) (λ x. Ok (f x.0, x.1)) (c, end) e in
       let t = reads.takes bytes at b.0.0 b.0.1 are le b.1 in
       let is = ok_is (f b.0.0) c b.0.1 end b.2 in
       let stands : Stands bytes at (all (f b.0.0)) b.0.1 = subst (λ (l : List ℕ). Stands bytes at l b.0.1) (sym (same b.0.0 t.1)) t.2 in
-      (subst P is.0 (known b.0.0), subst AllFit is.0 (into b.0.0 t.1), subst (λ c. Stands bytes at (all c) end) is.0 (subst (λ (n : ℕ). Stands bytes at (all (f b.0.0)) n) is.1 stands));
+      (subst P is.0 (when_known b.0.0), subst AllFit is.0 (into b.0.0 t.1), subst (λ c. Stands bytes at (all c) end) is.0 (subst (λ (n : ℕ). Stands bytes at (all (f b.0.0)) n) is.1 stands));
   again = λ bytes at c end le also fits stands.
       let a = back c also fits in
       let one = reads.again bytes at a.0 end le tt a.2 (subst (λ (l : List ℕ). Stands bytes at l end) (same a.0 a.2) (subst (λ c. Stands bytes at (all c) end) a.1 stands)) in
@@ -187,8 +187,8 @@ said low P Q spell also Fits AlsoFits read pq qp same into out reads = record {
   takes = λ bytes at c end are le e.
       let t = reads.takes bytes at c end are le e in
       (pq c t.0, into c t.0 t.1, subst (λ (l : List ℕ). Stands bytes at l end) (same c t.0) t.2);
-  again = λ bytes at c end le known fits stands.
-      reads.again bytes at c end le (qp c known) (out c (qp c known) fits) (subst (λ (l : List ℕ). Stands bytes at l end) (sym (same c (qp c known))) stands);
+  again = λ bytes at c end le when_known fits stands.
+      reads.again bytes at c end le (qp c when_known) (out c (qp c when_known) fits) (subst (λ (l : List ℕ). Stands bytes at l end) (sym (same c (qp c when_known))) stands);
   falls = λ bytes at fault are low_le le e. reads.falls bytes at fault are low_le le e;
   goes = λ bytes at c end e. reads.goes bytes at c end e;
   later = λ bytes at fault low_le e. reads.later bytes at fault low_le e;

@@ -37,9 +37,9 @@ unfoldable pub choice : {C : Type 0} → Bool → Reader C → Reader C → Read
 choice b read other bytes at = if b then read bytes at else other bytes at
 
 -- the rest, by what is there, else this fault
-unfoldable pub known : {A C : Type 0} → Option A → CodecFault → (A → Reader C) → Reader C
-known (Some a) fault rest bytes at = rest a bytes at
-known None fault rest bytes at = Err fault
+unfoldable pub when_known : {A C : Type 0} → Option A → CodecFault → (A → Reader C) → Reader C
+when_known (Some a) fault rest bytes at = rest a bytes at
+when_known None fault rest bytes at = Err fault
 
 -- so many of a kind, each read by what is known from those before it
 unfoldable pub chain : {S A : Type 0} → (S → Reader A) → (S → A → S) → S → ℕ → Reader (List A)

@@ -15,7 +15,7 @@ WriteFaulted file log.Failed old new = FailedOn (File file) old new
 WriteFaulted file log.Memory old new = NoneFailed old new
 
 -- a call on the file failed where `Failed` is answered, and none did where another fault is
-abbrev pub ReadFaulted : FileId → VersionFault → (Channel → ℕ) → (Channel → ℕ) → Type 0
-ReadFaulted file version.Failed old new = FailedOn (File file) old new
-ReadFaulted file (version.Damaged place) old new = NoneFailed old new
-ReadFaulted file version.Memory old new = NoneFailed old new
+abbrev pub VersionReadFaulted : FileId → VersionFault → (Channel → ℕ) → (Channel → ℕ) → Type 0
+VersionReadFaulted file version.Failed old new = FailedOn (File file) old new
+VersionReadFaulted file (version.Damaged place) old new = NoneFailed old new
+VersionReadFaulted file version.Memory old new = NoneFailed old new

@@ -4,7 +4,7 @@ ghost use Rattle.host_trait.specs.Faults.{NoneFailed};
 ghost use Rattle.host_trait.specs.Files.{HasSlot, StaysReady};
 ghost use Rattle.host_trait.specs.Runs.{OnlyAsked};
 ghost use Rattle.field_codec.specs.Results.{GivesRead, named_place, place_of};
-ghost use Rattle.grain_log.specs.Counts.{ReadFaulted};
+ghost use Rattle.grain_log.specs.Counts.{VersionReadFaulted};
 ghost use Rattle.grain_log.specs.Places.{IsVersionOf, IsVersionIn, IsVersionAt};
 ghost use Rattle.grain_log.specs.Reads.{fields_in, version_in, version_of, is_beyond, in_file, damage_at, version_at_place, owned_version, GivesVersion, IsImpossible};
 ghost use Rattle.field_codec.specs.Reading.{AreBytes};
@@ -143,7 +143,7 @@ fn read_text<H: Host>(
     ensures bad { (at : ℕ) → IsErrOf result (Fault.Damaged at) → ⊥ }
     ensures asked { IsTrue H.tells → OnlyAsked (H.world host.old) (H.world host.new) }
     ensures calm { OnOk result (NoneFailed (H.faults host.old) (H.faults host.new)) }
-    ensures fault { IfErr result (λ e. ReadFaulted file e (H.faults host.old) (H.faults host.new)) }
+    ensures fault { IfErr result (λ e. VersionReadFaulted file e (H.faults host.old) (H.faults host.new)) }
     ensures readied { OnOk result (IsTrue (H.is_ready host.new file)) }
     ensures failed { IsErrOf result Fault.Failed → IsTrue (H.is_ready host.new file) }
     ensures ready { StaysReady (H.is_ready host.old) (H.is_ready host.new) }
@@ -181,7 +181,7 @@ fn read_there<H: Host>(
     ensures near { OnOk result (place.offset + place.len < 2 ^ 63) }
     ensures asked { IsTrue H.tells → OnlyAsked (H.world host.old) (H.world host.new) }
     ensures calm { OnOk result (NoneFailed (H.faults host.old) (H.faults host.new)) }
-    ensures fault { IfErr result (λ e. ReadFaulted file e (H.faults host.old) (H.faults host.new)) }
+    ensures fault { IfErr result (λ e. VersionReadFaulted file e (H.faults host.old) (H.faults host.new)) }
     ensures readied { OnOk result (IsTrue (H.is_ready host.new file)) }
     ensures failed { IsErrOf result Fault.Failed → IsTrue (H.is_ready host.new file) }
     ensures ready { StaysReady (H.is_ready host.old) (H.is_ready host.new) }
@@ -234,7 +234,7 @@ pub fn read_version<H: Host>(
 
     // No count changes unless the answer is `Failed`; then the file's rose, and no other changed.
     ensures calm { OnOk result (NoneFailed (H.faults host.old) (H.faults host.new)) }
-    ensures fault { IfErr result (λ e. ReadFaulted file e (H.faults host.old) (H.faults host.new)) }
+    ensures fault { IfErr result (λ e. VersionReadFaulted file e (H.faults host.old) (H.faults host.new)) }
 
     // The file is ready once a version was read, or a call on it failed.
     ensures readied { OnOk result (IsTrue (H.is_ready host.new file)) }
@@ -271,7 +271,7 @@ pub fn read_named<H: Host>(
 
     // No count changes unless the answer is `Failed`; then the file's rose, and no other changed.
     ensures calm { OnOk result (NoneFailed (H.faults host.old) (H.faults host.new)) }
-    ensures fault { IfErr result (λ e. ReadFaulted file e (H.faults host.old) (H.faults host.new)) }
+    ensures fault { IfErr result (λ e. VersionReadFaulted file e (H.faults host.old) (H.faults host.new)) }
 
     // The file is ready once a version was read, or a call on it failed.
     ensures readied { OnOk result (IsTrue (H.is_ready host.new file)) }

@@ -14,7 +14,7 @@ use Rattle.core_model.specs.Tests.{members, planned, is_bad, is_good, is_aborted
 use Rattle.core_model.specs.Effects.{effect_of}
 use Rattle.core_model.specs.Changes.{decisions_of}
 use Rattle.core_model.specs.Answers.{as_set, aborted_sources, view}
-use Rattle.core_model.specs.Settler.{version_of, versions_to_write, to_commit}
+use Rattle.core_model.specs.Settler.{version_written, versions_to_write, to_commit}
 use Rattle.open_batch.specs.declared.members.FinishedUnit.{FinishedUnit}
 use Rattle.open_batch.specs.Members.{effect_in, sources_in, sources_of, plan_of, decisions_by, versions_by, to_commit_by, aborted_by}
 use Rattle.open_batch.specs.Taken.{TakenBatch, view_by}
@@ -75,7 +75,7 @@ decisions-link v ms w b e s =
 pub versions-link : (v : UnitNo → Verdict) (ms : List FinishedUnit) (w : CoreState) (b : Batch) (g : GrainId) → w.manager.verdict ≡ v → AreUnits ms w (members w b) → versions_by (λ u. is_bad (v u)) g ms ≡ versions_to_write w (Some b) g
 versions-link v ms w b g e s =
     ap (λ t. versions_by (λ u. is_bad (t u)) g ms) (sym e)
-    ∙ flat-link (λ p. if any (λ u. is_bad (w.manager.verdict u)) p.1 then [] else version_of p.0.unit (state_written g p.0.writes)) ms w (members w b) s
+    ∙ flat-link (λ p. if any (λ u. is_bad (w.manager.verdict u)) p.1 then [] else version_written p.0.unit (state_written g p.0.writes)) ms w (members w b) s
 
 -- one unit after the other, where the test tells that it is kept
 flat-filter : {A B : Type 0} (f : A → B) (p : A → Bool) (xs : List A) → flat_map (λ x. if p x then f x ∷ [] else []) xs ≡ map f (filter p xs)

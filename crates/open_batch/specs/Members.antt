@@ -11,7 +11,7 @@ use Rattle.core_model.specs.declared.effects.Effect.{Effect}
 use Rattle.core_model.specs.CoreState.{Write}
 use Rattle.core_model.specs.Tests.{state_written, failed_in, with_grain, grains_of}
 use Rattle.core_model.specs.Answers.{as_set}
-use Rattle.core_model.specs.Settler.{version_of}
+use Rattle.core_model.specs.Settler.{version_written}
 use Rattle.open_batch.specs.declared.members.FinishedUnit.{FinishedUnit}
 
 -- what the unit did
@@ -67,7 +67,7 @@ decisions_by bad votes ms = all_decided bad (map (prepared_by votes) ms)
 
 -- the unit's version of the grain, none where it didn't write it or is left out
 abbrev pub version_by : (UnitNo → Bool) → GrainId → FinishedUnit → List Version
-version_by bad g m = if is_left_out bad m then [] else version_of m.effect.unit (state_written g m.effect.writes)
+version_by bad g m = if is_left_out bad m then [] else version_written m.effect.unit (state_written g m.effect.writes)
 
 -- the versions of the grain that go to its file
 abbrev pub versions_by : (UnitNo → Bool) → GrainId → List FinishedUnit → List Version

@@ -34,9 +34,9 @@ check_named (check.NeedsTransaction at) = Some at
 check_named check.Memory = None
 
 -- the place in the text that a fault names, none where memory ran out
-abbrev pub named_place : ProgramFault → Option ℕ
-named_place (Unparsed fault) = parse_named fault
-named_place (Unchecked fault) = check_named fault
+abbrev pub program_fault_place : ProgramFault → Option ℕ
+program_fault_place (Unparsed fault) = parse_named fault
+program_fault_place (Unchecked fault) = check_named fault
 
 -- where a place is named, the text is no program for this fault
 abbrev pub IsFaultOf : List ℕ → ProgramFault → Option ℕ → Type 0
@@ -46,7 +46,7 @@ IsFaultOf text fault (Some place) = program_in text ≡ Err fault
 -- the answer is what the text is, unless memory ran out
 abbrev pub Accepts : Result Tree ProgramFault → List ℕ → Type 0
 Accepts (Ok program) text = program_in text ≡ Ok (program_tree program)
-Accepts (Err fault) text = IsFaultOf text fault (named_place fault)
+Accepts (Err fault) text = IsFaultOf text fault (program_fault_place fault)
 
 -- the fault of a program file whose text is no program, at a place of the text
 abbrev pub damage : Option ℕ → ProgramFileFault

@@ -6,7 +6,7 @@ ghost use Rattle.script_tree.specs.Programs.{program_tree};
 ghost use Rattle.program_file.specs.declared.faults.ProgramFileFault.{ProgramFileFault as Fault};
 ghost use Rattle.program_file.specs.Programs.{program_in};
 ghost use Rattle.program_file.specs.Files.{program_file, program_in_file, with_types};
-ghost use Rattle.program_file.specs.Answers.{parse_named, check_named, named_place, damage, Accepts, FileFaulted};
+ghost use Rattle.program_file.specs.Answers.{parse_named, check_named, program_fault_place, damage, Accepts, FileFaulted};
 
 use crate::faults::{ProgramFault, ProgramFileFault};
 use crate::text::read_text;
@@ -44,7 +44,7 @@ fn check_place(fault: CheckFault) -> Option<u32>
 impl ProgramFault {
     /// The place in the text, none where memory ran out.
     pub fn place(self) -> Option<u32>
-        ensures { result ≡ named_place self }
+        ensures { result ≡ program_fault_place self }
     {
         match self {
             ProgramFault::Unparsed(fault) => parse_place(fault),
@@ -71,7 +71,7 @@ pub fn accept(alloc: Global, text: &[u8]) -> Result<Checked, ProgramFault>
 
 // The fault of a program file whose text has this fault.
 fn in_file(fault: ProgramFault) -> ProgramFileFault
-    ensures { result ≡ damage (named_place fault) }
+    ensures { result ≡ damage (program_fault_place fault) }
 {
     match fault.place() {
         Some(at) => ProgramFileFault::Damaged {

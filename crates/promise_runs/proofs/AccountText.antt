@@ -14,7 +14,7 @@ use Rattle.script_lexer.specs.Lexemes.{name_lexeme, number_lexeme, text_lexeme, 
 use Rattle.script_lexer.specs.Lexing.{TokensAndStop, lex, lexed, end_of}
 use Rattle.script_expressions.specs.Tokens.{expected, name_at, taken, taken_word}
 use Rattle.script_expressions.specs.Calls.{listed}
-use Rattle.script_expressions.specs.Expressions.{operator_at, chain, tiers, expression_over, operand, expression}
+use Rattle.script_expressions.specs.Expressions.{operator_at, operand_chain, tiers, expression_over, operand, expression}
 use Rattle.script_parser.specs.Statements.{set_at, return_at, statement_over, statements, block}
 use Rattle.script_parser.specs.Methods.{option_at, kind_at, params_at, method_at}
 use Rattle.script_parser.specs.Types.{repeated, initial_at, field_at, type_at}
@@ -58,7 +58,7 @@ text_lexed = ap (λ (n : ℕ). lex (end_of 179 n) 0 0 (take n account_text)) all
 
 -- the types of the tokens
 tokens_parsed : program_over (Unexpected 179) tokens ≡ Ok accounts
-unfolding program_over repeated type_at field_at initial_at method_at option_at kind_at params_at listed block statements statement_over set_at return_at expression operand expression_over tiers chain operator_at expected name_at taken taken_word
+unfolding program_over repeated type_at field_at initial_at method_at option_at kind_at params_at listed block statements statement_over set_at return_at expression operand expression_over tiers operand_chain operator_at expected name_at taken taken_word
 tokens_parsed = refl
 
 -- nothing is at fault in them

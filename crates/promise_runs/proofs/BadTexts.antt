@@ -10,7 +10,7 @@ use Rattle.script_lexer.specs.Lexemes.{name_lexeme, number_lexeme, text_lexeme, 
 use Rattle.script_lexer.specs.Lexing.{TokensAndStop, lex, lexed, end_of}
 use Rattle.script_expressions.specs.Tokens.{expected, name_at, taken, taken_word}
 use Rattle.script_expressions.specs.Calls.{listed}
-use Rattle.script_expressions.specs.Expressions.{operator_at, chain, tiers, expression_over, operand, expression}
+use Rattle.script_expressions.specs.Expressions.{operator_at, operand_chain, tiers, expression_over, operand, expression}
 use Rattle.script_parser.specs.Statements.{set_at, return_at, statement_over, statements, block}
 use Rattle.script_parser.specs.Methods.{option_at, kind_at, params_at, method_at}
 use Rattle.script_parser.specs.Types.{repeated, initial_at, field_at, type_at}
@@ -44,7 +44,7 @@ pub record Texts : Type 0 where
   pub twice : opened_as live_slot (program_folder (program_with (codes "type a { } type a { }"))) ≡ DamagedAt program_file 20
 
 pub texts_read : Texts
-unfolding lex lexeme name_lexeme number_lexeme text_lexeme symbol_lexeme program_over repeated type_at field_at initial_at method_at option_at kind_at params_at listed block statements statement_over set_at return_at expression operand expression_over tiers chain operator_at expected name_at taken taken_word program_fault each_fault expression_fault statement_fault block_fault
+unfolding lex lexeme name_lexeme number_lexeme text_lexeme symbol_lexeme program_over repeated type_at field_at initial_at method_at option_at kind_at params_at listed block statements statement_over set_at return_at expression operand expression_over tiers operand_chain operator_at expected name_at taken taken_word program_fault each_fault expression_fault statement_fault block_fault
 texts_read = record {
   bad_token = ap (λ (l : TokensAndStop). of_tokens (codes "type A { }") l) (text_lexed (codes "type A { }") refl);
   unexpected = ap (λ (l : TokensAndStop). of_tokens (codes "type a { field x = 01; }") l) (text_lexed (codes "type a { field x = 01; }") refl);
@@ -54,5 +54,5 @@ texts_read = record {
 
 -- a type whose closing brace is missing ends too early
 pub cut_is_no_program : program_in cut_text ≡ Err cut_fault
-unfolding lex lexeme name_lexeme number_lexeme text_lexeme symbol_lexeme program_over repeated type_at field_at initial_at method_at option_at kind_at params_at listed block statements statement_over set_at return_at expression operand expression_over tiers chain operator_at expected name_at taken taken_word program_fault each_fault expression_fault statement_fault block_fault
+unfolding lex lexeme name_lexeme number_lexeme text_lexeme symbol_lexeme program_over repeated type_at field_at initial_at method_at option_at kind_at params_at listed block statements statement_over set_at return_at expression operand expression_over tiers operand_chain operator_at expected name_at taken taken_word program_fault each_fault expression_fault statement_fault block_fault
 cut_is_no_program = ap (λ (found : TokensAndStop). checked_in (program_over found.1 found.0)) (text_lexed cut_text refl)

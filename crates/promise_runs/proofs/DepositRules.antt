@@ -18,7 +18,7 @@ use Rattle.promise_spec.specs.Lines.{IsLineCall}
 use Rattle.promise_spec.specs.Cores.{state_before}
 use Rattle.promise_spec.specs.Gotten.{got_from}
 use Rattle.promise_spec.specs.UnitRule.{IsDue, KeepsUnitRule}
-use Rattle.promise_spec.specs.TurnRule.{Mover, OfLine, OfUnit, OfSettler, IsTurn, KeepsTurnRule, can_begin, picked, movers, picks_used, mover_of}
+use Rattle.promise_spec.specs.TurnRule.{Mover, OfLine, OfUnit, OfSettler, IsTurn, KeepsTurnRule, line_can_begin, picked, movers, picks_used, mover_of}
 use Rattle.promise_runs.specs.Examples.{accounts, account_1, deposit_call, unit_no, deposit_events, conflict_events, conflict_entries, account_run, account_basis, AskDeposits, vote_events, vote_entries, AskBoth}
 use Rattle.promise_spec.proofs.Lists.{none_at, some_is}
 
@@ -41,7 +41,7 @@ DueAt lines r at e = IsDue (account_basis lines) (state_before r at) (got_from (
 
 abbrev pub TurnAt : ℕ → ℕ → List ℕ → Run → ℕ → CoreEvent → Type 0
 TurnAt lines width picks r at e =
-    IsTurn (can_begin width lines r (state_before r at)) (picked (movers accounts r (state_before r at) (got_from (begins r) (take at r.events))) (get_or picks (picks_used r at) 0)) (state_before r at) e (mover_of e)
+    IsTurn (line_can_begin width lines r (state_before r at)) (picked (movers accounts r (state_before r at) (got_from (begins r) (take at r.events))) (get_or picks (picks_used r at) 0)) (state_before r at) e (mover_of e)
 
 -- a deposit is a transaction
 pub is_transaction : (n : ℕ) → (false ≡ false) ↔ IsTransaction accounts (record { grain = account_1; method = 0; args = Int (pos n) ∷ [] })

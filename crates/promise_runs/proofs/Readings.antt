@@ -4,7 +4,7 @@ use Rattle.std.proofs.lemmas.Bool.{ne_eqb}
 use Rattle.std.proofs.lemmas.List.{take_at}
 use Rattle.host_trait.specs.declared.channels.FileId.TheVariants.{Grain}
 use Rattle.host_trait.specs.World.{Image}
-use Rattle.field_codec.specs.Reading.{whole, refused, field, choice, known, chain, count_at, list_at}
+use Rattle.field_codec.specs.Reading.{whole, refused, field, choice, when_known, chain, count_at, list_at}
 use Rattle.field_codec.specs.Fields.{value_at, exactly_at, unit_at, origin_at, answer_at, result_at}
 use Rattle.commit_log.specs.Fields.{grain_in, call_in, write_in, writes_in, record_in}
 use Rattle.grain_log.specs.Reads.{version_in}
@@ -44,7 +44,7 @@ pub record Logs : Type 0 where
   pub earlier : opened_as live_slot (log_folder (changed 24 0 (changed 93 65 same_account))) ≡ DamagedAt manager 24
 
 pub logs_read : Logs
-unfolding whole refused field choice known chain count_at list_at value_at exactly_at unit_at origin_at answer_at result_at grain_in call_in write_in writes_in record_in version_in
+unfolding whole refused field choice when_known chain count_at list_at value_at exactly_at unit_at origin_at answer_at result_at grain_in call_in write_in writes_in record_in version_in
 logs_read = record {
   deposit = ap (λ (r : Result Program ℕ). with_program live_slot (folder 1 grain_bytes) r) file_is_read;
   closed = ap (λ (r : Result Program ℕ). with_program live_slot (folder 0 grain_bytes) r) file_is_read;
@@ -83,7 +83,7 @@ pub record Versions : Type 0 where
   pub block_first : opened_as live_slot (folder_of program_bytes (take 80 (manager_bytes 1)) (take 10 grain_bytes)) ≡ DamagedAt manager 16
 
 pub versions_read : Versions
-unfolding whole refused field choice known chain count_at list_at value_at exactly_at unit_at origin_at answer_at result_at grain_in call_in write_in writes_in record_in version_in
+unfolding whole refused field choice when_known chain count_at list_at value_at exactly_at unit_at origin_at answer_at result_at grain_in call_in write_in writes_in record_in version_in
 versions_read = record {
   cut = ap (λ (r : Result Program ℕ). with_program live_slot (grain_folder (take 10 grain_bytes)) r) file_is_read;
   owner = ap (λ (r : Result Program ℕ). with_program live_slot (grain_folder (version_by 2)) r) file_is_read;

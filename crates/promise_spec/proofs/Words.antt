@@ -7,7 +7,7 @@ use Rattle.std.specs.Str.Parse.{AllDigits, digits_value}
 use Rattle.std.proofs.lemmas.Bool.Decides.{nat_tests}
 use Rattle.std.proofs.lemmas.Fmt.{decimal_is_IsNumeral}
 use Rattle.std.proofs.lemmas.Str.Parse.{digit_from_value}
-use Rattle.promise_spec.specs.Words.{Choice, Width, Turns, Workers, Form, Apart, Joined, GivenOption, Manner, Command, Init, Run, Show, History, Audit, Load, Say, SpellsRun, SpellsLoad, name_of, value_text, list_text, words_in, words_of_all, manner_of, IsWithin, IsNoTurns, AreOptions}
+use Rattle.promise_spec.specs.Words.{Choice, Width, Turns, Workers, Form, Apart, Joined, GivenOption, Manner, Command, Init, Run, Show, History, Audit, Load, Say, SpellsRun, SpellsLoad, choice_name, value_text, list_text, words_in, words_of_all, manner_of, IsWithin, IsNoTurns, AreOptions}
 use Rattle.promise_spec.proofs.Lists.{tail_of, parts_of}
 
 -- ---- what a word says
@@ -128,13 +128,13 @@ list_back (n ∷ m ∷ more) some small =
 -- ---- options are read back
 
 -- an option's value
-choice_back : (what : Choice) → IsWithin what → choice_by (get_or (name_of what) 3 0) (value_text what) ≡ what
+choice_back : (what : Choice) → IsWithin what → choice_by (get_or (choice_name what) 3 0) (value_text what) ≡ what
 choice_back (Width n) within = ap Width (number_back n (omega (arith, within.1)))
 choice_back (Turns picks) within = ap Turns (list_back picks within.0 within.2)
 choice_back (Workers n) within = ap Workers (number_back n (omega (arith, within.1)))
 
 -- an option's words, apart from how its value is read
-option_words : (what : Choice) (form : Form) (value : List ℕ) (a : List (List ℕ)) → options_in None (words_in form (name_of what) value ++ a) ≡ given_by form (name_of what) value ∷ options_in None a
+option_words : (what : Choice) (form : Form) (value : List ℕ) (a : List (List ℕ)) → options_in None (words_in form (choice_name what) value ++ a) ≡ given_by form (choice_name what) value ∷ options_in None a
 option_words (Width n) Apart value a = refl
 option_words (Width n) Joined value a = refl
 option_words (Turns picks) Apart value a = refl
@@ -143,7 +143,7 @@ option_words (Workers n) Apart value a = refl
 option_words (Workers n) Joined value a = refl
 
 -- they have no number
-number_words : (what : Choice) (form : Form) (value : List ℕ) (a : List (List ℕ)) → numbers_in None (words_in form (name_of what) value ++ a) ≡ numbers_in None a
+number_words : (what : Choice) (form : Form) (value : List ℕ) (a : List (List ℕ)) → numbers_in None (words_in form (choice_name what) value ++ a) ≡ numbers_in None a
 number_words (Width n) Apart value a = refl
 number_words (Width n) Joined value a = refl
 number_words (Turns picks) Apart value a = refl
@@ -155,13 +155,13 @@ abbrev AreWithin : List GivenOption → Type 0
 AreWithin options = AllByRecursion (λ (g : GivenOption). IsWithin g.what) options
 
 -- the words of options before others
-words_first : (g : GivenOption) (options : List GivenOption) (a : List (List ℕ)) → words_of_all (g ∷ options) ++ a ≡ words_in g.form (name_of g.what) (value_text g.what) ++ (words_of_all options ++ a)
-words_first g options a = append_assoc (words_in g.form (name_of g.what) (value_text g.what)) (words_of_all options) a
+words_first : (g : GivenOption) (options : List GivenOption) (a : List (List ℕ)) → words_of_all (g ∷ options) ++ a ≡ words_in g.form (choice_name g.what) (value_text g.what) ++ (words_of_all options ++ a)
+words_first g options a = append_assoc (words_in g.form (choice_name g.what) (value_text g.what)) (words_of_all options) a
 
 options_back : (options : List GivenOption) (a : List (List ℕ)) → AreWithin options → options_in None (words_of_all options ++ a) ≡ options ++ options_in None a
 options_back [] a within = refl
 options_back (g ∷ options) a within =
-    let here : given_by g.form (name_of g.what) (value_text g.what) ≡ g = ap (λ (what : Choice). let h : GivenOption = record { what = what; form = g.form } in h) (choice_back g.what within.0) in
+    let here : given_by g.form (choice_name g.what) (value_text g.what) ≡ g = ap (λ (what : Choice). let h : GivenOption = record { what = what; form = g.form } in h) (choice_back g.what within.0) in
     let more : options_in None (words_of_all options ++ a) ≡ options ++ options_in None a = options_back options a within.1 in
     ap (options_in None) (words_first g options a) ∙ option_words g.what g.form (value_text g.what) (words_of_all options ++ a) ∙ (λ i. here i ∷ more i)
 

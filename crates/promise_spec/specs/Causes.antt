@@ -93,14 +93,14 @@ abbrev pub is_unsealed : CoreEvent → Bool
 is_unsealed e = is_not_on_disk (file_answer e)
 
 -- a vote, and a batch that is on disk
-abbrev pub is_voted : FileAnswer → Bool
-is_voted NoAnswer = false
-is_voted (Voted g kept) = true
-is_voted OnDisk = false
-is_voted NotOnDisk = false
+abbrev pub tells_vote : FileAnswer → Bool
+tells_vote NoAnswer = false
+tells_vote (Voted g kept) = true
+tells_vote OnDisk = false
+tells_vote NotOnDisk = false
 
 abbrev pub is_vote : CoreEvent → Bool
-is_vote e = is_voted (file_answer e)
+is_vote e = tells_vote (file_answer e)
 
 abbrev pub is_on_disk : FileAnswer → Bool
 is_on_disk NoAnswer = false

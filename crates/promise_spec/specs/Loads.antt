@@ -84,16 +84,16 @@ pub record AskFor (types : ProgramTree) (lines : List (List ℕ)) (calls : List 
 -- ---- the summary
 
 -- the line ended with a value
-abbrev pub is_committed : Settled → Bool
-is_committed (Done (outcome.Value value)) = true
-is_committed (Done (outcome.Fault text)) = false
-is_committed (Done outcome.Aborted) = false
-is_committed (Lock by grain) = false
-is_committed (Vote grain) = false
-is_committed (Dependency on) = false
-is_committed Disk = false
-is_committed InDoubt = false
-is_committed (Bad why) = false
+abbrev pub line_valued : Settled → Bool
+line_valued (Done (outcome.Value value)) = true
+line_valued (Done (outcome.Fault text)) = false
+line_valued (Done outcome.Aborted) = false
+line_valued (Lock by grain) = false
+line_valued (Vote grain) = false
+line_valued (Dependency on) = false
+line_valued Disk = false
+line_valued InDoubt = false
+line_valued (Bad why) = false
 
 -- the line ended with a fault
 abbrev pub is_faulted : Settled → Bool
@@ -108,16 +108,16 @@ is_faulted InDoubt = false
 is_faulted (Bad why) = false
 
 -- the line was aborted
-abbrev pub is_aborted : Settled → Bool
-is_aborted (Done (outcome.Value value)) = false
-is_aborted (Done (outcome.Fault text)) = false
-is_aborted (Done outcome.Aborted) = false
-is_aborted (Lock by grain) = true
-is_aborted (Vote grain) = true
-is_aborted (Dependency on) = true
-is_aborted Disk = true
-is_aborted InDoubt = false
-is_aborted (Bad why) = false
+abbrev pub line_aborted : Settled → Bool
+line_aborted (Done (outcome.Value value)) = false
+line_aborted (Done (outcome.Fault text)) = false
+line_aborted (Done outcome.Aborted) = false
+line_aborted (Lock by grain) = true
+line_aborted (Vote grain) = true
+line_aborted (Dependency on) = true
+line_aborted Disk = true
+line_aborted InDoubt = false
+line_aborted (Bad why) = false
 
 -- how many lines ended so
 abbrev pub how_many_lines : (Settled → Bool) → List Entry → ℕ
@@ -141,8 +141,8 @@ summary_text p r c =
     let total = value_data (Int (total_of (standing_of p.types (order c)).states 64)) in
     let asked = counted (codes "requests") (length (lines r)) (member (codes "total") total no_members) in
     let faulted = counted (codes "faulted") (how_many_lines is_faulted c.entries) asked in
-    let committed = counted (codes "committed") (how_many_lines is_committed c.entries) faulted in
-    line_of (object (counted (codes "aborted") (how_many_lines is_aborted c.entries) committed))
+    let committed = counted (codes "committed") (how_many_lines line_valued c.entries) faulted in
+    line_of (object (counted (codes "aborted") (how_many_lines line_aborted c.entries) committed))
 
 -- ---- the promise
 

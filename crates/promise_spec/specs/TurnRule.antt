@@ -79,8 +79,8 @@ abbrev pub in_flight : Run → CoreState → ℕ
 in_flight r w = count_by (λ u. is_line (w.units.origin u) && (not (is_settled w u) || not (is_free w u))) (units_of r w)
 
 -- a line is left, fewer than the width are in flight, and there is no doubt
-abbrev pub can_begin : ℕ → ℕ → Run → CoreState → Bool
-can_begin width lines r w = is_none w.manager.doubt && (nat_lt (in_flight r w) width && nat_lt w.units.lines lines)
+abbrev pub line_can_begin : ℕ → ℕ → Run → CoreState → Bool
+line_can_begin width lines r w = is_none w.manager.doubt && (nat_lt (in_flight r w) width && nat_lt w.units.lines lines)
 
 -- ---- turns
 
@@ -132,6 +132,6 @@ IsTurn begins_line chosen w e OfSettler = (begins_line ≡ false) × (chosen ≡
 -- pick is 0 behind the end of the list.
 abbrev pub KeepsTurnRule : ProgramTree → ℕ → ℕ → List ℕ → Run → Type 0
 KeepsTurnRule types lines width picks r = (at : ℕ) (e : CoreEvent) → AppliesAt r at e →
-    IsTurn (can_begin width lines r (state_before r at))
+    IsTurn (line_can_begin width lines r (state_before r at))
     (picked (movers types r (state_before r at) (got_from (begins r) (take at r.events))) (get_or picks (picks_used r at) 0))
     (state_before r at) e (mover_of e)

@@ -22,10 +22,10 @@ pub record GivenOption : Type 0 where
   pub form : Form
 
 -- an option's name
-abbrev pub name_of : Choice → List ℕ
-name_of (Width n) = codes "--width"
-name_of (Turns picks) = codes "--turns"
-name_of (Workers n) = codes "--workers"
+abbrev pub choice_name : Choice → List ℕ
+choice_name (Width n) = codes "--width"
+choice_name (Turns picks) = codes "--turns"
+choice_name (Workers n) = codes "--workers"
 
 -- numbers with a comma between them
 abbrev pub list_text : List ℕ → List ℕ
@@ -45,7 +45,7 @@ words_in Apart name value = name ∷ value ∷ []
 words_in Joined name value = (name ++ (61 ∷ value)) ∷ []
 
 abbrev pub words_of : GivenOption → List (List ℕ)
-words_of g = words_in g.form (name_of g.what) (value_text g.what)
+words_of g = words_in g.form (choice_name g.what) (value_text g.what)
 
 -- the words of options one after another
 abbrev pub words_of_all : List GivenOption → List (List ℕ)
@@ -60,7 +60,7 @@ IsWithin (Workers n) = (1 ≤ n) × (n ≤ 16)
 -- each option at most once
 abbrev pub DifferInName : List GivenOption → Type 0
 DifferInName [] = ⊤
-DifferInName (g ∷ options) = AllByRecursion (λ h. name_of h.what ≢ name_of g.what) options × DifferInName options
+DifferInName (g ∷ options) = AllByRecursion (λ h. choice_name h.what ≢ choice_name g.what) options × DifferInName options
 
 -- ---- what they choose
 

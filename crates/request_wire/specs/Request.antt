@@ -94,18 +94,18 @@ method_of types kind name = option_and_then
 -- ---- args
 
 -- the value that an argument is: a number that `as_i64` gives, or a string of at most 256 bytes
-abbrev pub value_of : Data → Option Value
-value_of null = None
-value_of (boolean b) = None
-value_of (number n) = option_map Int (as_i64 n)
-value_of (string s) = option_map Text (short_text s)
-value_of (array ds) = None
-value_of (object ms) = None
+abbrev pub value_of_json : Data → Option Value
+value_of_json null = None
+value_of_json (boolean b) = None
+value_of_json (number n) = option_map Int (as_i64 n)
+value_of_json (string s) = option_map Text (short_text s)
+value_of_json (array ds) = None
+value_of_json (object ms) = None
 
 -- the values of all, where each is one
 abbrev pub values_of : Items → Option (List Value)
 values_of no_items = Some []
-values_of (item d ds) = option_and_then (λ v. option_map (λ vs. v ∷ vs) (values_of ds)) (value_of d)
+values_of (item d ds) = option_and_then (λ v. option_map (λ vs. v ∷ vs) (values_of ds)) (value_of_json d)
 
 -- how many items there are
 abbrev pub items_count : Items → ℕ

@@ -1,5 +1,5 @@
 ghost use Rattle.std.specs.Prelude.{◌≡◌, true, Ok, Err, IfOk, IfErr, option_map};
-ghost use Rattle.request_wire.specs.Request.{json_of, shape_of, split_at_first, is_digits, number_of, key_of, grain_named, grain_of, value_of, values_of, args_of, call_of};
+ghost use Rattle.request_wire.specs.Request.{json_of, shape_of, split_at_first, is_digits, number_of, key_of, grain_named, grain_of, value_of_json, values_of, args_of, call_of};
 ghost use Rattle.serde_json.specs.View.{view, items_view};
 
 use crate::faults::RequestFault;
@@ -95,7 +95,7 @@ fn grain_of<'a, N: Names>(names: &N, call: &'a str) -> Option<(GrainId, &'a str)
 
 /// The argument that a JSON value is.
 fn value_of(alloc: Global, arg: &Json) -> Result<Option<Value>, AllocError>
-    ensures { IfOk result (λ found. found ≡ value_of (view arg.now)) }
+    ensures { IfOk result (λ found. found ≡ value_of_json (view arg.now)) }
 {
     if let Some(number) = arg.as_i64() {
         return Ok(Some(Value::Int(number)));

@@ -18,7 +18,7 @@ use Rattle.script_scopes.specs.Names.{Scope, Setting, is_in, taken_fault, room_f
 use Rattle.script_scopes.specs.Expressions.{expression_fault, arguments_fault, type_named, method_named, arity_fault, target_fault, call_fault}
 use Rattle.script_scopes.specs.Statements.{source_fault, with_name, scope_after, statement_fault, block_fault, else_fault}
 use Rattle.script_check.specs.Programs.{option_fault, transaction_fault, each_fault, declared_fault, field_fault, parameter_fault, method_fault, field_names, type_fault, program_fault}
-use Rattle.script_check.specs.Mentions.{Mention, at_name, expression_names, argument_names, type_known, methods_of, target_names, call_names, source_names, statement_names, block_names, else_names, each_names, field_mention, parameter_mention, method_names, type_names, program_names, place_of, IsFirstFault}
+use Rattle.script_check.specs.Mentions.{Mention, at_name, expression_names, argument_names, type_known, methods_of, target_names, call_names, source_names, statement_names, block_names, else_names, each_names, field_mention, parameter_mention, method_mentions, type_mentions, program_names, check_fault_place, IsFirstFault}
 use Rattle.script_scopes.proofs.Founds.{fails_some}
 
 -- the first fault of names one after another
@@ -37,7 +37,7 @@ alone (Some f) = refl
 -- a fault, where there is one, names this place
 abbrev pub IsAt : ℕ → FirstFault → Type 0
 IsAt at None = Unit {0}
-IsAt at (Some fault) = place_of fault ≡ at
+IsAt at (Some fault) = check_fault_place fault ≡ at
 
 at_both : (at : ℕ) (a b : FirstFault) → IsAt at a → IsAt at b → IsAt at (a <|> b)
 at_both at None b h k = k
@@ -210,7 +210,7 @@ each_tells name_of names fault one before (x ∷ xs) =
     let after = before ++ ((name_of x).text ∷ []) in
     tells_both (names before x) (each_names name_of names after xs) _ _ (one before x) (each_tells name_of names fault one after xs)
 
-method_tells : (types : ProgramTree) (fields before : Scope) (m : MethodTree) → Tells (method_names types fields before m) (method_fault types fields before m)
+method_tells : (types : ProgramTree) (fields before : Scope) (m : MethodTree) → Tells (method_mentions types fields before m) (method_fault types fields before m)
 method_tells types fields before m =
     let declared = declared_fault 64 before m.name <|> transaction_fault m.kind m.option m.name.at in
     let params = each_names (λ n. n) (parameter_mention fields) [] m.params in
@@ -219,17 +219,17 @@ method_tells types fields before m =
     (tells_both (at_name m.name declared) params _ _ (tells_one m.name declared (at_both m.name.at (declared_fault 64 before m.name) (transaction_fault m.kind m.option m.name.at) (declared_at 64 before m.name) (transaction_at m.kind m.option m.name.at))) (each_tells (λ n. n) (parameter_mention fields) (parameter_fault fields) (λ b n. tells_one n (parameter_fault fields b n) (parameter_at fields b n)) [] m.params))
     (block_tells (record { types = types; fields = fields; kind = m.kind }) (map (λ n. n.text) m.params) m.body)
 
-type_tells : (types : ProgramTree) (before : Scope) (t : TypeTree) → Tells (type_names types before t) (type_fault types before t)
+type_tells : (types : ProgramTree) (before : Scope) (t : TypeTree) → Tells (type_mentions types before t) (type_fault types before t)
 type_tells types before t =
     let fields = each_names (λ f. f.name) field_mention [] t.fields in
-    let methods = each_names (λ m. m.name) (method_names types (field_names t.fields)) [] t.methods in
+    let methods = each_names (λ m. m.name) (method_mentions types (field_names t.fields)) [] t.methods in
     tells_both (at_name t.name (declared_fault 64 before t.name) ++ fields) methods _ _
     (tells_both (at_name t.name (declared_fault 64 before t.name)) fields _ _ (tells_one t.name (declared_fault 64 before t.name) (declared_at 64 before t.name)) (each_tells (λ f. f.name) field_mention field_fault (λ b f. tells_one f.name (field_fault b f) (declared_at 16 b f.name)) [] t.fields))
-    (each_tells (λ m. m.name) (method_names types (field_names t.fields)) (method_fault types (field_names t.fields)) (method_tells types (field_names t.fields)) [] t.methods)
+    (each_tells (λ m. m.name) (method_mentions types (field_names t.fields)) (method_fault types (field_names t.fields)) (method_tells types (field_names t.fields)) [] t.methods)
 
 pub program_tells : (types : ProgramTree) → Tells (program_names types) (program_fault types)
 unfolding program_names program_fault
-program_tells types = each_tells (λ t. t.name) (type_names types) (type_fault types) (type_tells types) [] types
+program_tells types = each_tells (λ t. t.name) (type_mentions types) (type_fault types) (type_tells types) [] types
 
 -- the first fault of names, with the names before it
 pub record IsFirstOf (ms : List Mention) (fault : CheckFault) : Type 0 where
@@ -239,7 +239,7 @@ pub record IsFirstOf (ms : List Mention) (fault : CheckFault) : Type 0 where
   pub are : ms ≡ before ++ (here ∷ after)
   pub right_before : All (λ m. m.fault ≡ None) before
   pub is_here : here.fault ≡ Some fault
-  pub place : place_of fault ≡ here.name.at
+  pub place : check_fault_place fault ≡ here.name.at
 
 first_here : (m : Mention) (ms : List Mention) (fault : CheckFault) (found : FirstFault) → m.fault ≡ found → IsAt m.name.at m.fault → ((first_fault ms ≡ Some fault) → IsFirstOf ms fault) → (found <|> first_fault ms) ≡ Some fault → IsFirstOf (m ∷ ms) fault
 first_here m ms fault None is at later e =

@@ -14,7 +14,7 @@ use Rattle.script_scopes.specs.Names.{Scope, Setting, local_fault}
 use Rattle.script_scopes.specs.Expressions.{type_named, method_named, arity_fault}
 use Rattle.script_scopes.specs.Statements.{with_name, scope_after}
 use Rattle.script_check.specs.Programs.{transaction_fault, declared_fault, field_names, program_fault}
-use Rattle.script_check.specs.Mentions.{Mention, at_name, expression_names, argument_names, type_known, methods_of, target_names, call_names, source_names, statement_names, block_names, else_names, each_names, field_mention, parameter_mention, method_names, type_names, program_names, IsFirstFault, IsLeastPlace}
+use Rattle.script_check.specs.Mentions.{Mention, at_name, expression_names, argument_names, type_known, methods_of, target_names, call_names, source_names, statement_names, block_names, else_names, each_names, field_mention, parameter_mention, method_mentions, type_mentions, program_names, IsFirstFault, IsLeastPlace}
 use Rattle.script_check.proofs.Firsts.{names_first}
 
 -- ---- each name is mentioned
@@ -104,7 +104,7 @@ each_named name_of names all one before (x ∷ xs) =
     let after = before ++ ((name_of x).text ∷ []) in
     both (names before x) (each_names name_of names after xs) _ _ (one before x) (each_named name_of names all one after xs)
 
-named_method : (types : ProgramTree) (fields before : Scope) (m : MethodTree) → named (method_names types fields before m) ≡ names_in_method m
+named_method : (types : ProgramTree) (fields before : Scope) (m : MethodTree) → named (method_mentions types fields before m) ≡ names_in_method m
 named_method types fields before m =
     let declared = at_name m.name (declared_fault 64 before m.name <|> transaction_fault m.kind m.option m.name.at) in
     let params = each_names (λ n. n) (parameter_mention fields) [] m.params in
@@ -113,18 +113,18 @@ named_method types fields before m =
     (both declared params (m.name ∷ []) _ refl (each_named (λ n. n) (parameter_mention fields) names_in_parameter (λ b n. refl) [] m.params))
     (block_named (record { types = types; fields = fields; kind = m.kind }) (map (λ n. n.text) m.params) m.body)
 
-named_type : (types : ProgramTree) (before : Scope) (t : TypeTree) → named (type_names types before t) ≡ names_in_type t
+named_type : (types : ProgramTree) (before : Scope) (t : TypeTree) → named (type_mentions types before t) ≡ names_in_type t
 named_type types before t =
     let declared = at_name t.name (declared_fault 64 before t.name) in
     let fields = each_names (λ f. f.name) field_mention [] t.fields in
-    let methods = each_names (λ m. m.name) (method_names types (field_names t.fields)) [] t.methods in
+    let methods = each_names (λ m. m.name) (method_mentions types (field_names t.fields)) [] t.methods in
     both (declared ++ fields) methods (t.name ∷ names_in_each names_in_field t.fields) _
     (both declared fields (t.name ∷ []) _ refl (each_named (λ f. f.name) field_mention names_in_field (λ b f. refl) [] t.fields))
-    (each_named (λ m. m.name) (method_names types (field_names t.fields)) names_in_method (named_method types (field_names t.fields)) [] t.methods)
+    (each_named (λ m. m.name) (method_mentions types (field_names t.fields)) names_in_method (named_method types (field_names t.fields)) [] t.methods)
 
 pub program_named : (types : ProgramTree) → map (λ m. m.name) (program_names types) ≡ names_in_program types
 unfolding program_names names_in_program
-program_named types = each_named (λ t. t.name) (type_names types) names_in_type (named_type types) [] types
+program_named types = each_named (λ t. t.name) (type_mentions types) names_in_type (named_type types) [] types
 
 -- ---- the first fault has the least place
 

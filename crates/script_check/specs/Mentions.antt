@@ -100,33 +100,33 @@ abbrev pub parameter_mention : Scope → Scope → Name → List Mention
 parameter_mention fields before name = at_name name (parameter_fault fields before name)
 
 -- the names of a method of a type with these fields
-abbrev pub method_names : ProgramTree → Scope → Scope → MethodTree → List Mention
-method_names types fields before method =
+abbrev pub method_mentions : ProgramTree → Scope → Scope → MethodTree → List Mention
+method_mentions types fields before method =
     at_name method.name (declared_fault 64 before method.name <|> transaction_fault method.kind method.option method.name.at)
     ++ each_names (λ n. n) (parameter_mention fields) [] method.params
     ++ block_names (record { types = types; fields = fields; kind = method.kind }) (map (λ n. n.text) method.params) method.body
 
 -- the names of a type
-abbrev pub type_names : ProgramTree → Scope → TypeTree → List Mention
-type_names types before of_type =
+abbrev pub type_mentions : ProgramTree → Scope → TypeTree → List Mention
+type_mentions types before of_type =
     at_name of_type.name (declared_fault 64 before of_type.name)
     ++ each_names (λ f. f.name) field_mention [] of_type.fields
-    ++ each_names (λ m. m.name) (method_names types (field_names of_type.fields)) [] of_type.methods
+    ++ each_names (λ m. m.name) (method_mentions types (field_names of_type.fields)) [] of_type.methods
 
 -- the names of a program
 unfoldable pub program_names : ProgramTree → List Mention
-program_names types = each_names (λ t. t.name) (type_names types) [] types
+program_names types = each_names (λ t. t.name) (type_mentions types) [] types
 
 -- the place that a fault names, 0 for want of memory
-abbrev pub place_of : CheckFault → ℕ
-place_of (UnknownName at) = at
-place_of (TwiceNamed at) = at
-place_of (Arity at) = at
-place_of (FieldInPlain at) = at
-place_of (SetInRead at) = at
-place_of (TooMany at) = at
-place_of (NeedsTransaction at) = at
-place_of Memory = 0
+abbrev pub check_fault_place : CheckFault → ℕ
+check_fault_place (UnknownName at) = at
+check_fault_place (TwiceNamed at) = at
+check_fault_place (Arity at) = at
+check_fault_place (FieldInPlain at) = at
+check_fault_place (SetInRead at) = at
+check_fault_place (TooMany at) = at
+check_fault_place (NeedsTransaction at) = at
+check_fault_place Memory = 0
 
 -- a fault is the first: it is at a name of the program, whose place it has, and none is at a name before it
 pub record IsFirstFault (types : ProgramTree) (fault : CheckFault) : Type 0 where
@@ -136,8 +136,8 @@ pub record IsFirstFault (types : ProgramTree) (fault : CheckFault) : Type 0 wher
   pub are : program_names types ≡ before ++ (here ∷ after)
   pub right_before : All (λ m. m.fault ≡ None) before
   pub is_here : here.fault ≡ Some fault
-  pub place : place_of fault ≡ here.name.at
+  pub place : check_fault_place fault ≡ here.name.at
 
 -- no name that is at fault stands at a lower place than the one that a fault names
 abbrev pub IsLeastPlace : ProgramTree → CheckFault → Type 0
-IsLeastPlace types fault = All (λ m. m.fault ≢ None → place_of fault ≤ m.name.at) (program_names types)
+IsLeastPlace types fault = All (λ m. m.fault ≢ None → check_fault_place fault ≤ m.name.at) (program_names types)

@@ -12,7 +12,7 @@ use Rattle.script_lexer.specs.declared.tokens.Symbol.TheVariants as symbol
 use Rattle.script_lexer.specs.declared.tokens.Word.{Word}
 use Rattle.script_expressions.specs.Reading.{Read}
 use Rattle.script_expressions.specs.Tokens.{symbol_number, word_number, is_symbol, is_word, expected, taken, taken_word, expected_word}
-use Rattle.script_expressions.specs.Expressions.{Whole, Prefix, Open, starts, symbol_joins, joins, operator_at, chain, tiers, expression_over, enclosed_over, operand, expression, enclosed}
+use Rattle.script_expressions.specs.Expressions.{Whole, Prefix, Open, starts, symbol_joins, joins, operator_at, operand_chain, tiers, expression_over, enclosed_over, operand, expression, enclosed}
 use Rattle.script_expressions.specs.Grammar.{IsSymbol, IsWord, Derives, single, alone, joined, compared, ExpressionOver, OperandOver, whole, prefix, parens, Nothing, IsOperand, IsExpression, Stops}
 use Rattle.script_expressions.proofs.Steps.{chain_none, chain_goes, chain_compared}
 
@@ -73,13 +73,13 @@ module _ (Operand : List Spanned → ExprTree → List Spanned → Type 0) (next
   record Known (tier room : ℕ) (ts : List Spanned) (tree : ExprTree) (left : ℕ) (after : List Spanned) : Type 0 where
     spends : left ≤ room
     completes : room ≤ 32 → Stops tier after → tiers next tier room ts ≡ Ok ((tree, left), after)
-    links : (t : ℕ) → tier ≡ suc t → tier ≢ 3 → room ≤ 32 → Stops t after → (n : ℕ) × (left < n) × (tiers next (suc t) room ts ≡ chain (tiers next t) (suc t) n tree left after)
+    links : (t : ℕ) → tier ≡ suc t → tier ≢ 3 → room ≤ 32 → Stops t after → (n : ℕ) × (left < n) × (tiers next (suc t) room ts ≡ operand_chain (tiers next t) (suc t) n tree left after)
 
   zero_tier : (room : ℕ) (ts : List Spanned) (tree : ExprTree) (after : List Spanned) → next ts ≡ Ok (tree, after) → tiers next 0 room ts ≡ Ok ((tree, room), after)
   unfolding tiers
   zero_tier room ts tree after e = rw e refl
 
-  next_tier : (tier room left : ℕ) (ts : List Spanned) (tree : ExprTree) (after : List Spanned) → tiers next tier room ts ≡ Ok ((tree, left), after) → tiers next (suc tier) room ts ≡ chain (tiers next tier) (suc tier) 33 tree left after
+  next_tier : (tier room left : ℕ) (ts : List Spanned) (tree : ExprTree) (after : List Spanned) → tiers next tier room ts ≡ Ok ((tree, left), after) → tiers next (suc tier) room ts ≡ operand_chain (tiers next tier) (suc tier) 33 tree left after
   unfolding tiers
   next_tier tier room left ts tree after e = rw e refl
 
@@ -94,19 +94,19 @@ module _ (Operand : List Spanned → ExprTree → List Spanned → Type 0) (next
       record {
         spends = k.spends;
         completes = λ le stops. next_tier tier room left ts tree after (k.completes le (λ i lt. stops i (omega arith))) ∙ chain_none (tiers next tier) (suc tier) 33 tree left after (stops tier (omega arith));
-        links = λ t e ne le. subst (λ (u : ℕ). Stops u after → (n : ℕ) × (left < n) × (tiers next (suc u) room ts ≡ chain (tiers next u) (suc u) n tree left after)) (omega (arith, e))
+        links = λ t e ne le. subst (λ (u : ℕ). Stops u after → (n : ℕ) × (left < n) × (tiers next (suc u) room ts ≡ operand_chain (tiers next u) (suc u) n tree left after)) (omega (arith, e))
             (λ stops. (33, omega (arith, k.spends), next_tier tier room left ts tree after (k.completes le stops)));
       }
   known _ _ _ _ _ _ (joined tier room mid left t ts us o a b after ne j da db) =
       let ka = known (suc tier) room ts a (suc mid) (t ∷ us) da in
       let kb = known tier mid us b left after db in
-      let goes : room ≤ 32 → Stops tier after → (n : ℕ) × (left < n) × (tiers next (suc tier) room ts ≡ chain (tiers next tier) (suc tier) n (Joined o a b) left after) = λ le stops.
+      let goes : room ≤ 32 → Stops tier after → (n : ℕ) × (left < n) × (tiers next (suc tier) room ts ≡ operand_chain (tiers next tier) (suc tier) n (Joined o a b) left after) = λ le stops.
       let l = ka.links tier refl ne le (stops_at tier t us o j) in
       (l.0 - 1, omega (arith, l.1, kb.spends), l.2 ∙ chain_goes (tiers next tier) (suc tier) l.0 (l.0 - 1) a (suc mid) mid ((o, t.at), us) (t ∷ us) b left after (omega (arith, l.1)) refl (at_operator (suc tier) t us o j) (kb.completes (omega (arith, ka.spends)) stops) (ne_eqb (suc tier) 3 ne)) in
       record {
         spends = omega (arith, ka.spends, kb.spends);
         completes = λ le stops. let l = goes le (λ i lt. stops i (omega arith)) in l.2 ∙ chain_none (tiers next tier) (suc tier) l.0 (Joined o a b) left after (stops tier (omega arith));
-        links = λ u e ne' le. subst (λ (u : ℕ). Stops u after → (n : ℕ) × (left < n) × (tiers next (suc u) room ts ≡ chain (tiers next u) (suc u) n (Joined o a b) left after)) (omega (arith, e)) (goes le);
+        links = λ u e ne' le. subst (λ (u : ℕ). Stops u after → (n : ℕ) × (left < n) × (tiers next (suc u) room ts ≡ operand_chain (tiers next u) (suc u) n (Joined o a b) left after)) (omega (arith, e)) (goes le);
       }
   known _ _ _ _ _ _ (compared room mid left t ts us o a b after j da db) =
       let ka = known 2 room ts a (suc mid) (t ∷ us) da in

@@ -16,7 +16,7 @@ use Rattle.script_lexer.specs.declared.tokens.Word.{Word}
 use Rattle.script_lexer.specs.declared.tokens.Word.TheVariants as word
 use Rattle.script_expressions.specs.Reading.{◌>>=◌, Part, Read}
 use Rattle.script_expressions.specs.Tokens.{is_symbol, expected, name_at, taken}
-use Rattle.script_expressions.specs.Expressions.{Beginning, Whole, Prefix, Open, Never, starts, joins, Sized, operator_at, chain, tiers, expression_over, enclosed_over, operand, expression, enclosed}
+use Rattle.script_expressions.specs.Expressions.{Beginning, Whole, Prefix, Open, Never, starts, joins, Sized, operator_at, operand_chain, tiers, expression_over, enclosed_over, operand, expression, enclosed}
 use Rattle.script_expressions.specs.Calls.{parenthesised, place_at, goes_on, listed, listed_or_none, arguments_in, arguments, call_at}
 use Rattle.script_expressions.specs.Grammar.{IsSymbol, IsOperator}
 use Rattle.script_expressions.proofs.Steps.{chain_none, chain_full, chain_takes}
@@ -70,17 +70,17 @@ module _ (stop : ParseFault) where
 
     module _ (side side' : ℕ → Read Sized) (sides : Sides side side') (tier : ℕ) where
       abbrev Chains : ℕ → Type 0
-      Chains n = (left : ExprTree) (room : ℕ) → Local stop Sized G G (chain side tier n left room) (chain side' tier n left room)
+      Chains n = (left : ExprTree) (room : ℕ) → Local stop Sized G G (operand_chain side tier n left room) (operand_chain side' tier n left room)
 
       -- what a turn does with its right side
       abbrev turned : (ℕ → Read Sized) → ℕ → BinaryOp → ExprTree → Bool → Sized × List Spanned → Part Sized
-      turned by n o left b x = cond b (Ok ((Joined o left x.0.0, x.0.1), x.1)) (chain by tier n (Joined o left x.0.0) x.0.1 x.1)
+      turned by n o left b x = cond b (Ok ((Joined o left x.0.0, x.0.1), x.1)) (operand_chain by tier n (Joined o left x.0.0) x.0.1 x.1)
 
       turned_local : (n : ℕ) → Chains n → (o : BinaryOp) (left : ExprTree) (b : Bool) (a : Sized) → Local stop Sized G G (λ m. turned side n o left b (a, m)) (λ m. turned side' n o left b (a, m))
       turned_local n more o left true a = done_local stop Sized G G (λ ws h. h) (Joined o left a.0, a.1)
       turned_local n more o left false a = more (Joined o left a.0) a.1
 
-      operator_step : (n : ℕ) → Chains n → (left : ExprTree) (room : ℕ) (t : Spanned) (ts : List Spanned) (o : BinaryOp) → ((vs : List Spanned) → operator_at tier (t ∷ vs) ≡ Some ((o, t.at), vs)) → IsOperator t → Step stop Sized G (chain side tier (suc n) left room) (chain side' tier (suc n) left room) t ts
+      operator_step : (n : ℕ) → Chains n → (left : ExprTree) (room : ℕ) (t : Spanned) (ts : List Spanned) (o : BinaryOp) → ((vs : List Spanned) → operator_at tier (t ∷ vs) ≡ Some ((o, t.at), vs)) → IsOperator t → Step stop Sized G (operand_chain side tier (suc n) left room) (operand_chain side' tier (suc n) left room) t ts
       operator_step n more left zero t ts o h op = refuses (TooDeep t.at) refl (λ vs. chain_full side tier (suc n) left 0 ((o, t.at), vs) (t ∷ vs) (omega arith) refl (h vs)) (inr op)
       operator_step n more left (suc room) t ts o h op =
           let both : Local stop Sized NoOperator G (λ m. side room m >>= turned side n o left (nat_eq tier 3)) (λ m. side' room m >>= turned side' n o left (nat_eq tier 3)) =
@@ -89,19 +89,19 @@ module _ (stop : ParseFault) where
           (λ vs. chain_takes side tier (suc n) n left (suc room) room ((o, t.at), vs) (t ∷ vs) refl refl (h vs))
           (λ vs. chain_takes side' tier (suc n) n left (suc room) room ((o, t.at), vs) (t ∷ vs) refl refl (h vs))
 
-      chain_step : (n : ℕ) → Chains n → (left : ExprTree) (room : ℕ) (t : Spanned) (ts : List Spanned) → Decided tier t → Step stop Sized G (chain side tier (suc n) left room) (chain side' tier (suc n) left room) t ts
+      chain_step : (n : ℕ) → Chains n → (left : ExprTree) (room : ℕ) (t : Spanned) (ts : List Spanned) → Decided tier t → Step stop Sized G (operand_chain side tier (suc n) left room) (operand_chain side' tier (suc n) left room) t ts
       chain_step n more left room t ts (inl none) =
           leaves (left, room) (λ vs. chain_none side tier (suc n) left room (t ∷ vs) (none vs)) (λ vs. chain_none side' tier (suc n) left room (t ∷ vs) (none vs)) (λ vs h. chain_none side' tier (suc n) left room vs (apart vs h tier))
       chain_step n more left room t ts (inr h) = operator_step n more left room t ts h.0 h.1 h.2
 
-      chain_canon : (n : ℕ) (left : ExprTree) (room : ℕ) → Canon Sized G G (chain side' tier n left room)
+      chain_canon : (n : ℕ) (left : ExprTree) (room : ℕ) → Canon Sized G G (operand_chain side' tier n left room)
       chain_canon n left room = record { more = []; part = (left, room); starts = λ ws h. h; goes = λ ws h. chain_none side' tier n left room ws (apart ws h tier) }
 
       chain_local : (n : ℕ) → Chains n
-      unfolding chain
+      unfolding operand_chain
       chain_local zero left room = record { canon = chain_canon 0 left room; split = done_split stop Sized G (left, room) }
       chain_local (suc n) left room =
-          by_next stop Sized G G (chain side tier (suc n) left room) (chain side' tier (suc n) left room) (chain_canon (suc n) left room)
+          by_next stop Sized G G (operand_chain side tier (suc n) left room) (operand_chain side' tier (suc n) left room) (chain_canon (suc n) left room)
           (ends (left, room) (chain_none side tier (suc n) left room [] (no_operator tier)) (chain_none side' tier (suc n) left room [] (no_operator tier)) (λ vs h. chain_none side' tier (suc n) left room vs (apart vs h tier)))
           (λ t us. chain_step n (λ l r. chain_local n l r) left room t us (decided_as tier t (joins t.token) refl))
 
@@ -110,7 +110,7 @@ module _ (stop : ParseFault) where
       unfolding tiers
       tiers_local zero room = then_local stop ExprTree Sized NoOperator G G next next' (λ x. Ok ((x.0, room), x.1)) (λ x. Ok ((x.0, room), x.1)) (λ y z e. inl (λ ws h. h)) operands (λ a. done_local stop Sized G G (λ ws h. h) (a, room))
       tiers_local (suc tier) room =
-          then_local stop Sized Sized NoOperator G G (tiers next tier room) (tiers next' tier room) (λ x. chain (tiers next tier) (suc tier) 33 x.0.0 x.0.1 x.1) (λ x. chain (tiers next' tier) (suc tier) 33 x.0.0 x.0.1 x.1) (λ y z e. inl (λ ws h. h)) (tiers_local tier room)
+          then_local stop Sized Sized NoOperator G G (tiers next tier room) (tiers next' tier room) (λ x. operand_chain (tiers next tier) (suc tier) 33 x.0.0 x.0.1 x.1) (λ x. operand_chain (tiers next' tier) (suc tier) 33 x.0.0 x.0.1 x.1) (λ y z e. inl (λ ws h. h)) (tiers_local tier room)
           (λ a. chain_local (tiers next tier) (tiers next' tier) (λ r. tiers_local tier r) (suc tier) 33 a.0 a.1)
 
       over_local : Local stop ExprTree NoOperator G (expression_over next) (expression_over next')
@@ -140,7 +140,7 @@ module _ (stop : ParseFault) where
 
   -- a number in parentheses, behind the first
   enclosed_zero : (ws : List Spanned) → enclosed_over stop (operand stop 0) (nought ∷ of_symbol symbol.RightParen ∷ ws) ≡ Ok (Constant (literal.Int (pos 0)), ws)
-  unfolding enclosed_over expression_over tiers chain operator_at operand expected
+  unfolding enclosed_over expression_over tiers operand_chain operator_at operand expected
   enclosed_zero ws = refl
 
   module _ (G : Follow) where
@@ -187,7 +187,7 @@ module _ (stop : ParseFault) where
   unfolding tiers
   zero_tiers next zero_tree ws e apart zero room = ap (λ (r : Part ExprTree). r >>= λ x. Ok ((x.0, room), x.1)) e
   zero_tiers next zero_tree ws e apart (suc tier) room =
-      ap (λ (r : Part Sized). r >>= λ x. chain (tiers next tier) (suc tier) 33 x.0.0 x.0.1 x.1) (zero_tiers next zero_tree ws e apart tier room) ∙ chain_none (tiers next tier) (suc tier) 33 zero_tree room ws (apart (suc tier))
+      ap (λ (r : Part Sized). r >>= λ x. operand_chain (tiers next tier) (suc tier) 33 x.0.0 x.0.1 x.1) (zero_tiers next zero_tree ws e apart tier room) ∙ chain_none (tiers next tier) (suc tier) 33 zero_tree room ws (apart (suc tier))
 
   pub zero_expression : (depth : ℕ) (ws : List Spanned) → NoOperator ws → expression stop depth (nought ∷ ws) ≡ Ok (Constant (literal.Int (pos 0)), ws)
   unfolding expression expression_over

@@ -4,7 +4,7 @@ use Rattle.script_lexer.specs.declared.faults.ParseFault.{ParseFault}
 use Rattle.script_lexer.specs.declared.tokens.Spanned.{Spanned}
 use Rattle.script_lexer.specs.declared.tokens.Symbol.TheVariants as symbol
 use Rattle.script_expressions.specs.Reading.{Part, Read, ◌>>=◌, FailsReading}
-use Rattle.script_expressions.specs.Tokens.{refused, expected, taken}
+use Rattle.script_expressions.specs.Tokens.{refused_token, expected, taken}
 use Rattle.script_expressions.specs.Calls.{goes_on, listed}
 use Rattle.script_expressions.proofs.Steps.{fails_is, fails_bind}
 
@@ -41,8 +41,8 @@ module _ (A : Type 0) (stop : ParseFault) (one : Read A) where
       let step : with_front front (listed stop one n ts) ≡ with_front front (expected stop symbol.Comma us >>= λ c. listed stop one m c.1 >>= λ r. Ok (x ∷ r.0, r.1)) = rw (en, i, none) refl in
       fails_is e _ _ h (fails_is e _ _ (sym step) (fails_bind e _ _ (fails_bind e (expected stop symbol.Comma us) _ f)))
 
-  pub listed_ends : (n : ℕ) (front : List A) (ts : List Spanned) (total : Part (List A)) → n ≡ 0 → with_front front (listed stop one n ts) ≡ total → total ≡ Err (refused stop ts)
+  pub listed_ends : (n : ℕ) (front : List A) (ts : List Spanned) (total : Part (List A)) → n ≡ 0 → with_front front (listed stop one n ts) ≡ total → total ≡ Err (refused_token stop ts)
   unfolding listed
   listed_ends n front ts total en h =
-      let step : with_front front (listed stop one n ts) ≡ Err (refused stop ts) = rw en refl in
+      let step : with_front front (listed stop one n ts) ≡ Err (refused_token stop ts) = rw en refl in
       sym h ∙ step

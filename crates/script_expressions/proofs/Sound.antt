@@ -15,7 +15,7 @@ use Rattle.script_lexer.specs.declared.tokens.Word.{Word}
 use Rattle.script_lexer.specs.declared.tokens.Word.TheVariants as word
 use Rattle.script_expressions.specs.Reading.{◌>>=◌, Read}
 use Rattle.script_expressions.specs.Tokens.{symbol_number, word_number, is_symbol, is_word, expected}
-use Rattle.script_expressions.specs.Expressions.{Beginning, Whole, Prefix, Open, Never, starts, joins, Sized, Operator, of_tier, operator_at, linked, chain, tiers, expression_over, enclosed_over, operand_from, operand, expression, enclosed}
+use Rattle.script_expressions.specs.Expressions.{Beginning, Whole, Prefix, Open, Never, starts, joins, Sized, Operator, of_tier, operator_at, linked, operand_chain, tiers, expression_over, enclosed_over, operand_from, operand, expression, enclosed}
 use Rattle.script_expressions.specs.Grammar.{IsSymbol, Derives, single, alone, joined, compared, ExpressionOver, OperandOver, whole, prefix, parens, Nothing, IsOperand, IsExpression}
 
 -- ---- steps
@@ -133,11 +133,11 @@ module _ (Operand : List Spanned → ExprTree → List Spanned → Type 0) where
 
   chain_sound : (side : ℕ → Read Sized) (tier room0 : ℕ) (ts0 : List Spanned) (x : Sized × List Spanned) → suc tier ≢ 3 → SideSound side tier
       → (n : ℕ) (a : ExprTree) (room : ℕ) (ts : List Spanned) → Derives Operand (suc tier) room0 ts0 a room ts
-      → chain side (suc tier) n a room ts ≡ Ok x → Derives Operand (suc tier) room0 ts0 x.0.0 x.0.1 x.1
-  unfolding chain
+      → operand_chain side (suc tier) n a room ts ≡ Ok x → Derives Operand (suc tier) room0 ts0 x.0.0 x.0.1 x.1
+  unfolding operand_chain
   chain_sound side tier room0 ts0 x ne sides zero a room ts d e = subst (λ (y : Sized × List Spanned). Derives Operand (suc tier) room0 ts0 y.0.0 y.0.1 y.1) (ok_is ((a, room), ts) x e) d
   chain_sound side tier room0 ts0 x ne sides (suc n) a room ts d e =
-      turn_sound side tier room0 ts0 x (chain side (suc tier) n) ne sides (λ b r vs. chain_sound side tier room0 ts0 x ne sides n b r vs) a room ts (operator_at (suc tier) ts) refl d e
+      turn_sound side tier room0 ts0 x (operand_chain side (suc tier) n) ne sides (λ b r vs. chain_sound side tier room0 ts0 x ne sides n b r vs) a room ts (operator_at (suc tier) ts) refl d e
 
   -- ---- comparisons
 
@@ -155,10 +155,10 @@ module _ (Operand : List Spanned → ExprTree → List Spanned → Type 0) where
 
   compare_sound : (side : ℕ → Read Sized) (room0 : ℕ) (ts0 : List Spanned) (x : Sized × List Spanned) → SideSound side 2
       → (n : ℕ) (a : ExprTree) (room : ℕ) (ts : List Spanned) → Derives Operand 2 room0 ts0 a room ts
-      → chain side 3 n a room ts ≡ Ok x → Derives Operand 3 room0 ts0 x.0.0 x.0.1 x.1
-  unfolding chain
+      → operand_chain side 3 n a room ts ≡ Ok x → Derives Operand 3 room0 ts0 x.0.0 x.0.1 x.1
+  unfolding operand_chain
   compare_sound side room0 ts0 x sides zero a room ts d e = subst (λ (y : Sized × List Spanned). Derives Operand 3 room0 ts0 y.0.0 y.0.1 y.1) (ok_is ((a, room), ts) x e) (alone 2 room0 room ts0 a ts d)
-  compare_sound side room0 ts0 x sides (suc n) a room ts d e = compare_turn side room0 ts0 x (chain side 3 n) sides a room ts (operator_at 3 ts) refl d e
+  compare_sound side room0 ts0 x sides (suc n) a room ts d e = compare_turn side room0 ts0 x (operand_chain side 3 n) sides a room ts (operator_at 3 ts) refl d e
 
   -- ---- tiers
 
@@ -166,13 +166,13 @@ module _ (Operand : List Spanned → ExprTree → List Spanned → Type 0) where
     other_tier : (tier : ℕ) → suc tier ≢ 3 → SideSound (tiers next tier) tier → SideSound (tiers next (suc tier)) (suc tier)
     unfolding tiers
     other_tier tier ne sides room ts x e =
-        let s = bind_ok (tiers next tier room ts) (λ y. chain (tiers next tier) (suc tier) 33 y.0.0 y.0.1 y.1) x e in
+        let s = bind_ok (tiers next tier room ts) (λ y. operand_chain (tiers next tier) (suc tier) 33 y.0.0 y.0.1 y.1) x e in
         chain_sound (tiers next tier) tier room ts x ne sides 33 s.0.0.0 s.0.0.1 s.0.1 (alone tier room s.0.0.1 ts s.0.0.0 s.0.1 (sides room ts s.0 s.1)) s.2
 
     third_tier : SideSound (tiers next 2) 2 → SideSound (tiers next 3) 3
     unfolding tiers
     third_tier sides room ts x e =
-        let s = bind_ok (tiers next 2 room ts) (λ y. chain (tiers next 2) 3 33 y.0.0 y.0.1 y.1) x e in
+        let s = bind_ok (tiers next 2 room ts) (λ y. operand_chain (tiers next 2) 3 33 y.0.0 y.0.1 y.1) x e in
         compare_sound (tiers next 2) room ts x sides 33 s.0.0.0 s.0.0.1 s.0.1 (sides room ts s.0 s.1) s.2
 
     no_tier : SideSound (tiers next 0) 0

@@ -11,7 +11,7 @@ use Rattle.script_lexer.specs.declared.tokens.Symbol.TheVariants as symbol
 use Rattle.script_lexer.specs.declared.tokens.Word.{Word}
 use Rattle.script_lexer.specs.declared.tokens.Word.TheVariants as word
 use Rattle.script_expressions.specs.Reading.{Part, Read, ◌>>=◌}
-use Rattle.script_expressions.specs.Tokens.{refused, expected, name_at, taken}
+use Rattle.script_expressions.specs.Tokens.{refused_token, expected, name_at, taken}
 use Rattle.script_expressions.specs.Expressions.{expression, enclosed}
 
 module _ (stop : ParseFault) where
@@ -59,7 +59,7 @@ module _ (stop : ParseFault) where
 
   -- Items with commas between them, and the parenthesis behind the last. The number bounds the turns; the count of the tokens is always enough.
   unfoldable pub listed : {A : Type 0} → Read A → ℕ → Read (List A)
-  listed one zero ts = Err (refused stop ts)
+  listed one zero ts = Err (refused_token stop ts)
   listed one (suc n) ts = one ts >>= λ x. goes_on (listed one n) x.0 x.1 (taken symbol.RightParen x.1)
 
   -- a list in parentheses, behind the first, which may be empty

@@ -137,14 +137,14 @@ linked side tier more left zero ts (Some o) = Err (TooDeep o.0.1)
 linked side tier more left (suc room) ts (Some o) = side room o.1 >>= λ x. if nat_eq tier 3 then Ok ((Joined o.0.0 left x.0.0, x.0.1), x.1) else more (Joined o.0.0 left x.0.0) x.0.1 x.1
 
 -- The operators of one tier from the left, over the right sides that `side` reads. The second number bounds the turns; 33 are always enough.
-unfoldable pub chain : (ℕ → Read Sized) → ℕ → ℕ → ExprTree → ℕ → Read Sized
-chain side tier zero left room ts = Ok ((left, room), ts)
-chain side tier (suc n) left room ts = linked side tier (chain side tier n) left room ts (operator_at tier ts)
+unfoldable pub operand_chain : (ℕ → Read Sized) → ℕ → ℕ → ExprTree → ℕ → Read Sized
+operand_chain side tier zero left room ts = Ok ((left, room), ts)
+operand_chain side tier (suc n) left room ts = linked side tier (operand_chain side tier n) left room ts (operator_at tier ts)
 
 -- the operators up to a tier, over the operands that `next` reads
 unfoldable pub tiers : Read ExprTree → ℕ → ℕ → Read Sized
 tiers next zero room ts = next ts >>= λ x. Ok ((x.0, room), x.1)
-tiers next (suc tier) room ts = tiers next tier room ts >>= λ x. chain (tiers next tier) (suc tier) 33 x.0.0 x.0.1 x.1
+tiers next (suc tier) room ts = tiers next tier room ts >>= λ x. operand_chain (tiers next tier) (suc tier) 33 x.0.0 x.0.1 x.1
 
 -- an expression of at most 32 operators over these operands
 unfoldable pub expression_over : Read ExprTree → Read ExprTree

@@ -69,9 +69,9 @@ is_word w (token.Int n) = false
 is_word w (token.Text t) = false
 
 -- what is answered where what stands next can't follow: its place, or what ends the tokens
-abbrev pub refused : ParseFault → List Spanned → ParseFault
-refused stop [] = stop
-refused stop (t ∷ ts) = Unexpected t.at
+abbrev pub refused_token : ParseFault → List Spanned → ParseFault
+refused_token stop [] = stop
+refused_token stop (t ∷ ts) = Unexpected t.at
 
 -- a symbol that must stand next: its place
 unfoldable pub expected : ParseFault → Symbol → Read ℕ

@@ -1,6 +1,6 @@
 ghost use Rattle.std.specs.Prelude.{◌≡◌};
 ghost use Rattle.script_expressions.specs.Reading.{GivesPart, Takes};
-ghost use Rattle.script_expressions.specs.Tokens.{symbol_number, word_number, is_symbol, is_word, refused, expected, expected_word, name_at, text_at, taken, taken_word};
+ghost use Rattle.script_expressions.specs.Tokens.{symbol_number, word_number, is_symbol, is_word, refused_token, expected, expected_word, name_at, text_at, taken, taken_word};
 
 use script_lexer::{ParseFault, Spanned, Symbol, Token, Word};
 use script_tree::{Chars, Name};
@@ -82,7 +82,7 @@ fn is_the_word(word: Word, token: &Token) -> bool
 impl<'a> Cursor<'a> {
     /// What is answered where what stands next can't follow.
     pub fn refused(&self) -> ParseFault
-        ensures { result ≡ refused self.now.stop self.now.tokens.now }
+        ensures { result ≡ refused_token self.now.stop self.now.tokens.now }
     {
         match self.tokens {
             [] => self.stop,

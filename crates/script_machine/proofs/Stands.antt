@@ -16,7 +16,7 @@ use Rattle.base_types.specs.declared.calls.Value.TheVariants.{Text}
 use Rattle.base_types.specs.declared.calls.Outcome.TheVariants.{Fault}
 use Rattle.script_meaning.specs.Requests.{Back, End, stop}
 use Rattle.script_meaning.specs.Calls.{Site, Runner}
-use Rattle.script_meaning.specs.Statements.{Next, step, does, runs, calls}
+use Rattle.script_meaning.specs.Statements.{Next, takes_step, does, runs, calls}
 use Rattle.script_machine.specs.declared.frames.Post.{Post}
 use Rattle.script_machine.specs.declared.frames.OpenBlock.{OpenBlock}
 use Rattle.script_machine.specs.Blocks.{from, first_in, statement_at, part_of, part_at, inner, outer, follows, beyond, received, caught}
@@ -146,7 +146,7 @@ catches_past types run past text =
 
 -- the statement at which a frame stands: a step, and what it does
 pub begins_at : (types : ProgramTree) (run : Run) (stmt : StmtTree) → StandsAt types run stmt →
-    running types run ≡ step (does types (runner_of types run.top.post) (site_of types run.top.post) (back_of types run) stmt (next_here types run)) run.top.locals.items run.has
+    running types run ≡ takes_step (does types (runner_of types run.top.post) (site_of types run.top.post) (back_of types run) stmt (next_here types run)) run.top.locals.items run.has
 begins_at types run stmt stands =
     ap (λ (b : BlockTree). runs types (runner_of types run.top.post) (site_of types run.top.post) (back_of types run) b (after types run.top.post (back_of types run) run.top.path.items) run.top.locals.items run.has) stands.here
 

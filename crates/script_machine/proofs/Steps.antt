@@ -15,7 +15,7 @@ use Rattle.script_values.specs.Expressions.{Locals}
 use Rattle.script_holding.specs.Limits.{depth_limit}
 use Rattle.script_holding.specs.Holding.{Holding, with_left}
 use Rattle.script_meaning.specs.Requests.{Back, stop}
-use Rattle.script_meaning.specs.Statements.{Next, step, with_step, does, runs, given}
+use Rattle.script_meaning.specs.Statements.{Next, takes_step, with_step, does, runs, given}
 use Rattle.script_meaning.proofs.Steady.{while_once}
 use Rattle.script_machine.specs.declared.frames.Post.{Post}
 use Rattle.script_machine.specs.declared.frames.Part.TheVariants.{First}
@@ -31,7 +31,7 @@ taken_at (suc left) next locals has then_has there taken =
     ap (next locals) (ap (λ n. with_left n has) less ∙ sym taken)
 
 -- a step that is left is taken
-pub step_taken : (next : Next) (locals : Locals) (has then_has : Holding) → true ≡ nat_lt 0 has.left → then_has ≡ with_left (has.left - 1) has → step next locals has ≡ next locals then_has
+pub step_taken : (next : Next) (locals : Locals) (has then_has : Holding) → true ≡ nat_lt 0 has.left → then_has ≡ with_left (has.left - 1) has → takes_step next locals has ≡ next locals then_has
 step_taken next locals has then_has there taken = taken_at has.left next locals has then_has there taken
 
 -- the same for a number of steps
@@ -40,7 +40,7 @@ none_at zero next locals has none = refl
 none_at (suc left) next locals has none = absurd (grind (arith, none))
 
 -- no step is left
-pub no_step : (next : Next) (locals : Locals) (has : Holding) → false ≡ nat_lt 0 has.left → step next locals has ≡ stop budget has
+pub no_step : (next : Next) (locals : Locals) (has : Holding) → false ≡ nat_lt 0 has.left → takes_step next locals has ≡ stop budget has
 no_step next locals has none = none_at has.left next locals has none
 
 -- the test of a loop

@@ -14,20 +14,20 @@ use Rattle.script_holding.specs.Limits.{depth_limit}
 use Rattle.script_meaning.specs.Requests.{stop}
 use Rattle.script_meaning.specs.Calls.{enters, numbered}
 use Rattle.script_meaning.specs.Statements.{deep}
-use Rattle.script_meaning.specs.Play.{as_first, at_start, ends, first_frame, unit}
+use Rattle.script_meaning.specs.Play.{as_first, at_start, ends_unit, first_frame, unit}
 use Rattle.script_machine.specs.declared.callees.Callee.{Callee}
 use Rattle.script_machine.specs.Callees.{IsThere, target_of}
 use Rattle.script_machine.specs.Machines.{first_opened}
 use Rattle.script_machine.proofs.Entries.{enters_plain, enters_joined}
 
 module _ (types : ProgramTree) (callee : Callee) (there : IsThere types callee) (args : List Value) where
-  opens_plain : (n at : ℕ) (context : Bool) → n ≡ depth_limit + 1 - at → enters (deep types n) (Plain context) at callee.grain (target_of callee) args ends stop at_start ≡ first_opened types n callee does.Plain context args at
+  opens_plain : (n at : ℕ) (context : Bool) → n ≡ depth_limit + 1 - at → enters (deep types n) (Plain context) at callee.grain (target_of callee) args ends_unit stop at_start ≡ first_opened types n callee does.Plain context args at
   opens_plain zero at context e = refl
-  opens_plain (suc n) at context e = enters_plain types callee args ends stop at_start (suc n) at context (omega (arith, e)) there
+  opens_plain (suc n) at context e = enters_plain types callee args ends_unit stop at_start (suc n) at context (omega (arith, e)) there
 
-  opens_joined : (n at : ℕ) → n ≡ depth_limit + 1 - at → enters (deep types n) Joined at callee.grain (target_of callee) args ends stop at_start ≡ first_opened types n callee (target_of callee).method.kind true args at
+  opens_joined : (n at : ℕ) → n ≡ depth_limit + 1 - at → enters (deep types n) Joined at callee.grain (target_of callee) args ends_unit stop at_start ≡ first_opened types n callee (target_of callee).method.kind true args at
   opens_joined zero at e = refl
-  opens_joined (suc n) at e = enters_joined types callee args ends stop at_start (suc n) at (omega (arith, e)) there
+  opens_joined (suc n) at e = enters_joined types callee args ends_unit stop at_start (suc n) at (omega (arith, e)) there
 
 -- no such method
 pub unit_unknown : (types : ProgramTree) (call : Call) (at : ℕ) → numbered (slice_get types call.grain.kind) call.method ≡ None → unit types call at ≡ stop unknown at_start
@@ -36,11 +36,11 @@ unit_unknown types call at e = ap (first_frame (deep types (depth_limit + 1 - at
 
 module _ (types : ProgramTree) (call : Call) (callee : Callee) (there : IsThere types callee) (same : callee.grain ≡ call.grain) (found : numbered (slice_get types call.grain.kind) call.method ≡ Some (target_of callee)) where
   -- the first frame, as the method's option says
-  unit_enters : (way : Entered) (at : ℕ) → entered (target_of callee).method.option false ≡ way → unit types call at ≡ enters (deep types (depth_limit + 1 - at)) (as_first way) at callee.grain (target_of callee) call.args ends stop at_start
+  unit_enters : (way : Entered) (at : ℕ) → entered (target_of callee).method.option false ≡ way → unit types call at ≡ enters (deep types (depth_limit + 1 - at)) (as_first way) at callee.grain (target_of callee) call.args ends_unit stop at_start
   unfolding unit
   unit_enters way at e =
       ap (first_frame (deep types (depth_limit + 1 - at)) at call) found
-      ∙ (λ j. enters (deep types (depth_limit + 1 - at)) (as_first (e j)) at (sym same j) (target_of callee) call.args ends stop at_start)
+      ∙ (λ j. enters (deep types (depth_limit + 1 - at)) (as_first (e j)) at (sym same j) (target_of callee) call.args ends_unit stop at_start)
 
   pub unit_refused : (why : EntryRefusal) (at : ℕ) → entered (target_of callee).method.option false ≡ Refused why → unit types call at ≡ stop (refusal why) at_start
   unit_refused why at e = unit_enters (Refused why) at e

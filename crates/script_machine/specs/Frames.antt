@@ -11,7 +11,7 @@ use Rattle.script_holding.specs.Holding.{Holding}
 use Rattle.script_meaning.specs.Requests.{Requests, Back, Caught}
 use Rattle.script_meaning.specs.Calls.{Site, Runner, Target, numbered, bound}
 use Rattle.script_meaning.specs.Statements.{Next, runs, deep}
-use Rattle.script_meaning.specs.Play.{ends}
+use Rattle.script_meaning.specs.Play.{ends_unit}
 use Rattle.script_machine.specs.declared.frames.Post.{Post}
 use Rattle.script_machine.specs.declared.frames.OpenBlock.{OpenBlock}
 use Rattle.script_machine.specs.declared.frames.Frame.{Frame}
@@ -81,7 +81,7 @@ catches_in types back frame text has = catches types frame.post back frame.path.
 
 -- what becomes of the value of a frame that these frames wait for, the last of them first
 abbrev pub below_of : ProgramTree → List Frame → Back
-below_of types frames = fold (waits types) ends frames
+below_of types frames = fold (waits types) ends_unit frames
 
 -- a method's body in a new frame
 abbrev pub begins : ProgramTree → Post → Target → List Value → Back → Holding → Requests

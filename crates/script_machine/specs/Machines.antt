@@ -10,7 +10,7 @@ use Rattle.script_values.specs.Faults.{depth}
 use Rattle.script_holding.specs.Holding.{Holding}
 use Rattle.script_meaning.specs.Requests.{Requests, End, AskLock, AskRaise, AskUnit, stop}
 use Rattle.script_meaning.specs.Calls.{joined}
-use Rattle.script_meaning.specs.Play.{GrainState, Want, WantLock, WantRaise, WantUnit, Over, Played, at_start, ends, rest_of, unit}
+use Rattle.script_meaning.specs.Play.{GrainState, Want, WantLock, WantRaise, WantUnit, Over, Played, at_start, ends_unit, rest_of, unit}
 use Rattle.script_meaning.specs.Trails.{Given, GivenLock, GivenRaise, GivenOutcome, IsTrail, answers_of, asked_of, locks_of, reads_of}
 use Rattle.script_machine.specs.declared.callees.Callee.{Callee}
 use Rattle.script_machine.specs.declared.runs.Run.{Run}
@@ -182,4 +182,4 @@ pub record IsPartsOf (parts : Parts) (trail : List Given) (played : Played) : Ty
 abbrev pub first_opened : ProgramTree → ℕ → Callee → MethodKind → Bool → List Value → ℕ → Requests
 first_opened types zero callee kind context args at = stop depth at_start
 first_opened types (suc n) callee kind context args at =
-    joined kind callee.grain (fields_of (slice_get types callee.grain.kind)) (begins types (post_of callee kind context at) (target_of callee) args ends) at_start
+    joined kind callee.grain (fields_of (slice_get types callee.grain.kind)) (begins types (post_of callee kind context at) (target_of callee) args ends_unit) at_start

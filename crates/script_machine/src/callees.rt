@@ -1,7 +1,7 @@
 ghost use Rattle.std.specs.Prelude.{◌≡◌, ◌≤◌, IfSome, length, slice_get, option_map};
 ghost use Rattle.std.specs.Option.{option_copied};
 ghost use Rattle.script_tree.specs.Programs.{method_tree, type_tree, program_tree};
-ghost use Rattle.script_meaning.specs.Calls.{numbered, method_of, type_from};
+ghost use Rattle.script_meaning.specs.Calls.{numbered, method_target, type_from};
 ghost use Rattle.script_machine.specs.Frames.{fields_of};
 ghost use Rattle.script_machine.specs.Callees.{IsFew, IsThere, target_of};
 
@@ -75,7 +75,7 @@ pub fn type_named(checked: &Checked, name: &Chars) -> Option<u16>
 
 /// The method of this name on a grain.
 pub fn callee_named<'a>(checked: &'a Checked, grain: GrainId, name: &Chars) -> Option<Callee<'a>>
-    ensures found { option_map target_of result ≡ method_of (slice_get (program_tree checked.now) grain.kind) name.now }
+    ensures found { option_map target_of result ≡ method_target (slice_get (program_tree checked.now) grain.kind) name.now }
     ensures there { IfSome result (λ callee. IsThere (program_tree checked.now) callee) }
     ensures grain { IfSome result (λ callee. callee.grain ≡ grain) }
 {

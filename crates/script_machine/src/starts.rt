@@ -3,7 +3,7 @@ ghost use Rattle.script_tree.specs.Programs.{ProgramTree, program_tree};
 ghost use Rattle.script_values.specs.Reasons.{reason_text};
 ghost use Rattle.script_holding.specs.Holding.{Holding as Has};
 ghost use Rattle.script_meaning.specs.Requests.{stop};
-ghost use Rattle.script_meaning.specs.Play.{at_start, ends, unit};
+ghost use Rattle.script_meaning.specs.Play.{at_start, ends_unit, unit};
 ghost use Rattle.script_machine.specs.Callees.{IsThere, post_of, target_of};
 ghost use Rattle.script_machine.specs.Frames.{begins, goes_on};
 ghost use Rattle.script_machine.specs.Runs.{back_of, rest_of_run};
@@ -37,7 +37,7 @@ impl Run {
         args: &[Value],
         depth: u16,
     ) -> Result<Run, AllocError>
-        ensures goes { IfOk result (λ run. (types : ProgramTree) → IsThere types callee.now → (has : Has) → begins types (post_of callee.now kind context depth) (target_of callee.now) args.now ends has ≡ goes_on types run.top (back_of types run) has) }
+        ensures goes { IfOk result (λ run. (types : ProgramTree) → IsThere types callee.now → (has : Has) → begins types (post_of callee.now kind context depth) (target_of callee.now) args.now ends_unit has ≡ goes_on types run.top (back_of types run) has) }
         ensures has { IfOk result (λ run. run.has ≡ at_start) }
     {
         let post = Post {

@@ -12,7 +12,7 @@ use Rattle.script_holding.specs.declared.held.Held.{Held}
 use Rattle.script_holding.specs.Limits.{unit_limit, grain_limit}
 use Rattle.script_holding.specs.Holding.{mode_at, change, raised}
 use Rattle.script_meaning.specs.Requests.{Requests, End, AskLock, AskRaise, AskUnit}
-use Rattle.script_meaning.specs.Play.{GrainState, AskedUnit, WantLock, WantRaise, WantUnit, grains_of}
+use Rattle.script_meaning.specs.Play.{GrainState, AskedUnit, WantLock, WantRaise, WantUnit, grains_with_states}
 use Rattle.script_meaning.specs.Trails.{Given, GivenLock, GivenRaise, GivenOutcome, answers_of, asked_of, reads_of, exclusive_in}
 use Rattle.script_meaning.specs.Laws.{IsChild}
 use Rattle.script_meaning.proofs.Grains.{held_in, mode_at-more, mode_at-added, mode_at-raised, mode_at-raised_other, mode_at-not_raised, mode_at-not_more, grains-raised, length-raised, All-change}
@@ -132,16 +132,16 @@ module _ (types : ProgramTree) (may : Bool) (depth : ℕ) where
 
   -- the grains that are held then are those held before and those that were read
   pub grains_after : (held : List Held) (asked : ℕ) (trail : List Given) → AreGranted held asked trail →
-      map (λ one. one.grain) (held_after held trail) ≡ map (λ one. one.grain) held ++ grains_of (reads_of trail)
+      map (λ one. one.grain) (held_after held trail) ≡ map (λ one. one.grain) held ++ grains_with_states (reads_of trail)
   grains_after held asked [] granted = sym (append-nil (map (λ (one : Held). one.grain) held))
   grains_after held asked (GivenLock grain mode state ∷ rest) granted =
       grains_after (held ++ (held_in grain mode ∷ [])) asked rest granted.3
-      ∙ ap (λ (l : List GrainId). l ++ grains_of (reads_of rest))
+      ∙ ap (λ (l : List GrainId). l ++ grains_with_states (reads_of rest))
       (map-append (λ (one : Held). one.grain) held (held_in grain mode ∷ []))
-      ∙ append_assoc (map (λ (one : Held). one.grain) held) (grain ∷ []) (grains_of (reads_of rest))
+      ∙ append_assoc (map (λ (one : Held). one.grain) held) (grain ∷ []) (grains_with_states (reads_of rest))
   grains_after held asked (GivenRaise grain ∷ rest) granted =
       grains_after (change grain raised held) asked rest granted.2
-      ∙ ap (λ (l : List GrainId). l ++ grains_of (reads_of rest)) (grains-raised grain held)
+      ∙ ap (λ (l : List GrainId). l ++ grains_with_states (reads_of rest)) (grains-raised grain held)
   grains_after held asked (GivenOutcome call at outcome ∷ rest) granted = grains_after held (asked + 1) rest granted.2
 
   -- at most so many grains are held, and at most so many units asked for

@@ -38,9 +38,9 @@ use Rattle.script_holding.specs.declared.held.Held.{Held}
 use Rattle.script_holding.specs.Limits.{depth_limit, unit_limit, grain_limit}
 use Rattle.script_holding.specs.Holding.{Holding, same_grain, held_at, working, state_at, mode_at, change, raised, with_field, newly_held, with_held, with_left, one_asked}
 use Rattle.script_meaning.specs.Requests.{Requests, End, AskLock, AskRaise, AskUnit, Back, Caught, stop, with_value, with_values}
-use Rattle.script_meaning.specs.Calls.{Site, Runner, Target, readable, settable, bound, answered, locked, joined, enters, to_target, to_type, numbered, method_of, type_from, with_key}
-use Rattle.script_meaning.specs.Statements.{Next, step, with_step, by_truth, around, given, calls, sourced, sets, turns, does, runs, runs_else, deep}
-use Rattle.script_meaning.specs.Play.{as_first, first_frame, ends, at_start, unit, serve}
+use Rattle.script_meaning.specs.Calls.{Site, Runner, Target, readable, settable, bound, answered, locked, joined, enters, to_target, to_type, numbered, method_target, type_from, with_key}
+use Rattle.script_meaning.specs.Statements.{Next, takes_step, with_step, by_truth, around, given, calls, sourced, sets, turns, does, runs, runs_else, deep}
+use Rattle.script_meaning.specs.Play.{as_first, first_frame, ends_unit, at_start, unit, serve}
 use Rattle.script_meaning.specs.Laws.{HasEachField}
 use Rattle.script_meaning.specs.Texts.{StatementFails, BlockFails, ElseFails, IsCallOf}
 use Rattle.script_meaning.proofs.Lookups.{numbered_type, numbered_is, method_of_is, target_is_method, call_has_arity, call_finds}
@@ -161,7 +161,7 @@ module _ (types : ProgramTree) (program : IsAcceptedProgram types) (Q : List ℕ
   with_step_said floor scope (suc left) next said locals covers has kept = said locals covers (with_left left has) kept
 
   step_said : (floor : List GrainId) (scope : Scope) (next : Next) → SaidNext floor scope next →
-      SaidNext floor scope (step next)
+      SaidNext floor scope (takes_step next)
   step_said floor scope next said locals covers has kept =
       with_step_said floor scope has.left next said locals covers has kept
 
@@ -407,15 +407,15 @@ module _ (types : ProgramTree) (program : IsAcceptedProgram types) (Q : List ℕ
       -- a call on a grain of a type that is there
       to_type_said : (number : Option ℕ) (n : ℕ) → number ≡ Some n →
           (at : ℕ) (name : List ℕ) (args : List Value) (found : Target) →
-          method_of (slice_get types n) name ≡ Some found → length args ≡ length found.method.params →
+          method_target (slice_get types n) name ≡ Some found → length args ≡ length found.method.params →
           (onto : Back) (caught : Caught) → SaidBack floor onto → SaidCaught floor caught →
           SaidGo floor (to_type types runner site number at name args onto caught)
       to_type_said None n e at name args found is arity onto caught said said' has kept = absurd (cc)
       to_type_said (Some number) n e at name args found is arity onto caught said said' has kept =
           let same : n ≡ number = cc in
-          let there : method_of (slice_get types number) name ≡ Some found =
-          subst (λ (m : ℕ). method_of (slice_get types m) name ≡ Some found) same is in
-          to_target_said (record { kind = number; key = at }) (method_of (slice_get types number) name) found there
+          let there : method_target (slice_get types number) name ≡ Some found =
+          subst (λ (m : ℕ). method_target (slice_get types m) name ≡ Some found) same is in
+          to_target_said (record { kind = number; key = at }) (method_target (slice_get types number) name) found there
           (method_of_is (slice_get types number) name found there) args arity onto caught said said' has kept
 
       -- a checked call
@@ -425,7 +425,7 @@ module _ (types : ProgramTree) (program : IsAcceptedProgram types) (Q : List ℕ
           SaidGo floor (calls types runner site back call onto caught locals)
       calls_said scope call right onto caught said said' locals covers has kept =
           let finds : (n : ℕ) × (type_from 0 call.target.text types ≡ Some n) × (found : Target)
-          × (method_of (slice_get types n) call.method.text ≡ Some found) =
+          × (method_target (slice_get types n) call.method.text ≡ Some found) =
           call_finds setting scope call right in
           with_value_said floor (given types runner site back call.place locals has) has _ kept
           (given_said scope call.place right.place locals covers has kept) (λ place.
@@ -585,7 +585,7 @@ module _ (types : ProgramTree) (program : IsAcceptedProgram types) (Q : List ℕ
         enters_said [] runner safe (as_first (entered target.method.option false)) at call.grain target
         (λ passed f. plain_kind target.method.kind target.method.option method.transacted false passed
         (as_first_plain (entered target.method.option false) passed f)) there
-        call.args (arity ∙ ap (λ (t : Target). length t.method.params) same) ends stop
+        call.args (arity ∙ ap (λ (t : Target). length t.method.params) same) ends_unit stop
         (λ value has kept text e. absurd (cc)) (stop_said []) at_start (All-nil IsWhole, tt)
 
     -- the run of a call of a checked program

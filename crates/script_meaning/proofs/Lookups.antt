@@ -10,7 +10,7 @@ use Rattle.script_scopes.specs.Expressions.{type_named, method_named}
 use Rattle.script_scopes.specs.Bodies.{IsCallInScope}
 use Rattle.script_check.specs.Programs.{field_names}
 use Rattle.script_check.specs.Accepted.{IsAcceptedMethod, IsAcceptedType, IsAcceptedProgram}
-use Rattle.script_meaning.specs.Calls.{Target, type_from, method_from, method_there, numbered, numbered_by, method_of}
+use Rattle.script_meaning.specs.Calls.{Target, type_from, method_from, method_there, numbered, numbered_by, method_target}
 
 -- a method that a look-up found: its type is the one that was looked in, and its number is its own
 method_there_is : (of_type : TypeTree) (number : ℕ) (method : Option MethodTree) (target : Target) →
@@ -44,7 +44,7 @@ numbered_by_is of_type (Some number) target e = numbered_is (Some of_type) numbe
 
 -- so is one that was found by its name
 pub method_of_is : (of_type : Option TypeTree) (name : List ℕ) (target : Target) →
-    method_of of_type name ≡ Some target → numbered of_type target.number ≡ Some target
+    method_target of_type name ≡ Some target → numbered of_type target.number ≡ Some target
 method_of_is None name target e = absurd (cc)
 method_of_is (Some of_type) name target e = numbered_by_is of_type (method_from 0 name of_type.methods) target e
 
@@ -114,7 +114,7 @@ named_by_is of_type name (Some n) target from e =
     (is.0, sym place.2 ∙ ap (slice_get of_type.methods) same ∙ is.2)
 
 -- the method that a call finds is the one that a check of the call finds
-method_of_named : (of_type : Option TypeTree) (name : List ℕ) (target : Target) → method_of of_type name ≡ Some target →
+method_of_named : (of_type : Option TypeTree) (name : List ℕ) (target : Target) → method_target of_type name ≡ Some target →
     (of_type ≡ Some target.of_type) × (method_named target.of_type.methods name ≡ Some target.method)
 method_of_named None name target e = absurd (cc)
 method_of_named (Some of_type) name target e =
@@ -126,7 +126,7 @@ method_of_named (Some of_type) name target e =
 pub call_has_arity : (setting : Setting) (scope : Scope) (call : CallTree) → IsCallInScope setting scope call →
     (number : ℕ) (target : Target) →
     type_from 0 call.target.text setting.types ≡ Some number →
-    method_of (slice_get setting.types number) call.method.text ≡ Some target →
+    method_target (slice_get setting.types number) call.method.text ≡ Some target →
     length call.args ≡ length target.method.params
 call_has_arity setting scope call right number target from found =
     let place : (k : ℕ) × (number ≡ 0 + k) × (slice_get setting.types k ≡ type_named setting.types call.target.text) =
@@ -163,7 +163,7 @@ method_from_some i name (first ∷ rest) method e =
 
 -- a method of this name is found
 method_of_some : (of_type : TypeTree) (name : List ℕ) (method : MethodTree) →
-    method_named of_type.methods name ≡ Some method → (found : Target) × (method_of (Some of_type) name ≡ Some found)
+    method_named of_type.methods name ≡ Some method → (found : Target) × (method_target (Some of_type) name ≡ Some found)
 method_of_some of_type name method e =
     let from : (n : ℕ) × (method_from 0 name of_type.methods ≡ Some n) =
     method_from_some 0 name of_type.methods method e in
@@ -177,7 +177,7 @@ method_of_some of_type name method e =
 
 pub call_finds : (setting : Setting) (scope : Scope) (call : CallTree) → IsCallInScope setting scope call →
     (n : ℕ) × (type_from 0 call.target.text setting.types ≡ Some n) × (found : Target)
-    × (method_of (slice_get setting.types n) call.method.text ≡ Some found)
+    × (method_target (slice_get setting.types n) call.method.text ≡ Some found)
 call_finds setting scope call right =
     let from : (n : ℕ) × (type_from 0 call.target.text setting.types ≡ Some n) =
     type_from_some 0 call.target.text setting.types right.target right.is_target in
@@ -186,6 +186,6 @@ call_finds setting scope call right =
     let same : from.0 ≡ place.0 = omega (arith, place.1) in
     let there : slice_get setting.types from.0 ≡ Some right.target =
     ap (slice_get setting.types) same ∙ place.2 ∙ right.is_target in
-    let found : (found : Target) × (method_of (Some right.target) call.method.text ≡ Some found) =
+    let found : (found : Target) × (method_target (Some right.target) call.method.text ≡ Some found) =
     method_of_some right.target call.method.text right.method right.is_method in
-    (from.0, from.1, found.0, ap (λ (t : Option TypeTree). method_of t call.method.text) there ∙ found.1)
+    (from.0, from.1, found.0, ap (λ (t : Option TypeTree). method_target t call.method.text) there ∙ found.1)

@@ -16,7 +16,7 @@ use Rattle.script_holding.specs.declared.held.Held.{Held}
 use Rattle.script_holding.specs.Limits.{unit_limit, grain_limit}
 use Rattle.script_holding.specs.Holding.{Holding, mode_at}
 use Rattle.script_meaning.specs.Requests.{Requests, End, AskLock, AskRaise, AskUnit}
-use Rattle.script_meaning.specs.Play.{GrainState, AskedUnit, Played, grains_of, is_below, states_set, writes_of, serve, rest_of, asks, unit, initial_of, play_over, play, next}
+use Rattle.script_meaning.specs.Play.{GrainState, AskedUnit, Played, grains_with_states, is_below, states_set, writes_of, serve, rest_of, asks, unit, initial_of, play_over, play, next}
 use Rattle.script_meaning.specs.Trails.{Given, answers_of, asked_of, locks_of, reads_of, exclusive_in, Has, IsWholeTrail, IsShown, outcomes, states_of}
 use Rattle.script_meaning.specs.Laws.{PlayIsNext, NextIsPlay, PlayRestsOnReads, PlayIsAgain, EqualStoresPlayAlike, IsChild, HasEachField, IsOrderly, PlaysAreOrderly, PlainRunsLockNothing, IsMissing, NextIsMissing, TrailsGrow}
 use Rattle.script_meaning.specs.Calls.{Target, numbered}
@@ -47,7 +47,7 @@ nothing_bare (first ∷ rest) e = absurd (cc)
 module _ (types : ProgramTree) (depth : ℕ) (trail : List Given) (result : Outcome) (has : Holding)
     (granted : AreGranted types true depth [] 0 trail) (ends : EndsWell types (held_after [] trail) result has) where
   -- the grains that it holds are those that were read
-  ends_with_reads : map (λ one. one.grain) has.held ≡ grains_of (reads_of trail)
+  ends_with_reads : map (λ one. one.grain) has.held ≡ grains_with_states (reads_of trail)
   ends_with_reads = sym (grains-bare has.held) ∙ ap (map (λ (one : Held). one.grain)) ends.holds
       ∙ grains_after types true depth [] 0 trail granted
 
@@ -66,8 +66,8 @@ module _ (types : ProgramTree) (depth : ℕ) (trail : List Given) (result : Outc
       let grain_of : Held → GrainId = λ one. one.grain in
       let first : GrainState → GrainId = λ one. one.0 in
       let e : length (map grain_of has.held) ≡ length has.held = length-map has.held grain_of in
-      let f : length (map grain_of has.held) ≡ length (grains_of (reads_of trail)) = ap length ends_with_reads in
-      let g : length (grains_of (reads_of trail)) ≡ length (reads_of trail) = length-map (reads_of trail) first in
+      let f : length (map grain_of has.held) ≡ length (grains_with_states (reads_of trail)) = ap length ends_with_reads in
+      let g : length (grains_with_states (reads_of trail)) ≡ length (reads_of trail) = length-map (reads_of trail) first in
       let few : length has.held ≤ grain_limit = few_at_end in
       omega (arith, e, f, g, few)
 
@@ -90,15 +90,15 @@ module _ (types : ProgramTree) (depth : ℕ) (trail : List Given) (result : Outc
       of_writes (All P) result has (All-written P has.held (λ k d within set. (ends.fit k d within).whole)) (All-nil P)
 
   -- written grains were read
-  writes_were_read : All (λ one. Contains (grains_of (reads_of trail)) one.0) (writes_of result has)
+  writes_were_read : All (λ one. Contains (grains_with_states (reads_of trail)) one.0) (writes_of result has)
   writes_were_read =
-      let P : GrainState → Type 0 = λ one. Contains (grains_of (reads_of trail)) one.0 in
+      let P : GrainState → Type 0 = λ one. Contains (grains_with_states (reads_of trail)) one.0 in
       let grain_of : Held → GrainId = λ one. one.grain in
-      let itself : All (Contains (grains_of (reads_of trail))) (map grain_of has.held) =
+      let itself : All (Contains (grains_with_states (reads_of trail))) (map grain_of has.held) =
       subst (λ (gs : List GrainId). All (Contains gs) (map grain_of has.held)) ends_with_reads
       (All-contains_itself (map grain_of has.held)) in
-      let each : All (λ one. Contains (grains_of (reads_of trail)) (grain_of one)) has.held =
-      All-from_map (Contains (grains_of (reads_of trail))) grain_of has.held itself in
+      let each : All (λ one. Contains (grains_with_states (reads_of trail)) (grain_of one)) has.held =
+      All-from_map (Contains (grains_with_states (reads_of trail))) grain_of has.held itself in
       of_writes (All P) result has (All-written P has.held (λ k d within set. each k d within)) (All-nil P)
 
   -- written grains ascend
@@ -107,7 +107,7 @@ module _ (types : ProgramTree) (depth : ℕ) (trail : List Given) (result : Outc
       let R : GrainId → GrainId → Type 0 = λ one other. one ≢ other in
       let grain_of : Held → GrainId = λ one. one.grain in
       let first : GrainState → GrainId = λ one. one.0 in
-      let grains : AllPairs R (grains_of (reads_of trail)) =
+      let grains : AllPairs R (grains_with_states (reads_of trail)) =
       AllPairs-map R first (reads_of trail) (reads_once types true depth [] 0 trail granted) in
       let held : AllPairs (λ one other. one.grain ≢ other.grain) has.held =
       AllPairs-from_map R grain_of has.held (subst (AllPairs R) (sym ends_with_reads) grains) in
@@ -178,8 +178,8 @@ module _ (types : ProgramTree) (call : Call) (depth : ℕ) (states : GrainId →
         few_writes = subst (λ (found : List GrainState). length found ≤ grain_limit) writes
             (few_writes types depth trail played.result has granted ends);
         writes_are_read =
-            subst (λ (found : List GrainState). All (λ (one : GrainState). Contains (grains_of found) one.0) played.writes) reads
-            (subst (All (λ (one : GrainState). Contains (grains_of (reads_of trail)) one.0)) writes
+            subst (λ (found : List GrainState). All (λ (one : GrainState). Contains (grains_with_states found) one.0) played.writes) reads
+            (subst (All (λ (one : GrainState). Contains (grains_with_states (reads_of trail)) one.0)) writes
             (writes_were_read types depth trail played.result has granted ends));
         whole_states = subst (All (λ (one : GrainState). HasEachField types one.0 one.1)) writes
             (writes_have_fields types depth trail played.result has granted ends);
@@ -270,19 +270,19 @@ missing : (types : ProgramTree) (depth : ℕ) (trail : List Given) (after : Requ
     IsMissing types depth trail (asks after)
 missing types depth trail (End result has) granted sound = sound.ended
 missing types depth trail (AskLock grain mode go) granted sound =
-    let grains : map (λ one. one.grain) (held_after [] trail) ≡ grains_of (reads_of trail) =
+    let grains : map (λ one. one.grain) (held_after [] trail) ≡ grains_with_states (reads_of trail) =
     grains_after types true depth [] 0 trail granted in
     let grain_of : Held → GrainId = λ one. one.grain in
     let first : GrainState → GrainId = λ one. one.0 in
     let e : length (map grain_of (held_after [] trail)) ≡ length (held_after [] trail) =
     length-map (held_after [] trail) grain_of in
-    let f : length (map grain_of (held_after [] trail)) ≡ length (grains_of (reads_of trail)) = ap length grains in
-    let g : length (grains_of (reads_of trail)) ≡ length (reads_of trail) = length-map (reads_of trail) first in (
+    let f : length (map grain_of (held_after [] trail)) ≡ length (grains_with_states (reads_of trail)) = ap length grains in
+    let g : length (grains_with_states (reads_of trail)) ≡ length (reads_of trail) = length-map (reads_of trail) first in (
       subst (λ (l : List GrainId). ¬ Contains l grain) grains (mode_at-none grain (held_after [] trail) sound.1),
       omega (arith, e, f, g, sound.2),
     )
 missing types depth trail (AskRaise grain rest) granted sound =
-    let grains : map (λ one. one.grain) (held_after [] trail) ≡ grains_of (reads_of trail) =
+    let grains : map (λ one. one.grain) (held_after [] trail) ≡ grains_with_states (reads_of trail) =
     grains_after types true depth [] 0 trail granted in (
       subst (λ (l : List GrainId). Contains l grain) grains (mode_at-some grain (held_after [] trail) Read sound.1),
       λ locked.

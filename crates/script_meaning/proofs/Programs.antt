@@ -8,7 +8,7 @@ use Rattle.std.proofs.lemmas.List.Elements.{All-head, All-tail}
 use Rattle.script_tree.specs.declared.programs.TypeDecl.{TypeDecl}
 use Rattle.script_tree.specs.Programs.{ProgramTree, TypeTree, type_tree, method_tree}
 use Rattle.script_check.specs.Accepted.{IsAcceptedType, IsAcceptedProgram}
-use Rattle.script_meaning.specs.Calls.{method_from, method_of, numbered, numbered_by}
+use Rattle.script_meaning.specs.Calls.{method_from, method_target, numbered, numbered_by}
 use Rattle.script_meaning.specs.Targets.{type_at}
 
 each_there : (all : ProgramTree) (types : List TypeDecl) (kind : ℕ) (of_type : TypeDecl) → All (IsAcceptedType all) (map type_tree types) →
@@ -35,14 +35,14 @@ type_at_none types kind none = slice_get-map type_tree types kind ∙ ap (option
 
 -- a method that is found by its name is that of its number, and where there is none by that name there is none
 pub method_named : (types : List TypeDecl) (kind : ℕ) (of_type : TypeDecl) (name : List ℕ) (number : ℕ) → slice_get types kind ≡ Some of_type →
-    method_from 0 name (map method_tree of_type.methods.list.items) ≡ Some number → method_of (type_at types kind) name ≡ numbered (type_at types kind) number
+    method_from 0 name (map method_tree of_type.methods.list.items) ≡ Some number → method_target (type_at types kind) name ≡ numbered (type_at types kind) number
 method_named types kind of_type name number there is =
     let at = type_at_some types kind of_type there in
-    ap (λ (o : Option TypeTree). method_of o name) at
+    ap (λ (o : Option TypeTree). method_target o name) at
     ∙ ap (numbered_by (type_tree of_type)) is
     ∙ ap (λ (o : Option TypeTree). numbered o number) (sym at)
 
 pub method_unnamed : (types : List TypeDecl) (kind : ℕ) (of_type : TypeDecl) (name : List ℕ) → slice_get types kind ≡ Some of_type →
-    method_from 0 name (map method_tree of_type.methods.list.items) ≡ None → method_of (type_at types kind) name ≡ None
+    method_from 0 name (map method_tree of_type.methods.list.items) ≡ None → method_target (type_at types kind) name ≡ None
 method_unnamed types kind of_type name there none =
-    ap (λ (o : Option TypeTree). method_of o name) (type_at_some types kind of_type there) ∙ ap (numbered_by (type_tree of_type)) none
+    ap (λ (o : Option TypeTree). method_target o name) (type_at_some types kind of_type there) ∙ ap (numbered_by (type_tree of_type)) none

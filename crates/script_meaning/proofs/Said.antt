@@ -19,7 +19,7 @@ use Rattle.script_tree.specs.Exprs.{ExprTree, Constant, Variable, TheKey, Prefix
 use Rattle.script_scopes.specs.Names.{Scope, Setting}
 use Rattle.script_scopes.specs.Bodies.{IsVariable, IsExpressionInScope}
 use Rattle.script_check.specs.Programs.{field_names}
-use Rattle.script_values.specs.Expressions.{Locals, Surroundings, put_local, local_named, field_from, field_named, known, field_value, or_field, named, and_so_on, or_so_on, between, value_in, one_more, values_in}
+use Rattle.script_values.specs.Expressions.{Locals, Surroundings, put_local, local_named, field_from, field_named, known_value, field_value, or_field, value_named, and_so_on, or_so_on, between, value_in, one_more, values_in}
 use Rattle.script_values.specs.Faults.{overflow, divide, kind, key, too_long, budget, depth, units, grains, refusal, aborted}
 use Rattle.script_values.specs.Values.{ValueOrFault, then_value, with_number, fits, within, joined_text, is_true, prefixed, quotient, remainder, of_numbers, of_texts, of_kinds, combined}
 
@@ -266,14 +266,14 @@ module _ (Q : List ℕ → Type 0) (own : Says Q) where
       at_place (slice_get state i) state i below refl
     where
       at_place : (found : Option Value) (state : List Value) (i : ℕ) → i < length state → slice_get state i ≡ found →
-          IsSaidOf (known found)
+          IsSaidOf (known_value found)
       at_place (Some value) state i below e = tt
       at_place None [] i below e = absurd (omega (arith, below))
       at_place None (first ∷ rest) i below e = absurd (let f = slice_get-get_or (first ∷ rest) i first below in cc)
 
   module _ (setting : Setting) (scope : Scope) (around : Surroundings) (holds : Holds setting scope around) where
     -- a name of a checked expression
-    named_said : (name : Name) → IsVariable setting scope name → IsSaidOf (named around name.text)
+    named_said : (name : Name) → IsVariable setting scope name → IsSaidOf (value_named around name.text)
     named_said name (inl local) = or_field_said (local_named name.text around.locals) _
         (inl (holds.covers name.text local))
     named_said name (inr field) =

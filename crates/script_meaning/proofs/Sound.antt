@@ -39,9 +39,9 @@ use Rattle.script_holding.specs.declared.held.Held.{Held}
 use Rattle.script_holding.specs.Limits.{depth_limit, unit_limit, grain_limit}
 use Rattle.script_holding.specs.Holding.{Holding, mode_at, change, raised, with_field, newly_held, initial_fields, with_held, with_left, one_asked}
 use Rattle.script_meaning.specs.Requests.{Requests, End, AskLock, AskRaise, AskUnit, Back, Caught, stop, with_value, with_values}
-use Rattle.script_meaning.specs.Calls.{Site, Runner, Target, settable, bound, answered, locked, joined, enters, to_target, to_type, numbered, method_of, type_from, with_key}
-use Rattle.script_meaning.specs.Statements.{Next, step, with_step, by_truth, around, given, calls, sourced, sets, turns, does, runs, runs_else, deep}
-use Rattle.script_meaning.specs.Play.{IsTransaction, as_first, first_frame, ends, at_start, unit}
+use Rattle.script_meaning.specs.Calls.{Site, Runner, Target, settable, bound, answered, locked, joined, enters, to_target, to_type, numbered, method_target, type_from, with_key}
+use Rattle.script_meaning.specs.Statements.{Next, takes_step, with_step, by_truth, around, given, calls, sourced, sets, turns, does, runs, runs_else, deep}
+use Rattle.script_meaning.specs.Play.{IsTransaction, as_first, first_frame, ends_unit, at_start, unit}
 use Rattle.script_meaning.specs.Laws.{IsChild, HasArity, HasEachField}
 use Rattle.script_meaning.proofs.Lookups.{numbered_type, numbered_is, method_of_is, target_is_method, call_has_arity}
 use Rattle.script_meaning.proofs.Grains.{held_in, bare, mode_at-bare, mode_at-with_field, mode_at-more, mode_at-added, mode_at-raised, mode_at-raised_other, bare-raised, bare-with_field, All-change}
@@ -172,7 +172,7 @@ module _ (types : ProgramTree) where
     with_step_sound floor zero next sound locals has kept = stop_sound floor _ has kept
     with_step_sound floor (suc left) next sound locals has kept = sound locals (with_left left has) kept
 
-    step_sound : (floor : List GrainId) (next : Next) → SoundNext floor next → SoundNext floor (step next)
+    step_sound : (floor : List GrainId) (next : Next) → SoundNext floor next → SoundNext floor (takes_step next)
     step_sound floor next sound locals has kept = with_step_sound floor has.left next sound locals has kept
 
     -- what follows an expression's value
@@ -435,12 +435,12 @@ module _ (types : ProgramTree) where
       -- a call on a grain of a type
       to_type_sound : (number : Option ℕ) (at : ℕ) (name : List ℕ) (args : List Value) →
           (IsAcceptedProgram types → (n : ℕ) (found : Target) → number ≡ Some n →
-          method_of (slice_get types n) name ≡ Some found → length args ≡ length found.method.params) →
+          method_target (slice_get types n) name ≡ Some found → length args ≡ length found.method.params) →
           (onto : Back) (caught : Caught) → SoundBack floor onto → SoundCaught floor caught →
           SoundGo floor (to_type types runner site number at name args onto caught)
       to_type_sound None at name args arity onto caught sound sound' has kept = stop_sound floor unknown has kept
       to_type_sound (Some number) at name args arity onto caught sound sound' has kept =
-          to_target_sound (record { kind = number; key = at }) (method_of (slice_get types number) name)
+          to_target_sound (record { kind = number; key = at }) (method_target (slice_get types number) name)
           (λ found e. method_of_is (slice_get types number) name found e) args
           (λ program found e. arity program number found refl e) onto caught sound sound' has kept
 
@@ -605,7 +605,7 @@ module _ (types : ProgramTree) where
     first_frame_sound runner safe call None is permits = stop_sound [] unknown at_start (All-nil IsFit, tt)
     first_frame_sound runner safe call (Some target) is permits =
         enters_sound [] runner depth safe (as_first (entered target.method.option false)) call.grain target call.args
-        (first_way depth target call.args target.method.option refl (permits target refl)) (is target refl) ends stop
+        (first_way depth target call.args target.method.option refl (permits target refl)) (is target refl) ends_unit stop
         (λ value has kept. record { ended = λ e. cc; holds = refl; fit = kept.0 }) (stop_sound []) at_start
         (All-nil IsFit, tt)
 

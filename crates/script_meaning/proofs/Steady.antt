@@ -24,8 +24,8 @@ use Rattle.script_values.specs.Values.{ValueOrFault}
 use Rattle.script_holding.specs.Limits.{unit_limit, grain_limit}
 use Rattle.script_holding.specs.Holding.{Holding, mode_at, change, raised, newly_held, with_held, with_left, one_asked}
 use Rattle.script_meaning.specs.Requests.{Requests, AskLock, AskRaise, AskUnit, Back, Caught, stop, with_value, with_values}
-use Rattle.script_meaning.specs.Calls.{Site, Runner, Target, settable, answered, locked, joined, enters, to_target, to_type, method_of, type_from, with_key}
-use Rattle.script_meaning.specs.Statements.{Next, step, with_step, by_truth, around, given, calls, sourced, sets, turns, loops, does, runs, runs_else, deep}
+use Rattle.script_meaning.specs.Calls.{Site, Runner, Target, settable, answered, locked, joined, enters, to_target, to_type, method_target, type_from, with_key}
+use Rattle.script_meaning.specs.Statements.{Next, takes_step, with_step, by_truth, around, given, calls, sourced, sets, turns, loops, does, runs, runs_else, deep}
 
 -- two continuations are the same with at most this many steps left: after a statement, a value, a fault
 abbrev pub Agree : ℕ → Next → Next → Type 0
@@ -59,7 +59,7 @@ with_step_agrees zero most one other locals has le agree = refl
 with_step_agrees (suc left) most one other locals has le agree = agree locals (with_left left has) (omega (arith, le))
 
 -- a step looks no further
-step_agrees : (most : ℕ) (one other : Next) → Agree most one other → Agree most (step one) (step other)
+step_agrees : (most : ℕ) (one other : Next) → Agree most one other → Agree most (takes_step one) (takes_step other)
 step_agrees most one other agree locals has le = with_step_agrees has.left most one other locals has le agree
 
 -- what follows values, keys and conditions
@@ -162,7 +162,7 @@ to_type_agrees most types runner steady site None at name args one other caught 
 to_type_agrees most types runner steady site
     (Some number) at name args one other caught caught' agree agree_caught has le =
     to_target_agrees most runner steady site _
-    (method_of (slice_get types number) name) args one other caught caught' agree agree_caught has le
+    (method_target (slice_get types number) name) args one other caught caught' agree agree_caught has le
 
 module _ (types : ProgramTree) (runner : Runner) (steady : IsSteady runner) (site : Site) (back back' : Back) where
   -- what follows a call
@@ -296,7 +296,7 @@ module _ (types : ProgramTree) (runner : Runner) (site : Site) (back : Back) (te
   -- a loop is a step, then a turn with the loop itself as what is done again
   pub loops_once : (locals : Locals) (has : Holding) →
       loops types runner site back test body next locals has
-      ≡ step (turn (loops types runner site back test body next)) locals has
+      ≡ takes_step (turn (loops types runner site back test body next)) locals has
   loops_once locals has =
       turn_agrees has.left _ _ (λ less e locals' has' le.
       turns_enough has.left (suc has'.left) locals' has' (omega (arith, e, le)) (omega arith)) locals has
@@ -313,7 +313,7 @@ runs_is_steady types runner steady site back block most one other agree =
 pub while_once : (types : ProgramTree) (n : ℕ) (site : Site) (back : Back) (test : ExprTree) (block : BlockTree)
     (next : Next) (locals : Locals) (has : Holding) →
     does types (deep types n) site back (Repeat test block) next locals has
-    ≡ step (λ locals has. with_value (given types (deep types n) site back test locals has) has (λ value.
+    ≡ takes_step (λ locals has. with_value (given types (deep types n) site back test locals has) has (λ value.
     by_truth value has (runs types (deep types n) site back block
     (does types (deep types n) site back (Repeat test block) next) locals has) (next locals has))) locals has
 while_once types n site back test block next locals has =

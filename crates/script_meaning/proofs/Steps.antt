@@ -20,8 +20,8 @@ use Rattle.script_values.specs.Values.{ValueOrFault}
 use Rattle.script_holding.specs.Holding.{Holding, with_left}
 use Rattle.script_meaning.specs.Requests.{Requests, Back, Caught, stop, with_value, with_values}
 use Rattle.script_meaning.specs.Calls.{Site, Runner, Target, bound, joined, enters, numbered, to_type, type_from, with_key}
-use Rattle.script_meaning.specs.Statements.{Next, with_step, step, given, around, calls, by_truth, does, runs, deep}
-use Rattle.script_meaning.specs.Play.{at_start, as_first, ends, first_frame, unit}
+use Rattle.script_meaning.specs.Statements.{Next, with_step, takes_step, given, around, calls, by_truth, does, runs, deep}
+use Rattle.script_meaning.specs.Play.{at_start, as_first, ends_unit, first_frame, unit}
 use Rattle.script_meaning.specs.Playing.{types_in, surrounds, plays_method, heard}
 use Rattle.script_meaning.specs.declared.frames.World.{World}
 use Rattle.script_meaning.specs.declared.player.Progress.{Progress}
@@ -35,7 +35,7 @@ taken_by (suc left) next locals has some =
 
 -- a step is taken where one is left
 step_taken : (next : Next) (locals : Locals) (has after : Holding) → true ≡ nat_lt 0 has.left → after ≡ with_left (has.left - 1) has →
-    next locals after ≡ step next locals has
+    next locals after ≡ takes_step next locals has
 step_taken next locals has after some is = ap (next locals) is ∙ taken_by has.left next locals has some
 
 refused_by : (left : ℕ) (next : Next) (locals : Locals) (has : Holding) → false ≡ nat_lt 0 left → with_step left next locals has ≡ stop budget has
@@ -44,7 +44,7 @@ refused_by (suc left) next locals has none = absurd (grind (arith, nat_tests))
 
 -- and none is taken past the last
 pub step_refused : (next : Next) (locals : Locals) (has after : Holding) → false ≡ nat_lt 0 has.left → after ≡ with_left (has.left - 1) has →
-    step next locals has ≡ stop budget after
+    takes_step next locals has ≡ stop budget after
 step_refused next locals has after none is =
     let rest : has.left - 1 ≡ has.left = grind (arith, nat_tests) in
     refused_by has.left next locals has none ∙ ap (λ (h : Holding). stop budget h) (sym (is ∙ ap (λ n. with_left n has) rest))
@@ -131,7 +131,7 @@ turn_refused types n site back test block next locals has after none is =
 
 -- a unit's first frame, and the fault of a call that is outside the program
 pub unit_some : (types : ProgramTree) (call : Call) (at : ℕ) (target : Target) → numbered (slice_get types call.grain.kind) call.method ≡ Some target →
-    unit types call at ≡ enters (deep types (33 - at)) (as_first (entered target.method.option false)) at call.grain target call.args ends stop at_start
+    unit types call at ≡ enters (deep types (33 - at)) (as_first (entered target.method.option false)) at call.grain target call.args ends_unit stop at_start
 unfolding unit
 unit_some types call at target there = ap (first_frame (deep types (33 - at)) at call) there
 

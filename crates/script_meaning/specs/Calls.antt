@@ -120,9 +120,9 @@ abbrev pub numbered_by : TypeTree → Option ℕ → Option Target
 numbered_by of_type None = None
 numbered_by of_type (Some number) = numbered (Some of_type) number
 
-abbrev pub method_of : Option TypeTree → List ℕ → Option Target
-method_of None name = None
-method_of (Some of_type) name = numbered_by of_type (method_from 0 name of_type.methods)
+abbrev pub method_target : Option TypeTree → List ℕ → Option Target
+method_target None name = None
+method_target (Some of_type) name = numbered_by of_type (method_from 0 name of_type.methods)
 
 -- a call of a method that is there: its option is looked up
 abbrev pub to_target : Runner → Site → GrainId → Option Target → List Value → Back → Caught → Holding → Requests
@@ -134,7 +134,7 @@ to_target runner site grain (Some target) args back caught has =
 abbrev pub to_type : ProgramTree → Runner → Site → Option ℕ → ℕ → List ℕ → List Value → Back → Caught → Holding → Requests
 to_type types runner site None at name args back caught has = stop unknown has
 to_type types runner site (Some number) at name args back caught has =
-    to_target runner site (record { kind = number; key = at }) (method_of (slice_get types number) name) args back caught has
+    to_target runner site (record { kind = number; key = at }) (method_target (slice_get types number) name) args back caught has
 
 -- what follows a place: a number from 0 on that fits 32 bits
 abbrev pub in_range : ℤ → Holding → (ℕ → Requests) → Requests

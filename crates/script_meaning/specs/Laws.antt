@@ -17,8 +17,8 @@ use Rattle.script_holding.specs.Holding.{Holding}
 use Rattle.script_holding.specs.Limits.{depth_limit, unit_limit, grain_limit}
 use Rattle.script_meaning.specs.Requests.{Back, with_value}
 use Rattle.script_meaning.specs.Calls.{Site, Target, numbered}
-use Rattle.script_meaning.specs.Statements.{Next, step, by_truth, given, does, runs, deep}
-use Rattle.script_meaning.specs.Play.{IsTransaction, AskedUnit, Played, Lock, Want, WantLock, WantRaise, WantUnit, Over, grains_of, is_below, play_over, play, next}
+use Rattle.script_meaning.specs.Statements.{Next, takes_step, by_truth, given, does, runs, deep}
+use Rattle.script_meaning.specs.Play.{IsTransaction, AskedUnit, Played, Lock, Want, WantLock, WantRaise, WantUnit, Over, grains_with_states, is_below, play_over, play, next}
 use Rattle.script_meaning.specs.Trails.{Given, wanted, locks_of, answers_of, reads_of, exclusive_in, Has, IsTrail, IsWholeTrail, IsShown, outcomes, states_of}
 
 -- a play is a run of `next` to its end, over states of the store and the outcomes of the children
@@ -81,7 +81,7 @@ pub record IsOrderly (types : ProgramTree) (depth : ℕ) (played : Played) : Typ
   pub few_reads : length played.reads ≤ grain_limit
   pub ascending : AllPairs (λ one other. IsTrue (is_below one.0 other.0)) played.writes
   pub few_writes : length played.writes ≤ grain_limit
-  pub writes_are_read : All (λ one. Contains (grains_of played.reads) one.0) played.writes
+  pub writes_are_read : All (λ one. Contains (grains_with_states played.reads) one.0) played.writes
   pub whole_states : All (λ one. HasEachField types one.0 one.1) played.writes
   pub few_units : length played.asked ≤ unit_limit
   pub children : All (IsChild types depth) played.asked
@@ -100,9 +100,9 @@ PlainRunsLockNothing = (types : ProgramTree) (call : Call) (depth : ℕ) (states
 -- what is asked for next is missing still: a first lock of a grain that isn't locked, at most the 64th; an exclusive
 -- lock of one that is locked shared only; at most the 64th unit of its own
 abbrev pub IsMissing : ProgramTree → ℕ → List Given → Want → Type 0
-IsMissing types depth trail (WantLock grain mode) = (¬ Contains (grains_of (reads_of trail)) grain)
+IsMissing types depth trail (WantLock grain mode) = (¬ Contains (grains_with_states (reads_of trail)) grain)
     × (length (reads_of trail) < grain_limit)
-IsMissing types depth trail (WantRaise grain) = Contains (grains_of (reads_of trail)) grain
+IsMissing types depth trail (WantRaise grain) = Contains (grains_with_states (reads_of trail)) grain
     × ¬ Contains (exclusive_in trail) grain
 IsMissing types depth trail (WantUnit call at) = IsChild types depth (call, at)
     × (length (answers_of trail) < unit_limit)
@@ -150,4 +150,4 @@ LoopsGoOn = (types : ProgramTree) (n : ℕ) (site : Site) (back : Back) (test : 
     let turn : Next = λ locals has.
     with_value (given types (deep types n) site back test locals has) has
     (λ value. by_truth value has (runs types (deep types n) site back block loop locals has) (next locals has)) in
-    (locals : Locals) (has : Holding) → loop locals has ≡ step turn locals has
+    (locals : Locals) (has : Holding) → loop locals has ≡ takes_step turn locals has

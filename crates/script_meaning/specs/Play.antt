@@ -33,13 +33,13 @@ as_first (Plain context) = Plain context
 as_first (Refused why) = Refused why
 
 -- a unit ends with the value of its first frame
-abbrev pub ends : Back
-ends value has = End (Valued value) has
+abbrev pub ends_unit : Back
+ends_unit value has = End (Valued value) has
 
 abbrev pub first_frame : Runner → ℕ → Call → Option Target → Requests
 first_frame runner depth call None = stop unknown at_start
 first_frame runner depth call (Some target) =
-    enters runner (as_first (entered target.method.option false)) depth call.grain target call.args ends stop at_start
+    enters runner (as_first (entered target.method.option false)) depth call.grain target call.args ends_unit stop at_start
 
 -- The run of a call as a unit whose first frame has this depth: 1 for a request, one more than its caller's for
 -- a child.
@@ -57,8 +57,8 @@ abbrev pub GrainState : Type 0
 GrainState = GrainId × List Value
 
 -- the grains of these states
-abbrev pub grains_of : List GrainState → List GrainId
-grains_of found = map (λ one. one.0) found
+abbrev pub grains_with_states : List GrainState → List GrainId
+grains_with_states found = map (λ one. one.0) found
 
 -- a unit that was asked for: its call, and the depth of its first frame
 abbrev pub AskedUnit : Type 0

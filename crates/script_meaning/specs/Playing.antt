@@ -10,7 +10,7 @@ use Rattle.script_holding.specs.Holding.{Holding}
 use Rattle.script_meaning.specs.Requests.{Requests, Back, Caught, stop}
 use Rattle.script_meaning.specs.Calls.{Site, Runner}
 use Rattle.script_meaning.specs.Statements.{Next, around, runs, deep}
-use Rattle.script_meaning.specs.Play.{AskedUnit, GrainState, Played, ends, serve, found_in}
+use Rattle.script_meaning.specs.Play.{AskedUnit, GrainState, Played, ends_unit, serve, found_in}
 use Rattle.script_meaning.specs.declared.flows.Flow.{Flow}
 use Rattle.script_meaning.specs.declared.flows.Flow.TheVariants as flow
 use Rattle.script_meaning.specs.declared.flows.Answer.{Answer}
@@ -32,7 +32,7 @@ site_of site =
 
 -- what the expressions of a frame are evaluated in
 abbrev pub surrounds : Site → Locals → Holding → Surroundings
-surrounds site locals has = around [] None site ends locals has
+surrounds site locals has = around [] None site ends_unit locals has
 
 -- what runs the frames below one at this depth
 abbrev pub below : World → ℕ → Runner

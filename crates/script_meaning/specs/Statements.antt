@@ -22,8 +22,8 @@ abbrev pub with_step : ℕ → Next → Next
 with_step zero next locals has = stop budget has
 with_step (suc left) next locals has = next locals (with_left left has)
 
-abbrev pub step : Next → Next
-step next locals has = with_step has.left next locals has
+abbrev pub takes_step : Next → Next
+takes_step next locals has = with_step has.left next locals has
 
 -- what a condition chooses: a number other than 0 is true, and a text is no condition
 abbrev pub by_truth : Value → Holding → Requests → Requests → Requests
@@ -60,7 +60,7 @@ module _ (types : ProgramTree) (runner : Runner) (site : Site) (back : Back) whe
   abbrev pub turns : ℕ → ExprTree → (Next → Next) → Next → Next
   turns zero test body next = λ locals has. stop budget has
   turns (suc n) test body next =
-      step (λ locals has. with_value (given test locals has) has (λ value. by_truth value has (body (turns n test body next) locals has) (next locals has)))
+      takes_step (λ locals has. with_value (given test locals has) has (λ value. by_truth value has (body (turns n test body next) locals has) (next locals has)))
 
   -- a loop: each turn takes a step, so one turn more than there are steps left is enough
   abbrev pub loops : ExprTree → (Next → Next) → Next → Next
@@ -83,7 +83,7 @@ module _ (types : ProgramTree) (runner : Runner) (site : Site) (back : Back) whe
     -- what a block does: each statement takes a step
     pub runs : BlockTree → Next → Next
     runs NoMore next = next
-    runs (Then first rest) next = step (does first (runs rest next))
+    runs (Then first rest) next = takes_step (does first (runs rest next))
 
     -- what the second block of an `if` does, where it is there
     pub runs_else : ElseTree → Next → Next

@@ -8,7 +8,7 @@ ghost use Rattle.script_tree.specs.Programs.{method_tree};
 ghost use Rattle.script_holding.specs.Limits.{depth_limit};
 ghost use Rattle.script_meaning.specs.Requests.{Back, Caught, stop};
 ghost use Rattle.script_meaning.specs.Calls.{bound, enters};
-ghost use Rattle.script_meaning.specs.Statements.{Next, step, calls, sourced, does, runs, deep};
+ghost use Rattle.script_meaning.specs.Statements.{Next, takes_step, calls, sourced, does, runs, deep};
 ghost use Rattle.script_meaning.specs.Targets.{target_of};
 ghost use Rattle.script_meaning.specs.Playing.{types_in, site_of, below, plays_method, answering, flowing, Leads};
 
@@ -64,7 +64,7 @@ impl Player {
         requires { site.now.depth ≤ 32 }
         ensures led { (back : Back) (next : Next) →
             Leads world.now self.new self.old.progress result (λ flow. flowing flow back next locals.new.items self.new.has)
-            (step (does (types_in world.now) (below world.now site.now.depth) (site_of site.now) back
+            (takes_step (does (types_in world.now) (below world.now site.now.depth) (site_of site.now) back
             (stmt_tree stmt.now) next) locals.old.items self.old.has) }
         ensures fewer { self.new.has.left ≤ self.old.has.left }
     {

@@ -2,7 +2,7 @@ ghost use Rattle.std.specs.Prelude.{◌≡◌, ◌≤◌, IfOk, IfSome, length, 
 ghost use Rattle.std.specs.Option.{option_map, option_copied};
 ghost use Rattle.script_tree.specs.Programs.{method_tree, type_tree};
 ghost use Rattle.script_check.specs.Accepted.{IsAcceptedProgram};
-ghost use Rattle.script_meaning.specs.Calls.{bound, type_from, method_from, numbered, method_of};
+ghost use Rattle.script_meaning.specs.Calls.{bound, type_from, method_from, numbered, method_target};
 ghost use Rattle.script_meaning.specs.Targets.{target_of, type_at};
 
 use base_types::{List, Value};
@@ -70,7 +70,7 @@ pub fn target_at(types: &[TypeDecl], kind: u16, number: u16) -> Option<Target<'_
 /// The method of this name in the type of this number.
 pub fn target_named<'a>(types: &'a [TypeDecl], kind: u16, name: &Chars) -> Option<Target<'a>>
     requires { IsAcceptedProgram (map type_tree types.now) }
-    ensures found { option_map target_of result ≡ method_of (type_at types.now kind) name.now }
+    ensures found { option_map target_of result ≡ method_target (type_at types.now kind) name.now }
     ensures few { IfSome result (λ target. length target.of_type.now.fields.list.items ≤ 16) }
 {
     let of_type = type_of(types, kind)?;

@@ -3,7 +3,7 @@ ghost use Rattle.base_types.specs.declared.calls.Value.{Value as Values};
 ghost use Rattle.script_tree.specs.Programs.{program_tree};
 ghost use Rattle.script_holding.specs.Holding.{Holding as Has};
 ghost use Rattle.script_meaning.specs.Requests.{Requests, End, stop};
-ghost use Rattle.script_meaning.specs.Play.{at_start, as_first, ends, unit, is_below, insert, states_set, writes_of, play};
+ghost use Rattle.script_meaning.specs.Play.{at_start, as_first, ends_unit, unit, is_below, insert, states_set, writes_of, play};
 ghost use Rattle.script_meaning.specs.Playing.{types_in, answering, heard, Leads, played_of};
 ghost use Rattle.script_meaning.specs.declared.frames.World.{World as Worlds};
 ghost use Rattle.script_meaning.specs.declared.player.Player.{Player as Players};
@@ -99,7 +99,7 @@ fn writes_of(
 /// How a unit ended.
 fn outcome_of(end: Result<Answer, Stop>) -> Result<Outcome, AllocError>
     ensures { IfOk result (λ outcome. (world : Worlds) (player : Players) (old : Progresses) (before : Requests) →
-        Leads world player old end (λ answer. answering answer ends stop player.has) before → heard world player.progress
+        Leads world player old end (λ answer. answering answer ends_unit stop player.has) before → heard world player.progress
         (End outcome player.has) ≡ heard world old before) }
 {
     match end {
@@ -120,7 +120,7 @@ impl Player {
         depth: u16,
     ) -> Result<Answer, Stop>
         requires { self.old.has ≡ at_start }
-        ensures { Leads world.now self.new self.old.progress result (λ answer. answering answer ends stop self.new.has)
+        ensures { Leads world.now self.new self.old.progress result (λ answer. answering answer ends_unit stop self.new.has)
             (unit (types_in world.now) call.now depth) }
     {
         let Some(target) = target_at(world.types(), call.grain.kind, call.method) else {

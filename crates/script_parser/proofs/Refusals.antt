@@ -18,7 +18,7 @@ use Rattle.script_expressions.proofs.Sound.{ok_is}
 use Rattle.script_expressions.specs.Grammar.{IsOperator}
 use Rattle.script_expressions.proofs.Local.{Goes, Kept, Refused, Split}
 use Rattle.script_parser.specs.Types.{repeated, type_at}
-use Rattle.script_parser.specs.Programs.{finished, program_over, program_of}
+use Rattle.script_parser.specs.Programs.{at_text_end, program_over, program_of}
 use Rattle.script_parser.specs.Refusals.{AreProgram, Begin, IsUnexpectedAt, Explains, IsRefusal}
 use Rattle.script_parser.specs.Grammar.{IsType}
 use Rattle.script_parser.proofs.SoundParts.{repeated_sound, type_sound}
@@ -119,10 +119,10 @@ module _ (stop : ParseFault) where
 
   -- what was read, then the end
   abbrev ended : Part ProgramTree → Result ProgramTree ParseFault
-  ended r = r >>= λ x. finished stop x.1 >>= λ end. Ok x.0
+  ended r = r >>= λ x. at_text_end stop x.1 >>= λ end. Ok x.0
 
   -- nothing is left, and no program ends so
-  explains_nothing : (ts : List Spanned) (tree : ProgramTree) (end e : ParseFault) → EndsText end → stop ≡ end → Begin 33 ts → (finished end [] >>= λ done. Ok tree) ≡ Err e → Explains ts stop e
+  explains_nothing : (ts : List Spanned) (tree : ProgramTree) (end e : ParseFault) → EndsText end → stop ≡ end → Begin 33 ts → (at_text_end end [] >>= λ done. Ok tree) ≡ Err e → Explains ts stop e
   explains_nothing ts tree (Unexpected at) e h is some f = absurd (let clash = f in cc)
   explains_nothing ts tree (BadToken at) e h is some f = let same : BadToken at ≡ e = cc in subst (Explains ts stop) same (is, some)
   explains_nothing ts tree (TooDeep at) e h is some f = absurd h

@@ -34,7 +34,7 @@ use Rattle.script_parser.specs.declared.methods.TheConstants.{OPTIONS, KINDS}
 use Rattle.script_parser.specs.Statements.{block}
 use Rattle.script_parser.specs.Methods.{option_word, kind_word, option_found, kind_found, option_from, kind_from, option_at, kind_at, params_in, params_at, method_at}
 use Rattle.script_parser.specs.Types.{more_of, repeated, negative_from, number_at, symbol_initial, initial_from, initial_at, field_at, members_in, type_at}
-use Rattle.script_parser.specs.Programs.{finished, program_over, program_of}
+use Rattle.script_parser.specs.Programs.{at_text_end, program_over, program_of}
 use Rattle.script_parser.specs.Grammar.{OneName, IsMethod, method, IsInitial, positive, negative, worded, IsField, field, Many, none, one_more, IsBlock, IsType, type, IsProgram}
 use Rattle.script_parser.proofs.Sound.{took_next, block_sound}
 
@@ -213,7 +213,7 @@ module _ (stop : ParseFault) where
 
 -- ---- programs
 
-finished_is : (stop : ParseFault) (ts : List Spanned) (x : Unit {0}) → finished stop ts ≡ Ok x → (ts ≡ []) × ((at : ℕ) × (stop ≡ Unexpected at))
+finished_is : (stop : ParseFault) (ts : List Spanned) (x : Unit {0}) → at_text_end stop ts ≡ Ok x → (ts ≡ []) × ((at : ℕ) × (stop ≡ Unexpected at))
 finished_is (Unexpected at) [] x e = (refl, (at, refl))
 finished_is (BadToken at) [] x e = absurd cc
 finished_is (TooDeep at) [] x e = absurd cc
@@ -237,7 +237,7 @@ over_sound : (stop : ParseFault) (ts : List Spanned) (tree : ProgramTree) → pr
 unfolding program_over
 over_sound stop ts tree e =
     let s1 = bind_ok (repeated word.Type (type_at stop 32) (length ts) ts) _ tree e in
-    let s2 = bind_ok (finished stop s1.0.1) _ tree s1.2 in
+    let s2 = bind_ok (at_text_end stop s1.0.1) _ tree s1.2 in
     let f = finished_is stop s1.0.1 s2.0 s2.1 in
     let all : Many TypeTree (IsType 32) ts s1.0.0 [] = subst (λ (l : List Spanned). Many TypeTree (IsType 32) ts s1.0.0 l) f.0 (repeated_sound stop TypeTree word.Type (IsType 32) (type_at stop 32) (type_sound stop 32) (length ts) ts s1.0 s1.1) in
     (subst (λ (t : ProgramTree). Many TypeTree (IsType 32) ts t []) (ok_is s1.0.0 tree s2.2) all, f.1)

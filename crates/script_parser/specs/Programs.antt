@@ -10,18 +10,18 @@ use Rattle.script_expressions.specs.Reading.{◌>>=◌}
 use Rattle.script_parser.specs.Types.{repeated, type_at}
 
 -- nothing follows: the tokens are used up, and they end where the text does
-abbrev pub finished : ParseFault → List Spanned → Result (Unit {0}) ParseFault
-finished stop (t ∷ ts) = Err (Unexpected t.at)
-finished (Unexpected at) [] = Ok tt
-finished (BadToken at) [] = Err (BadToken at)
-finished (TooDeep at) [] = Err (TooDeep at)
-finished Memory [] = Err Memory
+abbrev pub at_text_end : ParseFault → List Spanned → Result (Unit {0}) ParseFault
+at_text_end stop (t ∷ ts) = Err (Unexpected t.at)
+at_text_end (Unexpected at) [] = Ok tt
+at_text_end (BadToken at) [] = Err (BadToken at)
+at_text_end (TooDeep at) [] = Err (TooDeep at)
+at_text_end Memory [] = Err Memory
 
 -- the program that tokens are, up to what ends them
 unfoldable pub program_over : ParseFault → List Spanned → Result ProgramTree ParseFault
 program_over stop ts = do
   types ← repeated word.Type (type_at stop 32) (length ts) ts
-  end ← finished stop types.1
+  end ← at_text_end stop types.1
   Ok types.0
 
 -- the program that a text is

@@ -11,7 +11,7 @@ use Rattle.script_lexer.specs.declared.tokens.Symbol.TheVariants as symbol
 use Rattle.script_lexer.specs.declared.tokens.Word.{Word}
 use Rattle.script_lexer.specs.declared.tokens.Word.TheVariants as word
 use Rattle.script_expressions.specs.Reading.{Part, Read, ◌>>=◌}
-use Rattle.script_expressions.specs.Tokens.{refused, expected, expected_word, name_at, text_at, taken, taken_word}
+use Rattle.script_expressions.specs.Tokens.{refused_token, expected, expected_word, name_at, text_at, taken, taken_word}
 use Rattle.script_expressions.specs.Expressions.{expression}
 use Rattle.script_expressions.specs.Calls.{call_at}
 
@@ -132,7 +132,7 @@ module _ (stop : ParseFault) where
 
   -- The statements up to a closing brace. The number bounds the turns; the count of the tokens is always enough.
   unfoldable pub statements : Read StmtTree → ℕ → Read (List StmtTree)
-  statements one zero ts = Err (refused stop ts)
+  statements one zero ts = Err (refused_token stop ts)
   statements one (suc n) ts = up_to one (statements one n) ts (taken symbol.RightBrace ts)
 
   -- a block, where so many braces, parentheses and prefix operators may be open

@@ -3,7 +3,7 @@ ghost use Rattle.script_tree.specs.Programs.{ProgramTree, program_tree};
 ghost use Rattle.script_tree.specs.Names.{names_in_program, AreInOrder};
 ghost use Rattle.script_lexer.specs.declared.faults.ParseFault.{ParseFault};
 ghost use Rattle.script_expressions.specs.Reading.{Makes};
-ghost use Rattle.script_parser.specs.Programs.{finished, program_over, program_of};
+ghost use Rattle.script_parser.specs.Programs.{at_text_end, program_over, program_of};
 ghost use Rattle.script_parser.specs.Grammar.{IsProgram};
 ghost use Rattle.script_parser.specs.Refusals.{IsRefusal};
 
@@ -66,7 +66,7 @@ fn program(alloc: Global, stop: ParseFault, tokens: &[Spanned]) -> Result<Progra
 
 // Nothing follows: the tokens are used up, and they end where the text does.
 fn finish(cursor: &Cursor<'_>) -> Result<(), ParseFault>
-    ensures { Makes (λ _. tt) result (finished cursor.now.stop cursor.now.tokens.now) }
+    ensures { Makes (λ _. tt) result (at_text_end cursor.now.stop cursor.now.tokens.now) }
 {
     match cursor.tokens {
         [first, ..] => Err(ParseFault::Unexpected { at: first.at }),

@@ -44,22 +44,22 @@ pub record Surroundings : Type 0 where
   pub locals : Locals
 
 -- a value that is there
-abbrev pub known : Option Value → ValueOrFault
-known None = Err unknown
-known (Some value) = Ok value
+abbrev pub known_value : Option Value → ValueOrFault
+known_value None = Err unknown
+known_value (Some value) = Ok value
 
 -- the value of the field of this number
 abbrev pub field_value : List Value → Option ℕ → ValueOrFault
 field_value state None = Err unknown
-field_value state (Some i) = known (slice_get state i)
+field_value state (Some i) = known_value (slice_get state i)
 
 -- what a name stands for: the parameter or local, else the field
 abbrev pub or_field : Option Value → ValueOrFault → ValueOrFault
 or_field (Some value) field = Ok value
 or_field None field = field
 
-abbrev pub named : Surroundings → List ℕ → ValueOrFault
-named around name = or_field (local_named name around.locals) (field_value around.state (field_named name around.fields))
+abbrev pub value_named : Surroundings → List ℕ → ValueOrFault
+value_named around name = or_field (local_named name around.locals) (field_value around.state (field_named name around.fields))
 
 -- an operator between two operands, the right one of which is evaluated only where the left one doesn't decide
 abbrev pub and_so_on : ℤ → ValueOrFault → ValueOrFault
@@ -76,7 +76,7 @@ between op left right = then_value right (combined op left)
 -- the value of an expression
 abbrev pub value_in : Surroundings → ExprTree → ValueOrFault
 value_in around (Constant literal) = Ok (value_of literal)
-value_in around (Variable name) = named around name.text
+value_in around (Variable name) = value_named around name.text
 value_in around TheKey = Ok (Int (pos around.key))
 value_in around (Prefixed op of) = then_value (value_in around of) (λ value. with_number value (prefixed op))
 value_in around (Joined op left right) = then_value (value_in around left) (λ value. between op value (value_in around right))

@@ -1,6 +1,6 @@
 ghost use Rattle.std.specs.Prelude.{map};
 ghost use Rattle.script_tree.specs.Exprs.{expr_tree};
-ghost use Rattle.script_values.specs.Expressions.{named, value_in, values_in, between};
+ghost use Rattle.script_values.specs.Expressions.{value_named, value_in, values_in, between};
 ghost use Rattle.script_values.specs.Stops.{GivesOrStops};
 ghost use Rattle.script_values.specs.Scopes.{surroundings};
 
@@ -16,7 +16,7 @@ use std::alloc::Global;
 
 /// What a name stands for: the parameter or local, else the field.
 fn named(alloc: Global, name: &Chars, scope: &Scope) -> Result<Value, Stop>
-    ensures { GivesOrStops result (named (surroundings scope.now) name.now) }
+    ensures { GivesOrStops result (value_named (surroundings scope.now) name.now) }
 {
     if let Some(value) = local_value(scope.locals, name) {
         return Ok(value.copy()?);

@@ -10,7 +10,7 @@ use Rattle.host_trait.proofs.Runs.{settled_image}
 use Rattle.script_tree.specs.Programs.{ProgramTree}
 use Rattle.program_file.specs.declared.faults.ProgramFault.{ProgramFault}
 use Rattle.program_file.specs.Programs.{text_limit, program_in}
-use Rattle.program_file.specs.Answers.{named_place, IsFaultOf}
+use Rattle.program_file.specs.Answers.{program_fault_place, IsFaultOf}
 use Rattle.silo_spec.specs.Silos.{manager, program_file, IsSilo, IsNewSilo}
 use Rattle.silo_spec.specs.Moments.{IsUntouched}
 use Rattle.silo_spec.specs.Making.{StaysBeside, CameThisFar}
@@ -80,9 +80,9 @@ module _ (A : Type 0) (manner : Manner) (asked : List (List ℕ)) (old mid : Wor
   program_by fault None end small is = refused_early InitFault.Memory (untouched_so_far old mid disk output still) tt
 
   -- it was, and is no program
-  pub program_refused : (fault : ProgramFault) → mid.input ≡ [] → length old.input ≤ text_limit → IsFaultOf old.input fault (named_place fault)
-      → MakesSilo (ended_with manner asked old mid before after (failed {A = A} (in_program fault (named_place fault))))
-  program_refused fault end small is = program_by fault (named_place fault) end small is
+  pub program_refused : (fault : ProgramFault) → mid.input ≡ [] → length old.input ≤ text_limit → IsFaultOf old.input fault (program_fault_place fault)
+      → MakesSilo (ended_with manner asked old mid before after (failed {A = A} (in_program fault (program_fault_place fault))))
+  program_refused fault end small is = program_by fault (program_fault_place fault) end small is
 
   module _ (new : World) (beside : StaysBeside mid new) (makes : CameThisFar magic old.input mid new) (kept : IsSilo magic (mid.disk manager).seen → IsUntouched mid new) (text : IsProgramText (ended_with {A = A} manner asked old new before after (Err InitFault.Memory))) where
     -- the manager file is as it was at first

@@ -1,7 +1,7 @@
 ghost use Rattle.std.specs.Prelude.{◌≡◌, ℕ, List, IsTrue, OnOk, IfErr, Result};
 ghost use Rattle.host_trait.specs.Files.{StaysReady};
 ghost use Rattle.host_trait.specs.Faults.{NoneFailed};
-ghost use Rattle.program_file.specs.Answers.{named_place};
+ghost use Rattle.program_file.specs.Answers.{program_fault_place};
 ghost use Rattle.promise_spec.specs.Words.{Manner};
 ghost use Rattle.promise_spec.specs.Commands.{MakesSilo};
 ghost use Rattle.silo_opening.specs.Counts.{InitFaulted};
@@ -51,7 +51,7 @@ fn input_fault(fault: InputFault) -> InitFault
 
 // The fault of a text that is no program.
 fn program_fault(fault: ProgramFault) -> InitFault
-    ensures { result ≡ in_program fault (named_place fault) }
+    ensures { result ≡ in_program fault (program_fault_place fault) }
 {
     match fault.place() {
         Some(_) => InitFault::BadProgram(fault),

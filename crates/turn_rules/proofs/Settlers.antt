@@ -14,7 +14,7 @@ use Rattle.promise_spec.specs.Cores.{state_before}
 use Rattle.promise_spec.specs.Gotten.{Got, got_from}
 use Rattle.promise_spec.specs.UnitRule.{Basis, IsDue}
 use Rattle.core_model.specs.Settler.{MakesEvent, Step, Votes, Decides, Seals, Learns, Writes, Takes, Rests, settler_step}
-use Rattle.promise_spec.specs.TurnRule.{OfSettler, IsTurn, KeepsTurnRule, can_begin, movers, mover_of, picked, picks_used}
+use Rattle.promise_spec.specs.TurnRule.{OfSettler, IsTurn, KeepsTurnRule, line_can_begin, movers, mover_of, picked, picks_used}
 use Rattle.turn_rules.specs.Going.{is_begin, is_own}
 
 -- ---- no stop
@@ -77,7 +77,7 @@ no-halt-step Rests m = m
 pub never-halted : (types : ProgramTree) (lines width : ℕ) (picks : List ℕ) (r : Run) → KeepsTurnRule types lines width picks r → (ends r).units.halt ≡ false
 never-halted types lines width picks r keeps =
     halt-run r.events (begins r) (λ at e there a q.
-    no-halt-step (settler_step (state_before r at)) (subst (λ (x : CoreEvent). IsTurn (can_begin width lines r (state_before r at)) (picked (movers types r (state_before r at) (got_from (begins r) (take at r.events))) (get_or picks (picks_used r at) 0)) (state_before r at) x (mover_of x)) q
+    no-halt-step (settler_step (state_before r at)) (subst (λ (x : CoreEvent). IsTurn (line_can_begin width lines r (state_before r at)) (picked (movers types r (state_before r at) (got_from (begins r) (take at r.events))) (get_or picks (picks_used r at) 0)) (state_before r at) x (mover_of x)) q
     (keeps at e (record { there = there; applied = a }))).2)
 
 -- the settler's events

@@ -16,7 +16,7 @@ use Rattle.promise_spec.specs.Cores.{applied_from}
 use Rattle.promise_spec.specs.Gotten.{got_in}
 use Rattle.promise_spec.specs.UnitRule.{Basis}
 use Rattle.core_model.specs.Settler.{MakesEvent, settler_step}
-use Rattle.promise_spec.specs.TurnRule.{Mover, OfLine, OfUnit, OfSettler, IsTurn, can_begin, mover_of, takes_pick, picked, units_of, units_from}
+use Rattle.promise_spec.specs.TurnRule.{Mover, OfLine, OfUnit, OfSettler, IsTurn, line_can_begin, mover_of, takes_pick, picked, units_of, units_from}
 use Rattle.turn_rules.specs.Going.{with_event, is_begin, MayCome, IsNext, movers_in, next_pick}
 use Rattle.turn_rules.specs.Carried.{AreKept, movers_of, is_kept}
 use Rattle.turn_rules.specs.Quiet.{HasRun}
@@ -74,8 +74,8 @@ module _ (l : TurnLoop) (t : IsTurning l) where
     count = used-none l.run e l.used t.count (ap takes_pick m);
   }
     where
-      no_mover : applies (ends l.run) e ≡ true → IsTurn (can_begin l.width (length l.basis.lines) l.run (ends l.run)) (picked (movers_in l.basis.types l.run) (next_pick l.picks l.run)) (ends l.run) e (mover_of e)
-      no_mover a = subst (λ (o : Mover). IsTurn (can_begin l.width (length l.basis.lines) l.run (ends l.run)) (picked (movers_in l.basis.types l.run) (next_pick l.picks l.run)) (ends l.run) e o) (sym m) (begins-kept l.width (length l.basis.lines) l.run l.units t.kept ∙ can)
+      no_mover : applies (ends l.run) e ≡ true → IsTurn (line_can_begin l.width (length l.basis.lines) l.run (ends l.run)) (picked (movers_in l.basis.types l.run) (next_pick l.picks l.run)) (ends l.run) e (mover_of e)
+      no_mover a = subst (λ (o : Mover). IsTurn (line_can_begin l.width (length l.basis.lines) l.run (ends l.run)) (picked (movers_in l.basis.types l.run) (next_pick l.picks l.run)) (ends l.run) e o) (sym m) (begins-kept l.width (length l.basis.lines) l.run l.units t.kept ∙ can)
 
   -- a line that begins
   pub turn-line : (n : ℕ) (call : Call) (plain : Bool) → has_room l ≡ true → MayCome l.basis l.run (Begin (Line n) call plain) → applies (ends l.run) (Begin (Line n) call plain) ≡ true →
@@ -95,13 +95,13 @@ module _ (l : TurnLoop) (t : IsTurning l) where
       ap (λ (ms : List Mover). picked ms (next_pick l.picks l.run)) (movers-kept l.basis.types l.run l.units t.kept) ∙ ap (λ (n : ℕ). picked (movers_of l.basis.types l.run l.units) (get_or l.picks n 0)) (sym t.count) ∙ pick
 
   -- no line can begin
-  none_begins : has_room l ≡ false → can_begin l.width (length l.basis.lines) l.run (ends l.run) ≡ false
+  none_begins : has_room l ≡ false → line_can_begin l.width (length l.basis.lines) l.run (ends l.run) ≡ false
   none_begins cannot = begins-kept l.width (length l.basis.lines) l.run l.units t.kept ∙ cannot
 
   -- the turn is a mover's whose event it is
-  at_turn : (m : Mover) (e : CoreEvent) → mover_of e ≡ m → IsTurn (can_begin l.width (length l.basis.lines) l.run (ends l.run)) (picked (movers_in l.basis.types l.run) (next_pick l.picks l.run)) (ends l.run) e m → IsNext l.basis.types (length l.basis.lines) l.width l.picks l.run e
+  at_turn : (m : Mover) (e : CoreEvent) → mover_of e ≡ m → IsTurn (line_can_begin l.width (length l.basis.lines) l.run (ends l.run)) (picked (movers_in l.basis.types l.run) (next_pick l.picks l.run)) (ends l.run) e m → IsNext l.basis.types (length l.basis.lines) l.width l.picks l.run e
   at_turn m e is turn a =
-      subst (λ (o : Mover). IsTurn (can_begin l.width (length l.basis.lines) l.run (ends l.run)) (picked (movers_in l.basis.types l.run) (next_pick l.picks l.run)) (ends l.run) e o) (sym is) turn
+      subst (λ (o : Mover). IsTurn (line_can_begin l.width (length l.basis.lines) l.run (ends l.run)) (picked (movers_in l.basis.types l.run) (next_pick l.picks l.run)) (ends l.run) e o) (sym is) turn
 
   -- the settler's step
   pub turn-settler : (e : CoreEvent) → IsPicked l OfSettler → MakesEvent (settler_step (ends l.run)) e → applies (ends l.run) e ≡ true → IsTurning (turned l e l.units (l.used + 1))

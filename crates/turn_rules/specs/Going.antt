@@ -10,7 +10,7 @@ use Rattle.core_model.specs.Laws.{extended}
 use Rattle.script_tree.specs.Programs.{ProgramTree}
 use Rattle.promise_spec.specs.Gotten.{Got, got_by, got_in}
 use Rattle.promise_spec.specs.UnitRule.{Basis, IsDue}
-use Rattle.promise_spec.specs.TurnRule.{Mover, IsTurn, can_begin, movers, mover_of, picked, picks_used}
+use Rattle.promise_spec.specs.TurnRule.{Mover, IsTurn, line_can_begin, movers, mover_of, picked, picks_used}
 
 -- the run with one more event
 abbrev pub with_event : Run → CoreEvent → Run
@@ -80,4 +80,4 @@ movers_in types r = movers types r (ends r) (got_in r)
 -- the event keeps the turn rule, where it applies
 abbrev pub IsNext : ProgramTree → ℕ → ℕ → List ℕ → Run → CoreEvent → Type 0
 IsNext types lines width picks r e = applies (ends r) e ≡ true →
-    IsTurn (can_begin width lines r (ends r)) (picked (movers_in types r) (next_pick picks r)) (ends r) e (mover_of e)
+    IsTurn (line_can_begin width lines r (ends r)) (picked (movers_in types r) (next_pick picks r)) (ends r) e (mover_of e)

@@ -3,7 +3,7 @@ ghost use Rattle.core_model.specs.declared.effects.Effect.{Effect};
 ghost use Rattle.core_model.specs.Legal.{Run, IsLegal, ends};
 ghost use Rattle.script_tree.specs.Programs.{ProgramTree};
 ghost use Rattle.promise_spec.specs.Gotten.{got_in};
-ghost use Rattle.promise_spec.specs.TurnRule.{KeepsTurnRule, can_begin};
+ghost use Rattle.promise_spec.specs.TurnRule.{KeepsTurnRule, line_can_begin};
 ghost use Rattle.turn_rules.specs.Going.{movers_in};
 ghost use Rattle.turn_rules.specs.Counted.{IsCounted};
 ghost use Rattle.turn_rules.specs.Quiet.{HasRun};
@@ -19,7 +19,7 @@ pub fn runs_are_counted()
 /// is stopped.
 pub fn without_a_mover_all_is_settled()
     ensures all { (types : ProgramTree) (plays : Effect → Bool) (r : Run) (width lines : ℕ) → IsLegal plays r → (ends r).manager.doubt ≡ None
-        → (ends r).units.halt ≡ false → movers_in types r ≡ [] → 0 < width → can_begin width lines r (ends r) ≡ false
+        → (ends r).units.halt ≡ false → movers_in types r ≡ [] → 0 < width → line_can_begin width lines r (ends r) ≡ false
         → HasRun lines (ends r) }
     ensures unstopped { (types : ProgramTree) (lines width : ℕ) (picks : List ℕ) (r : Run) → KeepsTurnRule types lines width picks r
         → (ends r).units.halt ≡ false }

@@ -27,7 +27,7 @@ use Rattle.core_model.specs.Legal.{Run, ends}
 use Rattle.core_model.proofs.Puts.{grain-at, put-same}
 use Rattle.core_model.proofs.Decoded.{none-true}
 use Rattle.script_tree.specs.Programs.{ProgramTree}
-use Rattle.script_meaning.specs.Play.{grains_of}
+use Rattle.script_meaning.specs.Play.{grains_with_states}
 use Rattle.script_meaning.specs.Trails.{Given, reads_of}
 use Rattle.turn_rules.specs.Going.{with_event, is_own}
 use Rattle.turn_rules.proofs.Growth.{ends-more}
@@ -89,7 +89,7 @@ refused-ending : (w : CoreState) (u : UnitNo) (why : Option Settled) → is_some
 refused-ending w u None e = absurd (true≢false (sym e))
 refused-ending w u (Some why) e = record { over = ap is_over (put-same w.units.phase u Refused); holds = refl }
 
-module _ (types : ProgramTree) (r : Run) (c : Carried) (work : Work) (trail : List Given) (p : IsPaused types r c work trail) (held : List GrainId) (is : held ≡ grains_of (reads_of trail)) where
+module _ (types : ProgramTree) (r : Run) (c : Carried) (work : Work) (trail : List Given) (p : IsPaused types r c work trail) (held : List GrainId) (is : held ≡ grains_with_states (reads_of trail)) where
   -- behind an event that ends it
   over-behind : (e : CoreEvent) → is_load e ≡ false → applies (ends r) e ≡ true → IsEnding (ends r) c.unit (does (ends r) e) → IsOver (with_event r e) c held
   over-behind e plain a ending =

@@ -23,7 +23,7 @@ use Rattle.core_model.specs.Events.{applies, does, holds_alone, is_allowed, not_
 use Rattle.core_model.specs.Legal.{Run, ends}
 use Rattle.core_model.proofs.Puts.{grain-at, grain-same, put-same}
 use Rattle.script_tree.specs.Programs.{ProgramTree}
-use Rattle.script_meaning.specs.Play.{GrainState, IsTransaction, grains_of}
+use Rattle.script_meaning.specs.Play.{GrainState, IsTransaction, grains_with_states}
 use Rattle.script_meaning.specs.Trails.{Given, GivenLock, GivenRaise, exclusive_in, reads_of}
 use Rattle.turn_rules.specs.Going.{with_event}
 use Rattle.turn_rules.specs.Links.{HasTrail}
@@ -165,7 +165,7 @@ no-lock-alone u hs e = any-none (λ (h : Hold). is_hold_of u h && is_update h.mo
 
 module _ (types : ProgramTree) (r : Run) (c : Carried) (work work' : Work) (trail : List Given) (g : GrainId) (mode : Mode) (s : List Value) (source : UnitNo)
     (p : IsPaused types r c work trail) (replied : reply.Granted s source ≡ reply_to (ends r) (Grant c.unit g mode)) (call : work'.call ≡ work.call) where
-  module _ (free : any (same_grain g) (grains_of (reads_of trail)) ≡ false) (sources : work'.sources ≡ work.sources ++ (source ∷ [])) where
+  module _ (free : any (same_grain g) (grains_with_states (reads_of trail)) ≡ false) (sources : work'.sources ≡ work.sources ++ (source ∷ [])) where
     abbrev given : Given
     given = GivenLock g mode s
 
@@ -181,8 +181,8 @@ module _ (types : ProgramTree) (r : Run) (c : Carried) (work work' : Work) (trai
     reads : (ends (with_event r (Grant c.unit g mode))).units.reads c.unit ≡ (ends r).units.reads c.unit ++ (read_of g (top (cleaned (ends r) g)) ∷ [])
     reads = reads-first r c.unit g mode (granted-reply (ends r) c.unit g mode s source replied).0 (p.linked.locks g ∙ free)
 
-    grains : grains_of (reads_of (trail ++ (given ∷ []))) ≡ grains_of (reads_of trail) ++ (g ∷ [])
-    grains = ap grains_of (reads-last trail given) ∙ grains-last (reads_of trail) (g, s)
+    grains : grains_with_states (reads_of (trail ++ (given ∷ []))) ≡ grains_with_states (reads_of trail) ++ (g ∷ [])
+    grains = ap grains_with_states (reads-last trail given) ∙ grains-last (reads_of trail) (g, s)
 
     -- the mode is shared: nothing more is held alone
     alone-by : (m : Mode) → mode ≡ m → (h : GrainId) → holds_alone (ends (with_event r (Grant c.unit g mode))) c.unit h ≡ any (same_grain h) (exclusive_in trail ++ exclusive_in (GivenLock g m s ∷ []))
@@ -208,9 +208,9 @@ module _ (types : ProgramTree) (r : Run) (c : Carried) (work work' : Work) (trai
             ∙ (λ j. p.linked.found j ++ ((g, sym told.1 j) ∷ [])) ∙ sym (reads-last trail given);
         sources = ap (map source_of) reads ∙ map-append source_of ((ends r).units.reads c.unit) (read_of g (top (cleaned (ends r) g)) ∷ [])
             ∙ (λ j. p.linked.sources j ++ (sym told.2 j ∷ [])) ∙ sym sources;
-        locks = λ h. locks-by r c.unit g mode told.0 (λ k hs. holds_lock c.unit hs ≡ any (same_grain k) (grains_of (reads_of trail) ++ (g ∷ [])))
-            (λ k e. own-lock r c.unit g mode told.0 ((ends r).cells.holds g) ∙ sym (any-that (grains_of (reads_of trail)) g k e))
-            (λ k n. p.linked.locks k ∙ sym (any-other (grains_of (reads_of trail)) g k n)) h
+        locks = λ h. locks-by r c.unit g mode told.0 (λ k hs. holds_lock c.unit hs ≡ any (same_grain k) (grains_with_states (reads_of trail) ++ (g ∷ [])))
+            (λ k e. own-lock r c.unit g mode told.0 ((ends r).cells.holds g) ∙ sym (any-that (grains_with_states (reads_of trail)) g k e))
+            (λ k n. p.linked.locks k ∙ sym (any-other (grains_with_states (reads_of trail)) g k n)) h
             ∙ sym (ap (any (same_grain h)) grains);
         alone = λ h. alone-by mode refl h ∙ sym (ap (any (same_grain h)) (exclusive-last trail given));
       };
@@ -218,7 +218,7 @@ module _ (types : ProgramTree) (r : Run) (c : Carried) (work work' : Work) (trai
           (locked-first r c.unit g mode trail r.opening (kept-sound r p.linked.sound) told.0 unlocked p.given (ap (λ (f : UnitNo → Phase). f c.unit) i.phase ∙ p.given.running));
     }
 
-  module _ (update : mode ≡ Update) (held : any (same_grain g) (grains_of (reads_of trail)) ≡ true) (sources : work'.sources ≡ work.sources) where
+  module _ (update : mode ≡ Update) (held : any (same_grain g) (grains_with_states (reads_of trail)) ≡ true) (sources : work'.sources ≡ work.sources) where
     told-again : (applies (ends r) (Grant c.unit g mode) ≡ true) × (s ≡ (top (cleaned (ends r) g)).state) × (source ≡ (top (cleaned (ends r) g)).unit)
     told-again = granted-reply (ends r) c.unit g mode s source replied
 
@@ -245,10 +245,10 @@ module _ (types : ProgramTree) (r : Run) (c : Carried) (work work' : Work) (trai
         plainly = λ is t. p.linked.plainly is (subst (λ (x : Call). IsTransaction types x) call t);
         found = ap (map found_by) reads-same ∙ p.linked.found ∙ sym same-reads;
         sources = ap (map source_of) reads-same ∙ p.linked.sources ∙ sym sources;
-        locks = λ h. locks-by r c.unit g mode told-again.0 (λ k hs. holds_lock c.unit hs ≡ any (same_grain k) (grains_of (reads_of trail)))
-            (λ k e. own-lock r c.unit g mode told-again.0 ((ends r).cells.holds g) ∙ sym (ap (λ (z : GrainId). any (same_grain z) (grains_of (reads_of trail))) e ∙ held))
+        locks = λ h. locks-by r c.unit g mode told-again.0 (λ k hs. holds_lock c.unit hs ≡ any (same_grain k) (grains_with_states (reads_of trail)))
+            (λ k e. own-lock r c.unit g mode told-again.0 ((ends r).cells.holds g) ∙ sym (ap (λ (z : GrainId). any (same_grain z) (grains_with_states (reads_of trail))) e ∙ held))
             (λ k n. p.linked.locks k) h
-            ∙ sym (ap (λ (l : List GrainState). any (same_grain h) (grains_of l)) same-reads);
+            ∙ sym (ap (λ (l : List GrainState). any (same_grain h) (grains_with_states l)) same-reads);
         alone = λ h. locks-by r c.unit g mode told-again.0 (λ k hs. any (λ (x : Hold). is_hold_of c.unit x && is_update x.mode) hs ≡ any (same_grain k) (exclusive_in trail ++ (g ∷ [])))
             (λ k e. own-alone r c.unit g mode told-again.0 ((ends r).cells.holds g) ∙ ap is_update update ∙ sym (any-that (exclusive_in trail) g k e))
             (λ k n. p.linked.alone k ∙ sym (any-other (exclusive_in trail) g k n)) h

@@ -18,7 +18,7 @@ use Rattle.core_model.specs.Events.{applies}
 use Rattle.core_model.specs.Tests.{any, first_grain, is_before, is_over, outcome_of}
 use Rattle.core_model.specs.Legal.{Run, ends}
 use Rattle.script_tree.specs.Programs.{ProgramTree}
-use Rattle.script_meaning.specs.Play.{GrainState, IsTransaction, grains_of}
+use Rattle.script_meaning.specs.Play.{GrainState, IsTransaction, grains_with_states}
 use Rattle.script_meaning.specs.Trails.{Given, GivenLock, GivenRaise, GivenOutcome, answers_of, exclusive_in, reads_of}
 use Rattle.script_machine.specs.declared.machine.Machine.{Machine}
 use Rattle.script_machine.specs.declared.machine.Input.{Input}
@@ -51,7 +51,7 @@ use Rattle.txn_agent.proofs.Acting.{waiting-looks, over-there}
 -- by what it was given, once
 at-work-more : (types : ProgramTree) (c : Carried) (work work' : Work) (trail : List Given) (one : Given) (kids kids' : ℕ) (in_ : Input) (pause : Pause) →
     IsAtWork types c work trail kids → IsResumed types work.machine work'.machine in_ pause → given_by (rest types work.machine) in_ ≡ one ∷ [] → work'.call ≡ work.call →
-    work'.held ≡ grains_of (reads_of (trail ++ (one ∷ []))) → length work'.sources ≡ length (reads_of (trail ++ (one ∷ []))) → work'.kids ≡ kids' → IsAtWork types c work' (trail ++ (one ∷ [])) kids'
+    work'.held ≡ grains_with_states (reads_of (trail ++ (one ∷ []))) → length work'.sources ≡ length (reads_of (trail ++ (one ∷ []))) → work'.kids ≡ kids' → IsAtWork types c work' (trail ++ (one ∷ [])) kids'
 at-work-more types c work work' trail one kids kids' in_ pause m resumed gives call held sources count = record {
   follows = subst (λ (x : Call). FollowsTrail types x (depth_of c.origin) work'.machine (trail ++ (one ∷ []))) (sym call)
       (subst (λ (l : List Given). FollowsTrail types work.call (depth_of c.origin) work'.machine (trail ++ l)) gives (resumed.follows work.call (depth_of c.origin) trail m.follows));
@@ -82,7 +82,7 @@ first_known may types s t c work work' g mode state source pause y counts k l is
     record {
       trail = k.trail ++ (GivenLock g mode state ∷ []);
       at_work = at-work-more types c work work' k.trail (GivenLock g mode state) _ _ (input.Grain state) pause k.at_work resumed gives.0 call
-          (held ∙ ap (λ (x : List GrainId). x ++ (g ∷ [])) k.at_work.held ∙ sym (grains-last (reads_of k.trail) (g, state)) ∙ sym (ap grains_of reads))
+          (held ∙ ap (λ (x : List GrainId). x ++ (g ∷ [])) k.at_work.held ∙ sym (grains-last (reads_of k.trail) (g, state)) ∙ sym (ap grains_with_states reads))
           (ap length sources ∙ length-append work.sources (source ∷ []) ∙ ap (λ (n : ℕ). n + 1) k.at_work.sources ∙ sym (length-append (reads_of k.trail) ((g, state) ∷ [])) ∙ sym (ap length reads))
           (kids ∙ k.at_work.kids ∙ sym (ap length answers));
       ready = ready-now types work work' (input.Grain state) pause resumed;
@@ -109,7 +109,7 @@ again_known may types s t c work work' g mode state source pause y counts k l is
     record {
       trail = k.trail ++ (GivenRaise g ∷ []);
       at_work = at-work-more types c work work' k.trail (GivenRaise g) _ _ input.Held pause k.at_work resumed gives.0 call
-          (held ∙ k.at_work.held ∙ sym (ap grains_of reads)) (ap length sources ∙ k.at_work.sources ∙ sym (ap length reads)) (kids ∙ k.at_work.kids ∙ sym (ap length answers));
+          (held ∙ k.at_work.held ∙ sym (ap grains_with_states reads)) (ap length sources ∙ k.at_work.sources ∙ sym (ap length reads)) (kids ∙ k.at_work.kids ∙ sym (ap length answers));
       ready = ready-now types work work' input.Held pause resumed;
       linked = tells-knows (leaves_unit c.unit) (λ r. IsPaused types r c work k.trail) (λ r e h p. paused-on types r e c h work k.trail p) (λ r. IsPaused types r c work' (k.trail ++ (GivenRaise g ∷ [])))
           may s t (Grant c.unit g mode) y l counts
@@ -145,7 +145,7 @@ heard_known may types s t c work work' child o pause counts k l told call held s
     record {
       trail = k.trail ++ (GivenOutcome k.call k.depth o ∷ []);
       at_work = at-work-more types c work work' k.trail (GivenOutcome k.call k.depth o) _ _ (input.Unit o) pause k.at_work resumed gives.0 call
-          (held ∙ k.at_work.held ∙ sym (ap grains_of reads)) (ap length sources ∙ k.at_work.sources ∙ sym (ap length reads))
+          (held ∙ k.at_work.held ∙ sym (ap grains_with_states reads)) (ap length sources ∙ k.at_work.sources ∙ sym (ap length reads))
           (kids ∙ k.at_work.kids ∙ sym (length-append (answers_of k.trail) (o ∷ [])) ∙ sym (ap length answers));
       ready = ready-now types work work' (input.Unit o) pause resumed;
       linked = λ alone.
@@ -159,7 +159,7 @@ heard_known may types s t c work work' child o pause counts k l told call held s
               plainly = λ is x. w.linked.plainly is (subst (λ (z : Call). IsTransaction types z) call x);
               found = w.linked.found ∙ sym reads;
               sources = w.linked.sources ∙ sym sources;
-              locks = λ g. w.linked.locks g ∙ sym (ap (λ (f : List GrainState). any (same_grain g) (grains_of f)) reads);
+              locks = λ g. w.linked.locks g ∙ sym (ap (λ (f : List GrainState). any (same_grain g) (grains_with_states f)) reads);
               alone = λ g. w.linked.alone g ∙ sym (ap (any (same_grain g)) exclusive);
             };
             given = heard (run_seen t) c.unit child k.call k.depth k.trail o w.awaits (known-some (outcome_of (ends (run_seen t)) child) o told);

@@ -14,7 +14,7 @@ use Rattle.script_tree.specs.Programs.{ProgramTree}
 use Rattle.script_holding.specs.Limits.{unit_limit}
 use Rattle.script_meaning.specs.Laws.{IsMissing}
 use Rattle.script_meaning.specs.Requests.{Requests, End, AskLock, AskRaise, AskUnit}
-use Rattle.script_meaning.specs.Play.{GrainState, Want, WantLock, WantRaise, WantUnit, Over, asks, grains_of, next}
+use Rattle.script_meaning.specs.Play.{GrainState, Want, WantLock, WantRaise, WantUnit, Over, asks, grains_with_states, next}
 use Rattle.script_meaning.specs.Trails.{Given, GivenLock, GivenRaise, GivenOutcome, IsTrail, answers_of, asked_of, exclusive_in, locks_of, reads_of}
 use Rattle.script_meaning.proofs.Plays.{next_is_missing_lem}
 use Rattle.script_machine.specs.declared.machine.Input.{Input}
@@ -52,7 +52,7 @@ exclusive-last (GivenRaise g ∷ trail) one = ap (λ (l : List GrainId). g ∷ l
 exclusive-last (GivenOutcome call d o ∷ trail) one = exclusive-last trail one
 
 -- the grains of one more read
-pub grains-last : (found : List GrainState) (one : GrainState) → grains_of (found ++ (one ∷ [])) ≡ grains_of found ++ (one.0 ∷ [])
+pub grains-last : (found : List GrainState) (one : GrainState) → grains_with_states (found ++ (one ∷ [])) ≡ grains_with_states found ++ (one.0 ∷ [])
 grains-last [] one = refl
 grains-last (x ∷ found) one = ap (λ (l : List GrainId). x.0 ∷ l) (grains-last found one)
 
@@ -103,13 +103,13 @@ module _ (types : ProgramTree) (call : Call) (depth : ℕ) (trail : List Given) 
   missing w e = subst (IsMissing types depth trail) e (next_is_missing_lem types call depth trail is)
 
   -- a first lock is of a grain that wasn't read
-  pub missing-lock : (g : GrainId) (mode : Mode) → next types call depth (locks_of trail) (answers_of trail) ≡ WantLock g mode → any (same_grain g) (grains_of (reads_of trail)) ≡ false
-  missing-lock g mode e = missing-any (grains_of (reads_of trail)) g (missing (WantLock g mode) e).0
+  pub missing-lock : (g : GrainId) (mode : Mode) → next types call depth (locks_of trail) (answers_of trail) ≡ WantLock g mode → any (same_grain g) (grains_with_states (reads_of trail)) ≡ false
+  missing-lock g mode e = missing-any (grains_with_states (reads_of trail)) g (missing (WantLock g mode) e).0
 
   -- an exclusive lock in place of a shared one is of one that was, and isn't locked exclusive
   pub missing-raise : (g : GrainId) → next types call depth (locks_of trail) (answers_of trail) ≡ WantRaise g →
-      (any (same_grain g) (grains_of (reads_of trail)) ≡ true) × (any (same_grain g) (exclusive_in trail) ≡ false)
-  missing-raise g e = (let m = missing (WantRaise g) e in (contains-any (grains_of (reads_of trail)) g m.0, missing-any (exclusive_in trail) g m.1))
+      (any (same_grain g) (grains_with_states (reads_of trail)) ≡ true) × (any (same_grain g) (exclusive_in trail) ≡ false)
+  missing-raise g e = (let m = missing (WantRaise g) e in (contains-any (grains_with_states (reads_of trail)) g m.0, missing-any (exclusive_in trail) g m.1))
 
   -- a unit is asked for where there were fewer than 64
   pub missing-unit : (of : Call) (at : ℕ) → next types call depth (locks_of trail) (answers_of trail) ≡ WantUnit of at → length (answers_of trail) < unit_limit

@@ -10,7 +10,7 @@ use Rattle.core_model.specs.Asked.{IsGoing}
 use Rattle.core_model.specs.Legal.{Run, IsLegal, ends}
 use Rattle.core_access.specs.Sights.{Sight, IfAlone}
 use Rattle.script_tree.specs.Programs.{ProgramTree}
-use Rattle.script_meaning.specs.Play.{IsTransaction, WantUnit, asks, grains_of}
+use Rattle.script_meaning.specs.Play.{IsTransaction, WantUnit, asks, grains_with_states}
 use Rattle.script_meaning.specs.Trails.{Given, answers_of, exclusive_in, reads_of}
 use Rattle.script_machine.specs.declared.machine.Pause.{Pause}
 use Rattle.script_machine.specs.Machines.{rest}
@@ -38,7 +38,7 @@ pub record IsLinked (types : ProgramTree) (r : Run) (c : Carried) (work : Work) 
   pub plainly : c.plain ≡ true → IsTransaction types work.call → ⊥
   pub found : map found_by ((ends r).units.reads c.unit) ≡ reads_of trail
   pub sources : map source_of ((ends r).units.reads c.unit) ≡ work.sources
-  pub locks : (g : GrainId) → holds_lock c.unit ((ends r).cells.holds g) ≡ any (same_grain g) (grains_of (reads_of trail))
+  pub locks : (g : GrainId) → holds_lock c.unit ((ends r).cells.holds g) ≡ any (same_grain g) (grains_with_states (reads_of trail))
   pub alone : (g : GrainId) → holds_alone (ends r) c.unit g ≡ any (same_grain g) (exclusive_in trail)
 
 -- The unit runs, and its machine was given all that the unit was.

@@ -5,7 +5,7 @@ use Rattle.core_model.specs.CoreState.{UnitNo}
 use Rattle.core_model.specs.declared.effects.Effect.{Effect}
 use Rattle.core_model.specs.declared.effects.Read.{Read}
 use Rattle.script_tree.specs.Programs.{ProgramTree}
-use Rattle.script_meaning.specs.Play.{GrainState, Over, asks, grains_of}
+use Rattle.script_meaning.specs.Play.{GrainState, Over, asks, grains_with_states}
 use Rattle.script_meaning.specs.Trails.{Given, answers_of, exclusive_in, reads_of}
 use Rattle.script_machine.specs.declared.machine.Pause.{Pause}
 use Rattle.script_machine.specs.Machines.{FollowsTrail, HasRoomForParts, has_begun, is_done, is_over, pause_for, rest}
@@ -18,7 +18,7 @@ use Rattle.txn_agent.specs.declared.work.Work.{Work}
 pub record IsAtWork (types : ProgramTree) (c : Carried) (work : Work) (trail : List Given) (begun : ℕ) : Type 0 where
   pub follows : FollowsTrail types work.call (depth_of c.origin) work.machine trail
   pub started : has_begun work.machine ≡ true
-  pub held : work.held ≡ grains_of (reads_of trail)
+  pub held : work.held ≡ grains_with_states (reads_of trail)
   pub sources : length work.sources ≡ length (reads_of trail)
   pub kids : work.kids ≡ begun
 

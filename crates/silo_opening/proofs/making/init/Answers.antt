@@ -3,7 +3,7 @@ use Rattle.std.proofs.Common.{rules, ◌≡◌, ℕ, ◌≤◌, IsTrue, List, []
 use Rattle.host_trait.specs.declared.channels.Channel.{Channel}
 use Rattle.script_tree.specs.Programs.{program_tree}
 use Rattle.program_file.specs.Programs.{program_in}
-use Rattle.program_file.specs.Answers.{named_place, IsFaultOf}
+use Rattle.program_file.specs.Answers.{program_fault_place, IsFaultOf}
 use Rattle.promise_spec.specs.Logs.{magic}
 use Rattle.promise_spec.specs.Words.{Manner}
 use Rattle.promise_spec.specs.Commands.{MakesSilo, IsProgramText}
@@ -44,13 +44,13 @@ returns-in-Err-accept-clause-makes g c told manner asked =
     let small : length text ≤ 262144 = search rules in
     subst (λ (e : InitFault). MakesSilo (ended_with {A = Unit {0}} manner asked old new before after (failed e))) (sym c.program_fault.ensures)
     (program_refused (Unit {0}) manner asked old new before after (c.read_input.ensures.disk told) (c.read_input.ensures.output told) (c.read_input.ensures.moments told)
-    fault (c.in-Ok.ensures.end told) (subst (λ (t : List ℕ). length t ≤ 262144) (sym same) small) (subst (λ (t : List ℕ). IsFaultOf t fault (named_place fault)) (sym same) c.in-Err-accept.ensures))
+    fault (c.in-Ok.ensures.end told) (subst (λ (t : List ℕ). length t ≤ 262144) (sym same) small) (subst (λ (t : List ℕ). IsFaultOf t fault (program_fault_place fault)) (sym same) c.in-Err-accept.ensures))
 
 pub returns-in-Err-accept-clause-fault : goal.returns-in-Err-accept-clause-fault
 returns-in-Err-accept-clause-fault g c =
     let before = g.H.Host.faults c.args.host.now in
     let after = g.H.Host.faults c.read_input.new.host in
-    subst (λ (e : InitFault). InitFaulted e before after) (sym c.program_fault.ensures) (program_counts before after c.in-Err-accept.fault (named_place c.in-Err-accept.fault) c.in-Ok.ensures.calm)
+    subst (λ (e : InitFault). InitFaulted e before after) (sym c.program_fault.ensures) (program_counts before after c.in-Err-accept.fault (program_fault_place c.in-Err-accept.fault) c.in-Ok.ensures.calm)
 
 pub returns-in-Ok-create-clause-makes : goal.returns-in-Ok-create-clause-makes
 returns-in-Ok-create-clause-makes g c told manner asked =

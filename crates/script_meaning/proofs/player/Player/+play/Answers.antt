@@ -20,7 +20,7 @@ use Rattle.script_values.specs.Faults.{unknown, budget, depth}
 use Rattle.script_values.specs.Reasons.{reason_text}
 use Rattle.script_holding.specs.Holding.{Holding}
 use Rattle.script_meaning.specs.Requests.{Back, stop, with_value}
-use Rattle.script_meaning.specs.Calls.{Target, bound, joined, enters, method_of, to_type, to_target, type_from}
+use Rattle.script_meaning.specs.Calls.{Target, bound, joined, enters, method_target, to_type, to_target, type_from}
 use Rattle.script_meaning.specs.Statements.{around, calls, by_truth, deep, does, runs, runs_else, sourced}
 use Rattle.script_meaning.specs.Targets.{target_of}
 use Rattle.script_meaning.specs.Playing.{types_in, site_of, surrounds, below, plays_method, heard, flowing, answering}
@@ -69,7 +69,7 @@ play_call-returns-in_default-target_named-clause-led t c = λ back onto caught.
     let args_is = ap (λ (l : List Expr). values_in (around types run site back locals has) (map expr_tree l)) (sym c.as_slice.ensures) ∙ c.in_ok-args.ensures {u = tt} in
     let so_far = call_reached world progress types run site back call onto caught locals has c.in_ok-place.place args key (c.in_ok-place.ensures {u = tt}) args_is (c.in_ok-key.ensures {u = tt} world) in
     let some = sym (c.in-Some.ensures {u = tt} ∙ ap (λ (l : List TypeDecl). type_from 0 call.target.text (map type_tree l)) c.types-types.ensures.same) in
-    let none = sym ((c.in_default-target_named.ensures {u = tt}).found ∙ ap (λ (l : List TypeDecl). method_of (slice_get (map type_tree l) kind) call.method.text) c.types-types.ensures.same) in
+    let none = sym ((c.in_default-target_named.ensures {u = tt}).found ∙ ap (λ (l : List TypeDecl). method_target (slice_get (map type_tree l) kind) call.method.text) c.types-types.ensures.same) in
     let middle = to_type types run site (type_from 0 call.target.text types) key call.method.text args onto caught has in
     ends_on world c.args.self.now progress progress c.stop_at-in_default-target_named.result middle (calls types run site back call onto caught locals has)
     (ends_at world has progress c.stop_at-in_default-target_named.result unknown middle c.stop_at-in_default-target_named.ensures

@@ -10,7 +10,7 @@ use Rattle.script_holding.specs.Holding.{Holding}
 use Rattle.script_meaning.specs.Requests.{stop}
 use Rattle.script_meaning.specs.Calls.{enters, numbered}
 use Rattle.script_meaning.specs.Statements.{deep}
-use Rattle.script_meaning.specs.Play.{as_first, ends, unit}
+use Rattle.script_meaning.specs.Play.{as_first, ends_unit, unit}
 use Rattle.script_meaning.specs.Targets.{target_of}
 use Rattle.script_meaning.specs.Playing.{types_in, answering, heard}
 use Rattle.script_meaning.proofs.Heard.{ends_at, leads_on}
@@ -36,11 +36,11 @@ returns c =
     let run = deep types (33 - at) in
     let some = sym ((c.in-Some.ensures {u = tt}).found ∙ ap (λ (l : List TypeDecl). numbered (slice_get (map type_tree l) call.grain.kind) call.method) c.types.ensures.same) in
     let way = as_first (entered target.method.option false) in
-    leads_on world c.play_target.new.self progress progress c.play_target.result (λ answer. answering answer ends stop c.play_target.new.self.has)
-    (enters run c.as_first-way.result at call.grain target c.in_ok-args.args ends stop c.args.self.now.has)
+    leads_on world c.play_target.new.self progress progress c.play_target.result (λ answer. answering answer ends_unit stop c.play_target.new.self.has)
+    (enters run c.as_first-way.result at call.grain target c.in_ok-args.args ends_unit stop c.args.self.now.has)
     (unit types call at)
-    (c.play_target.ensures.led ends stop)
-    (ap (λ (w : Entered). heard world progress (enters run w at call.grain target c.in_ok-args.args ends stop c.args.self.now.has)) (c.as_first-way.ensures ∙ ap as_first c.enter.ensures.table)
-    ∙ ap (λ (args : List Value). heard world progress (enters run way at call.grain target args ends stop c.args.self.now.has)) (c.in_ok-args.ensures {u = tt})
-    ∙ ap (λ (h : Holding). heard world progress (enters run way at call.grain target call.args ends stop h)) c.requires
+    (c.play_target.ensures.led ends_unit stop)
+    (ap (λ (w : Entered). heard world progress (enters run w at call.grain target c.in_ok-args.args ends_unit stop c.args.self.now.has)) (c.as_first-way.ensures ∙ ap as_first c.enter.ensures.table)
+    ∙ ap (λ (args : List Value). heard world progress (enters run way at call.grain target args ends_unit stop c.args.self.now.has)) (c.in_ok-args.ensures {u = tt})
+    ∙ ap (λ (h : Holding). heard world progress (enters run way at call.grain target call.args ends_unit stop h)) c.requires
     ∙ ap (heard world progress) (sym (unit_some types call at target some)))
