@@ -12,7 +12,7 @@ use Rattle.cell_model.specs.Decisions.{is_commit}
 use Rattle.cell_model.specs.Cells.{with_reading, without_reading, stacked, learnt}
 use Rattle.core_model.specs.declared.questions.AskAnswer.{AskAnswer}
 use Rattle.core_model.specs.declared.questions.AskAnswer.TheVariants as answer
-use Rattle.core_model.specs.CoreState.{UnitNo, GrainId, nobody, same_unit, same_grain, Version, top, cut, Mode, Value, Call, Outcome, Origin, Entry, Settled, Read, Effect, Decision, put, put_grain, Running, Finished, Refused, Ended, Verdict, Chosen, Condemned, Committed, Aborted, Batch, CoreState}
+use Rattle.core_model.specs.CoreState.{UnitNo, GrainId, nobody, same_unit, same_grain, Version, top, cut, Mode, Value, Call, Outcome, Origin, Entry, Settled, Read, Effect, Decision, put, put_grain, Running, Finished, Refused, Ended, Verdict, Open, Chosen, Condemned, Committed, Aborted, Batch, CoreState}
 use Rattle.core_model.specs.Tests.{any, is_committed, is_aborted, is_bad, state_written, waiting, members, planned, prepared, is_idle, is_recent}
 
 -- a line's unit has an entry for it, a child has none
