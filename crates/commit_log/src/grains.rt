@@ -31,7 +31,7 @@ fn params_in(shape: &Shape, grain: GrainId, method: u16) -> Option<u16>
 }
 
 /// The call that stands at a place, of one of the program's methods.
-#[tactic(auto, unfolding(crate::specs::Fields::call_in, field_codec::specs::Reading::field, field_codec::specs::Reading::known, field_codec::specs::Reading::whole))]
+#[tactic(auto, unfolding(crate::specs::Fields::call_in, field_codec::specs::Reading::field, field_codec::specs::Reading::when_known, field_codec::specs::Reading::whole))]
 pub fn get_call_in(
     alloc: Global,
     bytes: &[u8],
