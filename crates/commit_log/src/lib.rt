@@ -18,6 +18,3 @@ pub use encoding::encode_block;
 pub use gate::{MANAGER, Sealing, seal};
 pub use laws::{first_deposit_is_spelled, readings_agree, spellings_are_apart};
 pub use records::{CommitRecord, Named, Written};
-
-#[cfg(test)]
-mod tests;

@@ -25,6 +25,3 @@ pub use outcomes::{get_answer, get_result};
 pub use spelled::{Spelled, append_all, put};
 pub use units::{Numbers, get_unit};
 pub use values::{get_exactly, get_state, get_value, put_state, put_value};
-
-#[cfg(test)]
-mod tests;

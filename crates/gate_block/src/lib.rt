@@ -9,6 +9,3 @@ mod faults;
 
 pub use blocks::{append_closed, open_gate, read_block};
 pub use faults::BlockFault;
-
-#[cfg(test)]
-mod tests;

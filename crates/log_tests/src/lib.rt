@@ -3,7 +3,13 @@
 #![tactic(auto)]
 
 #[cfg(test)]
+mod fields;
+#[cfg(test)]
 mod folder;
+#[cfg(test)]
+mod gates;
+#[cfg(test)]
+mod records;
 #[cfg(test)]
 mod seals;
 #[cfg(test)]

@@ -11,9 +11,13 @@ mod calls;
 #[cfg(test)]
 mod driver;
 #[cfg(test)]
+mod entering;
+#[cfg(test)]
 mod expressions;
 #[cfg(test)]
 mod frames;
+#[cfg(test)]
+mod holdings;
 #[cfg(test)]
 mod limits;
 #[cfg(test)]
@@ -34,3 +38,5 @@ mod settings;
 mod states;
 #[cfg(test)]
 mod steps;
+#[cfg(test)]
+mod values;

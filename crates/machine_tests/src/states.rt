@@ -253,3 +253,20 @@ fn writes_are_ascending_and_reads_in_order_of_the_first_locks(rt: HostRuntime) -
         ],
     )
 }
+
+#[test]
+fn a_grain_that_was_never_written_counts_from_its_first_state(rt: HostRuntime) -> Result<(), Fail> {
+    expect(
+        &rt,
+        rt.alloc(),
+        "type counter {
+           field count = 5;
+           method add() create update { set count = count + 1; return count; }
+         }",
+        &[(
+            "counter/7.add()",
+            "",
+            "6; reads counter/7(5); writes counter/7(6)",
+        )],
+    )
+}

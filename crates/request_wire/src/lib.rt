@@ -16,6 +16,3 @@ pub use faults::RequestFault;
 pub use lines::first_line;
 pub use replies::{replies_are_lines, reply_text};
 pub use requests::{Line, read_early, read_line, read_request};
-
-#[cfg(test)]
-mod tests;

@@ -12,6 +12,3 @@ pub use held::Held;
 pub use holding::Holding;
 pub use limits::{DEPTH_LIMIT, GRAIN_LIMIT, STEP_LIMIT, UNIT_LIMIT};
 pub use script_check::initial_state;
-
-#[cfg(test)]
-mod tests;

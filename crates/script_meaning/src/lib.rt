@@ -23,6 +23,3 @@ pub use laws::{
 pub use targets::{Target, bind_arguments, method_number, target_at, target_named, type_number};
 pub use units::{Played, play};
 pub use worked::{worked_nexts, worked_plays};
-
-#[cfg(test)]
-mod tests;

@@ -19,6 +19,3 @@ pub use operators::as_number;
 pub use reasons::{Reason, fault_of, refusal};
 pub use scopes::{Scope, field_number};
 pub use stops::{Stop, stop_at};
-
-#[cfg(test)]
-mod tests;

@@ -37,6 +37,3 @@ pub fn enter(option: TxnOption, has_context: bool) -> Entered
         TxnOption::NotAllowed => Entered::Plain { context: false },
     }
 }
-
-#[cfg(test)]
-mod tests;

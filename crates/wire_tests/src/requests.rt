@@ -1,14 +1,8 @@
-use crate::calls::call_of;
-use crate::names::CounterNames;
-use crate::{RequestFault, first_line, read_early, read_line, read_request, reply_text};
-use base_types::{
-    BadRequest, Call, Entry, GrainId, List, Outcome, Settled, Shape, State, Text, TypeShape,
-    UnitNo, Value,
-};
-use script_check::{Checked, check};
-use script_tree::{Chars, Items, Method, MethodKind, Name, Program, TxnOption, TypeDecl};
+use crate::programs::{BANK, COUNTER, program_of};
+use base_types::{BadRequest, Call, GrainId, Value};
+use request_wire::{RequestFault, first_line, read_early, read_line, read_request};
+use script_check::Checked;
 use std::alloc::Global;
-use std::process::Abort;
 use std::test::Fail;
 
 /// The key and the number of a line that is carried, none where it is refused.
@@ -24,9 +18,9 @@ fn added(alloc: Global, line: &[u8]) -> Result<Option<(u32, i64)>, Fail> {
     }
 }
 
-/// The test that a line fails for the counter program, none where it passes all.
-fn failed(alloc: Global, line: &[u8]) -> Result<Option<BadRequest>, Fail> {
-    match call_of(alloc, line, &CounterNames) {
+/// The test that a line fails for a program, none where it passes all.
+fn failed(alloc: Global, line: &[u8], program: &Checked) -> Result<Option<BadRequest>, Fail> {
+    match read_request(alloc, line, program) {
         Ok(_) => Ok(None),
         Err(RequestFault::Bad(why)) => Ok(Some(why)),
         Err(RequestFault::Memory) => Err("no memory".into()),
@@ -134,6 +128,8 @@ const NO_ARGUMENTS: &[&str] = &[
 
 #[test]
 fn a_line_that_fails_a_test_is_refused(rt: HostRuntime) -> Result<(), Fail> {
+    let alloc = rt.alloc();
+    let counter = program_of(alloc, COUNTER)?;
     for (lines, why) in [
         (NO_JSON, BadRequest::Json),
         (NO_OBJECT_OF_TWO, BadRequest::Shape),
@@ -142,12 +138,15 @@ fn a_line_that_fails_a_test_is_refused(rt: HostRuntime) -> Result<(), Fail> {
         (NO_ARGUMENTS, BadRequest::Args),
     ] {
         for line in lines {
-            assert!(rt; failed(rt.alloc(), line.as_bytes())? == Some(why), "{line}");
-            assert!(rt; added(rt.alloc(), line.as_bytes())?.is_none(), "{line}");
+            assert!(rt;
+                failed(alloc, line.as_bytes(), &counter)? == Some(why),
+                "{line}"
+            );
+            assert!(rt; added(alloc, line.as_bytes())?.is_none(), "{line}");
         }
     }
     let no_text = b"{\"args\":[5],\"call\":\"counter/1.add\xff\"}";
-    assert!(rt; failed(rt.alloc(), no_text)? == Some(BadRequest::Json));
+    assert!(rt; failed(alloc, no_text, &counter)? == Some(BadRequest::Json));
     Ok(())
 }
 
@@ -161,22 +160,23 @@ fn with_text(alloc: Global, len: usize) -> Result<String, Fail> {
     Ok(line)
 }
 
-/// The call of a line that passes all tests for the counter program.
-fn passed(alloc: Global, line: &[u8]) -> Result<Call, Fail> {
-    call_of(alloc, line, &CounterNames).map_err(|_| "refused".into())
+/// The call of a line that passes all tests for a program.
+fn passed(alloc: Global, line: &[u8], program: &Checked) -> Result<Call, Fail> {
+    read_request(alloc, line, program).map_err(|_| "refused".into())
 }
 
 #[test]
 fn a_call_that_passes_the_tests_and_adds_no_number_is_refused(rt: HostRuntime) -> Result<(), Fail> {
     let alloc = rt.alloc();
+    let counter = program_of(alloc, COUNTER)?;
     let longest = with_text(alloc, 256)?;
-    let call = passed(alloc, longest.as_bytes())?;
+    let call = passed(alloc, longest.as_bytes(), &counter)?;
     assert!(rt; matches!(call.args.get(0), Some(Value::Text(_))));
     assert!(rt; added(alloc, longest.as_bytes())?.is_none());
     let too_long = with_text(alloc, 257)?;
-    assert!(rt; failed(alloc, too_long.as_bytes())? == Some(BadRequest::Args));
+    assert!(rt; failed(alloc, too_long.as_bytes(), &counter)? == Some(BadRequest::Args));
     let read = b"{\"args\":[],\"call\":\"counter/7.read\"}";
-    let call = passed(alloc, read)?;
+    let call = passed(alloc, read, &counter)?;
     assert_eq!(rt; call.grain, GrainId { kind: 0, key: 7 });
     assert_eq!(rt; call.method, 1);
     assert!(rt; added(alloc, read)?.is_none());
@@ -195,41 +195,6 @@ fn a_line_keeps_its_number(rt: HostRuntime) -> Result<(), Fail> {
     assert_eq!(rt; line.number, 8);
     assert!(rt; line.what.is_err());
     Ok(())
-}
-
-fn name_of(alloc: Global, text: &str) -> Result<Name, Fail> {
-    let text = Chars::new(alloc, text)?;
-    Ok(Name { text, at: 0 })
-}
-
-/// A method with a parameter for each of these names, and no statement.
-fn method(alloc: Global, name: &str, params: &[&str]) -> Result<Method, Fail> {
-    let mut list = Items::new(alloc);
-    for param in params {
-        list.push(name_of(alloc, param)?)?;
-    }
-    let name = name_of(alloc, name)?;
-    let option = TxnOption::Create;
-    Ok(Method::new(name, list, option, 0, MethodKind::Plain, Items::new(alloc)))
-}
-
-fn type_with(alloc: Global, name: &str, first: Method, second: Method) -> Result<TypeDecl, Fail> {
-    let mut methods = Items::new(alloc);
-    methods.push(first)?;
-    methods.push(second)?;
-    Ok(TypeDecl::new(name_of(alloc, name)?, Items::new(alloc), methods))
-}
-
-/// The types `account` with `read()` and `move(to, n)`, and `atm` with `move(from)` and `stop()`.
-fn bank(alloc: Global) -> Result<Checked, Fail> {
-    let mut types = Items::new(alloc);
-    let read = method(alloc, "read", &[])?;
-    let to = method(alloc, "move", &["to", "n"])?;
-    types.push(type_with(alloc, "account", read, to)?)?;
-    let from = method(alloc, "move", &["from"])?;
-    let stop = method(alloc, "stop", &[])?;
-    types.push(type_with(alloc, "atm", from, stop)?)?;
-    check(alloc, Program::new(types)).map_err(|_| "no program".into())
 }
 
 const OF_THE_BANK: &[(&str, u16, u32, u16, usize)] = &[
@@ -269,7 +234,7 @@ const NOT_OF_THE_BANK: &[(&str, BadRequest)] = &[
 #[test]
 fn a_request_names_a_grain_and_a_method_of_the_program(rt: HostRuntime) -> Result<(), Fail> {
     let alloc = rt.alloc();
-    let checked = bank(alloc)?;
+    let checked = program_of(alloc, BANK)?;
     for (line, kind, key, method, args) in OF_THE_BANK {
         let call = read_request(alloc, line.as_bytes(), &checked).map_err(|_| "refused")?;
         let grain = GrainId {
@@ -305,114 +270,6 @@ fn the_input_is_cut_at_each_line_feed(rt: HostRuntime) -> Result<(), Fail> {
         assert_eq!(rt; left, rest.as_bytes(), "{input}");
     }
     assert!(rt; first_line(b"").is_none());
-    Ok(())
-}
-
-fn type_of(alloc: Global, name: &str) -> Result<TypeShape, Fail> {
-    let name = Text::new(alloc, name)?.ok_or("too long")?;
-    Ok(TypeShape {
-        name,
-        initial: State::new(alloc),
-        params: List::new(alloc),
-    })
-}
-
-/// The types `bank` and `counter`.
-fn two_types(alloc: Global) -> Result<Shape, Fail> {
-    let mut types = List::new(alloc);
-    types.push(type_of(alloc, "bank")?)?;
-    types.push(type_of(alloc, "counter")?)?;
-    Ok(Shape { types })
-}
-
-fn expect_reply(
-    rt: &impl Abort,
-    alloc: Global,
-    line: u32,
-    what: Settled,
-    expected: &str,
-) -> Result<(), Fail> {
-    let shape = two_types(alloc)?;
-    let unit = UnitNo(line as u64 + 10);
-    let entry = Entry { line, unit, what };
-    let text = reply_text(alloc, &entry, &shape)?;
-    assert_eq!(rt; text.as_slice(), expected.as_bytes(), "{expected}");
-    Ok(())
-}
-
-#[test]
-fn a_unit_that_ended_has_its_value_or_fault(rt: HostRuntime) -> Result<(), Fail> {
-    let alloc = rt.alloc();
-    let least = Outcome::Value(Value::Int(-9223372036854775808));
-    let expected = "{\"n\":1,\"reply\":-9223372036854775808,\"unit\":11}\n";
-    expect_reply(&rt, alloc, 1, Settled::Done(least), expected)?;
-    let text = Text::new(alloc, "\"a\"\n\u{1}é")?.ok_or("too long")?;
-    let expected = "{\"n\":2,\"reply\":\"\\\"a\\\"\\n\\u0001é\",\"unit\":12}\n";
-    expect_reply(
-        &rt,
-        alloc,
-        2,
-        Settled::Done(Outcome::Value(Value::Text(text))),
-        expected,
-    )?;
-    let text = Text::new(alloc, "overflow")?.ok_or("too long")?;
-    let expected = "{\"fault\":\"overflow\",\"n\":3,\"unit\":13}\n";
-    expect_reply(&rt, alloc, 3, Settled::Done(Outcome::Fault(text)), expected)?;
-    let expected = "{\"fault\":\"aborted\",\"n\":4294967295,\"unit\":4294967305}\n";
-    expect_reply(
-        &rt,
-        alloc,
-        4294967295,
-        Settled::Done(Outcome::Aborted),
-        expected,
-    )
-}
-
-#[test]
-fn an_aborted_unit_has_its_cause(rt: HostRuntime) -> Result<(), Fail> {
-    let alloc = rt.alloc();
-    let by = UnitNo(18446744073709551615);
-    let grain = GrainId { kind: 1, key: 7 };
-    let expected =
-        "{\"aborted\":\"lock\",\"by\":18446744073709551615,\"grain\":\"counter/7\",\"n\":4,\"unit\":14}\n";
-    expect_reply(&rt, alloc, 4, Settled::Lock { by, grain }, expected)?;
-    let grain = GrainId {
-        kind: 0,
-        key: 4294967295,
-    };
-    let expected = "{\"aborted\":\"vote\",\"grain\":\"bank/4294967295\",\"n\":5,\"unit\":15}\n";
-    expect_reply(&rt, alloc, 5, Settled::Vote { grain }, expected)?;
-    let grain = GrainId { kind: 2, key: 0 };
-    let expected = "{\"aborted\":\"vote\",\"grain\":\"/0\",\"n\":6,\"unit\":16}\n";
-    expect_reply(&rt, alloc, 6, Settled::Vote { grain }, expected)?;
-    let expected = "{\"aborted\":\"dependency\",\"n\":7,\"on\":3,\"unit\":17}\n";
-    expect_reply(
-        &rt,
-        alloc,
-        7,
-        Settled::Dependency { on: UnitNo(3) },
-        expected,
-    )?;
-    let expected = "{\"aborted\":\"disk\",\"n\":8,\"unit\":18}\n";
-    expect_reply(&rt, alloc, 8, Settled::Disk, expected)
-}
-
-#[test]
-fn doubt_and_bad_lines_have_their_words(rt: HostRuntime) -> Result<(), Fail> {
-    let alloc = rt.alloc();
-    let expected = "{\"in_doubt\":true,\"n\":9,\"unit\":19}\n";
-    expect_reply(&rt, alloc, 9, Settled::InDoubt, expected)?;
-    for (why, word) in [
-        (BadRequest::Json, "json"),
-        (BadRequest::Shape, "shape"),
-        (BadRequest::Grain, "grain"),
-        (BadRequest::Method, "method"),
-        (BadRequest::Args, "args"),
-        (BadRequest::Early, "early"),
-    ] {
-        let expected = format!(in alloc; "{{\"bad\":\"{word}\",\"n\":10}}\n")?;
-        expect_reply(&rt, alloc, 10, Settled::Bad(why), expected.as_str())?;
-    }
     Ok(())
 }
 

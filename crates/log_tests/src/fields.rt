@@ -1,8 +1,8 @@
-use crate::{
+use base_types::{Call, GrainId, List, Origin, Outcome, State, Text, UnitNo, Value};
+use field_codec::{
     CodecFault, Numbers, get_answer, get_call, get_origin, get_result, get_state, get_u16, get_u32,
     get_u64, get_unit, get_value, put, put_call, put_state, put_u16, put_u32, put_u64, put_value,
 };
-use base_types::{Call, GrainId, List, Origin, Outcome, State, Text, UnitNo, Value};
 use std::alloc::{AllocError, Global};
 use std::test::Fail;
 

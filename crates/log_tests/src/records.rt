@@ -2,38 +2,12 @@ ghost use Rattle.std.specs.Prelude.{◌≡◌, IfOk, None, length};
 ghost use Rattle.commit_log.specs.Orders.{IsAscending};
 ghost use Rattle.commit_log.specs.Encodable.{MaySpell};
 
-use crate::{CommitRecord, Written, decode_body, encode_block, read_records};
-use base_types::{
-    Call, GrainId, List, Origin, Outcome, Place, Shape, State, Text, TypeShape, UnitNo, Value,
-};
+use crate::folder::{MANAGER_BYTES, shape_of};
+use base_types::{Call, GrainId, List, Origin, Outcome, Place, Text, UnitNo, Value};
+use commit_log::{CommitRecord, Written, decode_body, encode_block, read_records};
 use field_codec::CodecFault;
 use std::alloc::{AllocError, Global};
 use std::test::Fail;
-
-// The manager file of the first deposit, as `docs/FORMATS.md` shows it. Its body begins at byte 20 and ends before byte 88.
-const FILE: [u8; 89] = [
-    1, 79, 84, 88, 76, 79, 71, 48, 49, 0, 0, 0, 0, 0, 0, 1, 68, 0, 0, 0, 1, 0, 0, 0, 1, 0, 0, 0, 0,
-    0, 0, 0, 0, 1, 0, 0, 0, 0, 0, 1, 0, 0, 0, 0, 0, 1, 0, 0, 5, 0, 0, 0, 0, 0, 0, 0, 0, 0, 1, 0, 5,
-    0, 0, 0, 0, 0, 0, 0, 1, 0, 0, 0, 1, 0, 0, 0, 0, 0, 0, 0, 0, 0, 0, 0, 19, 0, 0, 0, 0,
-];
-
-// One type of one field, with a method of one parameter, one of none and one of 8.
-fn shape_of(alloc: Global) -> Result<Shape, Fail> {
-    let name = Text::new(alloc, "account")?.ok_or("long")?;
-    let mut initial = State::new(alloc);
-    initial.push(Value::Int(0))?;
-    let mut params = List::new(alloc);
-    params.push(1)?;
-    params.push(0)?;
-    params.push(8)?;
-    let mut types = List::new(alloc);
-    types.push(TypeShape {
-        name,
-        initial,
-        params,
-    })?;
-    Ok(Shape { types })
-}
 
 fn grain(key: u32) -> GrainId
     ensures { result ≡ record { kind = 0; key = key } }
@@ -78,7 +52,7 @@ fn the_first_deposit_is_spelled(rt: HostRuntime) -> Result<(), Fail> {
     let mut records = List::new(alloc);
     records.push(deposit(alloc)?)?;
     let block = encode_block(alloc, &records)?;
-    assert!(rt; block.as_slice() == &FILE[16..]);
+    assert!(rt; block.as_slice() == &MANAGER_BYTES[16..]);
     Ok(())
 }
 
@@ -86,7 +60,7 @@ fn the_first_deposit_is_spelled(rt: HostRuntime) -> Result<(), Fail> {
 fn the_first_deposit_is_read(rt: HostRuntime) -> Result<(), Fail> {
     let alloc = rt.alloc();
     let shape = shape_of(alloc)?;
-    let records = decode_body(alloc, &FILE[20..88], &shape)?;
+    let records = decode_body(alloc, &MANAGER_BYTES[20..88], &shape)?;
     assert_eq!(rt; records.len(), 1);
     let record = records.get(0).ok_or("no record")?;
     assert_eq!(rt; record.unit, UnitNo(1));
@@ -100,81 +74,82 @@ fn the_first_deposit_is_read(rt: HostRuntime) -> Result<(), Fail> {
     Ok(())
 }
 
+// The byte of the manager file that is set to 255, and the fault, whose place counts from byte 20.
+const CHANGED: &[(usize, CodecFault)] = &[
+    (
+        20,
+        CodecFault::Over {
+            place: 0,
+            limit: 64,
+        },
+    ),
+    (
+        32,
+        CodecFault::BadTag {
+            place: 12,
+            byte: 255,
+        },
+    ),
+    (37, CodecFault::Unknown { place: 17 }),
+    (43, CodecFault::Unknown { place: 23 }),
+    (
+        45,
+        CodecFault::Over {
+            place: 25,
+            limit: 8,
+        },
+    ),
+    (
+        47,
+        CodecFault::BadTag {
+            place: 27,
+            byte: 255,
+        },
+    ),
+    (
+        56,
+        CodecFault::Over {
+            place: 36,
+            limit: 64,
+        },
+    ),
+    (
+        58,
+        CodecFault::BadTag {
+            place: 38,
+            byte: 255,
+        },
+    ),
+    (
+        59,
+        CodecFault::BadTag {
+            place: 39,
+            byte: 255,
+        },
+    ),
+    (
+        68,
+        CodecFault::Over {
+            place: 48,
+            limit: 64,
+        },
+    ),
+    (70, CodecFault::Unknown { place: 50 }),
+];
+
 #[test]
 fn each_changed_byte_has_its_fault_and_place(rt: HostRuntime) -> Result<(), Fail> {
     let alloc = rt.alloc();
     let shape = shape_of(alloc)?;
-    // The byte of the manager file that is set to 255, and the fault, whose place counts from byte 20.
-    for (byte, fault) in [
-        (
-            20,
-            CodecFault::Over {
-                place: 0,
-                limit: 64,
-            },
-        ),
-        (
-            32,
-            CodecFault::BadTag {
-                place: 12,
-                byte: 255,
-            },
-        ),
-        (37, CodecFault::Unknown { place: 17 }),
-        (43, CodecFault::Unknown { place: 23 }),
-        (
-            45,
-            CodecFault::Over {
-                place: 25,
-                limit: 8,
-            },
-        ),
-        (
-            47,
-            CodecFault::BadTag {
-                place: 27,
-                byte: 255,
-            },
-        ),
-        (
-            56,
-            CodecFault::Over {
-                place: 36,
-                limit: 64,
-            },
-        ),
-        (
-            58,
-            CodecFault::BadTag {
-                place: 38,
-                byte: 255,
-            },
-        ),
-        (
-            59,
-            CodecFault::BadTag {
-                place: 39,
-                byte: 255,
-            },
-        ),
-        (
-            68,
-            CodecFault::Over {
-                place: 48,
-                limit: 64,
-            },
-        ),
-        (70, CodecFault::Unknown { place: 50 }),
-    ] {
-        let byte: usize = byte;
-        let mut file = FILE;
-        if byte < 89 {
-            file[byte] = 255;
+    for (byte, fault) in CHANGED {
+        let mut file = MANAGER_BYTES;
+        if *byte < 89 {
+            file[*byte] = 255;
         }
         let found = decode_body(alloc, &file[20..88], &shape).err();
-        assert_eq!(rt; found, Some(fault), "byte {byte}");
+        assert_eq!(rt; found, Some(*fault), "byte {byte}");
         let found = read_records(alloc, &file[20..88], &shape).err();
-        assert_eq!(rt; found, Some(fault), "byte {byte} in a log");
+        assert_eq!(rt; found, Some(*fault), "byte {byte} in a log");
     }
     Ok(())
 }
@@ -185,16 +160,16 @@ fn what_else_a_body_may_not_be(rt: HostRuntime) -> Result<(), Fail> {
     let shape = shape_of(alloc)?;
     let trailing = CodecFault::Trailing { place: 68 };
     assert_eq!(rt;
-        decode_body(alloc, &FILE[20..89], &shape).err(),
+        decode_body(alloc, &MANAGER_BYTES[20..89], &shape).err(),
         Some(trailing)
     );
     let short = CodecFault::Short { place: 64 };
     assert_eq!(rt;
-        decode_body(alloc, &FILE[20..87], &shape).err(),
+        decode_body(alloc, &MANAGER_BYTES[20..87], &shape).err(),
         Some(short)
     );
     // A method of another number of parameters.
-    let mut file = FILE;
+    let mut file = MANAGER_BYTES;
     file[43] = 1;
     let count = CodecFault::Unknown { place: 25 };
     assert_eq!(rt;
@@ -202,7 +177,7 @@ fn what_else_a_body_may_not_be(rt: HostRuntime) -> Result<(), Fail> {
         Some(count)
     );
     // A result may not be an abort, where an answer may.
-    file = FILE;
+    file = MANAGER_BYTES;
     file[58] = 0;
     let abort = CodecFault::BadTag { place: 38, byte: 0 };
     assert_eq!(rt;
@@ -211,8 +186,8 @@ fn what_else_a_body_may_not_be(rt: HostRuntime) -> Result<(), Fail> {
     );
     // The same write twice.
     let mut twice = Vec::new(alloc);
-    twice.extend_from_slice(&FILE[20..88])?;
-    twice.extend_from_slice(&FILE[70..88])?;
+    twice.extend_from_slice(&MANAGER_BYTES[20..88])?;
+    twice.extend_from_slice(&MANAGER_BYTES[70..88])?;
     if twice.len() > 48 {
         twice[48] = 2;
     }
@@ -292,28 +267,29 @@ fn a_record_with_every_kind_of_field_comes_back(rt: HostRuntime) -> Result<(), F
     Ok(())
 }
 
+// The unit's lowest and highest byte, the body's length, and the fault in a log. Without a whole body the unit comes first.
+const NUMBERS: &[(u8, u8, usize, Option<CodecFault>)] = &[
+    (0, 0, 88, Some(CodecFault::Unknown { place: 4 })),
+    (1, 0, 88, None),
+    (255, 127, 88, None),
+    (0, 128, 88, Some(CodecFault::Unknown { place: 4 })),
+    (255, 255, 88, Some(CodecFault::Unknown { place: 4 })),
+    (0, 0, 32, Some(CodecFault::Unknown { place: 4 })),
+    (0, 0, 31, Some(CodecFault::Short { place: 4 })),
+    (1, 0, 32, Some(CodecFault::Short { place: 12 })),
+];
+
 #[test]
 fn numbers_that_no_log_has_are_found_at_their_field(rt: HostRuntime) -> Result<(), Fail> {
     let alloc = rt.alloc();
     let shape = shape_of(alloc)?;
-    // The unit's lowest and highest byte, the body's length, and the fault in a log. Without a whole body the unit comes first.
-    for (low, high, end, fault) in [
-        (0, 0, 88, Some(CodecFault::Unknown { place: 4 })),
-        (1, 0, 88, None),
-        (255, 127, 88, None),
-        (0, 128, 88, Some(CodecFault::Unknown { place: 4 })),
-        (255, 255, 88, Some(CodecFault::Unknown { place: 4 })),
-        (0, 0, 32, Some(CodecFault::Unknown { place: 4 })),
-        (0, 0, 31, Some(CodecFault::Short { place: 4 })),
-        (1, 0, 32, Some(CodecFault::Short { place: 12 })),
-    ] {
-        let end: usize = end;
-        let mut file = FILE;
-        file[24] = low;
-        file[31] = high;
-        if end >= 20 && end < 89 {
-            let found = read_records(alloc, &file[20..end], &shape).err();
-            assert_eq!(rt; found, fault, "unit {low} {high}, {end} bytes");
+    for (low, high, end, fault) in NUMBERS {
+        let mut file = MANAGER_BYTES;
+        file[24] = *low;
+        file[31] = *high;
+        if *end >= 20 && *end < 89 {
+            let found = read_records(alloc, &file[20..*end], &shape).err();
+            assert_eq!(rt; found, *fault, "unit {low} {high}, {end} bytes");
         }
         let any = decode_body(alloc, &file[20..88], &shape);
         assert!(rt; any.is_ok(), "unit {low} {high}");
@@ -378,7 +354,12 @@ fn answers_and_arguments_have_their_limits(rt: HostRuntime) -> Result<(), Fail> 
         for _ in 0..count {
             answers.push(0)?;
         }
-        let body = joined(alloc, &FILE[20..56], &answers, &FILE[58..88])?;
+        let body = joined(
+            alloc,
+            &MANAGER_BYTES[20..56],
+            &answers,
+            &MANAGER_BYTES[58..88],
+        )?;
         let found = decode_body(alloc, &body, &shape).err();
         assert_eq!(rt; found, fault, "{count} answers");
     }
@@ -397,9 +378,9 @@ fn answers_and_arguments_have_their_limits(rt: HostRuntime) -> Result<(), Fail> 
         let mut args = Vec::new(alloc);
         args.extend_from_slice(&[2, 0, count, 0])?;
         for _ in 0..count {
-            args.extend_from_slice(&FILE[47..56])?;
+            args.extend_from_slice(&MANAGER_BYTES[47..56])?;
         }
-        let body = joined(alloc, &FILE[20..43], &args, &FILE[56..88])?;
+        let body = joined(alloc, &MANAGER_BYTES[20..43], &args, &MANAGER_BYTES[56..88])?;
         let found = decode_body(alloc, &body, &shape).err();
         assert_eq!(rt; found, fault, "{count} arguments");
     }
@@ -426,9 +407,9 @@ fn writes_and_records_have_their_limits(rt: HostRuntime) -> Result<(), Fail> {
         writes.extend_from_slice(&[count, 0])?;
         for key in 0..count {
             writes.extend_from_slice(&[0, 0, key])?;
-            writes.extend_from_slice(&FILE[73..88])?;
+            writes.extend_from_slice(&MANAGER_BYTES[73..88])?;
         }
-        let body = joined(alloc, &FILE[20..68], &writes, &[])?;
+        let body = joined(alloc, &MANAGER_BYTES[20..68], &writes, &[])?;
         let found = decode_body(alloc, &body, &shape).err();
         assert_eq!(rt; found, fault, "{count} writes");
     }
@@ -446,7 +427,7 @@ fn writes_and_records_have_their_limits(rt: HostRuntime) -> Result<(), Fail> {
         let mut body = Vec::new(alloc);
         body.extend_from_slice(&[count, 0, 0, 0])?;
         for _ in 0..count {
-            body.extend_from_slice(&FILE[24..88])?;
+            body.extend_from_slice(&MANAGER_BYTES[24..88])?;
         }
         let found = decode_body(alloc, &body, &shape).err();
         assert_eq!(rt; found, fault, "{count} records");

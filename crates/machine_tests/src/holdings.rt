@@ -1,5 +1,5 @@
-use crate::{Holding, STEP_LIMIT, UNIT_LIMIT};
 use base_types::{GrainId, Mode, State, Value};
+use script_holding::{Holding, STEP_LIMIT, UNIT_LIMIT};
 use script_tree::{Chars, FieldDecl, Literal, Name};
 use std::alloc::Global;
 use std::test::Fail;

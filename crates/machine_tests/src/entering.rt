@@ -1,4 +1,4 @@
-use crate::{Entered, EntryRefusal, TxnOption, enter};
+use txn_options::{Entered, EntryRefusal, TxnOption, enter};
 
 const OWN: Entered = Entered::NewUnit;
 
