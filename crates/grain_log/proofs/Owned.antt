@@ -1,5 +1,5 @@
 -- Versions of a unit: the eight bytes before a version's state.
-use Rattle.std.proofs.Common.{◌≡◌, inl, inr, ℕ, ◌+◌, ◌-◌, ◌^◌, ◌<◌, ◌≤◌, min, Bool, true, false, if◌then◌else◌, nat_lt, ltb, Option, Some, None, List, length, take, drop, Result, Ok, Err, refl, sym, ◌∙◌, ap, arith, length-take}
+use Rattle.std.proofs.Common.{◌≡◌, inl, inr, ℕ, ◌+◌, ◌-◌, ◌^◌, ◌<◌, ◌≤◌, min, Bool, true, false, if◌then◌else◌, nat_lt, ltb, Option, Some, None, List, length, take, drop, Result, Ok, Err, refl, sym, ◌∙◌, ap, subst, arith, length-take}
 use Rattle.std.proofs.lemmas.Bool.{cases_Bool, cases_lt, false_from_ne_true, le-ltb, lt-ltb}
 use Rattle.std.proofs.lemmas.List.{take-take}
 use Rattle.std.proofs.lemmas.Slice.Eq.{bytes_eq-Decides}
@@ -11,7 +11,8 @@ use Rattle.field_codec.specs.declared.faults.CodecFault.{CodecFault}
 use Rattle.field_codec.specs.declared.faults.CodecFault.TheVariants.{Short}
 use Rattle.field_codec.specs.Reading.{field, number_at}
 use Rattle.field_codec.proofs.Counts.{wide64}
-use Rattle.grain_log.specs.Reads.{version_in, version_of, is_beyond, in_file, text_in, version_at_place, is_owned, owned_version}
+use Rattle.grain_log.specs.declared.faults.VersionFault.{VersionFault}
+use Rattle.grain_log.specs.Reads.{version_in, version_of, is_beyond, in_file, text_in, version_at_place, is_owned, owned_version, IsTextAt, GivesVersion}
 
 -- fewer than eight bytes are no number
 pub too_short : (text : List ℕ) (unit : ℕ) → length text < 8 → take 8 text ≡ to_le_bytes w64 unit → ⊥
@@ -62,3 +63,16 @@ module _ (unit : UnitNo) (place : Place) (file : List ℕ) where
   ] where
     plus_zero : place.offset + 0 ≡ place.offset
     plus_zero = omega arith
+
+  -- ---- and from its bytes
+
+  module _ (fields : ℕ) (text : List ℕ) (near : is_beyond place ≡ false) (size : length text ≡ place.len) (here : IsTextAt place file text) where
+    -- what is read of a text of the unit is what stands there
+    pub owned_gives : (result : Result Version VersionFault) → take 8 text ≡ to_le_bytes w64 unit.0 → GivesVersion result (in_file place.offset (version_of fields text)) → GivesVersion result (owned_version (Some fields) unit place file)
+    owned_gives result own gives =
+        let read : version_at_place (Some fields) place file ≡ in_file place.offset (version_of fields text) = rw (near, le-ltb _ _ here.within) (ap (λ (t : List ℕ). in_file place.offset (version_of fields t)) (sym here.bytes)) in
+        subst (λ (r : Result Version ℕ). GivesVersion result r) (sym (is_the_units (Some fields) (ap length (sym here.bytes) ∙ size) (ap (take 8) (sym here.bytes) ∙ own) ∙ read)) gives
+
+    -- a text of another unit is damaged at its offset
+    pub anothers_gives : (take 8 text ≡ to_le_bytes w64 unit.0 → ⊥) → owned_version (Some fields) unit place file ≡ Err place.offset
+    anothers_gives other = is_anothers fields near here.within (ap length (sym here.bytes) ∙ size) (λ own. other (ap (take 8) here.bytes ∙ own))

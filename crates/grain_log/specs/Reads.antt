@@ -1,5 +1,5 @@
 -- What is read at a place of a grain's file: the version, or the offset at which the file is damaged.
-use Rattle.std.specs.Prelude.{◌≡◌, ℕ, ◌+◌, ◌-◌, List, length, take, drop, Bool, true, Option, Some, None, Result, Ok, Err, nat_lt, ◌||◌, if◌then◌else◌, slice_get, bytes_eq}
+use Rattle.std.specs.Prelude.{◌≡◌, ℕ, ◌+◌, ◌-◌, ◌≤◌, List, length, take, drop, Bool, true, Option, Some, None, Result, Ok, Err, nat_lt, ◌||◌, if◌then◌else◌, slice_get, bytes_eq}
 use Rattle.std.specs.Int.{w64, to_le_bytes}
 use Rattle.base_types.specs.declared.calls.UnitNo.{UnitNo}
 use Rattle.base_types.specs.declared.shapes.Shape.{Shape}
@@ -65,6 +65,11 @@ is_owned unit place file = bytes_eq (take 8 (drop place.offset file)) (to_le_byt
 -- unit's.
 abbrev pub owned_version : Option ℕ → UnitNo → Place → List ℕ → Result Version ℕ
 owned_version fields unit place file = if is_owned unit place file then version_at_place fields place file else Err place.offset
+
+-- these are the bytes of a file at a place that lies in it
+pub record IsTextAt (place : Place) (file text : List ℕ) : Type 0 where
+  pub within : place.len ≤ length file - place.offset
+  pub bytes : text ≡ take place.len (drop place.offset file)
 
 -- the answer is what stands there, unless a call failed or memory ran out
 abbrev pub GivesVersion : Result Version VersionFault → Result Version ℕ → Type 0

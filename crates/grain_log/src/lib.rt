@@ -1,4 +1,5 @@
-//! The versions of a grain in its file: one write and one sync for those of a batch, and one read for one of them.
+//! The versions of a grain in its file: one write and one sync for those of a batch, and one read for one of them, or none where its
+//! bytes were read before.
 //!
 //! A version counts only where a record of the log names its place. `docs/FORMATS.md` has the bytes.
 #![tactic(auto)]
@@ -8,5 +9,5 @@ mod reading;
 mod writing;
 
 pub use faults::{LogFault, VersionFault};
-pub use reading::{read_named, read_version};
+pub use reading::{named_in, read_named, read_version};
 pub use writing::write_versions;

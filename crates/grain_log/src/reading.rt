@@ -6,7 +6,7 @@ ghost use Rattle.host_trait.specs.Runs.{OnlyAsked};
 ghost use Rattle.field_codec.specs.Results.{GivesRead, named_place, place_of};
 ghost use Rattle.grain_log.specs.Counts.{VersionReadFaulted};
 ghost use Rattle.grain_log.specs.Places.{IsVersionOf, IsVersionIn, IsVersionAt};
-ghost use Rattle.grain_log.specs.Reads.{fields_in, version_in, version_of, is_beyond, in_file, damage_at, version_at_place, owned_version, GivesVersion, IsImpossible};
+ghost use Rattle.grain_log.specs.Reads.{fields_in, version_in, version_of, is_beyond, in_file, damage_at, version_at_place, owned_version, IsTextAt, GivesVersion, IsImpossible};
 ghost use Rattle.field_codec.specs.Reading.{AreBytes};
 ghost use Rattle.grain_log.specs.declared.faults.VersionFault.{VersionFault as Fault};
 ghost use Rattle.base_types.specs.declared.stores.Version.{Version as AVersion};
@@ -124,6 +124,29 @@ fn begins_with(text: &[u8], unit: UnitNo) -> bool
         Some((first, _)) => *first == unit.0.to_le_bytes(),
         None => false,
     }
+}
+
+// The version of a unit in a text that stands at a place.
+fn owned_in(
+    alloc: Global,
+    text: &[u8],
+    unit: UnitNo,
+    place: Place,
+    fields: usize,
+) -> Result<Version, VersionFault>
+    requires near { is_beyond place ≡ false }
+    requires size { length text.now ≡ place.len }
+    ensures exact { (seen : List ℕ) → IsTextAt place seen text.now → GivesVersion result (owned_version (Some fields) unit place seen) }
+    ensures quiet { IsErrOf result Fault.Failed → ⊥ }
+    ensures shaped { IfOk result (λ version. IsVersionOf fields place.len version) }
+{
+    if !begins_with(text, unit) {
+        return Err(VersionFault::Damaged {
+            place: place.offset,
+        });
+    }
+    let version = decode_at(alloc, place.offset, text, fields)?;
+    Ok(version)
 }
 
 // The bytes at a place, none where the file ends before them.
@@ -290,9 +313,41 @@ pub fn read_named<H: Host>(
     let Some(text) = read_text(alloc, host, file, place)? else {
         return Err(damaged);
     };
-    if !begins_with(&text, unit) {
+    let version = owned_in(alloc, &text, unit, place, fields)?;
+    Ok(version)
+}
+
+/// The version that a unit's record names at a place of a grain's file, from the bytes that stand there and were read before, by no
+/// host call. It is what [`read_named`] answers of a file that has these bytes there.
+pub fn named_in(
+    alloc: Global,
+    text: &[u8],
+    file: FileId,
+    unit: UnitNo,
+    place: Place,
+    shape: &Shape,
+) -> Result<Version, VersionFault>
+    requires size { length text.now ≡ place.len }
+
+    // It answers the unit's version exactly where one stands, and else the first place that is damaged.
+    ensures exact { (seen : List ℕ) → IsTextAt place seen text.now → GivesVersion result (owned_version (fields_in shape.now file) unit place seen) }
+
+    // Where no version can stand there it is damaged at its offset.
+    ensures refused { IsImpossible (fields_in shape.now file) place → IsErrOf result (Fault.Damaged place.offset) }
+
+    // Whatever the file: the version is of the grain's type, and as long as the place.
+    ensures shaped { IfOk result (λ version. IsVersionIn (fields_in shape.now file) place.len version) }
+    ensures quiet { IsErrOf result Fault.Failed → ⊥ }
+{
+    let damaged = VersionFault::Damaged {
+        place: place.offset,
+    };
+    let Some(fields) = fields_in(shape, file) else {
+        return Err(damaged);
+    };
+    if is_beyond(place) {
         return Err(damaged);
     }
-    let version = decode_at(alloc, place.offset, &text, fields)?;
+    let version = owned_in(alloc, text, unit, place, fields)?;
     Ok(version)
 }

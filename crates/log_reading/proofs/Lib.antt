@@ -6,3 +6,4 @@ pub mod Errors
 pub mod Naming
 pub mod Standing
 pub mod Unread
+pub mod Cutting

@@ -4,3 +4,4 @@ pub mod Sums
 pub mod Steps
 pub mod Counts
 pub mod Contents
+pub mod Pieces

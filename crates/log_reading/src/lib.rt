@@ -1,6 +1,7 @@
 //! What a log and the grains' files hold, as opening reads them: block by block, and then version by version, by grains.
 //!
-//! Each block and each version is read once. The definitions say what the bytes stand for, and where they are damaged first.
+//! Each block and each version is read once, and versions of a grain that stand one behind the other at once. The definitions say
+//! what the bytes stand for, and where they are damaged first.
 #![tactic(auto)]
 
 mod blocks;
@@ -8,6 +9,7 @@ mod contents;
 mod faults;
 mod laws;
 mod log;
+mod pieces;
 mod versions;
 
 pub use blocks::next_block;

@@ -12,10 +12,12 @@ ghost use Rattle.log_reading.specs.declared.faults.FolderFault.{FolderFault};
 ghost use Rattle.log_reading.specs.Counts.{ReadFaulted};
 ghost use Rattle.log_reading.specs.Steps.{seen_in, live_slot};
 ghost use Rattle.host_trait.specs.Files.{same_grain};
+ghost use Rattle.log_reading.specs.Pieces.{IsPieceOf};
 ghost use Rattle.log_reading.specs.Versions.{version_named, first_missing};
 ghost use Rattle.log_reading.specs.Sums.{state_after, end_after, later_end, StopsAt};
 
 use crate::faults::FolderFault;
+use crate::pieces::{Piece, no_piece, refill, text_in, version_of};
 use base_types::{Ends, Shape, Store, Version};
 use commit_log::Named;
 use grain_log::{VersionFault, read_named};
@@ -50,6 +52,33 @@ pub fn named_version<H: Host>(
     }
 }
 
+// The version that is named, as `named_version` answers it: from a piece of its file where it lies in that, and else by a read of
+// its own.
+fn next_version<H: Host>(
+    alloc: Global,
+    host: &mut H,
+    shape: &Shape,
+    piece: &Piece,
+    named: Named,
+) -> Result<Version, FolderFault>
+    requires { IsPieceOf H.tells (seen_in (H.world host.old).disk) piece.now }
+    ensures found { IfOk result (λ version. IsTrue H.tells → version_named live_slot shape.now (seen_in (H.world host.old).disk) named ≡ Ok version) }
+    ensures near { OnOk result (named.written.place.offset + named.written.place.len < 2 ^ 63) }
+    ensures damaged { (file : FileId) (place : ℕ) → IsErrOf result (FolderFault.Damaged file place) → IsTrue H.tells
+        → version_named live_slot shape.now (seen_in (H.world host.old).disk) named ≡ Err place }
+    ensures file { (file : FileId) (place : ℕ) → IsErrOf result (FolderFault.Damaged file place) → file ≡ Grain 0 named.written.grain }
+    ensures failed { (file : FileId) → IsErrOf result (FolderFault.Failed file) → file ≡ Grain 0 named.written.grain }
+    ensures asked { IsTrue H.tells → OnlyAsked (H.world host.old) (H.world host.new) }
+    ensures calm { OnOk result (NoneFailed (H.faults host.old) (H.faults host.new)) }
+    ensures fault { IfErr result (λ e. ReadFaulted e (H.faults host.old) (H.faults host.new)) }
+    ensures ready { StaysReady (H.is_ready host.old) (H.is_ready host.new) }
+{
+    match text_in(piece, named) {
+        Some(text) => version_of(alloc, shape, named, text),
+        None => named_version(alloc, host, shape, named),
+    }
+}
+
 // The greater of an end and one that may be missing.
 fn later_end(last: Option<u64>, end: u64) -> u64
     ensures { later_end last end ≡ Some result }
@@ -80,8 +109,8 @@ fn keep(
     Ok(())
 }
 
-/// Reads these versions one by one, and keeps the last state of each grain and the greatest end in its file. `Damaged` names the
-/// first that isn't there.
+/// Reads these versions one by one, in pieces of their grains' files, and keeps the last state of each grain and the greatest end
+/// in its file. `Damaged` names the first that isn't there.
 pub fn read_versions<H: Host>(
     alloc: Global,
     host: &mut H,
@@ -102,9 +131,13 @@ pub fn read_versions<H: Host>(
     ensures fault { IfErr result (λ e. ReadFaulted e (H.faults host.old) (H.faults host.new)) }
     ensures ready { StaysReady (H.is_ready host.old) (H.is_ready host.new) }
 {
+    let mut piece = no_piece(alloc);
+    let mut at = 0;
     for one in named {
-        let version = named_version(alloc, host, shape, *one)?;
+        refill(alloc, host, &mut piece, *one, &named[at..])?;
+        let version = next_version(alloc, host, shape, &piece, *one)?;
         keep(store, ends, *one, version)?;
+        at += 1;
     }
     Ok(())
 }

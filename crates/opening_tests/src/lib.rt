@@ -13,6 +13,8 @@ mod mutations;
 #[cfg(test)]
 mod opening;
 #[cfg(test)]
+mod pieces;
+#[cfg(test)]
 mod reader;
 #[cfg(test)]
 mod stops;

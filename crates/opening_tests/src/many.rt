@@ -51,7 +51,7 @@ impl<'a> View<'a> {
 }
 
 // Appends a number of so many bytes, at most 8.
-fn add(bytes: &mut Vec<u8>, number: u64, width: usize) -> Result<(), AllocError> {
+pub fn add(bytes: &mut Vec<u8>, number: u64, width: usize) -> Result<(), AllocError> {
     let all = number.to_le_bytes();
     bytes.extend_from_slice(all.get(..width).unwrap_or(&[]))?;
     Ok(())
@@ -79,7 +79,7 @@ fn add_grain(bytes: &mut Vec<u8>, grain: GrainId) -> Result<(), AllocError> {
     add(bytes, grain.key as u64, 4)
 }
 
-// Appends a byte that doesn't count and the unit's version, and then the write that names it.
+// Appends the unit's version, every third one behind a byte that doesn't count, and then the write that names it.
 fn add_version(
     files: &mut Files,
     body: &mut Vec<u8>,
@@ -92,7 +92,9 @@ fn add_version(
     ) else {
         return Ok(());
     };
-    file.push(7)?;
+    if unit % 3 == 0 {
+        file.push(7)?;
+    }
     let offset = file.len();
     add(file, unit, 8)?;
     add(file, if grain.kind == 0 { 2 } else { 1 }, 2)?;
@@ -176,11 +178,8 @@ fn add_record(files: &mut Files, body: &mut Vec<u8>, unit: u64) -> Result<(), Al
     add_version(files, body, at, unit)
 }
 
-// Opens the last gate, and appends the block of so many records.
-fn add_block(files: &mut Files, count: u64, records: &[u8]) -> Result<(), AllocError> {
-    let Some(manager) = files.list.get_mut(0) else {
-        return Ok(());
-    };
+// Opens the last gate of a manager file, and appends the block of so many records.
+pub fn add_block(manager: &mut Vec<u8>, count: u64, records: &[u8]) -> Result<(), AllocError> {
     let last = manager.len().wrapping_sub(1);
     if let Some(gate) = manager.get_mut(last) {
         *gate = 1;
@@ -209,7 +208,9 @@ pub fn many_records(alloc: Global) -> Result<Files, AllocError> {
         add_record(&mut files, &mut body, unit)?;
         count = count.wrapping_add(1);
         if unit % 3 == 0 || unit == 20 {
-            add_block(&mut files, count, &body)?;
+            if let Some(manager) = files.list.get_mut(0) {
+                add_block(manager, count, &body)?;
+            }
             body.clear();
             count = 0;
         }

@@ -15,6 +15,7 @@ use Rattle.host_trait.specs.Files.{same_grain}
 use Rattle.log_reading.specs.Versions.{version_named}
 use Rattle.log_reading.specs.Sums.{later_end}
 use Rattle.log_reading.proofs.Errors.{other_value}
+use Rattle.log_reading.proofs.Cutting.{still_piece}
 use Rattle.log_reading.proofs.Summing.{next_default, no_item}
 use Rattle.log_reading.proofs.Naming.{passed_none, passed_more, passed_all, passed_here, stops_here, state_more, state_all, end_more, end_all}
 use Rattle.log_reading.proofs.versions.read_versions.Goals as goal
@@ -24,6 +25,8 @@ no_name = record { unit = record { 0 = 0 }; written = record { grain = record { 
 
 pub loop-one-init : goal.loop-one-init
 loop-one-init g c = record {
+  at = refl;
+  piece = c.no_piece-piece.ensures _ _;
   passed = λ told. passed_none _ _ c.args.named.now;
   states = λ told grain. refl;
   ends = λ grain. refl;
@@ -32,9 +35,36 @@ loop-one-init g c = record {
   ready = λ file was. was;
 }
 
+pub refill-requires : goal.refill-requires
+refill-requires g c = still_piece _ _ _ _ (λ told. ap seen_in (sym (c.loop-one.invariant.asked told).disk)) c.loop-one.invariant.piece
+
+pub returns-in_err-refill-clause-damaged : goal.returns-in_err-refill-clause-damaged
+returns-in_err-refill-clause-damaged g c =
+    let p = err_from_is_err_and c.from_residual.result c.from_residual.ensures.1 in
+    rw (p.1, p.2) λ file place is told. absurd (c.in_err-refill.ensures.quiet file place (other_value _ (FolderFault.Damaged file place) is))
+
+pub returns-in_err-refill-clause-failed : goal.returns-in_err-refill-clause-failed
+returns-in_err-refill-clause-failed g c =
+    let p = err_from_is_err_and c.from_residual.result c.from_residual.ensures.1 in
+    let inv = c.loop-one.invariant in
+    let shape = c.args.shape.now in
+    let i = c.loop-one.one-index in
+    let xs = c.args.named.now in
+    let x : Named = get_or xs i no_name in
+    rw (p.1, p.2) λ file is told.
+    let at : file ≡ Grain 0 x.written.grain = c.in_err-refill.ensures.failed file (other_value _ (FolderFault.Failed file) is) in
+    stops_here shape _ xs (drop i xs) (inv.passed told) x (drop (i + 1) xs) (next_default i xs no_name c.loop-one-test.true) file at
+
+pub returns-in_err-refill-clause-asked : goal.returns-in_err-refill-clause-asked
+returns-in_err-refill-clause-asked g c told = asked_then _ _ _ (c.loop-one.invariant.asked told) (c.refill.ensures.asked told)
+
+pub next_version-requires : goal.next_version-requires
+next_version-requires g c =
+    still_piece _ _ _ _ (λ told. ap seen_in (sym (c.refill.ensures.asked told).disk)) c.in_ok-refill.ensures.piece
+
 pub returns-in_err-version-clause-damaged : goal.returns-in_err-version-clause-damaged
 returns-in_err-version-clause-damaged g c =
-    let p = err_from_is_err_and c.from_residual.result c.from_residual.ensures.1 in
+    let p = err_from_is_err_and c.from_residual-in_err-version.result c.from_residual-in_err-version.ensures.1 in
     let inv = c.loop-one.invariant in
     let shape = c.args.shape.now in
     let i = c.loop-one.one-index in
@@ -42,15 +72,16 @@ returns-in_err-version-clause-damaged g c =
     let x : Named = get_or xs i no_name in
     rw (p.1, p.2) λ file place is told.
     let err = other_value _ (FolderFault.Damaged file place) is in
-    let here : version_named live_slot shape (seen_in (g.H.Host.world c.loop-one.host).disk) x ≡ Err place = c.in_err-version.ensures.damaged file place err told in
-    let there : version_named live_slot shape (seen_in (g.H.Host.world c.args.host.now).disk) x ≡ Err place = subst (λ (d : Disk). version_named live_slot shape (seen_in d) x ≡ Err place) (inv.asked told).disk here in
+    let mid = asked_then _ _ _ (inv.asked told) (c.refill.ensures.asked told) in
+    let here : version_named live_slot shape (seen_in (g.H.Host.world c.refill.new.host).disk) x ≡ Err place = c.in_err-version.ensures.damaged file place err told in
+    let there : version_named live_slot shape (seen_in (g.H.Host.world c.args.host.now).disk) x ≡ Err place = subst (λ (d : Disk). version_named live_slot shape (seen_in d) x ≡ Err place) mid.disk here in
     let at : file ≡ Grain 0 x.written.grain = c.in_err-version.ensures.file file place err in
     passed_here shape _ xs (drop i xs) (inv.passed told) x (drop (i + 1) xs) (next_default i xs no_name c.loop-one-test.true) place there
     ∙ ap (λ (f : FileId). Some (f, place)) (sym at)
 
 pub returns-in_err-version-clause-failed : goal.returns-in_err-version-clause-failed
 returns-in_err-version-clause-failed g c =
-    let p = err_from_is_err_and c.from_residual.result c.from_residual.ensures.1 in
+    let p = err_from_is_err_and c.from_residual-in_err-version.result c.from_residual-in_err-version.ensures.1 in
     let inv = c.loop-one.invariant in
     let shape = c.args.shape.now in
     let i = c.loop-one.one-index in
@@ -61,10 +92,10 @@ returns-in_err-version-clause-failed g c =
     stops_here shape _ xs (drop i xs) (inv.passed told) x (drop (i + 1) xs) (next_default i xs no_name c.loop-one-test.true) file at
 
 pub returns-in_err-version-clause-asked : goal.returns-in_err-version-clause-asked
-returns-in_err-version-clause-asked g c told = asked_then _ _ _ (c.loop-one.invariant.asked told) (c.named_version.ensures.asked told)
+returns-in_err-version-clause-asked g c told = asked_then _ _ _ (asked_then _ _ _ (c.loop-one.invariant.asked told) (c.refill.ensures.asked told)) (c.next_version.ensures.asked told)
 
 pub returns-in_err-keep-clause-asked : goal.returns-in_err-keep-clause-asked
-returns-in_err-keep-clause-asked g c told = asked_then _ _ _ (c.loop-one.invariant.asked told) (c.named_version.ensures.asked told)
+returns-in_err-keep-clause-asked g c told = asked_then _ _ _ (asked_then _ _ _ (c.loop-one.invariant.asked told) (c.refill.ensures.asked told)) (c.next_version.ensures.asked told)
 
 pub loop-one-preserved : goal.loop-one-preserved
 loop-one-preserved g c =
@@ -77,15 +108,17 @@ loop-one-preserved g c =
     let next = next_default i xs no_name c.loop-one-test.true in
     let image = seen_in (g.H.Host.world c.args.host.now).disk in
     let found : (told : IsTrue g.H.Host.tells) → version_named live_slot shape image x ≡ Ok v = λ told.
-    let here : version_named live_slot shape (seen_in (g.H.Host.world c.loop-one.host).disk) x ≡ Ok v = c.in_ok-version.ensures.found told in
-    subst (λ (d : Disk). version_named live_slot shape (seen_in d) x ≡ Ok v) (inv.asked told).disk here in
+    let here : version_named live_slot shape (seen_in (g.H.Host.world c.refill.new.host).disk) x ≡ Ok v = c.in_ok-version.ensures.found told in
+    subst (λ (d : Disk). version_named live_slot shape (seen_in d) x ≡ Ok v) (asked_then _ _ _ (inv.asked told) (c.refill.ensures.asked told)).disk here in
     record {
+      at = ap (λ (n : ℕ). n + 1) inv.at;
+      piece = still_piece _ _ _ _ (λ told. ap seen_in (inv.asked told).disk) c.in_ok-refill.ensures.piece;
       passed = λ told. passed_more shape image xs (drop i xs) (inv.passed told) x (drop (i + 1) xs) next v (found told);
       states = λ told grain. state_more shape image x (drop (i + 1) xs) (drop i xs) grain v _ _ _ next (found told) (c.in_ok-keep.ensures.states grain) (inv.states told grain);
       ends = λ grain. end_more x (drop (i + 1) xs) (drop i xs) grain _ _ _ next (c.in_ok-keep.ensures.ends grain) (inv.ends grain);
-      asked = λ told. asked_then _ _ _ (inv.asked told) (c.named_version.ensures.asked told);
-      calm = none_then _ _ _ inv.calm c.in_ok-version.ensures.calm;
-      ready = λ file was. c.named_version.ensures.ready file (inv.ready file was);
+      asked = λ told. asked_then _ _ _ (asked_then _ _ _ (inv.asked told) (c.refill.ensures.asked told)) (c.next_version.ensures.asked told);
+      calm = none_then _ _ _ (none_then _ _ _ inv.calm c.in_ok-refill.ensures.calm) c.in_ok-version.ensures.calm;
+      ready = λ file was. c.next_version.ensures.ready file (c.refill.ensures.ready file (inv.ready file was));
     }
 
 pub returns-clause-found : goal.returns-clause-found
