@@ -20,3 +20,6 @@ pub mod Brought
 pub mod Opens
 pub mod Ways
 pub mod Loops
+pub mod Asked
+pub mod Counted
+pub mod LastWriters

@@ -5,7 +5,7 @@ use Rattle.core_model.specs.declared.effects.Effect.{Effect}
 use Rattle.core_model.specs.declared.phases.Phase.{Phase}
 use Rattle.core_model.specs.declared.phases.Phase.TheVariants.{Running, Finished}
 use Rattle.core_model.specs.declared.phases.Verdict.{Verdict}
-use Rattle.core_model.specs.declared.phases.Verdict.TheVariants.{Open}
+use Rattle.core_model.specs.declared.phases.Verdict.TheVariants.{Open, Committed}
 use Rattle.core_model.specs.Tests.{waiting, members, is_final}
 use Rattle.core_model.specs.declared.events.CoreEvent.{CoreEvent}
 use Rattle.core_model.specs.declared.events.CoreEvent.TheVariants.{Bad, Begin, Grant, Refuse, Finish, EndPlain, EndSnapshot, Release, Take, Vote, Decide, Sealed, NotSealed, Doubt, Learn, Emitted, Halt, Want, Load}
@@ -15,6 +15,8 @@ use Rattle.core_model.specs.Consistent.{IsConsistent, ClosedBatchesArePrefix}
 use Rattle.core_model.specs.Batches.{BatchesFollow}
 use Rattle.core_model.proofs.Voted.{follows-ends}
 use Rattle.core_model.specs.Holders.{HoldersHaveRead}
+use Rattle.core_model.specs.Laws.{NoLockIsHeldUntilCommit}
+use Rattle.core_model.proofs.Further.{no-lock-ends}
 use Rattle.core_model.specs.Loadless.{HoldsWithoutLoads}
 use Rattle.core_model.proofs.Orders.{Member-at, Member-take}
 use Rattle.core_model.proofs.Loadless.{LoadlessAt}
@@ -124,3 +126,7 @@ late-not-final w r x f lt = (prefixes w r).undecided x f lt
 -- the batches follow one another
 pub follows : (w : CoreState) → IsReached w → BatchesFollow w
 follows w r = subst BatchesFollow r.3 (follows-ends any_play r.0 (legal r.0 r.1 r.2))
+
+-- a committed unit has finished, with a place up to the closed ones
+pub committed-closed : (w : CoreState) → IsReached w → (u : UnitNo) → w.manager.verdict u ≡ Committed → (w.units.phase u ≡ Finished) × (w.manager.place u ≤ w.manager.closed)
+committed-closed w r = (subst NoLockIsHeldUntilCommit r.3 (no-lock-ends any_play r.0 (legal r.0 r.1 r.2))).committed

@@ -7,6 +7,8 @@ use Rattle.cell_model.specs.Units.{oldest}
 use Rattle.cell_model.specs.Locks as locks
 use Rattle.core_model.specs.CoreState.{UnitNo, GrainId, Mode, same_unit, top}
 use Rattle.core_model.specs.declared.effects.Read.{Read}
+use Rattle.core_model.specs.declared.events.CoreEvent.{CoreEvent}
+use Rattle.core_model.specs.declared.events.CoreEvent.TheVariants.{Bad, Begin}
 use Rattle.core_model.specs.declared.questions.AskAnswer.{AskAnswer}
 use Rattle.core_model.specs.declared.questions.AskAnswer.TheVariants as answer
 use Rattle.core_model.specs.Tests.{is_running, ask_doom, ask_lock}
@@ -46,3 +48,9 @@ is_next_child_in p u index =
 abbrev pub FitsLine : Origin → Type 0
 FitsLine (Line n) = n < 2 ^ 32
 FitsLine (Child p i d) = ⊤
+
+-- the number of a line that the event names has 32 bits
+abbrev pub FitsEvent : CoreEvent → Type 0
+FitsEvent (Bad n why) = n < 2 ^ 32
+FitsEvent (Begin origin call plain) = FitsLine origin
+FitsEvent _ = ⊤

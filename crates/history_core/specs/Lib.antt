@@ -13,3 +13,5 @@ pub mod Effects
 pub mod Steps
 pub mod Histories
 pub mod Cores
+pub mod Questions
+pub mod LastWriters

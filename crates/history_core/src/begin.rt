@@ -6,11 +6,12 @@ ghost use Rattle.core_model.specs.CoreState.{CoreState};
 ghost use Rattle.core_model.specs.Events.{can_begin};
 ghost use Rattle.core_model.specs.declared.events.CoreEvent.TheVariants.{Begin};
 ghost use Rattle.cell_table.specs.Table.{opens_with};
-ghost use Rattle.history_core.specs.Asked.{is_decided_in, is_next_child_in, FitsLine};
+ghost use Rattle.history_core.specs.Asked.{is_decided_in, is_next_child_in};
 ghost use Rattle.history_core.specs.Kept.{Stands};
 ghost use Rattle.history_core.specs.Steps.{CanDo, Keeps, Tells, Does};
 
 use crate::parts::Parts;
+use crate::steps::fits_line;
 use base_types::{Call, Origin, UnitNo};
 use core_model::{CoreEvent, CoreReply};
 use std::alloc::AllocError;
@@ -77,15 +78,5 @@ impl Parts {
         fits_line(&origin);
         let unit = self.units.begin(origin, call, plain);
         Ok(CoreReply::Began { unit })
-    }
-}
-
-// The number of a line has 32 bits.
-fn fits_line(origin: &Origin)
-    ensures { FitsLine origin.now }
-{
-    match *origin {
-        Origin::Line(line) => prove!(u64::from(line) < 4_294_967_296),
-        Origin::Child { .. } => {}
     }
 }

@@ -1,9 +1,11 @@
 //! The core in code: each of its steps is a step of the model, on what is kept of the model's state.
 //!
 //! `Parts` is what is kept, and `Stands` says for which states it stands. Each event has a file of its own: whether it
-//! applies, and what it does. `Core` has the history of its events, for contracts alone.
+//! applies, and what it does. `Core` has the history of its events, for contracts alone; it answers questions, is an object
+//! that a turn cell can share, and an access for one who has it alone.
 #![tactic(auto)]
 
+mod answers;
 mod applying;
 mod asking;
 mod bad;
@@ -17,14 +19,18 @@ mod end_snapshot;
 mod finish;
 mod grant;
 mod halt;
+mod laws;
 mod learn;
 mod looks;
 mod opening;
 mod parts;
+mod questions;
 mod refuse;
 mod release;
 mod room;
 mod seal;
+mod settler;
+mod shared;
 mod steps;
 mod stops;
 mod take;
@@ -32,5 +38,6 @@ mod vote;
 mod want;
 mod whole;
 
+pub use laws::last_states_are_the_last_writers;
 pub use opening::Opening;
 pub use whole::Core;

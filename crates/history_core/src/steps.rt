@@ -3,10 +3,12 @@ ghost use Rattle.std.specs.Prelude.{◌≡◌, ◌∷◌, [], true, IfOk, IfErr}
 ghost use Rattle.core_model.specs.Legal.{ends};
 ghost use Rattle.core_model.specs.Laws.{extended};
 ghost use Rattle.core_model.specs.Events.{reply_to};
+ghost use Rattle.history_core.specs.Asked.{FitsLine, FitsEvent};
 ghost use Rattle.history_core.specs.Steps.{takes_memory};
 ghost use Rattle.history_core.specs.Cores.{run_of};
 
 use crate::whole::Core;
+use base_types::Origin;
 use core_model::{CoreEvent, CoreReply};
 use event_history::History;
 use std::alloc::AllocError;
@@ -22,6 +24,7 @@ impl Core {
         ensures taken { IfOk result (λ reply. (run_of self.new ≡ extended (run_of self.old) (event ∷ [])) × (reply ≡ reply_to (ends (run_of self.old)) event)) }
         ensures refused { IfErr result (λ e. (run_of self.new ≡ run_of self.old) × (e.1 ≡ event) × (takes_memory event ≡ true)) }
     {
+        fits_event(&event);
         let after = History::with(&self.history, &event);
         match self.parts.step(event) {
             Ok(reply) => {
@@ -30,5 +33,29 @@ impl Core {
             }
             Err(refused) => Err(refused),
         }
+    }
+}
+
+// The number of a line has 32 bits.
+fn fits_event(event: &CoreEvent)
+    ensures { FitsEvent event.now }
+{
+    match event {
+        CoreEvent::Bad { line, .. } => {
+            let line = *line;
+            prove!(u64::from(line) < 4_294_967_296);
+        }
+        CoreEvent::Begin { origin, .. } => fits_line(origin),
+        _ => {}
+    }
+}
+
+// The number of a unit's line has 32 bits.
+pub(crate) fn fits_line(origin: &Origin)
+    ensures { FitsLine origin.now }
+{
+    match *origin {
+        Origin::Line(line) => prove!(u64::from(line) < 4_294_967_296),
+        Origin::Child { .. } => {}
     }
 }

@@ -1,18 +1,22 @@
-ghost use Rattle.std.specs.Prelude.{◌<◌};
-ghost use Rattle.core_model.specs.Legal.{ends};
-ghost use Rattle.history_core.specs.Kept.{Stands};
-ghost use Rattle.history_core.specs.Histories.{run_with};
-
 use crate::parts::Parts;
 use event_history::History;
+use std::marker::Model;
 
-/// The core: what it keeps stands for the state after its events.
+/// The core: what it keeps stands for the state after its events. Contracts see what its run began with, and its events.
 #[derive(Drop)]
 pub struct Core {
     pub(crate) parts: Parts,
     pub(crate) base: u64,
     pub(crate) kinds: u64,
     pub(crate) history: History,
-    ghost above: { 0 < base },
-    ghost stands: { Stands parts (ends (run_with base kinds parts.cells history.events)) },
+}
+
+impl Model for Core {
+    ghost use Rattle.history_core.specs.Cores.{CoreData, IsCore};
+
+    ghost Value = { CoreData };
+
+    ghost view = { λ c. record { base = c.base; kinds = c.kinds; shape = c.parts.cells.shape; states = c.parts.cells.store.states.entries; events = c.history.events } };
+
+    ghost invariant = { λ c. IsCore c.parts c.base c.kinds c.history.events };
 }

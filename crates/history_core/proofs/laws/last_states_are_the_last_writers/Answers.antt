@@ -1,0 +1,5 @@
+use Rattle.history_core.proofs.LastWriters.{last-ends}
+use Rattle.history_core.proofs.laws.last_states_are_the_last_writers.Goals as goal
+
+pub returns : goal.returns
+returns c = λ r g above none. last-ends r g above none
