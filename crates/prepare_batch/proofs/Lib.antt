@@ -1,0 +1,4 @@
+pub mod Orders
+pub mod Joined
+pub mod Gathered
+pub mod Tied
