@@ -1,0 +1,4 @@
+pub mod Voting
+pub mod Logging
+pub mod Entries
+pub mod Committing
