@@ -1,0 +1,100 @@
+-- What stands in an image stands in another that has the same bytes at its places.
+use Rattle.std.proofs.Common.{◌≡◌, ℕ, ◌+◌, ◌≤◌, List, [], ◌∷◌, length, map, take, drop, slice_index, refl, sym, ◌∙◌, ap, arith}
+use Rattle.std.proofs.lemmas.List.{take-take, drop-take, get_or-take}
+use Rattle.std.specs.Prelude.{⊤}
+use Rattle.std.specs.List.{AllByRecursion}
+use Rattle.base_types.specs.declared.calls.UnitNo.{UnitNo}
+use Rattle.base_types.specs.declared.calls.Value.{Value}
+use Rattle.base_types.specs.declared.calls.GrainId.{GrainId}
+use Rattle.base_types.specs.declared.shapes.Shape.{Shape}
+use Rattle.host_trait.specs.World.{Image}
+use Rattle.gate_block.specs.Log.{LogsUpTo}
+use Rattle.cell_model.specs.Units.{Member}
+use Rattle.field_codec.specs.declared.units.Numbers.TheVariants.{Logged}
+use Rattle.commit_log.specs.Bodies.{IsRecordIn}
+use Rattle.commit_log.specs.declared.records.Written.{Written}
+use Rattle.log_reading.specs.Steps.{live_slot, manager}
+use Rattle.silo_spec.specs.Silos.{IsSilo}
+use Rattle.promise_spec.specs.Records.{Commit}
+use Rattle.promise_spec.specs.Logs.{magic, WriteStands, WritesStand, IsKept, IsLog, body_of}
+use Rattle.batch_disk.specs.Resting.{grain_file, log_of, BeginsSilo, Voted, StandsIn, AreNamed, IsAtRest}
+use Rattle.batch_disk.proofs.Lists.{each_of}
+
+module _ (shape : Shape) (was image : Image) where
+  -- the bytes at a place are the same in both
+  abbrev pub IsSameAt : Written → Type 0
+  IsSameAt w = take w.place.len (drop w.place.offset (image (grain_file w.grain))) ≡ take w.place.len (drop w.place.offset (was (grain_file w.grain)))
+
+  pub stands_same : (unit : UnitNo) (w : Written) (s : List Value) → IsSameAt w → WriteStands live_slot shape was unit w s → WriteStands live_slot shape image unit w s
+  stands_same unit w s same st = record { near = st.near; fields = st.fields; version = record { version_is = st.version.version_is; here = same ∙ st.version.here } }
+
+  all_same : (unit : UnitNo) (ws : List Written) (ss : List (List Value)) → AllByRecursion IsSameAt ws → WritesStand live_slot shape was unit ws ss → WritesStand live_slot shape image unit ws ss
+  all_same unit [] [] same st = tt
+  all_same unit [] (s ∷ ss) same st = absurd st
+  all_same unit (w ∷ ws) [] same st = absurd st
+  all_same unit (w ∷ ws) (s ∷ ss) same st = (stands_same unit w s same.0 st.0, all_same unit ws ss same.1 st.1)
+
+  pub kept_same : (log : List Commit) → AllByRecursion (λ c. AllByRecursion IsSameAt c.logged.writes) log → AllByRecursion (IsKept live_slot shape was) log → AllByRecursion (IsKept live_slot shape image) log
+  kept_same [] same kept = tt
+  kept_same (c ∷ log) same kept = (record { fits = kept.0.fits; whole = all_same c.logged.unit c.logged.writes c.states same.0 kept.0.whole }, kept_same log same.1 kept.1)
+
+-- what stands below a place stands there still, where the bytes up to that place are the same
+pub below_same : (d c : List ℕ) (at len end : ℕ) → take end c ≡ take end d → at + len ≤ end → take len (drop at c) ≡ take len (drop at d)
+below_same d c at len end same below =
+    let cut : (l : List ℕ) → take len (drop at l) ≡ drop at (take (at + len) (take end l)) = λ l. sym (drop-take at len l) ∙ ap (drop at) (sym (take-take (at + len) end l below)) in
+    cut c ∙ ap (λ (l : List ℕ). drop at (take (at + len) l)) same ∙ sym (cut d)
+
+-- a shorter front of equal fronts is equal
+pub shorter_front : (n m : ℕ) (c d : List ℕ) → n ≤ m → take m c ≡ take m d → take n c ≡ take n d
+shorter_front n m c d low same = sym (take-take n m c low) ∙ ap (λ (l : List ℕ). take n l) same ∙ take-take n m d low
+
+-- ---- records of what the votes wrote
+
+-- each write of a unit, with its state, is among what the votes wrote
+abbrev pub AreVoted : List Voted → UnitNo → List Written → List (List Value) → Type 0
+AreVoted voted unit [] [] = ⊤
+AreVoted voted unit [] (s ∷ ss) = ⊥
+AreVoted voted unit (w ∷ ws) [] = ⊥
+AreVoted voted unit (w ∷ ws) (s ∷ ss) = Member (record { unit = unit; write = w; state = s }) voted × AreVoted voted unit ws ss
+
+-- a record within the limits, all of whose versions the votes wrote
+pub record IsVoted (shape : Shape) (voted : List Voted) (c : Commit) : Type 0 where
+  pub fits : IsRecordIn Logged shape c.logged
+  pub whole : AreVoted voted c.logged.unit c.logged.writes c.states
+
+-- the records of the open batch's units to commit
+pub record IsNextBatch (shape : Shape) (voted : List Voted) (batch : List Commit) : Type 0 where
+  pub size : length batch ≤ 64
+  pub each : AllByRecursion (IsVoted shape voted) batch
+
+-- what the votes wrote of a unit stands
+pub voted_stand : (shape : Shape) (image : Image) (voted : List Voted) (unit : UnitNo) (ws : List Written) (ss : List (List Value)) → AreVoted voted unit ws ss → AllByRecursion (StandsIn shape image) voted → WritesStand live_slot shape image unit ws ss
+voted_stand shape image voted unit [] [] are each = tt
+voted_stand shape image voted unit [] (s ∷ ss) are each = absurd are
+voted_stand shape image voted unit (w ∷ ws) [] are each = absurd are
+voted_stand shape image voted unit (w ∷ ws) (s ∷ ss) are each = (each_of (StandsIn shape image) voted (record { unit = unit; write = w; state = s }) each are.0, voted_stand shape image voted unit ws ss are.1 each)
+
+pub batch_stands : (shape : Shape) (image : Image) (voted : List Voted) (batch : List Commit) → AllByRecursion (IsVoted shape voted) batch → AllByRecursion (StandsIn shape image) voted → AllByRecursion (IsKept live_slot shape image) batch
+batch_stands shape image voted [] are each = tt
+batch_stands shape image voted (c ∷ batch) are each = (record { fits = are.0.fits; whole = voted_stand shape image voted c.logged.unit c.logged.writes c.states are.0.whole each }, batch_stands shape image voted batch are.1 each)
+
+-- a file with a log and a silo's header is a silo's
+pub silo_of : (head : List ℕ) (bodies : List (List ℕ)) (gate : ℕ) (file : List ℕ) → BeginsSilo head → take 15 file ≡ head → LogsUpTo bodies gate file → IsSilo magic file
+silo_of head bodies gate file is header logs =
+    record {
+      long = omega (arith, logs.blocks.at, logs.blocks.within);
+      gate = sym (get_or-take 15 file 0 0 (omega arith)) ∙ ap (λ (l : List ℕ). slice_index l 0) header ∙ is.gate;
+      named = below_same (take 15 file) file 1 8 15 (sym (take-take 15 15 file (omega arith))) (omega arith) ∙ ap (λ (l : List ℕ). take 8 (drop 1 l)) header ∙ is.named;
+    }
+
+-- each image's log between two steps
+pub rests_log : (shape : Shape) (head : List ℕ) (batches : List (List Commit)) (gate : ℕ) (ends : GrainId → ℕ) (voted : List Voted) (image : Image) → AreNamed head batches ends → IsAtRest shape head batches gate ends voted image → IsLog live_slot shape image (log_of batches)
+rests_log shape head batches gate ends voted image named rests = record {
+  silo = silo_of head (map body_of batches) gate (image manager) named.silo rests.header rests.blocks;
+  batches = batches;
+  gate = gate;
+  blocks = rests.blocks;
+  sizes = named.sizes;
+  commits = refl;
+  kept = rests.whole;
+}

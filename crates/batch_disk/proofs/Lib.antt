@@ -1,0 +1,11 @@
+pub mod Lists
+pub mod Ends
+pub mod Keeping
+pub mod Votes
+pub mod Recorded
+pub mod NextGate
+pub mod Sealed
+pub mod Standing
+pub mod Sealing
+pub mod Counting
+pub mod Journal

@@ -1,0 +1,243 @@
+-- What each image keeps while the records of a batch are sealed.
+use Rattle.std.proofs.Common.{◌≡◌, ◌≢◌, ◌⊎◌, inl, inr, ℕ, ◌+◌, ◌<◌, ◌≤◌, List, [], ◌∷◌, ◌++◌, length, take, drop, map, refl, sym, ◌∙◌, ap, subst, arith, append_assoc}
+use Rattle.std.specs.List.{AllByRecursion}
+use Rattle.std.proofs.lemmas.List.{length-take, take_at, drop_at}
+use Rattle.std.proofs.lemmas.Bool.{cases_lt}
+use Rattle.base_types.specs.declared.calls.GrainId.{GrainId}
+use Rattle.base_types.specs.declared.shapes.Shape.{Shape}
+use Rattle.host_trait.specs.declared.channels.FileId.{FileId}
+use Rattle.host_trait.specs.declared.channels.FileId.TheVariants.{Program, Manager, Grain}
+use Rattle.host_trait.specs.Disk.{MayLeave, Tears}
+use Rattle.host_trait.specs.World.{World, Moment, Disk, Image, IsImage, Passes, moment_of, with_bytes}
+use Rattle.host_trait.specs.Runs.{ChangesFile}
+use Rattle.host_trait.proofs.Crashes.{Tears-overlaid, Tears-at}
+use Rattle.host_trait.proofs.Moments.{met, weaker}
+use Rattle.host_trait.proofs.Names.{cases_file}
+use Rattle.host_trait.proofs.Runs.{image_from, with_bytes-there, with_bytes-other}
+use Rattle.gate_block.specs.Blocks.{block_of}
+use Rattle.gate_block.specs.Log.{LogsUpTo, SomeLogs, EachLogs, EachLogsOrMore}
+use Rattle.gate_block.proofs.Logs.{blocks_same}
+use Rattle.commit_log.specs.declared.records.Written.{Written}
+use Rattle.commit_log.specs.declared.gate.Sealing.TheVariants.{InDoubt}
+use Rattle.commit_log.specs.Sealing.{staged, EndsAs, DoubtAs, StaysClosed}
+use Rattle.log_reading.specs.Steps.{live_slot, manager}
+use Rattle.promise_spec.specs.Records.{Commit}
+use Rattle.promise_spec.specs.Crashes.{IsAside}
+use Rattle.promise_spec.specs.Logs.{IsLog, IsKept, body_of}
+use Rattle.batch_disk.specs.Resting.{grain_file, log_of, EachImage, SomeImage, IsBelow, AreBelow, AreNamed, Voted, StandsIn, IsAtRest, raised_ends, all_writes}
+use Rattle.batch_disk.specs.Moments.{LeavesRest, KeepsLog, IsSeam}
+use Rattle.batch_disk.specs.Seals.{NoneHas, IsDoubtful}
+use Rattle.batch_disk.proofs.Lists.{each_any, each_leads, each_list, both_parts, flat_push, map_push}
+use Rattle.batch_disk.proofs.Ends.{raised_up, raised_each, raised_long, kept_within}
+use Rattle.batch_disk.proofs.Keeping.{IsSameAt, IsNextBatch, stands_same, kept_same, shorter_front, batch_stands, silo_of}
+
+-- the slot of a manager file, this one for any other file
+abbrev slot_in : ℕ → FileId → ℕ
+slot_in other (Program s) = other
+slot_in other (Manager s) = s
+slot_in other (Grain s g) = other
+
+aside_manager : (f : FileId) → IsAside live_slot f → f ≢ manager
+aside_manager (Program slot) aside e = absurd cc
+aside_manager (Manager slot) aside e = aside (ap (slot_in slot) e)
+aside_manager (Grain slot g) aside e = absurd cc
+
+-- an image with other bytes in one file, where both may be left
+pub with_left : (disk : Disk) (image : Image) (file : FileId) (c : List ℕ) → IsImage disk image → MayLeave (disk file) c → IsImage disk (with_bytes image file c)
+with_left disk image file c is left f = elim (cases_file f file) [
+  | inl same ↦
+      subst (λ (g : FileId). MayLeave (disk g) (with_bytes image file c g)) (sym same)
+      (subst (λ (l : List ℕ). MayLeave (disk file) l) (sym (with_bytes-there image file c)) left)
+  | inr other ↦ subst (λ (l : List ℕ). MayLeave (disk f) l) (sym (with_bytes-other image file c f other)) (is f)
+]
+
+module _ (shape : Shape) (head : List ℕ) (batches : List (List Commit)) (gate : ℕ) (ends : GrainId → ℕ) (voted : List Voted) (batch : List Commit) (named : AreNamed head batches ends) (next : IsNextBatch shape voted batch) where
+  -- ---- one image
+
+  module _ (was image : Image) (at : IsAtRest shape head batches gate ends voted was) (others : (f : FileId) → f ≢ manager → image f ≡ was f) (n : ℕ) (torn : Tears gate n (was manager) (image manager)) where
+    grains : (g : GrainId) → image (grain_file g) ≡ was (grain_file g)
+    grains g = others (grain_file g) (λ e. absurd cc)
+
+    any_same : (w : Written) → IsSameAt shape was image w
+    any_same w = ap (λ (l : List ℕ). take w.place.len (drop w.place.offset l)) (grains w.grain)
+
+    pub still_head : take 15 (image manager) ≡ head
+    still_head = shorter_front 15 gate (image manager) (was manager) (omega (arith, at.blocks.blocks.at)) torn.before ∙ at.header
+
+    still_kept : AllByRecursion (IsKept live_slot shape image) (log_of batches)
+    still_kept = kept_same shape was image (log_of batches) (each_any (λ (c : Commit). AllByRecursion (IsSameAt shape was image) c.logged.writes) (λ c. each_any (IsSameAt shape was image) any_same c.logged.writes) (log_of batches)) at.whole
+
+    still_long : (g : GrainId) → ends g ≤ length (image (grain_file g))
+    still_long g = subst (λ (l : List ℕ). ends g ≤ length l) (sym (grains g)) (at.long g)
+
+    still_voted : AllByRecursion (StandsIn shape image) voted
+    still_voted = each_leads (StandsIn shape was) (StandsIn shape image) (λ v st. stands_same shape was image v.unit v.write v.state (any_same v.write) st) voted at.stand
+
+    whole_batch : AllByRecursion (IsKept live_slot shape image) batch
+    whole_batch = batch_stands shape image voted batch next.each still_voted
+
+    pub rests_still : LogsUpTo (map body_of batches) gate (image manager) → IsAtRest shape head batches gate ends voted image
+    rests_still logs = record { header = still_head; blocks = logs; whole = still_kept; long = still_long; stand = still_voted }
+
+    pub log_still : LogsUpTo (map body_of batches) gate (image manager) → IsLog live_slot shape image (log_of batches)
+    log_still logs = record { silo = silo_of head (map body_of batches) gate (image manager) named.silo still_head logs; batches = batches; gate = gate; blocks = logs; sizes = named.sizes; commits = refl; kept = still_kept }
+
+    with_batch : (to : ℕ) → LogsUpTo (map body_of batches ++ body_of batch ∷ []) to (image manager) → LogsUpTo (map body_of (batches ++ batch ∷ [])) to (image manager)
+    with_batch to logs = subst (λ (bs : List (List ℕ)). LogsUpTo bs to (image manager)) (sym (map_push body_of batches batch)) logs
+
+    all_kept : AllByRecursion (IsKept live_slot shape image) (log_of batches ++ batch)
+    all_kept = both_parts (IsKept live_slot shape image) (log_of batches) batch still_kept whole_batch
+
+    pub log_more : (to : ℕ) → LogsUpTo (map body_of batches ++ body_of batch ∷ []) to (image manager) → IsLog live_slot shape image (log_of batches ++ batch)
+    log_more to logs = record {
+      silo = silo_of head (map body_of batches ++ body_of batch ∷ []) to (image manager) named.silo still_head logs;
+      batches = batches ++ batch ∷ [];
+      gate = to;
+      blocks = with_batch to logs;
+      sizes = both_parts (λ (b : List Commit). length b ≤ 64) batches (batch ∷ []) named.sizes (next.size, tt);
+      commits = sym (flat_push batches batch);
+      kept = all_kept;
+    }
+
+    pub rests_more : (to : ℕ) → LogsUpTo (map body_of batches ++ body_of batch ∷ []) to (image manager) → IsAtRest shape head (batches ++ batch ∷ []) to (raised_ends ends (all_writes batch)) [] image
+    rests_more to logs = record {
+      header = still_head;
+      blocks = with_batch to logs;
+      whole = subst (AllByRecursion (IsKept live_slot shape image)) (sym (flat_push batches batch)) all_kept;
+      long = raised_long image ends (all_writes batch) still_long (kept_within shape image batch whole_batch);
+      stand = tt;
+    }
+
+  -- what no image decides, once the batch counts
+  pub named_more : AreNamed head (batches ++ batch ∷ []) (raised_ends ends (all_writes batch))
+  named_more =
+      let to = raised_ends ends (all_writes batch) in
+      record {
+        silo = named.silo;
+        sizes = both_parts (λ (b : List Commit). length b ≤ 64) batches (batch ∷ []) named.sizes (next.size, tt);
+        below = subst (AreBelow to) (sym (flat_push batches batch)) (both_parts (λ (c : Commit). AllByRecursion (IsBelow to) c.logged.writes) (log_of batches) batch
+            (each_leads (λ (c : Commit). AllByRecursion (IsBelow ends) c.logged.writes) (λ (c : Commit). AllByRecursion (IsBelow to) c.logged.writes)
+            (λ c each. each_leads (IsBelow ends) (IsBelow to) (λ w low. omega (arith, low, raised_up ends (all_writes batch) w.grain)) c.logged.writes each) (log_of batches) named.below)
+            (each_list (IsBelow to) (λ (c : Commit). c.logged.writes) batch (raised_each ends (all_writes batch))));
+      }
+
+  -- ---- moments
+
+  module _ (old : World) (is : EachImage (IsAtRest shape head batches gate ends voted) old.disk) (n : ℕ) where
+    seal_rest : (m : Moment) → ChangesFile manager (Tears gate n) old m → LeavesRest head old m
+    seal_rest m changes = record {
+      output = changes.output;
+      aside = λ f aside. changes.others f (aside_manager f aside);
+      header = λ image left.
+          let from = image_from manager (Tears gate n) old m changes image left in
+          still_head from.from image (is from.from from.possible) from.others n from.changed;
+    }
+
+    -- at each moment each image's log is as it was, or has the batch whole
+    pub seal_seam : (m : Moment) → ChangesFile manager (Tears gate n) old m → EachLogsOrMore (map body_of batches) (body_of batch) gate manager m.disk → IsSeam shape head (log_of batches) batch old m
+    seal_seam m changes logs = record {
+      rest = seal_rest m changes;
+      logs = λ image left.
+          let from = image_from manager (Tears gate n) old m changes image left in
+          let at = is from.from from.possible in
+          elim (logs (image manager) (left manager)) [
+            | inl as_it_was ↦ inl (log_still from.from image at from.others n from.changed as_it_was)
+            | inr more ↦ inr (log_more from.from image at from.others n from.changed (gate + length (block_of (body_of batch))) more)
+          ];
+    }
+
+    -- and where none has it, as it was
+    pub seal_still : (m : Moment) → ChangesFile manager (Tears gate n) old m → EachLogs (map body_of batches) gate manager m.disk → KeepsLog shape head (log_of batches) old m
+    seal_still m changes logs = record {
+      rest = seal_rest m changes;
+      logs = λ image left.
+          let from = image_from manager (Tears gate n) old m changes image left in
+          log_still from.from image (is from.from from.possible) from.others n from.changed (logs (image manager) (left manager));
+    }
+
+    pub seal_moments : (new : World) → Passes (ChangesFile manager (Tears gate n) old) old.past new.past → Passes (λ m. EachLogsOrMore (map body_of batches) (body_of batch) gate manager m.disk) old.past new.past
+        → Passes (IsSeam shape head (log_of batches) batch old) old.past new.past
+    seal_moments new run logs =
+        weaker (λ m. ChangesFile manager (Tears gate n) old m × EachLogsOrMore (map body_of batches) (body_of batch) gate manager m.disk) (IsSeam shape head (log_of batches) batch old)
+        (λ m both. seal_seam m both.0 both.1) (met (ChangesFile manager (Tears gate n) old) (λ m. EachLogsOrMore (map body_of batches) (body_of batch) gate manager m.disk) run logs)
+
+    pub still_moments : (new : World) → Passes (ChangesFile manager (Tears gate n) old) old.past new.past → Passes (λ m. EachLogs (map body_of batches) gate manager m.disk) old.past new.past
+        → Passes (KeepsLog shape head (log_of batches) old) old.past new.past
+    still_moments new run logs =
+        weaker (λ m. ChangesFile manager (Tears gate n) old m × EachLogs (map body_of batches) gate manager m.disk) (KeepsLog shape head (log_of batches) old)
+        (λ m both. seal_still m both.0 both.1) (met (ChangesFile manager (Tears gate n) old) (λ m. EachLogs (map body_of batches) gate manager m.disk) run logs)
+
+    -- ---- after it
+
+    module _ (new : World) (moments : Passes (ChangesFile manager (Tears gate n) old) old.past new.past) (changes : ChangesFile manager (Tears gate n) old (moment_of new)) where
+      pub rests_sealed : (to : ℕ) → EachLogs (map body_of batches ++ body_of batch ∷ []) to manager new.disk → EachImage (IsAtRest shape head (batches ++ batch ∷ []) to (raised_ends ends (all_writes batch)) []) new.disk
+      rests_sealed to logs image left =
+          let from = image_from manager (Tears gate n) old (moment_of new) changes image left in
+          rests_more from.from image (is from.from from.possible) from.others n from.changed to (logs (image manager) (left manager))
+
+      pub rests_unsealed : EachLogs (map body_of batches) gate manager new.disk → EachImage (IsAtRest shape head batches gate ends voted) new.disk
+      rests_unsealed logs image left =
+          let from = image_from manager (Tears gate n) old (moment_of new) changes image left in
+          rests_still from.from image (is from.from from.possible) from.others n from.changed (logs (image manager) (left manager))
+
+      module _ (old_seen : (f : FileId) → MayLeave (old.disk f) (old.disk f).seen) (new_seen : (f : FileId) → MayLeave (new.disk f) (new.disk f).seen) (block : List ℕ) (is_block : block ≡ block_of (body_of batch)) where
+        -- the image as it reads, with these bytes in the manager file, has the batch
+        some_has : SomeLogs (map body_of batches ++ body_of batch ∷ []) (gate + length block) manager new.disk → SomeImage (λ image. IsLog live_slot shape image (log_of batches ++ batch)) new.disk
+        some_has some =
+            let image : Image = with_bytes (λ f. (new.disk f).seen) manager some.image in
+            let left : IsImage new.disk image = with_left new.disk (λ f. (new.disk f).seen) manager some.image new_seen some.left in
+            let from = image_from manager (Tears gate n) old (moment_of new) changes image left in
+            record {
+              image = image;
+              left = left;
+              holds = log_more from.from image (is from.from from.possible) from.others n from.changed (gate + length block)
+                  (subst (λ (l : List ℕ). LogsUpTo (map body_of batches ++ body_of batch ∷ []) (gate + length block) l) (sym (with_bytes-there (λ f. (new.disk f).seen) manager some.image)) some.logs);
+            }
+
+        -- which of the two a doubt is
+        which_doubt : StaysClosed (map body_of batches) gate block old new ⊎ SomeLogs (map body_of batches ++ body_of batch ∷ []) (gate + length block) manager new.disk
+            → NoneHas shape head (log_of batches) old new ⊎ SomeImage (λ image. IsLog live_slot shape image (log_of batches ++ batch)) new.disk
+        which_doubt (inl closed) = inl (record { moments = still_moments new moments closed.moments; logs = (seal_still (moment_of new) changes closed.now).logs })
+        which_doubt (inr some) = inr (some_has some)
+
+        pub in_doubt : EndsAs InDoubt gate block old new → EachLogsOrMore (map body_of batches) (body_of batch) gate manager new.disk → DoubtAs InDoubt (map body_of batches) (body_of batch) gate block old new
+            → IsDoubtful shape head batches batch gate old new
+        in_doubt ends_as logs which =
+            let file = (old.disk manager).seen in
+            let front = (is (λ f. (old.disk f).seen) old_seen).blocks in
+            let whole : List ℕ = staged gate block old in
+            let within : gate + 1 ≤ length file = omega (arith, front.blocks.within) in
+            let over : Tears (gate + 1) (length block) file whole = Tears-overlaid (gate + 1) block file within in
+            let low : gate ≤ gate + 1 = omega arith in
+            let long : gate < length whole = omega (arith, front.blocks.within, over.no_shorter) in
+            let head_same : take gate whole ≡ take gate file = shorter_front gate (gate + 1) whole file low over.before in
+            let size : length (take (gate + 1) file) ≡ gate + 1 = omega (arith, length-take (gate + 1) file, within) in
+            let rest = drop (gate + 1 + length block) file in
+            let behind : drop (gate + 1) whole ≡ block ++ rest = ap (drop (gate + 1)) (append_assoc (take (gate + 1) file) block rest) ∙ drop_at (take (gate + 1) file) (block ++ rest) (gate + 1) size in
+            record {
+              rest = seal_rest (moment_of new) changes;
+              logs = (seal_seam (moment_of new) changes logs).logs;
+              front = λ image left.
+                  let torn = ends_as (image manager) (left manager) in
+                  let there : gate < length (image manager) = omega (arith, long, torn.no_shorter) in
+                  blocks_same (map body_of batches) gate file (image manager) front.blocks there (torn.before ∙ head_same);
+              block = λ image left.
+                  let torn = ends_as (image manager) (left manager) in
+                  subst (λ (b : List ℕ). take (length b) (drop (gate + 1) (image manager)) ≡ b) is_block (ap (take (length block)) (torn.after ∙ behind) ∙ take_at block rest (length block) refl);
+              differ = λ one other left right.
+                  let a = ends_as (one manager) (left manager) in
+                  let b = ends_as (other manager) (right manager) in
+                  record {
+                    long = omega (arith, a.no_shorter, a.no_longer, b.no_shorter, b.no_longer, long);
+                    same = λ i apart.
+                        let where_is : (i < gate) ⊎ (gate + 1 ≤ i) = elim (cases_lt i gate) [
+                          | inl before ↦ inl before
+                          | inr from ↦ elim (cases_lt gate i) [
+                            | inl after ↦ inr (omega (arith, after))
+                            | inr upto ↦ absurd (let e : i ≡ gate = omega (arith, from, upto) in apart e)
+                          ]
+                        ] in
+                        Tears-at gate 1 whole (one manager) a i where_is ∙ sym (Tears-at gate 1 whole (other manager) b i where_is);
+                  };
+              which = which_doubt which;
+            }

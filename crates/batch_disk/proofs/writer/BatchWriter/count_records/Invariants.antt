@@ -1,0 +1,17 @@
+use Rattle.std.proofs.Common.{◌≡◌, drop}
+use Rattle.std.specs.List.{flat_map}
+use Rattle.base_types.specs.Stores.{KeepsRoom}
+use Rattle.base_types.specs.declared.calls.GrainId.{GrainId}
+use Rattle.batch_disk.specs.Resting.{raised_ends}
+use Rattle.batch_disk.specs.Writers.{file_end, IsInBounds}
+use Rattle.batch_disk.proofs.writer.BatchWriter.count_records.Given as goal
+
+abbrev pub invariant-loop-record : goal.invariant-loop-record
+invariant-loop-record l = record {
+  gate : l.self.gate_at ≡ l.fn.self.gate_at;
+  doubt : l.self.in_doubt ≡ l.fn.self.in_doubt;
+  kept : l.self.kept ≡ l.fn.self.kept;
+  room : KeepsRoom l.fn.self.ends l.self.ends;
+  bounds : IsInBounds l.self;
+  ends : (g : GrainId) → raised_ends (file_end l.self) (flat_map (λ r. r.writes) (drop l.record-index l.records)) g ≡ raised_ends (file_end l.fn.self) (flat_map (λ r. r.writes) l.records) g;
+}

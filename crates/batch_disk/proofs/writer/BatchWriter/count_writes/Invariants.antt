@@ -1,0 +1,16 @@
+use Rattle.std.proofs.Common.{◌≡◌, drop}
+use Rattle.base_types.specs.Stores.{KeepsRoom}
+use Rattle.base_types.specs.declared.calls.GrainId.{GrainId}
+use Rattle.batch_disk.specs.Resting.{raised_ends}
+use Rattle.batch_disk.specs.Writers.{file_end, IsInBounds}
+use Rattle.batch_disk.proofs.writer.BatchWriter.count_writes.Given as goal
+
+abbrev pub invariant-loop-write : goal.invariant-loop-write
+invariant-loop-write l = record {
+  gate : l.self.gate_at ≡ l.fn.self.gate_at;
+  doubt : l.self.in_doubt ≡ l.fn.self.in_doubt;
+  kept : l.self.kept ≡ l.fn.self.kept;
+  room : KeepsRoom l.fn.self.ends l.self.ends;
+  bounds : IsInBounds l.self;
+  ends : (g : GrainId) → raised_ends (file_end l.self) (drop l.write-index l.writes) g ≡ raised_ends (file_end l.fn.self) l.writes g;
+}

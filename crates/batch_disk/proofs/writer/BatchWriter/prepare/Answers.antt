@@ -1,0 +1,15 @@
+use Rattle.std.proofs.Common.{subst, List}
+use Rattle.batch_disk.specs.Resting.{Voted}
+use Rattle.batch_disk.specs.Writers.{kept_of, voted_of}
+use Rattle.batch_disk.specs.Records.{AreRecordsFor}
+use Rattle.batch_disk.proofs.Recorded.{all_kept}
+use Rattle.batch_disk.proofs.Standing.{voted_within}
+use Rattle.batch_disk.proofs.writer.BatchWriter.prepare.Goals as goal
+
+pub returns-clause-sealable : goal.returns-clause-sealable
+returns-clause-sealable c =
+    let a = c.args.self.now in
+    let es = c.args.effects in
+    let rs = c.in_ok-work.work.records in
+    let are : AreRecordsFor (voted_of c.args.batch a) es rs = subst (λ (vs : List Voted). AreRecordsFor vs es rs) c.votes_of-votes.ensures c.in_ok-work.ensures.records in
+    record { fits = c.in_ok-work.ensures.fits; small = c.in_ok-work.ensures.small; block = c.in_ok-work.ensures.block; kept = all_kept (voted_of c.args.batch a) (kept_of a) (voted_within a c.args.batch) es rs are }

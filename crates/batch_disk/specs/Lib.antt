@@ -1,0 +1,5 @@
+pub mod Resting
+pub mod Moments
+pub mod Writers
+pub mod Records
+pub mod Seals

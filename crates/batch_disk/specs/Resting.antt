@@ -1,0 +1,118 @@
+-- What each image has between two steps that write a batch.
+use Rattle.std.specs.Prelude.{◌≡◌, ◌≢◌, ℕ, ◌+◌, ◌≤◌, max, if◌then◌else◌, List, [], ◌∷◌, length, map, take, drop, slice_index, slice_get, Some}
+use Rattle.std.specs.List.{flat_map, AllByRecursion}
+use Rattle.base_types.specs.declared.calls.GrainId.{GrainId}
+use Rattle.base_types.specs.declared.calls.UnitNo.{UnitNo}
+use Rattle.base_types.specs.declared.calls.Value.{Value}
+use Rattle.base_types.specs.declared.shapes.Shape.{Shape}
+use Rattle.base_types.specs.declared.stores.Place.{Place}
+use Rattle.base_types.specs.declared.stores.Version.{Version}
+use Rattle.host_trait.specs.declared.channels.FileId.{FileId}
+use Rattle.host_trait.specs.declared.channels.FileId.TheVariants.{Grain}
+use Rattle.host_trait.specs.Files.{same_grain}
+use Rattle.host_trait.specs.World.{Disk, Image, IsImage}
+use Rattle.gate_block.specs.Log.{LogsUpTo}
+use Rattle.grain_log.specs.Places.{places_from}
+use Rattle.grain_log.specs.Reads.{fields_of}
+use Rattle.commit_log.specs.declared.records.Written.{Written}
+use Rattle.log_reading.specs.Steps.{live_slot, manager}
+use Rattle.promise_spec.specs.Records.{Commit}
+use Rattle.promise_spec.specs.Logs.{magic, WriteStands, IsKept, body_of}
+
+-- the file of a grain's versions
+abbrev pub grain_file : GrainId → FileId
+grain_file grain = Grain live_slot grain
+
+-- the records of these batches, one batch behind the other
+abbrev pub log_of : List (List Commit) → List Commit
+log_of batches = flat_map (λ batch. batch) batches
+
+-- this holds of each image that a crash may leave
+abbrev pub EachImage : (Image → Type 0) → Disk → Type 0
+EachImage P disk = (image : Image) → IsImage disk image → P image
+
+-- a crash may leave an image of which this holds
+pub record SomeImage (P : Image → Type 0) (disk : Disk) : Type 0 where
+  pub image : Image
+  pub left : IsImage disk image
+  pub holds : P image
+
+-- the first bytes of a silo's manager file, up to the first gate: they begin with the open header gate and the magic
+pub record BeginsSilo (head : List ℕ) : Type 0 where
+  pub gate : slice_index head 0 ≡ 1
+  pub named : take 8 (drop 1 head) ≡ magic
+
+-- ---- places and ends
+
+-- where the place of a write ends in its grain's file
+abbrev pub write_end : Written → ℕ
+write_end w = w.place.offset + w.place.len
+
+-- a place ends at most where the log's places in its grain's file do
+abbrev pub IsBelow : (GrainId → ℕ) → Written → Type 0
+IsBelow ends w = write_end w ≤ ends w.grain
+
+-- so do all places that these records name
+abbrev pub AreBelow : (GrainId → ℕ) → List Commit → Type 0
+AreBelow ends log = AllByRecursion (λ c. AllByRecursion (IsBelow ends) c.logged.writes) log
+
+-- the ends once this place is named
+abbrev pub raised_end : (GrainId → ℕ) → Written → GrainId → ℕ
+raised_end ends w g = if same_grain w.grain g then max (ends g) (write_end w) else ends g
+
+-- the ends once these places are named
+abbrev pub raised_ends : (GrainId → ℕ) → List Written → GrainId → ℕ
+raised_ends ends [] g = ends g
+raised_ends ends (w ∷ ws) g = raised_ends (raised_end ends w) ws g
+
+-- the places that these records name
+abbrev pub all_writes : List Commit → List Written
+all_writes log = flat_map (λ c. c.logged.writes) log
+
+-- ---- what the votes of the open batch wrote
+
+-- a version that a vote wrote: its unit, its place as the unit's record will name it, and its state
+pub record Voted : Type 0 where
+  pub unit : UnitNo
+  pub write : Written
+  pub state : List Value
+
+-- it stands in the image
+abbrev pub StandsIn : Shape → Image → Voted → Type 0
+StandsIn shape image v = WriteStands live_slot shape image v.unit v.write v.state
+
+-- none of these versions is in the grain's file
+abbrev pub NotAmong : GrainId → List Voted → Type 0
+NotAmong grain voted = AllByRecursion (λ v. v.write.grain ≢ grain) voted
+
+-- these versions of a grain, at these places of its file
+abbrev pub voted_at : GrainId → List Place → List Version → List Voted
+voted_at grain [] vs = []
+voted_at grain (p ∷ ps) [] = []
+voted_at grain (p ∷ ps) (v ∷ vs) = record { unit = v.unit; write = record { grain = grain; place = p }; state = v.state } ∷ voted_at grain ps vs
+
+-- these versions of a grain, one behind the other from this offset of its file on
+abbrev pub voted_from : GrainId → ℕ → List Version → List Voted
+voted_from grain at vs = voted_at grain (places_from at vs) vs
+
+-- the versions have as many fields as the grain's type
+abbrev pub AreOfType : Shape → GrainId → List Version → Type 0
+AreOfType shape grain versions = AllByRecursion (λ v. fields_of (slice_get shape.types grain.kind) ≡ Some (length v.state)) versions
+
+-- ---- between two steps
+
+-- What no image decides: the header is a silo's, a batch has at most 64 records, and all that these batches name ends at most at
+-- these ends.
+pub record AreNamed (head : List ℕ) (batches : List (List Commit)) (ends : GrainId → ℕ) : Type 0 where
+  pub silo : BeginsSilo head
+  pub sizes : AllByRecursion (λ batch. length batch ≤ 64) batches
+  pub below : AreBelow ends (log_of batches)
+
+-- What each image has: this header; the log of these batches up to this closed gate, each record whole; grain files that go
+-- on to these ends at least; and the versions that the votes of the open batch wrote.
+pub record IsAtRest (shape : Shape) (head : List ℕ) (batches : List (List Commit)) (gate : ℕ) (ends : GrainId → ℕ) (voted : List Voted) (image : Image) : Type 0 where
+  pub header : take 15 (image manager) ≡ head
+  pub blocks : LogsUpTo (map body_of batches) gate (image manager)
+  pub whole : AllByRecursion (IsKept live_slot shape image) (log_of batches)
+  pub long : (g : GrainId) → ends g ≤ length (image (grain_file g))
+  pub stand : AllByRecursion (StandsIn shape image) voted

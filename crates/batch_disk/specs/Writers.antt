@@ -1,0 +1,58 @@
+-- What a writer of batches stands for.
+use Rattle.std.specs.Prelude.{◌≡◌, ℕ, ◌==◌, ◌<◌, ◌≤◌, ◌^◌, if◌then◌else◌, true, false, List, [], length, map, unwrap_or}
+use Rattle.std.specs.List.{AllByRecursion}
+use Rattle.base_types.specs.Stores.{end_in, has_room}
+use Rattle.base_types.specs.declared.calls.GrainId.{GrainId}
+use Rattle.base_types.specs.declared.shapes.Shape.{Shape}
+use Rattle.host_trait.specs.World.{Disk}
+use Rattle.gate_block.specs.Gates.{IsClosedAt}
+use Rattle.log_reading.specs.Steps.{manager}
+use Rattle.promise_spec.specs.Records.{Commit}
+use Rattle.batch_disk.specs.Resting.{EachImage, grain_file, write_end, Voted, AreNamed, IsAtRest}
+use Rattle.batch_disk.specs.declared.writer.BatchWriter.{BatchWriter}
+use Rattle.batch_disk.specs.declared.writer.KeptVersion.{KeptVersion}
+
+-- where the places that the log names in a grain's file end, 0 where it names none
+abbrev pub file_end : BatchWriter → GrainId → ℕ
+file_end writer grain = unwrap_or (end_in writer.ends grain) 0
+
+-- a version as a vote keeps it
+abbrev pub voted_by : KeptVersion → Voted
+voted_by k = record { unit = k.unit; write = record { grain = k.grain; place = k.place }; state = k.state.value }
+
+-- the versions that votes wrote and that are kept
+abbrev pub kept_of : BatchWriter → List Voted
+kept_of writer = map voted_by writer.kept.items
+
+-- those of this batch's votes: none where what is kept is another's
+abbrev pub voted_of : ℕ → BatchWriter → List Voted
+voted_of batch writer = if writer.batch == batch then kept_of writer else []
+
+-- the version's end can count without memory: it has room, and fits
+abbrev pub CanCount : BatchWriter → Voted → Type 0
+CanCount writer v = (has_room writer.ends v.write.grain ≡ true) × (write_end v.write < 2 ^ 63)
+
+-- the next gate and each end are below 2 to the 63, and each version that is kept can count without memory
+pub record IsInBounds (writer : BatchWriter) : Type 0 where
+  pub gate : writer.gate_at < 2 ^ 63
+  pub ends : (g : GrainId) → file_end writer g < 2 ^ 63
+  pub kept : AllByRecursion (CanCount writer) (kept_of writer)
+
+-- What its calls need of the files as they read: they go on to their ends at least, the versions that are kept lie in them,
+-- and the next gate is closed, unless a batch is in doubt.
+pub record FitsDisk (writer : BatchWriter) (disk : Disk) : Type 0 where
+  pub long : (g : GrainId) → file_end writer g ≤ length (disk (grain_file g)).seen
+  pub kept : AllByRecursion (λ v. write_end v.write ≤ length (disk (grain_file v.write.grain)).seen) (kept_of writer)
+  pub closed : writer.in_doubt ≡ false → IsClosedAt writer.gate_at (disk manager).seen
+
+-- What the writer keeps of the folder: its gate and its ends are those of this log, in each image, where what the votes wrote
+-- stands.
+pub record KeepsDisk (shape : Shape) (head : List ℕ) (batches : List (List Commit)) (writer : BatchWriter) (disk : Disk) : Type 0 where
+  pub named : AreNamed head batches (file_end writer)
+  pub images : EachImage (IsAtRest shape head batches writer.gate_at (file_end writer) (kept_of writer)) disk
+
+-- gate, ends and doubt are as they were
+pub record HasSameEnds (old new : BatchWriter) : Type 0 where
+  pub gate : new.gate_at ≡ old.gate_at
+  pub ends : (g : GrainId) → file_end new g ≡ file_end old g
+  pub doubt : new.in_doubt ≡ old.in_doubt

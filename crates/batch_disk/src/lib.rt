@@ -1,0 +1,15 @@
+//! What of a batch goes to the disk: the versions of each grain, which is the vote on it, and then the records of the units to
+//! commit, behind a gate.
+//!
+//! A [`BatchWriter`] knows where the log and the grains' files go on, and keeps where the votes of the open batch wrote. Its
+//! contracts say what each image has at each moment of a vote and of a seal, and after them. It knows nothing of the core but
+//! what a unit did.
+#![tactic(auto)]
+
+mod laws;
+mod recording;
+mod writer;
+
+pub use laws::{batches_go_on_the_journal, writers_know_the_log};
+pub use recording::SealWork;
+pub use writer::BatchWriter;

@@ -1,0 +1,326 @@
+ghost use Rattle.std.specs.Prelude.{◌≡◌, ◌+◌, ◌++◌, ◌∷◌, ◌<◌, ◌≤◌, ◌^◌, ℕ, [], List, true, false, IsTrue, length, map, unwrap_or, if◌then◌else◌, IfOk, OnOk, OnErr, vec_len, vec_capacity};
+ghost use Rattle.std.specs.List.{flat_map, AllByRecursion};
+ghost use Rattle.base_types.specs.Stores.{end_in, has_room, KeepsRoom};
+ghost use Rattle.base_types.specs.declared.calls.GrainId.{GrainId as AGrain};
+ghost use Rattle.base_types.specs.declared.shapes.Shape.{Shape};
+ghost use Rattle.host_trait.specs.Disk.{Tears, overlaid, settled};
+ghost use Rattle.host_trait.specs.Faults.{NoneFailed, FailedOn};
+ghost use Rattle.host_trait.specs.Files.{StaysReady};
+ghost use Rattle.host_trait.specs.World.{Passes};
+ghost use Rattle.host_trait.specs.Runs.{RunsOnFile};
+ghost use Rattle.host_trait.specs.declared.channels.Channel.TheVariants.{File};
+ghost use Rattle.grain_log.specs.Places.{spelling_of_versions};
+ghost use Rattle.commit_log.specs.Sealing.{SealHasCause};
+ghost use Rattle.core_model.specs.declared.effects.Effect.{Effect as AnEffect};
+ghost use Rattle.log_reading.specs.Steps.{manager};
+ghost use Rattle.promise_spec.specs.Records.{Commit};
+ghost use Rattle.batch_disk.specs.Resting.{grain_file, log_of, write_end, raised_ends, NotAmong, AreOfType, voted_at, voted_from};
+ghost use Rattle.batch_disk.specs.Moments.{KeepsLog};
+ghost use Rattle.batch_disk.specs.Writers.{file_end, voted_by, kept_of, voted_of, IsInBounds, FitsDisk, KeepsDisk, HasSameEnds};
+ghost use Rattle.batch_disk.specs.Records.{AreRecordsFor, IsSealable, MayBeLogged, IsAsWritten};
+ghost use Rattle.batch_disk.specs.Seals.{SealsAs, WriterAfter};
+
+use crate::recording::{SealWork, work_of};
+use base_types::{Ends, GrainId, List, Place, State, UnitNo, Version};
+use commit_log::{CommitRecord, Sealing, Written, seal};
+use core_model::Effect;
+use grain_log::{LogFault, write_versions};
+use host_trait::{FileId, Host};
+use std::alloc::{AllocError, Global};
+use std::snapshot::Snapshot;
+
+// A version that a vote wrote: of which grain and unit, and where. Its state is for contracts alone, and has no bytes.
+#[derive(Drop)]
+pub(crate) struct KeptVersion {
+    pub(crate) grain: GrainId,
+    pub(crate) unit: UnitNo,
+    pub(crate) place: Place,
+    pub(crate) state: Snapshot<State>,
+}
+
+/// Where the log and the grains' files go on, and where the votes of one batch wrote.
+///
+/// Between two calls each image has the log up to the next gate, and what the votes wrote (`KeepsDisk`). The next gate and the
+/// ends move only when a batch is sealed.
+#[derive(Drop)]
+pub struct BatchWriter {
+    gate_at: u64,
+    ends: Ends,
+    // Whose votes are kept: those of another batch are dropped before any of this one.
+    batch: u64,
+    kept: Vec<KeptVersion>,
+    in_doubt: bool,
+}
+
+impl BatchWriter {
+    /// A writer that goes on at this closed gate and at these ends, each below 2 to the 63. Takes no memory.
+    pub fn new(alloc: Global, gate_at: u64, ends: Ends) -> BatchWriter
+        requires gate { gate_at < 2 ^ 63 }
+        requires ends { (g : AGrain) → unwrap_or (end_in ends g) 0 < 2 ^ 63 }
+        ensures gate { result.gate_at ≡ gate_at }
+        ensures ends { (g : AGrain) → file_end result g ≡ unwrap_or (end_in ends g) 0 }
+        ensures kept { kept_of result ≡ [] }
+        ensures doubt { result.in_doubt ≡ false }
+        ensures bounds { IsInBounds result }
+    {
+        BatchWriter {
+            gate_at,
+            ends,
+            batch: 0,
+            kept: Vec::new(alloc),
+            in_doubt: false,
+        }
+    }
+
+    /// The place of the next gate.
+    pub fn gate_at(&self) -> u64
+        ensures { result ≡ self.now.gate_at }
+    {
+        self.gate_at
+    }
+
+    /// Where the next version goes in a grain's file.
+    pub fn file_end(&self, grain: GrainId) -> u64
+        ensures { result ≡ file_end self.now grain }
+    {
+        self.ends.get(grain).unwrap_or(0)
+    }
+
+    /// Whether a seal was left in doubt. Nothing may be sealed then.
+    pub fn in_doubt(&self) -> bool
+        ensures { result ≡ self.now.in_doubt }
+    {
+        self.in_doubt
+    }
+
+    // What is kept of this batch.
+    fn votes_of(&self, batch: u64) -> &[KeptVersion]
+        ensures { map voted_by result.now ≡ voted_of batch self.now }
+    {
+        if self.batch == batch {
+            return self.kept.as_slice();
+        }
+        &[]
+    }
+
+    // Drops what is kept of another batch.
+    fn go_to(&mut self, batch: u64)
+        ensures same { HasSameEnds self.old self.new }
+        ensures kept { kept_of self.new ≡ voted_of batch self.old }
+        ensures batch { self.new.batch ≡ batch }
+        ensures ends { self.new.ends ≡ self.old.ends }
+    {
+        if self.batch != batch {
+            self.kept.clear();
+            self.batch = batch;
+        }
+    }
+
+    // After this, so many versions more of a grain are kept, and count, without memory.
+    fn make_room(&mut self, grain: GrainId, count: usize) -> Result<(), AllocError>
+        ensures same { HasSameEnds self.old self.new }
+        ensures kept { kept_of self.new ≡ kept_of self.old }
+        ensures batch { self.new.batch ≡ self.old.batch }
+        ensures room { KeepsRoom self.old.ends self.new.ends }
+        ensures made { OnOk result (has_room self.new.ends grain ≡ true) }
+        ensures space { OnOk result (vec_len self.new.kept + count ≤ vec_capacity self.new.kept) }
+    {
+        self.kept.reserve(count)?;
+        self.ends.room(grain)?;
+        Ok(())
+    }
+
+    // Keeps one version more. It takes no memory.
+    fn keep_one(&mut self, version: KeptVersion)
+        requires { vec_len self.old.kept < vec_capacity self.old.kept }
+        ensures items { self.new.kept.items ≡ self.old.kept.items ++ version ∷ [] }
+        ensures space { vec_capacity self.old.kept + vec_len self.new.kept ≤ vec_capacity self.new.kept + vec_len self.old.kept + 1 }
+        ensures gate { self.new.gate_at ≡ self.old.gate_at }
+        ensures doubt { self.new.in_doubt ≡ self.old.in_doubt }
+        ensures batch { self.new.batch ≡ self.old.batch }
+        ensures ends { self.new.ends ≡ self.old.ends }
+    {
+        let done = self.kept.push(version);
+        prove!(done.is_ok());
+    }
+
+    // Keeps the versions of a grain at their places. It takes no memory.
+    fn keep(&mut self, grain: GrainId, versions: &[Version], places: &[Place])
+        requires space { vec_len self.old.kept + length versions.now ≤ vec_capacity self.old.kept }
+        requires each { length places.now ≡ length versions.now }
+        ensures kept { kept_of self.new ≡ kept_of self.old ++ voted_at grain places.now versions.now }
+        ensures gate { self.new.gate_at ≡ self.old.gate_at }
+        ensures doubt { self.new.in_doubt ≡ self.old.in_doubt }
+        ensures batch { self.new.batch ≡ self.old.batch }
+        ensures ends { self.new.ends ≡ self.old.ends }
+    {
+        for at in 0..versions.len() {
+            let version = &versions[at];
+            let place = places[at];
+            self.keep_one(KeptVersion {
+                grain,
+                unit: version.unit,
+                place,
+                state: Snapshot::of(&version.state),
+            });
+        }
+    }
+
+    /// Writes a batch's versions of a grain at the end of its file, by one write and one sync, and answers whether they are on
+    /// disk: the vote on the grain. It keeps where they are. The end stays until the batch is sealed.
+    ///
+    /// What is kept of another batch is dropped. Without memory nothing was written.
+    pub fn write_work<H: Host>(
+        &mut self,
+        host: &mut H,
+        batch: u64,
+        grain: GrainId,
+        versions: &List<Version>,
+    ) -> Result<bool, AllocError>
+        requires bounds { IsInBounds self.old }
+        requires fits { IsTrue H.tells → FitsDisk self.old (H.world host.old).disk }
+
+        // One write and one sync at most, at the file's end; no other file and no output changes.
+        ensures run { IsTrue H.tells
+            → RunsOnFile (grain_file grain) (Tears (file_end self.old grain) (length (spelling_of_versions versions.now))) 1 (H.world host.old) (H.world host.new) }
+
+        // At each moment each image has the log that it had.
+        ensures still { IsTrue H.tells → (shape : Shape) (head : List ℕ) (batches : List (List Commit)) → NotAmong grain (voted_of batch self.old)
+            → KeepsDisk shape head batches self.old (H.world host.old).disk
+            → Passes (KeepsLog shape head (log_of batches) (H.world host.old)) (H.world host.old).past (H.world host.new).past }
+
+        // After every answer the log is where the writer keeps it, and what the votes wrote stands.
+        ensures keeps { IsTrue H.tells → (shape : Shape) (head : List ℕ) (batches : List (List Commit)) → NotAmong grain (voted_of batch self.old)
+            → AreOfType shape grain versions.now → KeepsDisk shape head batches self.old (H.world host.old).disk
+            → KeepsDisk shape head batches self.new (H.world host.new).disk }
+
+        // A vote of yes: they are on disk, and are kept. No other vote is kept more.
+        ensures there { IfOk result (λ yes. IsTrue yes → IsTrue H.tells → (H.world host.new).disk (grain_file grain)
+            ≡ settled (overlaid ((H.world host.old).disk (grain_file grain)).seen (file_end self.old grain) (spelling_of_versions versions.now))) }
+        ensures once { IfOk result (λ yes. IsTrue yes → IsTrue H.tells → (H.world host.new).syncs ≡ (H.world host.old).syncs + 1) }
+        ensures voted { IfOk result (λ yes. voted_of batch self.new
+            ≡ (if yes then voted_of batch self.old ++ voted_from grain (file_end self.old grain) versions.now else voted_of batch self.old)) }
+        ensures unvoted { OnErr result (voted_of batch self.new ≡ voted_of batch self.old) }
+        ensures same { HasSameEnds self.old self.new }
+
+        // A vote of no is a fault of the grain's file, and of nothing else.
+        ensures yes { IfOk result (λ yes. IsTrue yes → NoneFailed (H.faults host.old) (H.faults host.new)) }
+        ensures no { IfOk result (λ yes. yes ≡ false → FailedOn (File (grain_file grain)) (H.faults host.old) (H.faults host.new)) }
+        ensures calm { OnErr result (NoneFailed (H.faults host.old) (H.faults host.new)) }
+        ensures unwritten { OnErr result (IsTrue H.tells → H.world host.new ≡ H.world host.old) }
+
+        ensures bounds { IsInBounds self.new }
+        ensures fits { IsTrue H.tells → FitsDisk self.new (H.world host.new).disk }
+        ensures ready { StaysReady (H.is_ready host.old) (H.is_ready host.new) }
+    {
+        let alloc = *self.kept.allocator();
+        let at = self.file_end(grain);
+        self.go_to(batch);
+        self.make_room(grain, versions.len())?;
+        let file = FileId::Grain { slot: 0, grain };
+        match write_versions(alloc, host, file, at, versions) {
+            Ok(places) => {
+                let written = versions.as_slice();
+                let placed = places.as_slice();
+                self.keep(grain, written, placed);
+                Ok(true)
+            }
+            Err(LogFault::Failed) => Ok(false),
+            Err(LogFault::Memory) => Err(AllocError),
+        }
+    }
+
+    /// The records of a batch's units to commit, in batch order, and their block. All memory that sealing wants is taken here;
+    /// calls, answers and results are moved.
+    ///
+    /// It answers want of memory, too, where no place of a version that a unit wrote is kept, which can't be but where others
+    /// voted, and where a unit goes beyond the limits of the format, which no play does.
+    pub fn prepare(&self, batch: u64, effects: List<Effect>) -> Result<SealWork, AllocError>
+        ensures records { IfOk result (λ work. AreRecordsFor (voted_of batch self.now) effects work.records) }
+        ensures sealable { IfOk result (λ work. IsSealable self.now work) }
+    {
+        let votes = self.votes_of(batch);
+        let work = work_of(*self.kept.allocator(), votes, effects)?;
+        Ok(work)
+    }
+
+    // The ends move past the places that a record names. It takes no memory.
+    fn count_writes(&mut self, writes: &[Written])
+        requires bounds { IsInBounds self.old }
+        requires can { AllByRecursion (λ w. (has_room self.old.ends w.grain ≡ true) × (write_end w < 2 ^ 63)) writes.now }
+        ensures gate { self.new.gate_at ≡ self.old.gate_at }
+        ensures doubt { self.new.in_doubt ≡ self.old.in_doubt }
+        ensures kept { self.new.kept ≡ self.old.kept }
+        ensures ends { (g : AGrain) → file_end self.new g ≡ raised_ends (file_end self.old) writes.now g }
+        ensures room { KeepsRoom self.old.ends self.new.ends }
+        ensures bounds { IsInBounds self.new }
+    {
+        for write in writes {
+            let end = write.place.offset + write.place.len as u64;
+            self.ends.raise(write.grain, end);
+        }
+    }
+
+    // The ends move past the places that the records name. It takes no memory.
+    fn count_records(&mut self, records: &[CommitRecord])
+        requires bounds { IsInBounds self.old }
+        requires can { AllByRecursion (λ r. AllByRecursion (λ w. (has_room self.old.ends w.grain ≡ true) × (write_end w < 2 ^ 63)) r.writes) records.now }
+        ensures gate { self.new.gate_at ≡ self.old.gate_at }
+        ensures doubt { self.new.in_doubt ≡ self.old.in_doubt }
+        ensures kept { self.new.kept ≡ self.old.kept }
+        ensures ends { (g : AGrain) → file_end self.new g ≡ raised_ends (file_end self.old) (flat_map (λ r. r.writes) records.now) g }
+        ensures bounds { IsInBounds self.new }
+    {
+        for record in records {
+            self.count_writes(record.writes.as_slice());
+        }
+    }
+
+    /// Seals a block that `prepare` made. It takes no memory. A gate is reached before this call, once the block is there.
+    ///
+    /// Sealed, the next gate and the ends move on. In each case the places of the votes are forgotten, unless the batch is in
+    /// doubt: then nothing may be sealed any more.
+    pub fn seal<H: Host>(&mut self, host: &mut H, work: SealWork) -> Sealing
+        requires bounds { IsInBounds self.old }
+        requires fits { IsTrue H.tells → FitsDisk self.old (H.world host.old).disk }
+        requires sure { self.old.in_doubt ≡ false }
+        requires work { IsSealable self.old work }
+
+        // Two writes and two syncs at most, of the manager file from the gate on; no other file and no output changes.
+        ensures run { IsTrue H.tells
+            → RunsOnFile manager (Tears self.old.gate_at (length work.block + 1)) 2 (H.world host.old) (H.world host.new) }
+        ensures twice { IsTrue H.tells → (next : ℕ) → result ≡ Sealing.Sealed next → (H.world host.new).syncs ≡ (H.world host.old).syncs + 2 }
+
+        // The seam: at each moment each image has the log that it had, or it with the records of these units, all of them whole.
+        ensures seals { IsTrue H.tells → (shape : Shape) (head : List ℕ) (batches : List (List Commit)) (batch : ℕ) (effects : List AnEffect)
+            → AreRecordsFor (voted_of batch self.old) effects work.records
+            → AllByRecursion (MayBeLogged shape) effects → AllByRecursion (IsAsWritten (voted_of batch self.old)) effects
+            → KeepsDisk shape head batches self.old (H.world host.old).disk
+            → SealsAs shape head batches effects result self.old self.new (H.world host.old) (H.world host.new) }
+        ensures after { WriterAfter result work.records self.old self.new }
+
+        // Not sealed and in doubt are faults of the manager file, and of nothing else.
+        ensures cause { SealHasCause result self.old.gate_at (length work.block) (H.faults host.old) (H.faults host.new) }
+
+        ensures bounds { IsInBounds self.new }
+        ensures fits { IsTrue H.tells → FitsDisk self.new (H.world host.new).disk }
+        ensures ready { StaysReady (H.is_ready host.old) (H.is_ready host.new) }
+    {
+        match seal(host, self.gate_at, work.block.as_slice()) {
+            Sealing::Sealed { next_gate } => {
+                self.gate_at = next_gate;
+                self.count_records(work.records.as_slice());
+                self.kept.clear();
+                Sealing::Sealed { next_gate }
+            }
+            Sealing::NotSealed => {
+                self.kept.clear();
+                Sealing::NotSealed
+            }
+            Sealing::InDoubt => {
+                self.in_doubt = true;
+                Sealing::InDoubt
+            }
+        }
+    }
+}
