@@ -1,0 +1,68 @@
+-- A step of the settler as a run's journal takes it: what it leaves of the logs of all images, and of the output.
+use Rattle.std.specs.Prelude.{◌≡◌, ◌⊎◌, ℕ, List, [], ◌∷◌, ◌++◌, Bool, true, false}
+use Rattle.std.specs.List.{AllByRecursion}
+use Rattle.base_types.specs.declared.calls.GrainId.{GrainId}
+use Rattle.base_types.specs.declared.entries.Entry.{Entry}
+use Rattle.base_types.specs.declared.shapes.Shape.{Shape}
+use Rattle.host_trait.specs.World.{World, Passes, IsEmitted, moment_of}
+use Rattle.request_wire.specs.Reply.{reply_line}
+use Rattle.core_model.specs.CoreState.{CoreState}
+use Rattle.core_model.specs.declared.effects.Effect.{Effect}
+use Rattle.core_model.specs.declared.events.CoreEvent.{CoreEvent}
+use Rattle.core_model.specs.declared.events.CoreEvent.TheVariants.{Sealed, Doubt, Emitted}
+use Rattle.core_model.specs.Settler.{settler_step, Votes, Seals as SealStep, versions_to_write, to_commit}
+use Rattle.promise_spec.specs.Programs.{Program, shape_in}
+use Rattle.promise_spec.specs.Records.{Commit, AreRecordsOf}
+use Rattle.promise_spec.specs.Journals.{Settlement, Seals, Doubts}
+use Rattle.promise_spec.specs.Logs.{IsLog, live_slot}
+use Rattle.batch_disk.specs.Resting.{log_of, NotAmong, AreOfType, SomeImage}
+use Rattle.batch_disk.specs.Moments.{LeavesRest}
+use Rattle.batch_disk.specs.Writers.{voted_of, KeepsDisk}
+use Rattle.batch_disk.specs.Records.{MayBeLogged, IsAsWritten}
+use Rattle.batch_disk.specs.Seals.{IsDoubtful}
+use Rattle.batch_disk.specs.declared.writer.BatchWriter.{BatchWriter}
+
+-- What the core's batch has to be for the step that this state asks for: no version of the grain is kept yet, and the units'
+-- versions are of its type; the units to commit are the program's, and what the votes wrote of them is what they wrote.
+pub record IsFair (shape : Shape) (writer : BatchWriter) (w : CoreState) : Type 0 where
+  pub vote : (n : ℕ) (g : GrainId) → settler_step w ≡ Votes n g → NotAmong g (voted_of n writer) × AreOfType shape g (versions_to_write w w.manager.batch g)
+  pub seal : (n : ℕ) → settler_step w ≡ SealStep n
+      → AllByRecursion (MayBeLogged shape) (to_commit w w.manager.batch) × AllByRecursion (IsAsWritten (voted_of n writer)) (to_commit w w.manager.batch)
+
+-- a batch's records, as one settlement without entries
+abbrev pub as_settled : List Commit → Settlement
+as_settled batch = record { commits = batch; entries = [] }
+
+module _ (p : Program) (head : List ℕ) (batches : List (List Commit)) (before after : BatchWriter) (old new : World) where
+  -- Nothing is put out and no log changes, at no moment, and the writer keeps the disk.
+  pub record LeavesLogs : Type 0 where
+    pub seals : Seals p (log_of batches) [] old new
+    pub rest : Passes (LeavesRest head old) old.past new.past
+    pub rest_now : LeavesRest head old (moment_of new)
+    pub disk : KeepsDisk (shape_in p) head batches after new.disk
+
+  -- The batch of these units is sealed: each image has it behind the logs of before.
+  pub record SealsBatch (effects : List Effect) : Type 0 where
+    pub batch : List Commit
+    pub records : AreRecordsOf effects batch
+    pub seals : Seals p (log_of batches) (as_settled batch ∷ []) old new
+    pub rest : Passes (LeavesRest head old) old.past new.past
+    pub rest_now : LeavesRest head old (moment_of new)
+    pub disk : KeepsDisk (shape_in p) head (batches ++ batch ∷ []) after new.disk
+
+  -- It is in doubt: no image has it, or some may have it.
+  pub record DoubtsBatch (gate : ℕ) (effects : List Effect) : Type 0 where
+    pub batch : List Commit
+    pub records : AreRecordsOf effects batch
+    pub journal : Seals p (log_of batches) [] old new
+        ⊎ (Doubts p (log_of batches) (as_settled batch) old new × SomeImage (λ image. IsLog live_slot (shape_in p) image (log_of batches ++ batch)) new.disk)
+    pub rest : Passes (LeavesRest head old) old.past new.past
+    pub doubt : IsDoubtful (shape_in p) head batches batch gate old new
+
+  -- by the event that was made
+  abbrev pub JournalsAs : CoreEvent → Bool → CoreState → Type 0
+  JournalsAs (Sealed n) quiet w = SealsBatch (to_commit w w.manager.batch)
+  JournalsAs (Doubt n) quiet w = DoubtsBatch before.gate_at (to_commit w w.manager.batch) ⊎ (new ≡ old)
+  JournalsAs Emitted true w = (new ≡ old) × (after ≡ before)
+  JournalsAs Emitted false w = (after ≡ before) × ((entry : Entry) × IsEmitted (reply_line (shape_in p) entry) old new)
+  JournalsAs _ quiet w = LeavesLogs

@@ -1,0 +1,182 @@
+ghost use Rattle.std.specs.Prelude.{◌≡◌, false, IsTrue};
+ghost use Rattle.base_types.specs.declared.shapes.Shape.{Shape as AShape};
+ghost use Rattle.host_trait.specs.Files.{StaysReady};
+ghost use Rattle.core_model.specs.CoreState.{CoreState};
+ghost use Rattle.core_model.specs.Settler.{settler_step};
+ghost use Rattle.core_model.specs.declared.questions.SettlerWork.TheVariants as shown;
+ghost use Rattle.batch_disk.specs.Writers.{IsInBounds, FitsDisk};
+ghost use Rattle.settle_loop.specs.Works.{IsShown};
+ghost use Rattle.settle_loop.specs.Making.{MadeAs};
+
+use crate::gate::{Gate, GatePlace};
+use crate::settler::Settler;
+use base_types::{Entry, GrainId, List, Shape, Version};
+use commit_log::Sealing;
+use core_model::{CoreEvent, Effect, SettlerWork};
+use host_trait::Host;
+use request_wire::reply_text;
+use std::alloc::AllocError;
+
+/// What a step has to tell the core, once its host calls are made.
+#[derive(Drop)]
+pub(crate) enum Made {
+    /// This event, and whether it says that an entry is written, or that a batch is in doubt.
+    Event {
+        event: CoreEvent,
+        writes: bool,
+        doubts: bool,
+    },
+    /// There was nothing to do.
+    Idle,
+    /// The output failed.
+    Cut,
+}
+
+impl Settler {
+    // The first case: a grain's versions are written, and the vote is what that answers.
+    fn vote<H: Host>(
+        &mut self,
+        host: &mut H,
+        batch: u64,
+        grain: GrainId,
+        versions: List<Version>,
+    ) -> Result<Made, AllocError>
+        requires bounds { IsInBounds self.old.writer }
+        requires fits { IsTrue H.tells → FitsDisk self.old.writer (H.world host.old).disk }
+        ensures made { (shape : AShape) (w : CoreState) → IsShown w (settler_step w) (shown.Vote batch grain versions)
+            → MadeAs H.tells H.world H.faults shape w self.old self.new host.old host.new result }
+        ensures bounds { IsInBounds self.new.writer }
+        ensures fits { IsTrue H.tells → FitsDisk self.new.writer (H.world host.new).disk }
+        ensures ready { StaysReady (H.is_ready host.old) (H.is_ready host.new) }
+    {
+        let kept = self.writer.write_work(host, batch, grain, &versions)?;
+        Ok(Made::Event {
+            event: CoreEvent::Vote {
+                batch,
+                grain,
+                yes: kept,
+            },
+            writes: false,
+            doubts: false,
+        })
+    }
+
+    // The third case: the records of the units to commit are sealed. After a seal that was left in doubt none is made.
+    fn seal<H: Host, G: Gate>(
+        &mut self,
+        host: &mut H,
+        gate: &G,
+        batch: u64,
+        effects: List<Effect>,
+    ) -> Result<Made, AllocError>
+        requires bounds { IsInBounds self.old.writer }
+        requires fits { IsTrue H.tells → FitsDisk self.old.writer (H.world host.old).disk }
+        ensures made { (shape : AShape) (w : CoreState) → IsShown w (settler_step w) (shown.Seal batch effects)
+            → MadeAs H.tells H.world H.faults shape w self.old self.new host.old host.new result }
+        ensures bounds { IsInBounds self.new.writer }
+        ensures fits { IsTrue H.tells → FitsDisk self.new.writer (H.world host.new).disk }
+        ensures ready { StaysReady (H.is_ready host.old) (H.is_ready host.new) }
+    {
+        if self.writer.in_doubt() {
+            return Ok(Made::Event {
+                event: CoreEvent::Doubt { batch },
+                writes: false,
+                doubts: true,
+            });
+        }
+        let made = self.writer.prepare(batch, effects)?;
+        gate.reach(GatePlace::BeforeGateSync { batch });
+        match self.writer.seal(host, made) {
+            Sealing::Sealed {
+                next_gate: _next_gate,
+            } => return Ok(Made::Event {
+                event: CoreEvent::Sealed { batch },
+                writes: false,
+                doubts: false,
+            }),
+            Sealing::NotSealed => return Ok(Made::Event {
+                event: CoreEvent::NotSealed { batch },
+                writes: false,
+                doubts: false,
+            }),
+            Sealing::InDoubt => return Ok(Made::Event {
+                event: CoreEvent::Doubt { batch },
+                writes: false,
+                doubts: true,
+            }),
+        }
+    }
+
+    // The fifth case: a settled entry's line is put out, unless the settler is quiet.
+    fn write<H: Host>(&self, shape: &Shape, host: &mut H, entry: Entry) -> Result<Made, AllocError>
+        ensures made { (w : CoreState) → IsShown w (settler_step w) (shown.Write entry)
+            → MadeAs H.tells H.world H.faults shape.now w self.now self.now host.old host.new result }
+        ensures disk { IsTrue H.tells → (H.world host.new).disk ≡ (H.world host.old).disk }
+        ensures ready { StaysReady (H.is_ready host.old) (H.is_ready host.new) }
+    {
+        if self.quiet {
+            return Ok(Made::Event {
+                event: CoreEvent::Emitted,
+                writes: true,
+                doubts: false,
+            });
+        }
+        let text = reply_text(self.alloc, &entry, shape)?;
+        match host.emit(text.as_slice()) {
+            Ok(()) => return Ok(Made::Event {
+                event: CoreEvent::Emitted,
+                writes: true,
+                doubts: false,
+            }),
+            Err(_) => return Ok(Made::Cut),
+        }
+    }
+
+    /// Makes the host calls that belong to the case, and answers what the core is told.
+    pub(crate) fn act<H: Host, G: Gate>(
+        &mut self,
+        shape: &Shape,
+        host: &mut H,
+        gate: &G,
+        work: SettlerWork,
+    ) -> Result<Made, AllocError>
+        requires bounds { IsInBounds self.old.writer }
+        requires fits { IsTrue H.tells → FitsDisk self.old.writer (H.world host.old).disk }
+        ensures made { (w : CoreState) → IsShown w (settler_step w) work → MadeAs H.tells H.world H.faults shape.now w self.old self.new host.old host.new result }
+        ensures bounds { IsInBounds self.new.writer }
+        ensures fits { IsTrue H.tells → FitsDisk self.new.writer (H.world host.new).disk }
+        ensures ready { StaysReady (H.is_ready host.old) (H.is_ready host.new) }
+    {
+        match work {
+            SettlerWork::Vote {
+                batch,
+                grain,
+                versions,
+            } => {
+                return self.vote(host, batch, grain, versions);
+            }
+            SettlerWork::Decide { batch } => return Ok(Made::Event {
+                event: CoreEvent::Decide { batch },
+                writes: false,
+                doubts: false,
+            }),
+            SettlerWork::Seal { batch, effects } => {
+                return self.seal(host, gate, batch, effects);
+            }
+            SettlerWork::Learn { unit, grain } => {
+                return Ok(Made::Event {
+                    event: CoreEvent::Learn { unit, grain },
+                    writes: false,
+                    doubts: false,
+                });
+            }
+            SettlerWork::Write { entry } => return self.write(shape, host, entry),
+            SettlerWork::Take => return Ok(Made::Event {
+                event: CoreEvent::Take,
+                writes: false,
+                doubts: false,
+            }),
+            SettlerWork::Nothing => return Ok(Made::Idle),
+        }
+    }
+}

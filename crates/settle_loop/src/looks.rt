@@ -1,0 +1,73 @@
+ghost use Rattle.std.specs.Prelude.{◌≡◌, Bool, false, IfOk, OnErr};
+ghost use Rattle.core_model.specs.declared.events.CoreReply.{CoreReply as AReply};
+ghost use Rattle.core_model.specs.Settler.{settler_step};
+ghost use Rattle.core_access.specs.Sights.{run_seen, Looks, Tells};
+ghost use Rattle.core_access.specs.Spared.{is_spared};
+ghost use Rattle.settle_loop.specs.Works.{IsShown, has_applied};
+ghost use Rattle.settle_loop.specs.Turning.{state_shown, has_unwritten};
+
+use core_access::Access;
+use core_model::{CoreAnswer, CoreEvent, CoreQuestion, CoreReply, SettlerWork};
+use std::alloc::AllocError;
+
+/// What the settler does next, by one look at the core.
+#[tactic(auto, using(crate::proofs::Shown::work_of))]
+pub fn look<A: Access>(access: &mut A) -> Result<SettlerWork, AllocError>
+    requires fit { A.is_fit access.old }
+    ensures fit { A.is_fit access.new }
+    ensures aside { A.aside access.new ≡ A.aside access.old }
+    ensures looked { Looks A.may_come (A.sight access.old) (A.sight access.new) }
+    ensures work { IfOk result (λ work. IsShown (state_shown (A.sight access.new)) (settler_step (state_shown (A.sight access.new))) work) }
+{
+    match access.see(&CoreQuestion::NextStep)? {
+        CoreAnswer::NextStep(work) => Ok(work),
+        _ => unreachable!(),
+    }
+}
+
+/// Puts an event. Without memory it wasn't put.
+pub fn put<A: Access>(access: &mut A, event: CoreEvent) -> Result<CoreReply, AllocError>
+    requires fit { A.is_fit access.old }
+    ensures fit { A.is_fit access.new }
+    ensures aside { A.aside access.new ≡ A.aside access.old }
+    ensures told { IfOk result (λ reply. Tells A.may_come (A.sight access.old) event reply (A.sight access.new)) }
+    ensures refused { OnErr result (Looks A.may_come (A.sight access.old) (A.sight access.new)) }
+    ensures unspared { OnErr result (is_spared (run_seen (A.sight access.new)) event ≡ false) }
+{
+    match access.put(event) {
+        Ok(reply) => Ok(reply),
+        Err((fault, _)) => Err(fault),
+    }
+}
+
+/// Whether a settled entry isn't written.
+pub fn sees_unwritten<A: Access>(access: &mut A) -> Result<bool, AllocError>
+    requires fit { A.is_fit access.old }
+    ensures fit { A.is_fit access.new }
+    ensures aside { A.aside access.new ≡ A.aside access.old }
+    ensures looked { Looks A.may_come (A.sight access.old) (A.sight access.new) }
+    ensures answer { IfOk result (λ found. found ≡ has_unwritten (state_shown (A.sight access.new))) }
+{
+    match access.see(&CoreQuestion::NextSettled)? {
+        CoreAnswer::NextSettled(entry) => Ok(entry.is_some()),
+        _ => unreachable!(),
+    }
+}
+
+/// Whether the reply says that the event applied.
+pub fn has_applied(reply: &CoreReply) -> bool
+    ensures { result ≡ has_applied reply.now }
+{
+    match reply {
+        CoreReply::Unapplied => false,
+        CoreReply::Done => true,
+        CoreReply::Began { .. } => true,
+        CoreReply::Granted { .. } => true,
+        CoreReply::NotGranted(_) => false,
+        CoreReply::Doomed { .. } => false,
+        CoreReply::NotActive => false,
+        CoreReply::Taken { .. } => true,
+        CoreReply::Decided { .. } => true,
+        CoreReply::NotLoaded => false,
+    }
+}
