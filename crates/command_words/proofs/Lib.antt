@@ -1,0 +1,7 @@
+pub mod Rows
+pub mod ClapWalk
+pub mod Usual
+pub mod Picks
+pub mod Spelled
+pub mod Choosing
+pub mod Asking
