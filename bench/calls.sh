@@ -1,5 +1,7 @@
 #!/usr/bin/env bash
 # Counts the system calls of a run over N request lines, and of opening its log again; needs strace:  bench/calls.sh [N]
+# Over 1,000 requests: 2,001 fdatasync, 2,000 pwrite64, 1,000 write, 12 read. A log of 1,000 units opens with 3,004 pread64 and
+# 1,001 statx, one of 10,000 with 30,004 and 10,001: 4 calls a unit. No more than 6 descriptors are open at a time.
 top=$(cd "$(dirname "${BASH_SOURCE[0]}")/.." && pwd)
 n=${1:-1000}
 command -v strace >/dev/null || { echo "calls.sh: there is no strace here" >&2; exit 0; }
