@@ -1,4 +1,5 @@
 """One process a folder: what a second one answers while the first has it, and that a killed one leaves nothing locked."""
+import contextlib
 import os
 import signal
 import tempfile
@@ -39,8 +40,10 @@ with tempfile.TemporaryDirectory() as folder:
     # Two at once: what is answered is in the folder.
     both = [start(folder, "run") for _ in range(2)]
     for it in both:
-        it.stdin.write(add(1) * 50)
-        it.stdin.close()
+        # One that found the folder taken may have ended by now, and reads nothing.
+        with contextlib.suppress(BrokenPipeError):
+            it.stdin.write(add(1) * 50)
+            it.stdin.close()
     outputs = [it.stdout.read() for it in both]
     texts = [it.stderr.read() for it in both]
     numbers = [it.wait() for it in both]
