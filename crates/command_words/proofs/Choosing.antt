@@ -6,7 +6,7 @@ use Rattle.std.specs.Option.{option_map_or}
 use Rattle.std.proofs.lemmas.Bool.Decides.{eqb_tells}
 use Rattle.promise_spec.specs.Words.{Choice, Width, Turns, Workers, Form, Apart, Joined, GivenOption, Manner, choice_name, value_text, list_text, words_in, words_of, words_of_all, IsWithin, DifferInName, plain_manner, with_choice, manner_of, is_workers, AreOptions, IsNoTurns}
 use Rattle.command_words.specs.Parts.{OptionName, WidthName, TurnsName, WorkersName, dashed_name, WordPart, OptionPart, NumberPart, part_words, parts_words, is_same_name, option_values, number_words}
-use Rattle.command_words.specs.CutParts.{one_value, two_values, IsCut, AreFew, HaveParts}
+use Rattle.command_words.specs.CutParts.{one_value, two_values, AreCutInto, AreFew, HaveParts}
 use Rattle.command_words.specs.Options.{Chosen, number_text, picks_text, AreSpelled, MayStand, chosen_manner, is_asked}
 use Rattle.command_words.specs.declared.cutting.CutWords.{CutWords}
 

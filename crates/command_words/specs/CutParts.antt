@@ -34,7 +34,7 @@ two_values None = []
 two_values (Some pair) = pair.0.now ∷ pair.1.now ∷ []
 
 -- what was cut is what the parts say
-pub record IsCut (parts : List WordPart) (cut : CutWords) : Type 0 where
+pub record AreCutInto (parts : List WordPart) (cut : CutWords) : Type 0 where
   pub width : option_values WidthName parts ≡ one_value cut.width
   pub turns : option_values TurnsName parts ≡ one_value cut.turns
   pub workers : option_values WorkersName parts ≡ one_value cut.workers

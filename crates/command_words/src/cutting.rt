@@ -6,7 +6,7 @@ ghost use Rattle.clap.specs.Simple.{app_of};
 ghost use Rattle.clap.specs.Matches.{found_of};
 ghost use Rattle.command_words.specs.Parts.{WordPart, is_stray};
 ghost use Rattle.command_words.specs.Clap.{option_rule, number_rule, silo_app, matched_values, SaysParts};
-ghost use Rattle.command_words.specs.CutParts.{texts_of, HaveParts, AreFew, IsCut, one_value, two_values};
+ghost use Rattle.command_words.specs.CutParts.{texts_of, HaveParts, AreFew, AreCutInto, one_value, two_values};
 
 use crate::faults::WordsFault;
 use clap::error::ErrorKind;
@@ -132,7 +132,7 @@ fn pair<'a>(matches: &ArgMatches<'a>) -> Result<Option<(&'a str, &'a str)>, Word
 /// the words that are no option are neither two nor none.
 pub(crate) fn cut_words<'a>(alloc: Global, words: &'a [String]) -> Result<CutWords<'a>, WordsFault>
     ensures cut { IfOk result (λ cut. (parts : List WordPart)
-        × HaveParts (drop 1 (texts_of words.now)) parts × IsCut parts cut) }
+        × HaveParts (drop 1 (texts_of words.now)) parts × AreCutInto parts cut) }
     ensures bad_use { result ≡ Err WordsFault.BadUse → (parts : List WordPart)
         → HaveParts (drop 1 (texts_of words.now)) parts → AreFew parts → ⊥ }
 {
