@@ -17,7 +17,7 @@ use Rattle.log_reading.specs.Steps.{live_slot, manager}
 use Rattle.silo_spec.specs.Silos.{IsSilo}
 use Rattle.promise_spec.specs.Records.{Commit}
 use Rattle.promise_spec.specs.Logs.{magic, WriteStands, WritesStand, IsKept, IsLog, body_of}
-use Rattle.batch_disk.specs.Resting.{grain_file, log_of, BeginsSilo, Voted, StandsIn, AreNamed, IsAtRest}
+use Rattle.batch_disk.specs.Resting.{grain_file, log_of, BeginsSilo, Voted, StandsIn, PlacesAreNamed, IsAtRest}
 use Rattle.batch_disk.proofs.Lists.{each_of}
 
 module _ (shape : Shape) (was image : Image) where
@@ -88,7 +88,7 @@ silo_of head bodies gate file is header logs =
     }
 
 -- each image's log between two steps
-pub rests_log : (shape : Shape) (head : List ℕ) (batches : List (List Commit)) (gate : ℕ) (ends : GrainId → ℕ) (voted : List Voted) (image : Image) → AreNamed head batches ends → IsAtRest shape head batches gate ends voted image → IsLog live_slot shape image (log_of batches)
+pub rests_log : (shape : Shape) (head : List ℕ) (batches : List (List Commit)) (gate : ℕ) (ends : GrainId → ℕ) (voted : List Voted) (image : Image) → PlacesAreNamed head batches ends → IsAtRest shape head batches gate ends voted image → IsLog live_slot shape image (log_of batches)
 rests_log shape head batches gate ends voted image named rests = record {
   silo = silo_of head (map body_of batches) gate (image manager) named.silo rests.header rests.blocks;
   batches = batches;

@@ -24,9 +24,9 @@ use Rattle.log_reading.specs.Steps.{live_slot, manager}
 use Rattle.promise_spec.specs.Records.{Commit}
 use Rattle.promise_spec.specs.Crashes.{IsAside}
 use Rattle.promise_spec.specs.Logs.{IsLog, IsKept, body_of}
-use Rattle.batch_disk.specs.Resting.{grain_file, log_of, EachImage, SomeImage, IsBelow, AreBelow, AreNamed, Voted, StandsIn, IsAtRest, raised_ends, all_writes}
+use Rattle.batch_disk.specs.Resting.{grain_file, log_of, EachImage, SomeImage, IsBelow, AreBelow, PlacesAreNamed, Voted, StandsIn, IsAtRest, raised_ends, all_writes}
 use Rattle.batch_disk.specs.Moments.{LeavesRest, KeepsLog, IsSeam}
-use Rattle.batch_disk.specs.Seals.{NoneHas, IsDoubtful}
+use Rattle.batch_disk.specs.Seals.{NoneHas, IsSealInDoubt}
 use Rattle.batch_disk.proofs.Lists.{each_any, each_leads, each_list, both_parts, flat_push, map_push}
 use Rattle.batch_disk.proofs.Ends.{raised_up, raised_each, raised_long, kept_within}
 use Rattle.batch_disk.proofs.Keeping.{IsSameAt, IsNextBatch, stands_same, kept_same, shorter_front, batch_stands, silo_of}
@@ -51,7 +51,7 @@ with_left disk image file c is left f = elim (cases_file f file) [
   | inr other ↦ subst (λ (l : List ℕ). MayLeave (disk f) l) (sym (with_bytes-other image file c f other)) (is f)
 ]
 
-module _ (shape : Shape) (head : List ℕ) (batches : List (List Commit)) (gate : ℕ) (ends : GrainId → ℕ) (voted : List Voted) (batch : List Commit) (named : AreNamed head batches ends) (next : IsNextBatch shape voted batch) where
+module _ (shape : Shape) (head : List ℕ) (batches : List (List Commit)) (gate : ℕ) (ends : GrainId → ℕ) (voted : List Voted) (batch : List Commit) (named : PlacesAreNamed head batches ends) (next : IsNextBatch shape voted batch) where
   -- ---- one image
 
   module _ (was image : Image) (at : IsAtRest shape head batches gate ends voted was) (others : (f : FileId) → f ≢ manager → image f ≡ was f) (n : ℕ) (torn : Tears gate n (was manager) (image manager)) where
@@ -109,7 +109,7 @@ module _ (shape : Shape) (head : List ℕ) (batches : List (List Commit)) (gate 
     }
 
   -- what no image decides, once the batch counts
-  pub named_more : AreNamed head (batches ++ batch ∷ []) (raised_ends ends (all_writes batch))
+  pub named_more : PlacesAreNamed head (batches ++ batch ∷ []) (raised_ends ends (all_writes batch))
   named_more =
       let to = raised_ends ends (all_writes batch) in
       record {
@@ -201,7 +201,7 @@ module _ (shape : Shape) (head : List ℕ) (batches : List (List Commit)) (gate 
         which_doubt (inr some) = inr (some_has some)
 
         pub in_doubt : EndsAs InDoubt gate block old new → EachLogsOrMore (map body_of batches) (body_of batch) gate manager new.disk → DoubtAs InDoubt (map body_of batches) (body_of batch) gate block old new
-            → IsDoubtful shape head batches batch gate old new
+            → IsSealInDoubt shape head batches batch gate old new
         in_doubt ends_as logs which =
             let file = (old.disk manager).seen in
             let front = (is (λ f. (old.disk f).seen) old_seen).blocks in

@@ -25,7 +25,7 @@ use Rattle.core_model.specs.declared.effects.Effect.{Effect}
 use Rattle.log_reading.specs.Steps.{manager}
 use Rattle.promise_spec.specs.Records.{Commit}
 use Rattle.promise_spec.specs.Logs.{body_of}
-use Rattle.batch_disk.specs.Resting.{grain_file, log_of, write_end, AreNamed, Voted, IsAtRest, raised_ends, all_writes}
+use Rattle.batch_disk.specs.Resting.{grain_file, log_of, write_end, PlacesAreNamed, Voted, IsAtRest, raised_ends, all_writes}
 use Rattle.batch_disk.specs.Moments.{KeepsLog}
 use Rattle.batch_disk.specs.Writers.{file_end, kept_of, voted_of, CanCount, FitsDisk, KeepsDisk, HasSameEnds}
 use Rattle.batch_disk.specs.Records.{AreRecordsFor, IsPlaceOfOne, MayBeLogged, IsAsWritten}
@@ -152,7 +152,7 @@ module _ (shape : Shape) (head : List ℕ) (batches : List (List Commit)) (batch
         let says : (g : GrainId) → raised_ends (file_end a) (all_writes commits) g ≡ file_end b g = λ g. ap (λ (ws : List Written). raised_ends (file_end a) ws g) (sym writes) ∙ sym (ends g) in
         let all : raised_ends (file_end a) (all_writes commits) ≡ file_end b = λ i g. says g i in
         record {
-          named = subst (λ (e : GrainId → ℕ). AreNamed head (batches ++ commits ∷ []) e) all
+          named = subst (λ (e : GrainId → ℕ). PlacesAreNamed head (batches ++ commits ∷ []) e) all
               (sealed.named_more shape head batches a.gate_at (file_end a) (kept_of a) commits keeps.named next);
           images = λ image left.
               let one = sealed.rests_sealed shape head batches a.gate_at (file_end a) (kept_of a) commits keeps.named next old keeps.images (length block + 1) new run.moments run.now to logs image left in

@@ -24,7 +24,7 @@ use Rattle.log_reading.specs.Steps.{live_slot, manager}
 use Rattle.promise_spec.specs.Records.{Commit}
 use Rattle.promise_spec.specs.Logs.{IsLog}
 use Rattle.cell_model.specs.Units.{Member}
-use Rattle.batch_disk.specs.Resting.{grain_file, log_of, EachImage, write_end, AreNamed, Voted, StandsIn, NotAmong, IsAtRest, AreOfType, voted_at, voted_from}
+use Rattle.batch_disk.specs.Resting.{grain_file, log_of, EachImage, write_end, PlacesAreNamed, Voted, StandsIn, NotAmong, IsAtRest, AreOfType, voted_at, voted_from}
 use Rattle.batch_disk.specs.Moments.{KeepsLog}
 use Rattle.batch_disk.specs.Writers.{file_end, kept_of, voted_of, CanCount, IsInBounds, FitsDisk, KeepsDisk, HasSameEnds}
 use Rattle.batch_disk.specs.declared.writer.BatchWriter.{BatchWriter}
@@ -150,10 +150,10 @@ module _ (shape : Shape) (head : List ℕ) (batches : List (List Commit)) where
       record { header = rests.header; blocks = rests.blocks; whole = rests.whole; long = rests.long; stand = each_voted (StandsIn shape image) a batch rests.stand }
 
   -- a writer with these ends that keeps these versions
-  pub keeps_with : (a b : BatchWriter) (voted : List Voted) (disk : Disk) → HasSameEnds a b → kept_of b ≡ voted → AreNamed head batches (file_end a)
+  pub keeps_with : (a b : BatchWriter) (voted : List Voted) (disk : Disk) → HasSameEnds a b → kept_of b ≡ voted → PlacesAreNamed head batches (file_end a)
       → EachImage (IsAtRest shape head batches a.gate_at (file_end a) voted) disk → KeepsDisk shape head batches b disk
   keeps_with a b voted disk same kept named rests = record {
-    named = subst (λ (e : GrainId → ℕ). AreNamed head batches e) (ends_same a b same) named;
+    named = subst (λ (e : GrainId → ℕ). PlacesAreNamed head batches e) (ends_same a b same) named;
     images = λ image left.
         let one = subst (λ (n : ℕ). IsAtRest shape head batches n (file_end a) voted image) (sym same.gate) (rests image left) in
         let two = subst (λ (vs : List Voted). IsAtRest shape head batches b.gate_at (file_end a) vs image) (sym kept) one in

@@ -21,7 +21,7 @@ use Rattle.log_reading.specs.Steps.{live_slot, manager}
 use Rattle.promise_spec.specs.Records.{Commit}
 use Rattle.promise_spec.specs.Crashes.{IsAside}
 use Rattle.promise_spec.specs.Logs.{body_of}
-use Rattle.batch_disk.specs.Resting.{grain_file, log_of, EachImage, IsBelow, AreBelow, AreNamed, Voted, StandsIn, NotAmong, IsAtRest, voted_from, AreOfType}
+use Rattle.batch_disk.specs.Resting.{grain_file, log_of, EachImage, IsBelow, AreBelow, PlacesAreNamed, Voted, StandsIn, NotAmong, IsAtRest, voted_from, AreOfType}
 use Rattle.batch_disk.specs.Moments.{KeepsLog}
 use Rattle.batch_disk.proofs.Lists.{each_leads, each_both, both_parts}
 use Rattle.batch_disk.proofs.Keeping.{IsSameAt, stands_same, kept_same, below_same, rests_log}
@@ -103,7 +103,7 @@ aside_grain grain (Grain slot g) aside e = aside (ap (slot_in slot) e) where
   slot_in other (Grain s g) = s
 
 module _ (shape : Shape) (head : List ℕ) (batches : List (List Commit)) (gate : ℕ) (ends : GrainId → ℕ) (voted : List Voted) (grain : GrainId) (size : ℕ)
-    (named : AreNamed head batches ends) (fresh : NotAmong grain voted) (old : World) (is : EachImage (IsAtRest shape head batches gate ends voted) old.disk) where
+    (named : PlacesAreNamed head batches ends) (fresh : NotAmong grain voted) (old : World) (is : EachImage (IsAtRest shape head batches gate ends voted) old.disk) where
   pub vote_rests : (m : Moment) → ChangesFile (grain_file grain) (Tears (ends grain) size) old m → EachImage (IsAtRest shape head batches gate ends voted) m.disk
   vote_rests m changes image left =
       each_image (grain_file grain) (Tears (ends grain) size) (IsAtRest shape head batches gate ends voted) (IsAtRest shape head batches gate ends voted) old m changes

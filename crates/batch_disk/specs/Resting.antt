@@ -103,7 +103,7 @@ AreOfType shape grain versions = AllByRecursion (λ v. fields_of (slice_get shap
 
 -- What no image decides: the header is a silo's, a batch has at most 64 records, and all that these batches name ends at most at
 -- these ends.
-pub record AreNamed (head : List ℕ) (batches : List (List Commit)) (ends : GrainId → ℕ) : Type 0 where
+pub record PlacesAreNamed (head : List ℕ) (batches : List (List Commit)) (ends : GrainId → ℕ) : Type 0 where
   pub silo : BeginsSilo head
   pub sizes : AllByRecursion (λ batch. length batch ≤ 64) batches
   pub below : AreBelow ends (log_of batches)

@@ -25,7 +25,7 @@ pub record NoneHas (shape : Shape) (head : List ℕ) (log : List Commit) (old ne
 
 -- In doubt. Each image's log is as it was, or has the batch whole; the batch's whole block stands behind the gate in each, and
 -- they differ at most in that gate. The gate was never written, or some image has the batch.
-pub record IsDoubtful (shape : Shape) (head : List ℕ) (batches : List (List Commit)) (batch : List Commit) (gate : ℕ) (old new : World) : Type 0 where
+pub record IsSealInDoubt (shape : Shape) (head : List ℕ) (batches : List (List Commit)) (batch : List Commit) (gate : ℕ) (old new : World) : Type 0 where
   pub rest : LeavesRest head old (moment_of new)
   pub logs : EachImage (λ image. IsLog live_slot shape image (log_of batches) ⊎ IsLog live_slot shape image (log_of batches ++ batch)) new.disk
   pub front : EachImage (λ image. HasBlocks (map body_of batches) gate (image manager)) new.disk
@@ -38,7 +38,7 @@ abbrev pub StandsAfter : Shape → List ℕ → List (List Commit) → List Comm
 StandsAfter shape head batches batch (Sealed next) before after old new = KeepsDisk shape head (batches ++ batch ∷ []) after new.disk
 StandsAfter shape head batches batch NotSealed before after old new =
     Passes (KeepsLog shape head (log_of batches) old) old.past new.past × KeepsDisk shape head batches after new.disk
-StandsAfter shape head batches batch InDoubt before after old new = IsDoubtful shape head batches batch before.gate_at old new
+StandsAfter shape head batches batch InDoubt before after old new = IsSealInDoubt shape head batches batch before.gate_at old new
 
 -- What sealing these units does: there are their records, and at each moment each image has the log that it had, or it with all
 -- of them; and after it, by the answer.

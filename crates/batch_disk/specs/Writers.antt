@@ -8,7 +8,7 @@ use Rattle.host_trait.specs.World.{Disk}
 use Rattle.gate_block.specs.Gates.{IsClosedAt}
 use Rattle.log_reading.specs.Steps.{manager}
 use Rattle.promise_spec.specs.Records.{Commit}
-use Rattle.batch_disk.specs.Resting.{EachImage, grain_file, write_end, Voted, AreNamed, IsAtRest}
+use Rattle.batch_disk.specs.Resting.{EachImage, grain_file, write_end, Voted, PlacesAreNamed, IsAtRest}
 use Rattle.batch_disk.specs.declared.writer.BatchWriter.{BatchWriter}
 use Rattle.batch_disk.specs.declared.writer.KeptVersion.{KeptVersion}
 
@@ -48,7 +48,7 @@ pub record FitsDisk (writer : BatchWriter) (disk : Disk) : Type 0 where
 -- What the writer keeps of the folder: its gate and its ends are those of this log, in each image, where what the votes wrote
 -- stands.
 pub record KeepsDisk (shape : Shape) (head : List ℕ) (batches : List (List Commit)) (writer : BatchWriter) (disk : Disk) : Type 0 where
-  pub named : AreNamed head batches (file_end writer)
+  pub named : PlacesAreNamed head batches (file_end writer)
   pub images : EachImage (IsAtRest shape head batches writer.gate_at (file_end writer) (kept_of writer)) disk
 
 -- gate, ends and doubt are as they were

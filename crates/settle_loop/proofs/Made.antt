@@ -21,8 +21,8 @@ use Rattle.core_model.specs.declared.questions.SettlerWork.TheVariants as work
 use Rattle.batch_disk.specs.Resting.{grain_file, voted_from}
 use Rattle.batch_disk.specs.Writers.{file_end, voted_of}
 use Rattle.batch_disk.specs.declared.writer.BatchWriter.{BatchWriter}
-use Rattle.settle_loop.specs.Works.{IsShown, event_of, tells_doubt, tells_entry}
-use Rattle.settle_loop.specs.HostSteps.{HasVoteCause, AreKept, VotesOn, LacksRoom, SealsUnits, WritesEntry, DoesFor}
+use Rattle.settle_loop.specs.Works.{ShowsWork, event_of, tells_doubt, tells_entry}
+use Rattle.settle_loop.specs.HostSteps.{HasVoteCause, KeepsVotes, VotesOn, LacksRoom, SealsUnits, WritesEntry, DoesFor}
 use Rattle.settle_loop.specs.Making.{with_writer, IsToTell, LacksVersions, MadeAs}
 use Rattle.settle_loop.specs.declared.cases.Made.{Made}
 use Rattle.settle_loop.specs.declared.settler.Settler.{Settler}
@@ -34,13 +34,13 @@ vote_cause g false f0 f1 calm fault = fault refl
 
 -- and what is kept
 pub vote_kept : (kept : Bool) (n : ℕ) (g : GrainId) (versions : List Version) (before after : BatchWriter)
-    → voted_of n after ≡ (if kept then voted_of n before ++ voted_from g (file_end before g) versions else voted_of n before) → AreKept kept n g versions before after
+    → voted_of n after ≡ (if kept then voted_of n before ++ voted_from g (file_end before g) versions else voted_of n before) → KeepsVotes kept n g versions before after
 vote_kept true n g versions before after is = is
 vote_kept false n g versions before after is = is
 
 module _ {H : Type 0} (tells : Bool) (world : H → World) (faults : H → Channel → ℕ) (shape : Shape) (w : CoreState) (before after : Settler) (old new : H) (same : after ≡ with_writer before after) where
   -- a vote
-  pub vote_made : (n : ℕ) (g : GrainId) (kept : Bool) (versions : List Version) → IsShown w (settler_step w) (work.Vote n g versions)
+  pub vote_made : (n : ℕ) (g : GrainId) (kept : Bool) (versions : List Version) → ShowsWork w (settler_step w) (work.Vote n g versions)
       → VotesOn tells world faults n g kept versions before.writer after.writer old new → IsToTell tells world faults shape w before after old new (Vote n g kept) false false
   vote_made n g kept versions shown votes = record {
     makes = subst (λ (s : Step). MakesEvent s (Vote n g kept)) (sym shown.0) (kept, refl);
@@ -51,7 +51,7 @@ module _ {H : Type 0} (tells : Bool) (world : H → World) (faults : H → Chann
   }
 
   -- none, for want of memory
-  pub vote_lacks : (n : ℕ) (g : GrainId) (versions : List Version) → IsShown w (settler_step w) (work.Vote n g versions)
+  pub vote_lacks : (n : ℕ) (g : GrainId) (versions : List Version) → ShowsWork w (settler_step w) (work.Vote n g versions)
       → LacksRoom tells world faults n g versions before.writer after.writer old new → LacksVersions tells world faults shape w before after old new
   vote_lacks n g versions shown lacks = record {
     n = n;
@@ -79,7 +79,7 @@ module _ {H : Type 0} (tells : Bool) (world : H → World) (faults : H → Chann
   seal_tells n sealing.InDoubt = refl
 
   -- a seal
-  pub seal_made : (n : ℕ) (effects : List Effect) (answer : Sealing) (e : CoreEvent) (doubts : Bool) → e ≡ event_of n answer → doubts ≡ tells_doubt e → IsShown w (settler_step w) (work.Seal n effects)
+  pub seal_made : (n : ℕ) (effects : List Effect) (answer : Sealing) (e : CoreEvent) (doubts : Bool) → e ≡ event_of n answer → doubts ≡ tells_doubt e → ShowsWork w (settler_step w) (work.Seal n effects)
       → SealsUnits tells world faults n (event_of n answer) effects before.writer after.writer old new → IsToTell tells world faults shape w before after old new e false doubts
   seal_made n effects answer e doubts is doubts_is shown seals = subst (λ (x : CoreEvent). doubts ≡ tells_doubt x → IsToTell tells world faults shape w before after old new x false doubts) (sym is)
       (λ d. record {
@@ -92,7 +92,7 @@ module _ {H : Type 0} (tells : Bool) (world : H → World) (faults : H → Chann
       doubts_is
 
   -- a doubt that is told again
-  pub doubt_made : (n : ℕ) (effects : List Effect) → IsShown w (settler_step w) (work.Seal n effects) → before.writer.in_doubt ≡ true → new ≡ old → after.writer ≡ before.writer
+  pub doubt_made : (n : ℕ) (effects : List Effect) → ShowsWork w (settler_step w) (work.Seal n effects) → before.writer.in_doubt ≡ true → new ≡ old → after.writer ≡ before.writer
       → IsToTell tells world faults shape w before after old new (Doubt n) false true
   doubt_made n effects shown unsure host writer = record {
     makes = subst (λ (s : Step). MakesEvent s (Doubt n)) (sym shown.0) (inr (inr refl));
@@ -103,7 +103,7 @@ module _ {H : Type 0} (tells : Bool) (world : H → World) (faults : H → Chann
   }
 
   -- an entry
-  pub write_made : (entry : Entry) → IsShown w (settler_step w) (work.Write entry) → WritesEntry tells world faults before.quiet shape w before.writer after.writer old new
+  pub write_made : (entry : Entry) → ShowsWork w (settler_step w) (work.Write entry) → WritesEntry tells world faults before.quiet shape w before.writer after.writer old new
       → IsToTell tells world faults shape w before after old new Emitted true false
   write_made entry shown writes = record {
     makes = subst (λ (s : Step). MakesEvent s Emitted) (sym shown.0) refl;

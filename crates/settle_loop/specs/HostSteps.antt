@@ -38,9 +38,9 @@ HasVoteCause g true old new = NoneFailed old new
 HasVoteCause g false old new = FailedOn (File (grain_file g)) old new
 
 -- what is kept after a vote: with a vote of yes these versions too
-abbrev pub AreKept : Bool → ℕ → GrainId → List Version → BatchWriter → BatchWriter → Type 0
-AreKept true n g versions before after = voted_of n after ≡ voted_of n before ++ voted_from g (file_end before g) versions
-AreKept false n g versions before after = voted_of n after ≡ voted_of n before
+abbrev pub KeepsVotes : Bool → ℕ → GrainId → List Version → BatchWriter → BatchWriter → Type 0
+KeepsVotes true n g versions before after = voted_of n after ≡ voted_of n before ++ voted_from g (file_end before g) versions
+KeepsVotes false n g versions before after = voted_of n after ≡ voted_of n before
 
 -- With a vote of yes the versions are on disk, by one sync.
 pub record IsOnDisk (g : GrainId) (at : ℕ) (versions : List Version) (old new : World) : Type 0 where
@@ -65,7 +65,7 @@ module _ {H : Type 0} (tells : Bool) (world : H → World) (faults : H → Chann
     pub cause : HasVoteCause g said (faults old) (faults new)
     pub run : IsTrue tells → RunsOnFile (grain_file g) (Tears (file_end before g) (length (spelling_of_versions versions))) 1 (world old) (world new)
     pub there : IsTrue tells → said ≡ true → IsOnDisk g (file_end before g) versions (world old) (world new)
-    pub kept : AreKept said n g versions before after
+    pub kept : KeepsVotes said n g versions before after
     pub same : HasSameEnds before after
     pub images : IsTrue tells → KeepsImages n g versions before after (world old) (world new)
 

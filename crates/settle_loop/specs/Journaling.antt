@@ -19,7 +19,7 @@ use Rattle.batch_disk.specs.Resting.{log_of, NotAmong, AreOfType, SomeImage}
 use Rattle.batch_disk.specs.Moments.{LeavesRest}
 use Rattle.batch_disk.specs.Writers.{voted_of, KeepsDisk}
 use Rattle.batch_disk.specs.Records.{MayBeLogged, IsAsWritten}
-use Rattle.batch_disk.specs.Seals.{IsDoubtful}
+use Rattle.batch_disk.specs.Seals.{IsSealInDoubt}
 use Rattle.batch_disk.specs.declared.writer.BatchWriter.{BatchWriter}
 
 -- What the core's batch has to be for the step that this state asks for: no version of the grain is kept yet, and the units'
@@ -57,7 +57,7 @@ module _ (p : Program) (head : List ℕ) (batches : List (List Commit)) (before 
     pub journal : Seals p (log_of batches) [] old new
         ⊎ (Doubts p (log_of batches) (as_settled batch) old new × SomeImage (λ image. IsLog live_slot (shape_in p) image (log_of batches ++ batch)) new.disk)
     pub rest : Passes (LeavesRest head old) old.past new.past
-    pub doubt : IsDoubtful (shape_in p) head batches batch gate old new
+    pub doubt : IsSealInDoubt (shape_in p) head batches batch gate old new
 
   -- by the event that was made
   abbrev pub JournalsAs : CoreEvent → Bool → CoreState → Type 0

@@ -12,14 +12,14 @@ use Rattle.commit_log.specs.declared.gate.Sealing.{Sealing}
 use Rattle.commit_log.specs.declared.gate.Sealing.TheVariants as sealing
 
 -- in this state this is the settler's step, with all that it needs for it
-abbrev pub IsShown : CoreState → Step → SettlerWork → Type 0
-IsShown w s (work.Vote n g versions) = (s ≡ Votes n g) × (versions ≡ versions_to_write w w.manager.batch g)
-IsShown w s (work.Decide n) = s ≡ Decides n
-IsShown w s (work.Seal n effects) = (s ≡ Seals n) × (effects ≡ to_commit w w.manager.batch)
-IsShown w s (work.Learn u g) = s ≡ Learns u g
-IsShown w s (work.Write entry) = (s ≡ Writes) × (slice_get w.manager.settled w.manager.emitted ≡ Some entry)
-IsShown w s work.Take = s ≡ Takes
-IsShown w s work.Nothing = s ≡ Rests
+abbrev pub ShowsWork : CoreState → Step → SettlerWork → Type 0
+ShowsWork w s (work.Vote n g versions) = (s ≡ Votes n g) × (versions ≡ versions_to_write w w.manager.batch g)
+ShowsWork w s (work.Decide n) = s ≡ Decides n
+ShowsWork w s (work.Seal n effects) = (s ≡ Seals n) × (effects ≡ to_commit w w.manager.batch)
+ShowsWork w s (work.Learn u g) = s ≡ Learns u g
+ShowsWork w s (work.Write entry) = (s ≡ Writes) × (slice_get w.manager.settled w.manager.emitted ≡ Some entry)
+ShowsWork w s work.Take = s ≡ Takes
+ShowsWork w s work.Nothing = s ≡ Rests
 
 -- what the core is told of a seal's answer
 abbrev pub event_of : ℕ → Sealing → CoreEvent

@@ -5,7 +5,7 @@ ghost use Rattle.core_model.specs.CoreState.{CoreState};
 ghost use Rattle.core_model.specs.Settler.{settler_step};
 ghost use Rattle.core_model.specs.declared.questions.SettlerWork.TheVariants as shown;
 ghost use Rattle.batch_disk.specs.Writers.{IsInBounds, FitsDisk};
-ghost use Rattle.settle_loop.specs.Works.{IsShown};
+ghost use Rattle.settle_loop.specs.Works.{ShowsWork};
 ghost use Rattle.settle_loop.specs.Making.{MadeAs};
 
 use crate::gate::{Gate, GatePlace};
@@ -43,7 +43,7 @@ impl Settler {
     ) -> Result<Made, AllocError>
         requires bounds { IsInBounds self.old.writer }
         requires fits { IsTrue H.tells → FitsDisk self.old.writer (H.world host.old).disk }
-        ensures made { (shape : AShape) (w : CoreState) → IsShown w (settler_step w) (shown.Vote batch grain versions)
+        ensures made { (shape : AShape) (w : CoreState) → ShowsWork w (settler_step w) (shown.Vote batch grain versions)
             → MadeAs H.tells H.world H.faults shape w self.old self.new host.old host.new result }
         ensures bounds { IsInBounds self.new.writer }
         ensures fits { IsTrue H.tells → FitsDisk self.new.writer (H.world host.new).disk }
@@ -71,7 +71,7 @@ impl Settler {
     ) -> Result<Made, AllocError>
         requires bounds { IsInBounds self.old.writer }
         requires fits { IsTrue H.tells → FitsDisk self.old.writer (H.world host.old).disk }
-        ensures made { (shape : AShape) (w : CoreState) → IsShown w (settler_step w) (shown.Seal batch effects)
+        ensures made { (shape : AShape) (w : CoreState) → ShowsWork w (settler_step w) (shown.Seal batch effects)
             → MadeAs H.tells H.world H.faults shape w self.old self.new host.old host.new result }
         ensures bounds { IsInBounds self.new.writer }
         ensures fits { IsTrue H.tells → FitsDisk self.new.writer (H.world host.new).disk }
@@ -109,7 +109,7 @@ impl Settler {
 
     // The fifth case: a settled entry's line is put out, unless the settler is quiet.
     fn write<H: Host>(&self, shape: &Shape, host: &mut H, entry: Entry) -> Result<Made, AllocError>
-        ensures made { (w : CoreState) → IsShown w (settler_step w) (shown.Write entry)
+        ensures made { (w : CoreState) → ShowsWork w (settler_step w) (shown.Write entry)
             → MadeAs H.tells H.world H.faults shape.now w self.now self.now host.old host.new result }
         ensures disk { IsTrue H.tells → (H.world host.new).disk ≡ (H.world host.old).disk }
         ensures ready { StaysReady (H.is_ready host.old) (H.is_ready host.new) }
@@ -142,7 +142,7 @@ impl Settler {
     ) -> Result<Made, AllocError>
         requires bounds { IsInBounds self.old.writer }
         requires fits { IsTrue H.tells → FitsDisk self.old.writer (H.world host.old).disk }
-        ensures made { (w : CoreState) → IsShown w (settler_step w) work → MadeAs H.tells H.world H.faults shape.now w self.old self.new host.old host.new result }
+        ensures made { (w : CoreState) → ShowsWork w (settler_step w) work → MadeAs H.tells H.world H.faults shape.now w self.old self.new host.old host.new result }
         ensures bounds { IsInBounds self.new.writer }
         ensures fits { IsTrue H.tells → FitsDisk self.new.writer (H.world host.new).disk }
         ensures ready { StaysReady (H.is_ready host.old) (H.is_ready host.new) }

@@ -3,7 +3,7 @@ ghost use Rattle.core_model.specs.declared.events.CoreReply.{CoreReply as AReply
 ghost use Rattle.core_model.specs.Settler.{settler_step};
 ghost use Rattle.core_access.specs.Sights.{run_seen, Looks, Tells};
 ghost use Rattle.core_access.specs.Spared.{is_spared};
-ghost use Rattle.settle_loop.specs.Works.{IsShown, has_applied};
+ghost use Rattle.settle_loop.specs.Works.{ShowsWork, has_applied};
 ghost use Rattle.settle_loop.specs.Turning.{state_shown, has_unwritten};
 
 use core_access::Access;
@@ -17,7 +17,7 @@ pub fn look<A: Access>(access: &mut A) -> Result<SettlerWork, AllocError>
     ensures fit { A.is_fit access.new }
     ensures aside { A.aside access.new ≡ A.aside access.old }
     ensures looked { Looks A.may_come (A.sight access.old) (A.sight access.new) }
-    ensures work { IfOk result (λ work. IsShown (state_shown (A.sight access.new)) (settler_step (state_shown (A.sight access.new))) work) }
+    ensures work { IfOk result (λ work. ShowsWork (state_shown (A.sight access.new)) (settler_step (state_shown (A.sight access.new))) work) }
 {
     match access.see(&CoreQuestion::NextStep)? {
         CoreAnswer::NextStep(work) => Ok(work),
