@@ -12,9 +12,9 @@ use Rattle.core_model.specs.declared.events.CoreEvent.{CoreEvent}
 use Rattle.core_model.specs.declared.events.CoreReply.{CoreReply}
 use Rattle.history_core.specs.declared.parts.Parts.{Parts}
 use Rattle.history_core.specs.Kept.{Stands, cells_of}
-use Rattle.history_core.specs.Steps.{Keeps, Does}
+use Rattle.history_core.specs.Steps.{KeepsMeaning, Does}
 
-pub keeps-units : (p : Parts) (units : UnitTable) → SameUnits p.units units → Keeps p (record p { units = units })
+pub keeps-units : (p : Parts) (units : UnitTable) → SameUnits p.units units → KeepsMeaning p (record p { units = units })
 keeps-units p units e = λ w s. record {
   units = s.units ∙ sym (e.units w.units.seen_at);
   cells = s.cells;
@@ -33,7 +33,7 @@ keeps-units p units e = λ w s. record {
   room = record { entries = s.room.entries; learn = s.room.learn; places = s.room.places };
 }
 
-pub keeps-cells : (p : Parts) (cells : CellTable) → cell_in cells ≡ cell_in p.cells → Keeps p (record p { cells = cells })
+pub keeps-cells : (p : Parts) (cells : CellTable) → cell_in cells ≡ cell_in p.cells → KeepsMeaning p (record p { cells = cells })
 keeps-cells p cells e = λ w s. record {
   units = s.units;
   cells = s.cells ∙ ap (λ (C : GrainId → Cell). cells_of C w.cells.learnt) (sym e);
@@ -53,7 +53,7 @@ keeps-cells p cells e = λ w s. record {
 }
 
 pub keeps-entries : (p : Parts) (entries : EntriesInRoom) → entries.entries ≡ p.entries.entries → entries.emitted ≡ p.entries.emitted → p.entries.spare ≤ entries.spare →
-    Keeps p (record p { entries = entries })
+    KeepsMeaning p (record p { entries = entries })
 keeps-entries p entries es em more = λ w s. record {
   units = s.units;
   cells = s.cells;
@@ -73,7 +73,7 @@ keeps-entries p entries es em more = λ w s. record {
 }
 
 -- what stands for the same first does the same
-pub keeps-does : (p q : Parts) → Keeps p q → (e : CoreEvent) (reply : CoreReply) (z : Parts) → Does q e reply z → Does p e reply z
+pub keeps-does : (p q : Parts) → KeepsMeaning p q → (e : CoreEvent) (reply : CoreReply) (z : Parts) → Does q e reply z → Does p e reply z
 keeps-does p q k e reply z d = λ w s r a. d w (k w s) r a
 
 pub on-ok : {A E : Type 0} (r : Result A E) (P Q : Type 0) → (P → Q) → OnOk r P → OnOk r Q

@@ -22,15 +22,15 @@ use Rattle.open_batch.specs.Shown.{ShowsBatch, AreUnits}
 use Rattle.open_batch.proofs.Linked.{units-taken, view-link, versions-link, commit-link}
 use Rattle.open_batch.proofs.Stages.{next-link}
 use Rattle.history_core.specs.declared.parts.Parts.{Parts}
-use Rattle.history_core.specs.Kept.{Stands, IsKept, IsReached, ShowsOpen, owed_in, members_in}
-use Rattle.history_core.specs.Questions.{Answers, ShowsStep}
+use Rattle.history_core.specs.Kept.{Stands, StandsForReached, IsCoreReached, ShowsOpen, owed_in, members_in}
+use Rattle.history_core.specs.Questions.{AnswersQuestion, ShowsStep}
 use Rattle.history_core.proofs.Shows.{to-cases}
 use Rattle.history_core.proofs.Finishes.{owed-within}
 use Rattle.history_core.proofs.Takes.{are-units}
 
 -- the answer to that question is the answer to this one
-pub answers-that : (p : Parts) (q r : CoreQuestion) (a : CoreAnswer) → q ≡ r → Answers p r a → Answers p q a
-answers-that p q r a is h = subst (λ x. Answers p x a) (sym is) h
+pub answers-that : (p : Parts) (q r : CoreQuestion) (a : CoreAnswer) → q ≡ r → AnswersQuestion p r a → AnswersQuestion p q a
+answers-that p q r a is h = subst (λ x. AnswersQuestion p x a) (sym is) h
 
 -- ---- units and grains
 
@@ -64,7 +64,7 @@ next-is p w s = λ i. slice_get (sym s.settled i) (sym s.emitted i)
 -- ---- the open batch
 
 -- so many units wait
-pub members-within : (p : Parts) → IsKept p → (n : ℕ) (ms : List FinishedUnit) → n ≡ owed_in p.batch → ms ≡ p.waiting.items → n ≡ length (take n ms)
+pub members-within : (p : Parts) → StandsForReached p → (n : ℕ) (ms : List FinishedUnit) → n ≡ owed_in p.batch → ms ≡ p.waiting.items → n ≡ length (take n ms)
 members-within p k n ms e q = all n ms (let t = owed-within p.batch p.waiting.items k.0.manager.batch (to-cases p.batch p.waiting.items k.0.manager.batch k.1.batch) in let l = ap (λ (xs : List FinishedUnit). length xs) q in omega (arith, t, e, l))
   where
     all : (m : ℕ) (xs : List FinishedUnit) → m ≤ length xs → m ≡ length (take m xs)
@@ -179,8 +179,8 @@ written-is p work may e h = λ w s r.
     let no_more : nat_lt w.manager.emitted (length w.manager.settled) ≡ false = le-ltb w.manager.emitted (length w.manager.settled) (past w.manager.settled w.manager.emitted here) in
     h w s r ∙ ap (work_in w) (sym (cond-false (nat_lt w.manager.emitted (length w.manager.settled)) Writes (if may && applies w Take then Takes else Rests) no_more))
 
-pub takes-is : (p : Parts) (may can : Bool) → ((w : CoreState) → Stands p w → IsReached w → can ≡ applies w Take) → (may && can) ≡ true → ShowsStep p (λ w. if may && applies w Take then Takes else Rests) work.Take
+pub takes-is : (p : Parts) (may can : Bool) → ((w : CoreState) → Stands p w → IsCoreReached w → can ≡ applies w Take) → (may && can) ≡ true → ShowsStep p (λ w. if may && applies w Take then Takes else Rests) work.Take
 takes-is p may can t e = λ w s r. ap (work_in w) (sym (cond-true (may && applies w Take) Takes Rests (ap (λ b. may && b) (sym (t w s r)) ∙ e)))
 
-pub rests-is : (p : Parts) (may can : Bool) → ((w : CoreState) → Stands p w → IsReached w → can ≡ applies w Take) → (may && can) ≡ false → ShowsStep p (λ w. if may && applies w Take then Takes else Rests) work.Nothing
+pub rests-is : (p : Parts) (may can : Bool) → ((w : CoreState) → Stands p w → IsCoreReached w → can ≡ applies w Take) → (may && can) ≡ false → ShowsStep p (λ w. if may && applies w Take then Takes else Rests) work.Nothing
 rests-is p may can t e = λ w s r. ap (work_in w) (sym (cond-false (may && applies w Take) Takes Rests (ap (λ b. may && b) (sym (t w s r)) ∙ e)))

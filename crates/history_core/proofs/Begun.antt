@@ -24,14 +24,14 @@ use Rattle.unit_table.specs.Rooms.{ParentRuns, LineIsCounted}
 use Rattle.unit_table.specs.declared.table.UnitTable.{UnitTable}
 use Rattle.history_core.specs.declared.parts.Parts.{Parts}
 use Rattle.history_core.specs.Asked.{is_next_child_in, FitsLine}
-use Rattle.history_core.specs.Kept.{Stands, IsReached}
+use Rattle.history_core.specs.Kept.{Stands, IsCoreReached}
 use Rattle.history_core.specs.Steps.{CanDo, Does}
 use Rattle.history_core.proofs.Stepping.{can-is}
 use Rattle.history_core.proofs.Lists.{map-agree}
 use Rattle.history_core.proofs.Reached.{rests, waits}
 
 -- a finished unit isn't the one that begins
-finished-not : (w : CoreState) → IsReached w → (x : UnitNo) → w.units.phase x ≡ Finished → x ≡ new_unit w → ⊥
+finished-not : (w : CoreState) → IsCoreReached w → (x : UnitNo) → w.units.phase x ≡ Finished → x ≡ new_unit w → ⊥
 finished-not w r x f e = (let t : Finished ≡ Unborn = sym f ∙ ap w.units.phase e ∙ (rests w r).fresh (new_unit w) (le_refl w.units.next) in cc)
 
 effect-begun : (w : CoreState) (origin : Origin) (call : Call) (plain : Bool) (x : UnitNo) → (x ≡ new_unit w → ⊥) → effect_of w x ≡ effect_of (begun w origin call plain) x

@@ -24,7 +24,7 @@ use Rattle.history_core.specs.Closing.{last_among, last_state, unlearnt, grains_
 use Rattle.history_core.specs.Closes.{Closes}
 use Rattle.history_core.specs.Fronts.{ends_as, told_as, verdicts_after, entries_after, pairs_after, last_after}
 use Rattle.cell_table.specs.Table.{cell_in}
-use Rattle.history_core.specs.Kept.{Stands, IsReached, ShowsOpen, IsShown, AllPlaced, EachPlaced, cells_of, owed_in, writes_in}
+use Rattle.history_core.specs.Kept.{Stands, IsCoreReached, ShowsOpen, ShowsTakenBatch, AllPlaced, EachPlaced, cells_of, owed_in, writes_in}
 use Rattle.history_core.proofs.Shows.{to-cases, from-cases, each-placed, placed-each}
 use Rattle.history_core.proofs.Lists.{filter-agree, last-agree}
 use Rattle.history_core.proofs.Fronts.{ends-open, ends-final, mapped-is, verdicts-link, entries-link, pairs-link, last-link, last-append, take-more, drop-more, filter-append, flat-append, filter-whole}

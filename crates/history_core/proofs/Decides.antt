@@ -35,11 +35,11 @@ use Rattle.open_batch.proofs.Stages.{shows-decided, voted-link, commits-some}
 use Rattle.history_core.specs.declared.parts.Parts.{Parts}
 use Rattle.history_core.specs.Batches.{may_decide_in}
 use Rattle.history_core.specs.declared.closing.Closing.TheVariants as how
-use Rattle.history_core.specs.Closes.{Closes, IsReady, decisions_in}
+use Rattle.history_core.specs.Closes.{Closes, IsReadyToClose, decisions_in}
 use Rattle.history_core.specs.Deciding.{judged_after, decisions_now, IsUndecided}
 use Rattle.history_core.specs.Closing.{unlearnt, last_state}
 use Rattle.history_core.specs.Fronts.{AreOver}
-use Rattle.history_core.specs.Kept.{Stands, IsReached, HasRoom, ShowsOpen, IsShown, AllPlaced, EachPlaced, cells_of, owed_in, writes_in}
+use Rattle.history_core.specs.Kept.{Stands, IsCoreReached, HasRoom, ShowsOpen, ShowsTakenBatch, AllPlaced, EachPlaced, cells_of, owed_in, writes_in}
 use Rattle.history_core.specs.Steps.{CanDo, Does}
 use Rattle.history_core.proofs.Shows.{to-cases, from-cases, each-placed, placed-each}
 use Rattle.history_core.proofs.Stepping.{can-is, allowed-is, allowed-going}
@@ -82,7 +82,7 @@ decisions-now p w b x s k =
     (λ i. decisions_by (λ u. is_bad (verdict_in p.units u)) (k.votes i) (take (k.size i) p.waiting.items))
     ∙ decisions-link (verdict_in p.units) (take b.size p.waiting.items) w b s.verdict (units-taken b.size p.waiting.items w (waiting w) (are-units p w s))
 
-decisions-length : (w : CoreState) (b : Batch) → IsReached w → w.manager.batch ≡ Some b → length (decisions_of w b) ≡ b.size
+decisions-length : (w : CoreState) (b : Batch) → IsCoreReached w → w.manager.batch ≡ Some b → length (decisions_of w b) ≡ b.size
 decisions-length w b r q =
     decided-length (λ u. is_bad (w.manager.verdict u)) (map (prepared w b) (members w b)) ∙ length-map (members w b) (prepared w b) ∙ members-length w b r q
 
@@ -129,25 +129,25 @@ pub record Judges (p q : Parts) (x : TakenBatch) : Type 0 where
   pub handed : q.handed ≡ p.handed
 
 -- who stands before the batch isn't judged
-apart : (w : CoreState) (b : Batch) → IsReached w → (x : UnitNo) → Member x (take w.manager.closed w.manager.order) → Member x (members w b) → ⊥
+apart : (w : CoreState) (b : Batch) → IsCoreReached w → (x : UnitNo) → Member x (take w.manager.closed w.manager.order) → Member x (members w b) → ⊥
 apart w b r x m k = (let t = closes w r x m in let z = waits w r x (Member-take b.size x (waiting w) k) in omega (arith, t.1, z.1))
 
-judged-before : (w : CoreState) (b : Batch) (ds : List Decision) → IsReached w → (x : UnitNo) → Member x (take w.manager.closed w.manager.order) → judged (members w b) ds w.manager.verdict x ≡ w.manager.verdict x
+judged-before : (w : CoreState) (b : Batch) (ds : List Decision) → IsCoreReached w → (x : UnitNo) → Member x (take w.manager.closed w.manager.order) → judged (members w b) ds w.manager.verdict x ≡ w.manager.verdict x
 judged-before w b ds r x m = judged-other (members w b) ds w.manager.verdict x (apart w b r x m)
 
-unlearnt-judged : (w : CoreState) (b : Batch) (ds : List Decision) → IsReached w → unlearnt w ≡ unlearnt (with_decisions w b ds)
+unlearnt-judged : (w : CoreState) (b : Batch) (ds : List Decision) → IsCoreReached w → unlearnt w ≡ unlearnt (with_decisions w b ds)
 unlearnt-judged w b ds r =
     ap (λ us. filter (λ (t : UnitNo × GrainId). not (w.cells.learnt t.0 t.1)) (flat_map (λ x. map (λ (y : Write). (x, y.0)) (w.manager.writes x)) us))
     (filter-agree (λ x. is_final (w.manager.verdict x)) (λ x. is_final (judged (members w b) ds w.manager.verdict x)) (take w.manager.closed w.manager.order)
     (λ x m. ap is_final (sym (judged-before w b ds r x m))))
 
-last-judged : (w : CoreState) (b : Batch) (ds : List Decision) (g : GrainId) → IsReached w → last_state w g ≡ last_state (with_decisions w b ds) g
+last-judged : (w : CoreState) (b : Batch) (ds : List Decision) (g : GrainId) → IsCoreReached w → last_state w g ≡ last_state (with_decisions w b ds) g
 last-judged w b ds g r =
     last-agree w.manager.verdict (judged (members w b) ds w.manager.verdict) w.manager.writes w.manager.writes g (take w.manager.closed w.manager.order) None
     (λ x m. ap is_committed (sym (judged-before w b ds r x m))) (λ x m. refl)
 
 -- the batch is decided
-stands-judged : (p q : Parts) (w : CoreState) (b : Batch) (x : TakenBatch) → Stands p w → IsReached w → w.manager.batch ≡ Some b → p.batch ≡ Some x → ShowsBatch x (take b.size p.waiting.items) b → Judges p q x →
+stands-judged : (p q : Parts) (w : CoreState) (b : Batch) (x : TakenBatch) → Stands p w → IsCoreReached w → w.manager.batch ≡ Some b → p.batch ≡ Some x → ShowsBatch x (take b.size p.waiting.items) b → Judges p q x →
     Stands q (with_decisions w b (decisions_of w b))
 stands-judged p q w b x s r e o k j =
     let ds = decisions_of w b in
@@ -189,7 +189,7 @@ stands-judged p q w b x s r e o k j =
           (subst (λ n. EachPlaced (has_place p.last) (take n q.waiting.items)) (sym size) (subst (λ (v : Vec FinishedUnit Global). EachPlaced (has_place p.last) (take (owed_in p.batch) v.items)) (sym j.waiting) s.room.places));
     }
 
-decided-closes : (w : CoreState) (b : Batch) → IsReached w → w.manager.doubt ≡ None → w.manager.batch ≡ Some b → b.decisions ≡ None → CanClose (with_decisions w b (decisions_of w b)) b (decisions_of w b)
+decided-closes : (w : CoreState) (b : Batch) → IsCoreReached w → w.manager.doubt ≡ None → w.manager.batch ≡ Some b → b.decisions ≡ None → CanClose (with_decisions w b (decisions_of w b)) b (decisions_of w b)
 decided-closes w b r none q d = record {
   each = decisions-length w b r q;
   within = size-within w b r q;
@@ -250,7 +250,7 @@ does-decide-none p m q n commits j e none closing doubt = λ w s r a.
     ))
 
 -- a batch that is just decided is ready to close
-pub ready-decided : (p m : Parts) (n : ℕ) → CanDo p (Decide n) → ((x : TakenBatch) → p.batch ≡ Some x → Judges p m x) → IsReady m
+pub ready-decided : (p m : Parts) (n : ℕ) → CanDo p (Decide n) → ((x : TakenBatch) → p.batch ≡ Some x → Judges p m x) → IsReadyToClose m
 ready-decided p m n c j =
     let w = c.0 in let s = c.1 in let r = c.2 in
     let t = decide-parts w n c.3 in

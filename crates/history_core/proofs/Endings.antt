@@ -27,19 +27,19 @@ use Rattle.history_core.specs.declared.parts.Parts.{Parts}
 use Rattle.history_core.specs.Asked.{ask_in}
 use Rattle.history_core.proofs.Locking.{ask-is}
 use Rattle.history_core.specs.Closing.{unlearnt, last_state}
-use Rattle.history_core.specs.Kept.{Stands, IsReached, owed_in}
+use Rattle.history_core.specs.Kept.{Stands, IsCoreReached, owed_in}
 use Rattle.history_core.specs.Steps.{CanDo, Does}
 use Rattle.history_core.proofs.Stepping.{can-is}
 use Rattle.history_core.proofs.Lists.{map-agree, filter-agree, last-agree}
 use Rattle.history_core.proofs.Reached.{waits-not, closes-not}
 
-unlearnt-refused : (w : CoreState) (u : UnitNo) (why : Settled) → IsReached w → w.units.phase u ≡ Running → unlearnt w ≡ unlearnt (refused w u why)
+unlearnt-refused : (w : CoreState) (u : UnitNo) (why : Settled) → IsCoreReached w → w.units.phase u ≡ Running → unlearnt w ≡ unlearnt (refused w u why)
 unlearnt-refused w u why r p =
     ap (λ us. filter (λ (t : UnitNo × GrainId). not (w.cells.learnt t.0 t.1)) (flat_map (λ x. map (λ (y : Write). (x, y.0)) (w.manager.writes x)) us))
     (filter-agree (λ x. is_final (w.manager.verdict x)) (λ x. is_final (put w.manager.verdict u Aborted x)) (take w.manager.closed w.manager.order)
     (λ x m. ap is_final (sym (put-other w.manager.verdict u Aborted x (closes-not w r u p x m)))))
 
-last-refused : (w : CoreState) (u : UnitNo) (why : Settled) (g : GrainId) → IsReached w → w.units.phase u ≡ Running → last_state w g ≡ last_state (refused w u why) g
+last-refused : (w : CoreState) (u : UnitNo) (why : Settled) (g : GrainId) → IsCoreReached w → w.units.phase u ≡ Running → last_state w g ≡ last_state (refused w u why) g
 last-refused w u why g r p =
     last-agree w.manager.verdict (put w.manager.verdict u Aborted) w.manager.writes w.manager.writes g (take w.manager.closed w.manager.order) None
     (λ x m. ap is_committed (sym (put-other w.manager.verdict u Aborted x (closes-not w r u p x m)))) (λ x m. refl)
@@ -89,7 +89,7 @@ effect-ended w u answers result at x n = λ i. record (effect_of w x) {
 }
 
 pub stands-ended : (p : Parts) (w : CoreState) (u : UnitNo) (answers : List Outcome) (result : Outcome) (at : Option ℕ) (origin : Origin) (units : UnitTable) (entries : EntriesInRoom) →
-    Stands p w → IsReached w → is_running (phase_in p.units u) ≡ true → origin ≡ origin_in p.units u →
+    Stands p w → IsCoreReached w → is_running (phase_in p.units u) ≡ true → origin ≡ origin_in p.units u →
     ((seen : UnitNo → Option ℕ) → units_of units seen ≡ units_over (units_of p.units seen) u Ended) → verdict_in units ≡ verdict_in p.units → result_in units ≡ put (result_in p.units) u result →
     entries.entries ≡ p.entries.entries ++ entry_for origin u (settled.Done result) → entries.emitted ≡ p.entries.emitted → owed_in p.batch ≤ entries.spare →
     Stands (record p { units = units; entries = entries }) (ended w u answers result at)

@@ -33,8 +33,8 @@ use Rattle.open_batch.specs.Shown.{ShowsBatch}
 use Rattle.history_core.specs.declared.parts.Parts.{Parts}
 use Rattle.history_core.specs.Closing.{unlearnt, last_state, last_among}
 use Rattle.history_core.specs.Handing.{put_handed, cleared, with_writes}
-use Rattle.history_core.specs.Kept.{Stands, IsReached, ShowsOpen, IsShown, HasRoom, AllPlaced, EachPlaced, owed_in, members_in, writes_in}
-use Rattle.history_core.specs.Steps.{CanDo, Keeps, Does}
+use Rattle.history_core.specs.Kept.{Stands, IsCoreReached, ShowsOpen, ShowsTakenBatch, HasRoom, AllPlaced, EachPlaced, owed_in, members_in, writes_in}
+use Rattle.history_core.specs.Steps.{CanDo, KeepsMeaning, Does}
 use Rattle.history_core.proofs.Stepping.{can-is}
 use Rattle.history_core.proofs.Shows.{to-cases, from-cases, each-placed, placed-each}
 use Rattle.history_core.proofs.Lists.{map-agree, flat-agree, filter-in, map-last, drop-last, take-last, last-agree}
@@ -123,7 +123,7 @@ effect-brought w u e h reads = λ i. record {
   result = put-same w.manager.result u e.result i;
 }
 
-effects-more : (w : CoreState) (u : UnitNo) (e : Effect) (ms : List FinishedUnit) (m : FinishedUnit) → IsReached w → w.units.phase u ≡ Running →
+effects-more : (w : CoreState) (u : UnitNo) (e : Effect) (ms : List FinishedUnit) (m : FinishedUnit) → IsCoreReached w → w.units.phase u ≡ Running →
     (e.unit ≡ u) × (e.origin ≡ w.units.origin u) × (e.call ≡ w.units.call u) → e.reads ≡ w.units.reads u → m.effect ≡ e → map effect_in ms ≡ map (effect_of w) (waiting w) →
     map effect_in (ms ++ m ∷ []) ≡ map (effect_of (finished w u e)) (waiting (finished w u e))
 effects-more w u e ms m r p h reads is s =
@@ -132,7 +132,7 @@ effects-more w u e ms m r p h reads is s =
     ∙ sym (map-last (effect_of (finished w u e)) (waiting w) u)
     ∙ ap (map (effect_of (finished w u e))) (sym (drop-last w.manager.closed w.manager.order u (closed-within w r)))
 
-sources-more : (w : CoreState) (u : UnitNo) (e : Effect) (ms : List FinishedUnit) (m : FinishedUnit) → IsReached w → m.deps.sources ≡ w.units.deps u → map sources_in ms ≡ map w.units.deps (waiting w) →
+sources-more : (w : CoreState) (u : UnitNo) (e : Effect) (ms : List FinishedUnit) (m : FinishedUnit) → IsCoreReached w → m.deps.sources ≡ w.units.deps u → map sources_in ms ≡ map w.units.deps (waiting w) →
     map sources_in (ms ++ m ∷ []) ≡ map w.units.deps (waiting (finished w u e))
 sources-more w u e ms m r is s =
     map-last sources_in ms m
@@ -141,20 +141,20 @@ sources-more w u e ms m r is s =
     ∙ ap (map w.units.deps) (sym (drop-last w.manager.closed w.manager.order u (closed-within w r)))
 
 -- what the grains have to learn doesn't rest on it
-unlearnt-same : (w : CoreState) (u : UnitNo) (e : Effect) → IsReached w → w.units.phase u ≡ Running → unlearnt w ≡ unlearnt (finished w u e)
+unlearnt-same : (w : CoreState) (u : UnitNo) (e : Effect) → IsCoreReached w → w.units.phase u ≡ Running → unlearnt w ≡ unlearnt (finished w u e)
 unlearnt-same w u e r p = ap (filter (λ (t : UnitNo × GrainId). not (w.cells.learnt t.0 t.1)))
     (flat-agree (λ x. map (λ (y : Write). (x, y.0)) (w.manager.writes x)) (λ x. map (λ (y : Write). (x, y.0)) (put w.manager.writes u e.writes x)) (filter (λ x. is_final (w.manager.verdict x)) (take w.manager.closed w.manager.order))
     (λ x m. ap (map (λ (y : Write). (x, y.0))) (sym (put-other w.manager.writes u e.writes x (closes-not w r u p x (filter-in (λ x. is_final (w.manager.verdict x)) (take w.manager.closed w.manager.order) x m)))))
     ∙ ap (λ us. flat_map (λ x. map (λ (y : Write). (x, y.0)) (put w.manager.writes u e.writes x)) (filter (λ x. is_final (w.manager.verdict x)) us)) (sym (take-last w.manager.closed w.manager.order u (closed-within w r))))
 
-last-same : (w : CoreState) (u : UnitNo) (e : Effect) (g : GrainId) → IsReached w → w.units.phase u ≡ Running → last_state w g ≡ last_state (finished w u e) g
+last-same : (w : CoreState) (u : UnitNo) (e : Effect) (g : GrainId) → IsCoreReached w → w.units.phase u ≡ Running → last_state w g ≡ last_state (finished w u e) g
 last-same w u e g r p =
     last-agree w.manager.verdict w.manager.verdict w.manager.writes (put w.manager.writes u e.writes) g (take w.manager.closed w.manager.order) None
     (λ x m. refl) (λ x m. sym (put-other w.manager.writes u e.writes x (closes-not w r u p x m)))
     ∙ ap (λ us. last_among w.manager.verdict (put w.manager.writes u e.writes) g us None) (sym (take-last w.manager.closed w.manager.order u (closed-within w r)))
 
 -- what the unit holds it has read, and what it wrote there is kept
-handed-new : (w : CoreState) (u : UnitNo) (g : GrainId) (f : UnitNo → GrainId → Option (List Value)) (e : Effect) → IsReached w → e.reads ≡ w.units.reads u → holds_lock u (w.cells.holds g) ≡ true →
+handed-new : (w : CoreState) (u : UnitNo) (g : GrainId) (f : UnitNo → GrainId → Option (List Value)) (e : Effect) → IsCoreReached w → e.reads ≡ w.units.reads u → holds_lock u (w.cells.holds g) ≡ true →
     with_writes (cleared f u e.reads) u e.writes u g ≡ state_written g e.writes
 handed-new w u g f e r reads held =
     let t = any-true (is_hold_of u) (w.cells.holds g) held in
@@ -178,7 +178,7 @@ finish-runs p u e c = (λ i. is_running ((sym c.1.units i).phase u)) ∙ ap is_r
 
 -- room, and what is kept of a running unit's writes, change nothing
 pub keeps-handed : (p : Parts) (waiting : Vec FinishedUnit Global) (handed : HandedStates) (u : UnitNo) → is_running (phase_in p.units u) ≡ true → waiting.items ≡ p.waiting.items →
-    ((x : UnitNo) (g : GrainId) → (x ≡ u → ⊥) → handed_in handed x g ≡ handed_in p.handed x g) → Keeps p (record p { waiting = waiting; handed = handed })
+    ((x : UnitNo) (g : GrainId) → (x ≡ u → ⊥) → handed_in handed x g ≡ handed_in p.handed x g) → KeepsMeaning p (record p { waiting = waiting; handed = handed })
 keeps-handed p waiting handed u runs same others = λ w s. record {
   units = s.units;
   cells = s.cells;
@@ -186,7 +186,7 @@ keeps-handed p waiting handed u runs same others = λ w s. record {
   result = s.result;
   effects = ap (map effect_in) same ∙ s.effects;
   sources = ap (map sources_in) same ∙ s.sources;
-  batch = subst (λ ms. IsShown p.batch ms w.manager.batch) (sym same) s.batch;
+  batch = subst (λ ms. ShowsTakenBatch p.batch ms w.manager.batch) (sym same) s.batch;
   batches = s.batches;
   doubt = s.doubt;
   settled = s.settled;
@@ -219,7 +219,7 @@ does-finish p u e units waiting m f us v o effect deps items hands = λ w s r a.
         result = ap (λ (x : UnitNo → Outcome). put x u e.result) s.result ∙ sym o;
         effects = ap (map effect_in) items ∙ effects-more w u e p.waiting.items m r t.0 t.1 t.2 effect s.effects;
         sources = ap (map sources_in) items ∙ sources-more w u e p.waiting.items m r (deps ∙ (λ i. (sym s.units i).deps u)) s.sources;
-        batch = subst (λ ms. IsShown p.batch ms w.manager.batch) (sym items) (from-cases p.batch (p.waiting.items ++ m ∷ []) w.manager.batch (shows-more p.batch p.waiting.items m w.manager.batch (to-cases p.batch p.waiting.items w.manager.batch s.batch)));
+        batch = subst (λ ms. ShowsTakenBatch p.batch ms w.manager.batch) (sym items) (from-cases p.batch (p.waiting.items ++ m ∷ []) w.manager.batch (shows-more p.batch p.waiting.items m w.manager.batch (to-cases p.batch p.waiting.items w.manager.batch s.batch)));
         batches = s.batches;
         doubt = s.doubt;
         settled = s.settled;
@@ -246,7 +246,7 @@ does-finish p u e units waiting m f us v o effect deps items hands = λ w s r a.
 
 -- the room and the copies of a finish change nothing
 pub keeps-prepared : (p q : Parts) (u : UnitNo) → is_running (phase_in p.units u) ≡ true → q.units ≡ p.units → q.cells ≡ p.cells → q.waiting.items ≡ p.waiting.items → q.batches ≡ p.batches → q.batch ≡ p.batch → q.doubt ≡ p.doubt →
-    q.entries ≡ p.entries → q.learn ≡ p.learn → q.last ≡ p.last → ((x : UnitNo) (g : GrainId) → (x ≡ u → ⊥) → handed_in q.handed x g ≡ handed_in p.handed x g) → Keeps p q
+    q.entries ≡ p.entries → q.learn ≡ p.learn → q.last ≡ p.last → ((x : UnitNo) (g : GrainId) → (x ≡ u → ⊥) → handed_in q.handed x g ≡ handed_in p.handed x g) → KeepsMeaning p q
 keeps-prepared p q u runs units cells waiting batches batch doubt entries learn last others =
-    subst (Keeps p) (λ i. record { units = sym units i; cells = sym cells i; waiting = q.waiting; batches = sym batches i; batch = sym batch i; doubt = sym doubt i; entries = sym entries i; learn = sym learn i; last = sym last i; handed = q.handed })
+    subst (KeepsMeaning p) (λ i. record { units = sym units i; cells = sym cells i; waiting = q.waiting; batches = sym batches i; batch = sym batch i; doubt = sym doubt i; entries = sym entries i; learn = sym learn i; last = sym last i; handed = q.handed })
     (keeps-handed p q.waiting q.handed u runs waiting others)

@@ -7,7 +7,7 @@ use Rattle.core_model.specs.Tests.{is_committed, state_written}
 use Rattle.core_model.specs.Legal.{Run, ends}
 use Rattle.core_model.proofs.Orders.{Member-at, Member-get, take_length}
 use Rattle.history_core.specs.Closing.{state_after, last_among, last_state}
-use Rattle.history_core.specs.Kept.{IsReached}
+use Rattle.history_core.specs.Kept.{IsCoreReached}
 use Rattle.history_core.specs.LastWriters.{IsLastOf}
 use Rattle.history_core.proofs.Reached.{rests, closed-within, committed-closed}
 
@@ -66,7 +66,7 @@ parts c [] ys m = inr m
 parts c (x ∷ xs) ys (inl e) = inl (inl e)
 parts c (x ∷ xs) ys (inr m) = elim (parts c xs ys m) [ inl k ↦ inl (inr k) | inr k ↦ inr k ]
 
-module _ (w : CoreState) (r : IsReached w) where
+module _ (w : CoreState) (r : IsCoreReached w) where
   abbrev units : List UnitNo
   units = take w.manager.closed w.manager.order
 

@@ -29,7 +29,7 @@ use Rattle.cell_table.specs.declared.table.CellTable.{CellTable}
 use Rattle.unit_table.specs.Table.{verdict_in}
 use Rattle.history_core.specs.declared.parts.Parts.{Parts}
 use Rattle.history_core.specs.Closing.{unlearnt}
-use Rattle.history_core.specs.Kept.{Stands, IsReached, cells_of, writes_in, members_in}
+use Rattle.history_core.specs.Kept.{Stands, IsCoreReached, cells_of, writes_in, members_in}
 use Rattle.history_core.specs.Steps.{CanDo, Does}
 use Rattle.history_core.proofs.Stepping.{can-is}
 use Rattle.history_core.proofs.Lists.{filter-agree}
@@ -73,14 +73,14 @@ finished-or Refused = inr (λ z. cc)
 finished-or Ended = inr (λ z. cc)
 
 -- a unit that wrote has finished
-pub wrote-finished : (w : CoreState) → IsReached w → (u : UnitNo) (g : GrainId) → is_some (state_written g (w.manager.writes u)) ≡ true → w.units.phase u ≡ Finished
+pub wrote-finished : (w : CoreState) → IsCoreReached w → (u : UnitNo) (g : GrainId) → is_some (state_written g (w.manager.writes u)) ≡ true → w.units.phase u ≡ Finished
 wrote-finished w r u g e = elim (finished-or (w.units.phase u)) [
   | inl f ↦ f
   | inr n ↦ (let z : false ≡ true = sym (ap (λ xs. is_some (state_written g xs)) (unwritten w r u n)) ∙ e in cc)
 ]
 
 -- and stands in a closed batch where it is decided for good
-decided-closed : (w : CoreState) → IsReached w → (u : UnitNo) → w.units.phase u ≡ Finished → is_final (w.manager.verdict u) ≡ true → Member u (take w.manager.closed w.manager.order)
+decided-closed : (w : CoreState) → IsCoreReached w → (u : UnitNo) → w.units.phase u ≡ Finished → is_final (w.manager.verdict u) ≡ true → Member u (take w.manager.closed w.manager.order)
 decided-closed w r u f final =
     let t = (rests w r).ordered.placed u f in
     let le : w.manager.place u ≤ w.manager.closed = elim (cases_lt w.manager.closed (w.manager.place u)) [
@@ -93,7 +93,7 @@ decided-closed w r u f final =
     (Member-get (take w.manager.closed w.manager.order) t.0 (omega (arith, len, lt)))
 
 -- the pair is among what is to learn exactly where the event applies
-pub can-learn-is : (w : CoreState) → IsReached w → (u : UnitNo) (g : GrainId) → has_pair (unlearnt w) u g ≡ can_learn w u g
+pub can-learn-is : (w : CoreState) → IsCoreReached w → (u : UnitNo) (g : GrainId) → has_pair (unlearnt w) u g ≡ can_learn w u g
 can-learn-is w r u g = same-tests (has_pair (unlearnt w) u g) (can_learn w u g) there back
   where
     there : has_pair (unlearnt w) u g ≡ true → can_learn w u g ≡ true

@@ -35,7 +35,7 @@ use Rattle.unit_table.specs.Parts.{units_read, deps_after}
 use Rattle.unit_table.specs.Table.{units_of, verdict_in, result_in, deps_in, phase_in}
 use Rattle.unit_table.specs.declared.table.UnitTable.{UnitTable}
 use Rattle.history_core.specs.declared.parts.Parts.{Parts}
-use Rattle.history_core.specs.Kept.{Stands, IsReached, cells_of}
+use Rattle.history_core.specs.Kept.{Stands, IsCoreReached, cells_of}
 use Rattle.history_core.specs.Granting.{Cleans, cell_without, is_sure_in}
 use Rattle.history_core.specs.Steps.{CanDo, Does}
 use Rattle.history_core.specs.Asked.{ask_in}
@@ -227,7 +227,7 @@ does-lock p u g m aborted new units found read depends e held is top_is read_is 
   ap read_reply (top_is ∙ sym (ap top (cleaned-is p w g aborted s e))),
 )
   where
-    apart : (w : CoreState) → IsReached w → applies w (Grant u g m) ≡ true → (x : UnitNo) → Member x (waiting w) → x ≡ u → ⊥
+    apart : (w : CoreState) → IsCoreReached w → applies w (Grant u g m) ≡ true → (x : UnitNo) → Member x (waiting w) → x ≡ u → ⊥
     apart w r a x k = runs-not w u g m a x (waits w r x k).0
 
 -- the lock is free by what is kept

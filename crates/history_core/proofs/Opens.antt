@@ -12,7 +12,7 @@ use Rattle.unit_table.specs.Table.{units_of, verdict_in, result_in}
 use Rattle.open_batch.specs.Members.{effect_in, sources_in}
 use Rattle.history_core.proofs.Shows.{to-cases, from-cases, each-placed, placed-each}
 use Rattle.history_core.specs.declared.parts.Parts.{Parts}
-use Rattle.history_core.specs.Kept.{Stands, cells_of, ShowsOpen, IsShown, owed_in, writes_in, AllPlaced, EachPlaced}
+use Rattle.history_core.specs.Kept.{Stands, cells_of, ShowsOpen, ShowsTakenBatch, owed_in, writes_in, AllPlaced, EachPlaced}
 
 pub stands-new : (p : Parts) (base kinds : ℕ) → units_of p.units (λ u. None) ≡ first_units base kinds → ◌≡◌ {A = UnitNo → Verdict} (verdict_in p.units) (λ u. Open) → ◌≡◌ {A = UnitNo → Outcome} (result_in p.units) (λ u. aborted) →
     cell_in p.cells ≡ (λ (g : GrainId). opened (opens_with p.cells g)) → p.waiting.items ≡ [] → p.batches ≡ 0 → p.batch ≡ None → p.doubt ≡ false → p.entries.entries ≡ [] → p.entries.emitted ≡ 0 → p.learn.pairs ≡ [] →

@@ -25,7 +25,7 @@ use Rattle.core_model.proofs.Relied.{holds-ends}
 use Rattle.core_model.proofs.WithoutLimit.{loads-without-limit}
 use Rattle.core_model.proofs.Consistency.{consistent-ends}
 use Rattle.core_model.proofs.Held.{holders-ends}
-use Rattle.history_core.specs.Kept.{IsReached}
+use Rattle.history_core.specs.Kept.{IsCoreReached}
 
 -- any effect is a play
 abbrev any_play : Effect → Bool
@@ -59,31 +59,31 @@ all-play (e ∷ es) = (plays-any e, all-play es)
 legal : (r : Run) → 0 < r.base → r.capacity ≡ None → IsLegal any_play r
 legal r above none = record { above = above; effects = all-play r.events; loads = loads-without-limit r none }
 
-pub rests : (w : CoreState) → IsReached w → HoldsWithoutLoads w
+pub rests : (w : CoreState) → IsCoreReached w → HoldsWithoutLoads w
 rests w r = subst HoldsWithoutLoads r.3 (holds-ends r.0 r.1)
 
-pub steady : (w : CoreState) → IsReached w → Steady w
+pub steady : (w : CoreState) → IsCoreReached w → Steady w
 steady w r = subst Steady r.3 (steady-ends r.0 r.1)
 
-pub readers : (w : CoreState) → IsReached w → HoldersHaveRead w
+pub readers : (w : CoreState) → IsCoreReached w → HoldersHaveRead w
 readers w r = subst HoldersHaveRead r.3 (holders-ends any_play r.0 (legal r.0 r.1 r.2))
 
-pub prefixes : (w : CoreState) → IsReached w → ClosedBatchesArePrefix w
+pub prefixes : (w : CoreState) → IsCoreReached w → ClosedBatchesArePrefix w
 prefixes w r = subst ClosedBatchesArePrefix r.3 (consistent-ends any_play r.0 (legal r.0 r.1 r.2)).closed_batches_are_a_prefix
 
 -- who isn't finished has written nothing
-pub unwritten : (w : CoreState) → IsReached w → (u : UnitNo) → (w.units.phase u ≡ Finished → ⊥) → w.manager.writes u ≡ []
+pub unwritten : (w : CoreState) → IsCoreReached w → (u : UnitNo) → (w.units.phase u ≡ Finished → ⊥) → w.manager.writes u ≡ []
 unwritten w r u n = (steady w r).0.0.unwritten u n
 
 -- who runs is undecided
-pub running-open : (w : CoreState) → IsReached w → (u : UnitNo) → w.units.phase u ≡ Running → w.manager.verdict u ≡ Open
+pub running-open : (w : CoreState) → IsCoreReached w → (u : UnitNo) → w.units.phase u ≡ Running → w.manager.verdict u ≡ Open
 running-open w r u p = (steady w r).0.0.undecided u (inr p)
 
-pub closed-within : (w : CoreState) → IsReached w → w.manager.closed ≤ length w.manager.order
+pub closed-within : (w : CoreState) → IsCoreReached w → w.manager.closed ≤ length w.manager.order
 closed-within w r = (let t = (rests w r).within in omega (arith, t))
 
 -- what stands after the closed ones has finished, with a later place
-pub waits : (w : CoreState) → IsReached w → (x : UnitNo) → Member x (waiting w) → (w.units.phase x ≡ Finished) × (w.manager.closed < w.manager.place x)
+pub waits : (w : CoreState) → IsCoreReached w → (x : UnitNo) → Member x (waiting w) → (w.units.phase x ≡ Finished) × (w.manager.closed < w.manager.place x)
 waits w r x h =
     let i = (rests w r).ordered in
     let t = Member-at x (waiting w) h in
@@ -93,7 +93,7 @@ waits w r x h =
     (subst (λ z. w.units.phase z ≡ Finished) e l.0, subst (λ z. w.manager.closed < w.manager.place z) e (omega (arith, l.1)))
 
 -- the closed ones have finished, with places up to their count
-pub closes : (w : CoreState) → IsReached w → (x : UnitNo) → Member x (take w.manager.closed w.manager.order) → (w.units.phase x ≡ Finished) × (w.manager.place x ≤ w.manager.closed)
+pub closes : (w : CoreState) → IsCoreReached w → (x : UnitNo) → Member x (take w.manager.closed w.manager.order) → (w.units.phase x ≡ Finished) × (w.manager.place x ≤ w.manager.closed)
 closes w r x h =
     let i = (rests w r).ordered in
     let t = Member-at x (take w.manager.closed w.manager.order) h in
@@ -109,24 +109,24 @@ closes w r x h =
     at_most (suc m) (y ∷ xs) (suc j) h = omega (arith, at_most m xs j (omega arith))
 
 -- a unit that runs is neither
-pub waits-not : (w : CoreState) → IsReached w → (u : UnitNo) → w.units.phase u ≡ Running → (x : UnitNo) → Member x (waiting w) → x ≡ u → ⊥
+pub waits-not : (w : CoreState) → IsCoreReached w → (u : UnitNo) → w.units.phase u ≡ Running → (x : UnitNo) → Member x (waiting w) → x ≡ u → ⊥
 waits-not w r u p x m e = (let t : Finished ≡ Running = sym (waits w r x m).0 ∙ ap w.units.phase e ∙ p in cc)
 
-pub closes-not : (w : CoreState) → IsReached w → (u : UnitNo) → w.units.phase u ≡ Running → (x : UnitNo) → Member x (take w.manager.closed w.manager.order) → x ≡ u → ⊥
+pub closes-not : (w : CoreState) → IsCoreReached w → (u : UnitNo) → w.units.phase u ≡ Running → (x : UnitNo) → Member x (take w.manager.closed w.manager.order) → x ≡ u → ⊥
 closes-not w r u p x m e = (let t : Finished ≡ Running = sym (closes w r x m).0 ∙ ap w.units.phase e ∙ p in cc)
 
 -- unless a batch is in doubt, the closed ones are decided for good
-pub closes-final : (w : CoreState) → IsReached w → w.manager.doubt ≡ None → (x : UnitNo) → Member x (take w.manager.closed w.manager.order) → is_final (w.manager.verdict x) ≡ true
+pub closes-final : (w : CoreState) → IsCoreReached w → w.manager.doubt ≡ None → (x : UnitNo) → Member x (take w.manager.closed w.manager.order) → is_final (w.manager.verdict x) ≡ true
 closes-final w r none x m = (let t = closes w r x m in (steady w r).2 none x t.0 t.1)
 
 -- a unit that has finished has its place up to the closed ones or after them
-pub late-not-final : (w : CoreState) → IsReached w → (x : UnitNo) → w.units.phase x ≡ Finished → w.manager.closed < w.manager.place x → is_final (w.manager.verdict x) ≡ false
+pub late-not-final : (w : CoreState) → IsCoreReached w → (x : UnitNo) → w.units.phase x ≡ Finished → w.manager.closed < w.manager.place x → is_final (w.manager.verdict x) ≡ false
 late-not-final w r x f lt = (prefixes w r).undecided x f lt
 
 -- the batches follow one another
-pub follows : (w : CoreState) → IsReached w → BatchesFollow w
+pub follows : (w : CoreState) → IsCoreReached w → BatchesFollow w
 follows w r = subst BatchesFollow r.3 (follows-ends any_play r.0 (legal r.0 r.1 r.2))
 
 -- a committed unit has finished, with a place up to the closed ones
-pub committed-closed : (w : CoreState) → IsReached w → (u : UnitNo) → w.manager.verdict u ≡ Committed → (w.units.phase u ≡ Finished) × (w.manager.place u ≤ w.manager.closed)
+pub committed-closed : (w : CoreState) → IsCoreReached w → (u : UnitNo) → w.manager.verdict u ≡ Committed → (w.units.phase u ≡ Finished) × (w.manager.place u ≤ w.manager.closed)
 committed-closed w r = (subst NoLockIsHeldUntilCommit r.3 (no-lock-ends any_play r.0 (legal r.0 r.1 r.2))).committed

@@ -24,7 +24,7 @@ use Rattle.cell_table.specs.Table.{cell_in}
 use Rattle.cell_table.specs.declared.table.CellTable.{CellTable}
 use Rattle.unit_table.specs.Table.{phase_in}
 use Rattle.history_core.specs.declared.parts.Parts.{Parts}
-use Rattle.history_core.specs.Kept.{Stands, IsReached, cells_of}
+use Rattle.history_core.specs.Kept.{Stands, IsCoreReached, cells_of}
 use Rattle.history_core.specs.Releasing.{if_finished}
 use Rattle.history_core.specs.Steps.{CanDo, Does}
 use Rattle.history_core.proofs.Stepping.{can-is}
@@ -32,7 +32,7 @@ use Rattle.history_core.proofs.Reached.{rests, unwritten}
 use Rattle.history_core.proofs.Locking.{put-cells}
 
 -- what is given is what the unit wrote
-given-is : (p : Parts) (w : CoreState) (u : UnitNo) (g : GrainId) → Stands p w → IsReached w → holds_lock u (w.cells.holds g) ≡ true →
+given-is : (p : Parts) (w : CoreState) (u : UnitNo) (g : GrainId) → Stands p w → IsCoreReached w → holds_lock u (w.cells.holds g) ≡ true →
     if_finished (phase_in p.units u) (handed_in p.handed u g) ≡ state_written g (w.manager.writes u)
 given-is p w u g s r h = ap (λ ph. if_finished ph (handed_in p.handed u g)) (λ i. (sym s.units i).phase u) ∙ go (w.units.phase u) refl
   where

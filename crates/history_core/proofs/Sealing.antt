@@ -29,9 +29,9 @@ use Rattle.history_core.specs.declared.closing.Closing.{Closing}
 use Rattle.history_core.specs.declared.closing.Closing.TheVariants as how
 use Rattle.history_core.specs.Closing.{ArePlaced}
 use Rattle.history_core.specs.Batches.{is_judged_in}
-use Rattle.history_core.specs.Closes.{Closes, Ready, IsReady, decisions_in}
+use Rattle.history_core.specs.Closes.{Closes, Ready, IsReadyToClose, decisions_in}
 use Rattle.history_core.specs.Fronts.{ends_as, told_as, writes_after, AreOver, PlacedAfter}
-use Rattle.history_core.specs.Kept.{Stands, IsReached, ShowsOpen, IsShown, AllPlaced, EachPlaced, owed_in, writes_in, members_in}
+use Rattle.history_core.specs.Kept.{Stands, IsCoreReached, ShowsOpen, ShowsTakenBatch, AllPlaced, EachPlaced, owed_in, writes_in, members_in}
 use Rattle.history_core.specs.Steps.{CanDo, Does}
 use Rattle.history_core.proofs.Shows.{to-cases, from-cases, each-placed, placed-each}
 use Rattle.history_core.proofs.Stepping.{can-is, allowed-is, allowed-answer}
@@ -95,13 +95,13 @@ each-decided writes votes [] (d ∷ ds) h = absurd h
 each-decided writes votes (u ∷ us) [] h = absurd h
 each-decided writes votes (u ∷ us) (d ∷ ds) h = ap suc (each-decided writes votes us ds h.1)
 
-pub size-within : (w : CoreState) (b : Batch) → IsReached w → w.manager.batch ≡ Some b → w.manager.closed + b.size ≤ length w.manager.order
+pub size-within : (w : CoreState) (b : Batch) → IsCoreReached w → w.manager.batch ≡ Some b → w.manager.closed + b.size ≤ length w.manager.order
 size-within w b r q = subst (λ o. w.manager.closed + size_of o ≤ length w.manager.order) q (rests w r).within
 
-pub members-length : (w : CoreState) (b : Batch) → IsReached w → w.manager.batch ≡ Some b → length (members w b) ≡ b.size
+pub members-length : (w : CoreState) (b : Batch) → IsCoreReached w → w.manager.batch ≡ Some b → length (members w b) ≡ b.size
 members-length w b r q = (let t = size-within w b r q in let l = length-drop w.manager.closed w.manager.order in take_length b.size (waiting w) (omega (arith, t, l)))
 
-pub members-fresh : (w : CoreState) (b : Batch) → IsReached w → (x : UnitNo) (g : GrainId) → Member x (members w b) → w.cells.learnt x g ≡ false
+pub members-fresh : (w : CoreState) (b : Batch) → IsCoreReached w → (x : UnitNo) (g : GrainId) → Member x (members w b) → w.cells.learnt x g ≡ false
 members-fresh w b r x g m = go (w.cells.learnt x g) refl
   where
     go : (t : Bool) → w.cells.learnt x g ≡ t → w.cells.learnt x g ≡ false
@@ -110,7 +110,7 @@ members-fresh w b r x g m = go (w.cells.learnt x g) refl
         (let k = waits w r x (Member-take b.size x (waiting w) m) in
         let z : true ≡ false = sym ((readers w r).learnt x g e).0 ∙ late-not-final w r x k.0 k.1 in cc)
 
-pub can-close : (w : CoreState) (b : Batch) (ds : List Decision) → IsReached w → w.manager.doubt ≡ None → w.manager.batch ≡ Some b → b.decisions ≡ Some ds → CanClose w b ds
+pub can-close : (w : CoreState) (b : Batch) (ds : List Decision) → IsCoreReached w → w.manager.doubt ≡ None → w.manager.batch ≡ Some b → b.decisions ≡ Some ds → CanClose w b ds
 can-close w b ds r none q d = record {
   each = each-decided w.manager.writes b.votes (members w b) ds ((follows w r).decided b ds q d) ∙ members-length w b r q;
   within = size-within w b r q;
@@ -124,7 +124,7 @@ no-doubt w e a x y = none-true w.manager.doubt (sym (allowed-answer w e x y) ∙
 
 -- ---- the three answers
 
-pub ready-judged : (p : Parts) (w : CoreState) (b : Batch) (ds : List Decision) → Stands p w → IsReached w → w.manager.doubt ≡ None → w.manager.batch ≡ Some b → b.decisions ≡ Some ds → IsReady p
+pub ready-judged : (p : Parts) (w : CoreState) (b : Batch) (ds : List Decision) → Stands p w → IsCoreReached w → w.manager.doubt ≡ None → w.manager.batch ≡ Some b → b.decisions ≡ Some ds → IsReadyToClose p
 ready-judged p w b ds s r none q d =
     let t = shown p w b s q in
     let c = can-close w b ds r none q d in
@@ -153,13 +153,13 @@ doubt-parts w n a = judged-parts w n (Doubt n) a refl refl go
     go : (w' : CoreState) → Change w (Doubt n) w' → (b : Batch) × (ds : List Decision) × (w.manager.batch ≡ Some b) × (b.decisions ≡ Some ds)
     go w' (doubt_batch n b ds q number d) = (b, ds, q, d)
 
-pub seal-ready : (p : Parts) (n : ℕ) → CanDo p (Sealed n) → IsReady p
+pub seal-ready : (p : Parts) (n : ℕ) → CanDo p (Sealed n) → IsReadyToClose p
 seal-ready p n c = (let t = seal-parts c.0 n c.3 in ready-judged p c.0 t.1.0 t.1.1 c.1 c.2 t.0 t.1.2 t.1.3)
 
-pub spoil-ready : (p : Parts) (n : ℕ) → CanDo p (NotSealed n) → IsReady p
+pub spoil-ready : (p : Parts) (n : ℕ) → CanDo p (NotSealed n) → IsReadyToClose p
 spoil-ready p n c = (let t = spoil-parts c.0 n c.3 in ready-judged p c.0 t.1.0 t.1.1 c.1 c.2 t.0 t.1.2 t.1.3)
 
-pub doubt-ready : (p : Parts) (n : ℕ) → CanDo p (Doubt n) → IsReady p
+pub doubt-ready : (p : Parts) (n : ℕ) → CanDo p (Doubt n) → IsReadyToClose p
 doubt-ready p n c = (let t = doubt-parts c.0 n c.3 in ready-judged p c.0 t.1.0 t.1.1 c.1 c.2 t.0 t.1.2 t.1.3)
 
 -- the change by the decisions that there are

@@ -6,15 +6,15 @@ use Rattle.open_batch.specs.declared.members.FinishedUnit.{FinishedUnit}
 use Rattle.open_batch.specs.Taken.{TakenBatch}
 use Rattle.open_batch.specs.Shown.{ShowsBatch}
 use Rattle.history_core.specs.Closing.{ArePlaced}
-use Rattle.history_core.specs.Kept.{ShowsOpen, IsShown, AllPlaced, EachPlaced}
+use Rattle.history_core.specs.Kept.{ShowsOpen, ShowsTakenBatch, AllPlaced, EachPlaced}
 
-pub to-cases : (o : Option TakenBatch) (ms : List FinishedUnit) (b : Option Batch) → IsShown o ms b → ShowsOpen o ms b
+pub to-cases : (o : Option TakenBatch) (ms : List FinishedUnit) (b : Option Batch) → ShowsTakenBatch o ms b → ShowsOpen o ms b
 to-cases None ms None h = tt
 to-cases (Some x) ms (Some c) h = h.shows x c refl refl
 to-cases None ms (Some c) h = (let t : false ≡ true = h.same in cc)
 to-cases (Some x) ms None h = (let t : true ≡ false = h.same in cc)
 
-pub from-cases : (o : Option TakenBatch) (ms : List FinishedUnit) (b : Option Batch) → ShowsOpen o ms b → IsShown o ms b
+pub from-cases : (o : Option TakenBatch) (ms : List FinishedUnit) (b : Option Batch) → ShowsOpen o ms b → ShowsTakenBatch o ms b
 from-cases None ms None h = record { same = refl; shows = λ x c e. (let t : None ≡ Some x = e in cc) }
 from-cases (Some x) ms (Some c) h = record {
   same = refl;

@@ -10,8 +10,8 @@ use Rattle.core_model.specs.declared.events.CoreReply.{CoreReply}
 use Rattle.core_model.specs.Legal.{Run, ends}
 use Rattle.cell_table.specs.Table.{opens_with}
 use Rattle.history_core.specs.declared.parts.Parts.{Parts}
-use Rattle.history_core.specs.Kept.{Stands, IsReached, IsKept}
-use Rattle.history_core.specs.Steps.{Keeps, Tells, Does, Takes, is_going}
+use Rattle.history_core.specs.Kept.{Stands, IsCoreReached, StandsForReached}
+use Rattle.history_core.specs.Steps.{KeepsMeaning, Tells, Does, Takes, is_going}
 use Rattle.history_core.specs.Histories.{run_with}
 
 pub run-last : (w : CoreState) (es : List CoreEvent) (e : CoreEvent) → run w (es ++ e ∷ []) ≡ step (run w es) e
@@ -36,7 +36,7 @@ takes-done p q e told reply t here d = λ w s r. (let a = sym (t w s r) ∙ here
 
 -- one that doesn't
 pub takes-not : (p : Parts) (e : CoreEvent) (told : Bool) (reply : CoreReply) → Tells p e told → told ≡ false →
-    ((w : CoreState) → Stands p w → IsReached w → applies w e ≡ false → reply ≡ reply_without w e) → Takes p e reply p
+    ((w : CoreState) → Stands p w → IsCoreReached w → applies w e ≡ false → reply ≡ reply_without w e) → Takes p e reply p
 takes-not p e told reply t gone d = λ w s r. (let a = sym (t w s r) ∙ gone in
     (unapplied p w e a s, d w s r a ∙ sym (cond-false (applies w e) (reply_with w e) (reply_without w e) a)))
 
@@ -50,7 +50,7 @@ pub stands-before : (p p' : Parts) (base kinds : ℕ) (es : List CoreEvent) → 
     Stands p' (ends (run_with base kinds p.cells es)) → Stands p' (ends (run_with base kinds p'.cells es))
 stands-before p p' base kinds es o s = subst (Stands p') (sym (λ i. run (start base kinds None (o i)) es)) s
 
-pub reached-core : (p : Parts) (base kinds : ℕ) (es : List CoreEvent) → 0 < base → IsReached (ends (run_with base kinds p.cells es))
+pub reached-core : (p : Parts) (base kinds : ℕ) (es : List CoreEvent) → 0 < base → IsCoreReached (ends (run_with base kinds p.cells es))
 reached-core p base kinds es above = (run_with base kinds p.cells es, above, refl, refl)
 
 -- ---- stops
@@ -88,15 +88,15 @@ allowed-always w e x y = allowed-by w e true true x y ∙ (λ i. or-true (is_non
 
 -- the test of an event, by the stop and by what it needs
 pub tells-going : (p : Parts) (e : CoreEvent) (going here : Bool) → is_after_doubt e ≡ false → is_after_halt e ≡ false →
-    ((w : CoreState) → Stands p w → going ≡ is_going w) → ((w : CoreState) → Stands p w → IsReached w → here ≡ can w e) → Tells p e (going && here)
+    ((w : CoreState) → Stands p w → going ≡ is_going w) → ((w : CoreState) → Stands p w → IsCoreReached w → here ≡ can w e) → Tells p e (going && here)
 tells-going p e going here x y g h = λ w s r. (let one : going ≡ is_allowed w e = g w s ∙ sym (allowed-going w e x y) in let two = h w s r in λ i. one i && two i)
 
 pub tells-answer : (p : Parts) (e : CoreEvent) (free here : Bool) → is_after_doubt e ≡ false → is_after_halt e ≡ true →
-    ((w : CoreState) → Stands p w → free ≡ is_none w.manager.doubt) → ((w : CoreState) → Stands p w → IsReached w → here ≡ can w e) → Tells p e (free && here)
+    ((w : CoreState) → Stands p w → free ≡ is_none w.manager.doubt) → ((w : CoreState) → Stands p w → IsCoreReached w → here ≡ can w e) → Tells p e (free && here)
 tells-answer p e free here x y g h = λ w s r. (let one : free ≡ is_allowed w e = g w s ∙ sym (allowed-answer w e x y) in let two = h w s r in λ i. one i && two i)
 
 pub tells-always : (p : Parts) (e : CoreEvent) (here : Bool) → is_after_doubt e ≡ true → is_after_halt e ≡ true →
-    ((w : CoreState) → Stands p w → IsReached w → here ≡ can w e) → Tells p e here
+    ((w : CoreState) → Stands p w → IsCoreReached w → here ≡ can w e) → Tells p e here
 tells-always p e here x y h = λ w s r. h w s r ∙ (λ i. sym (allowed-always w e x y) i && can w e)
 
 -- what an event that applies needs

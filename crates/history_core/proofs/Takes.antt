@@ -27,9 +27,9 @@ use Rattle.open_batch.specs.Shown.{AreUnits, ShowsBatch}
 use Rattle.open_batch.proofs.Linked.{units-taken}
 use Rattle.open_batch.proofs.Stages.{shows-taken}
 use Rattle.history_core.specs.declared.parts.Parts.{Parts}
-use Rattle.history_core.specs.Kept.{Stands, IsReached, ShowsOpen, IsShown, HasRoom, AllPlaced, EachPlaced, owed_in, members_in, writes_in}
+use Rattle.history_core.specs.Kept.{Stands, IsCoreReached, ShowsOpen, ShowsTakenBatch, HasRoom, AllPlaced, EachPlaced, owed_in, members_in, writes_in}
 use Rattle.history_core.specs.Taking.{is_free_by, front_by}
-use Rattle.history_core.specs.Steps.{CanDo, Keeps, Does}
+use Rattle.history_core.specs.Steps.{CanDo, KeepsMeaning, Does}
 use Rattle.history_core.proofs.Shows.{to-cases, from-cases, each-placed, placed-each}
 use Rattle.history_core.proofs.Stepping.{can-is}
 
@@ -51,7 +51,7 @@ size-is p w s =
 -- what a batch takes its room of, where none is open
 pub keeps-room : (p : Parts) (entries : EntriesInRoom) (learn : PairsInRoom) (last : LastStates) → p.batch ≡ None →
     entries.entries ≡ p.entries.entries → entries.emitted ≡ p.entries.emitted → learn.pairs ≡ p.learn.pairs → ((g : GrainId) → last_in last g ≡ last_in p.last g) →
-    Keeps p (record p { entries = entries; learn = learn; last = last })
+    KeepsMeaning p (record p { entries = entries; learn = learn; last = last })
 keeps-room p entries learn last none es em pairs same = λ w s. record {
   units = s.units;
   cells = s.cells;

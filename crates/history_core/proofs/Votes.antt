@@ -17,7 +17,7 @@ use Rattle.open_batch.specs.Shown.{ShowsBatch}
 use Rattle.open_batch.proofs.Stages.{shows-vote, may_vote-link}
 use Rattle.history_core.specs.declared.parts.Parts.{Parts}
 use Rattle.history_core.specs.Batches.{may_vote_in}
-use Rattle.history_core.specs.Kept.{Stands, IsReached, ShowsOpen, IsShown, AllPlaced, EachPlaced, owed_in, writes_in}
+use Rattle.history_core.specs.Kept.{Stands, IsCoreReached, ShowsOpen, ShowsTakenBatch, AllPlaced, EachPlaced, owed_in, writes_in}
 use Rattle.history_core.specs.Steps.{CanDo, Does}
 use Rattle.history_core.proofs.Shows.{to-cases, from-cases, each-placed, placed-each}
 use Rattle.history_core.proofs.Stepping.{can-is}

@@ -19,8 +19,8 @@ pub record Ready (p : Parts) (ds : List Decision) : Type 0 where
   pub placed : PlacedAfter (has_place p.last) ds (map effect_in p.waiting.items)
 
 -- a decided batch is open, and all is there for it to close
-abbrev pub IsReady : Parts → Type 0
-IsReady p = (x : TakenBatch) × (ds : List Decision) × (p.batch ≡ Some x) × (x.decisions ≡ Some ds) × Ready p ds
+abbrev pub IsReadyToClose : Parts → Type 0
+IsReadyToClose p = (x : TakenBatch) × (ds : List Decision) × (p.batch ≡ Some x) × (x.decisions ≡ Some ds) × Ready p ds
 
 -- the decisions of the open batch
 abbrev pub decisions_in : Option TakenBatch → Option (List Decision)

@@ -58,7 +58,7 @@ abbrev pub members_in : Parts → List FinishedUnit
 members_in p = take (owed_in p.batch) p.waiting.items
 
 -- what is kept of the open batch shows it, in one way at most
-pub record IsShown (o : Option TakenBatch) (waiting : List FinishedUnit) (b : Option Batch) : Type 0 where
+pub record ShowsTakenBatch (o : Option TakenBatch) (waiting : List FinishedUnit) (b : Option Batch) : Type 0 where
   pub same : is_some o ≡ is_some b
   pub shows : (x : TakenBatch) (c : Batch) → o ≡ Some x → b ≡ Some c → ShowsBatch x (take c.size waiting) c
 
@@ -82,7 +82,7 @@ pub record Stands (p : Parts) (w : CoreState) : Type 0 where
   pub result : w.manager.result ≡ result_in p.units
   pub effects : map effect_in p.waiting.items ≡ map (effect_of w) (waiting w)
   pub sources : map sources_in p.waiting.items ≡ map w.units.deps (waiting w)
-  pub batch : IsShown p.batch p.waiting.items w.manager.batch
+  pub batch : ShowsTakenBatch p.batch p.waiting.items w.manager.batch
   pub batches : w.manager.batches ≡ p.batches
   pub doubt : is_some w.manager.doubt ≡ p.doubt
   pub settled : w.manager.settled ≡ p.entries.entries
@@ -93,9 +93,9 @@ pub record Stands (p : Parts) (w : CoreState) : Type 0 where
   pub room : HasRoom p
 
 -- the state is the last one of a run in which units are numbered from 1 on and every grain stays in memory
-abbrev pub IsReached : CoreState → Type 0
-IsReached w = (r : Run) × (0 < r.base) × (r.capacity ≡ None) × (ends r ≡ w)
+abbrev pub IsCoreReached : CoreState → Type 0
+IsCoreReached w = (r : Run) × (0 < r.base) × (r.capacity ≡ None) × (ends r ≡ w)
 
 -- what is kept stands for such a state
-abbrev pub IsKept : Parts → Type 0
-IsKept p = (w : CoreState) × Stands p w × IsReached w
+abbrev pub StandsForReached : Parts → Type 0
+StandsForReached p = (w : CoreState) × Stands p w × IsCoreReached w

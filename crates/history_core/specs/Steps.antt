@@ -9,7 +9,7 @@ use Rattle.core_model.specs.Events.{applies, does, step, reply_to, reply_with, r
 use Rattle.core_model.specs.declared.events.CoreEvent.{CoreEvent}
 use Rattle.core_model.specs.declared.events.CoreReply.{CoreReply}
 use Rattle.history_core.specs.declared.parts.Parts.{Parts}
-use Rattle.history_core.specs.Kept.{Stands, IsReached}
+use Rattle.history_core.specs.Kept.{Stands, IsCoreReached}
 
 -- no stop stands: no batch is in doubt, and the run isn't to stop
 abbrev pub is_going : CoreState → Bool
@@ -17,23 +17,23 @@ is_going w = is_none w.manager.doubt && not w.units.halt
 
 -- what is kept stands for a state in which the event applies
 abbrev pub CanDo : Parts → CoreEvent → Type 0
-CanDo p e = (w : CoreState) × Stands p w × IsReached w × (applies w e ≡ true)
+CanDo p e = (w : CoreState) × Stands p w × IsCoreReached w × (applies w e ≡ true)
 
 -- whatever state is stood for, it still is
-abbrev pub Keeps : Parts → Parts → Type 0
-Keeps p q = (w : CoreState) → Stands p w → Stands q w
+abbrev pub KeepsMeaning : Parts → Parts → Type 0
+KeepsMeaning p q = (w : CoreState) → Stands p w → Stands q w
 
 -- whatever state is stood for, the test tells whether the event applies there
 abbrev pub Tells : Parts → CoreEvent → Bool → Type 0
-Tells p e told = (w : CoreState) → Stands p w → IsReached w → told ≡ applies w e
+Tells p e told = (w : CoreState) → Stands p w → IsCoreReached w → told ≡ applies w e
 
 -- whatever state is stood for, where the event applies the state after it is stood for, and the reply is that of the event
 abbrev pub Does : Parts → CoreEvent → CoreReply → Parts → Type 0
-Does p e reply q = (w : CoreState) → Stands p w → IsReached w → applies w e ≡ true → Stands q (does w e) × (reply ≡ reply_with w e)
+Does p e reply q = (w : CoreState) → Stands p w → IsCoreReached w → applies w e ≡ true → Stands q (does w e) × (reply ≡ reply_with w e)
 
 -- whatever state is stood for, its step is stood for, and the reply is its reply
 abbrev pub Takes : Parts → CoreEvent → CoreReply → Parts → Type 0
-Takes p e reply q = (w : CoreState) → Stands p w → IsReached w → Stands q (step w e) × (reply ≡ reply_to w e)
+Takes p e reply q = (w : CoreState) → Stands p w → IsCoreReached w → Stands q (step w e) × (reply ≡ reply_to w e)
 
 -- whatever state is stood for, where the event doesn't apply the reply is the one to that
 abbrev pub Refuses : Parts → CoreEvent → CoreReply → Type 0
@@ -53,8 +53,8 @@ takes_memory (Want u g) = true
 takes_memory _ = false
 
 -- whatever state is stood for, it still is; and the event may want memory
-abbrev pub Leaves : Parts → CoreEvent → Parts → Type 0
-Leaves p e q = Keeps p q × (takes_memory e ≡ true)
+abbrev pub LeavesMeaning : Parts → CoreEvent → Parts → Type 0
+LeavesMeaning p e q = KeepsMeaning p q × (takes_memory e ≡ true)
 
 -- the answer of a call, with the event that comes back where there is no memory
 abbrev pub with_event : Result CoreReply AllocError → CoreEvent → Result CoreReply (AllocError × CoreEvent)

@@ -1,8 +1,8 @@
 // Events, one for all: whether one applies, what it does, and the step.
 ghost use Rattle.std.specs.Prelude.{◌≡◌, IfOk, IfErr};
 ghost use Rattle.cell_table.specs.Table.{opens_with};
-ghost use Rattle.history_core.specs.Kept.{IsKept};
-ghost use Rattle.history_core.specs.Steps.{CanDo, Tells, Does, Takes, Refuses, Leaves, with_event};
+ghost use Rattle.history_core.specs.Kept.{StandsForReached};
+ghost use Rattle.history_core.specs.Steps.{CanDo, Tells, Does, Takes, Refuses, LeavesMeaning, with_event};
 
 use crate::parts::Parts;
 use core_model::{CoreEvent, CoreReply};
@@ -11,9 +11,9 @@ use std::alloc::AllocError;
 impl Parts {
     /// Carries an event. One that doesn't apply changes nothing. Where there is no memory the event comes back.
     pub(crate) fn step(&mut self, event: CoreEvent) -> Result<CoreReply, (AllocError, CoreEvent)>
-        requires kept { IsKept self.old }
+        requires kept { StandsForReached self.old }
         ensures ok { IfOk result (λ reply. Takes self.old event reply self.new) }
-        ensures err { IfErr result (λ e. (e.1 ≡ event) × Leaves self.old event self.new) }
+        ensures err { IfErr result (λ e. (e.1 ≡ event) × LeavesMeaning self.old event self.new) }
         ensures opens { opens_with self.new.cells ≡ opens_with self.old.cells }
     {
         if !self.applies(&event) {
@@ -63,7 +63,7 @@ impl Parts {
     fn apply(&mut self, event: CoreEvent) -> Result<CoreReply, (AllocError, CoreEvent)>
         requires can { CanDo self.old event }
         ensures ok { IfOk result (λ reply. Does self.old event reply self.new) }
-        ensures err { IfErr result (λ e. (e.1 ≡ event) × Leaves self.old event self.new) }
+        ensures err { IfErr result (λ e. (e.1 ≡ event) × LeavesMeaning self.old event self.new) }
         ensures opens { opens_with self.new.cells ≡ opens_with self.old.cells }
     {
         match event {

@@ -5,7 +5,7 @@ ghost use Rattle.core_model.specs.CoreState.{CoreState};
 ghost use Rattle.core_model.specs.declared.events.CoreEvent.TheVariants.{Bad};
 ghost use Rattle.cell_table.specs.Table.{opens_with};
 ghost use Rattle.history_core.specs.Kept.{Stands};
-ghost use Rattle.history_core.specs.Steps.{CanDo, Keeps, Tells, Does};
+ghost use Rattle.history_core.specs.Steps.{CanDo, KeepsMeaning, Tells, Does};
 
 use crate::parts::Parts;
 use base_types::{BadRequest, Entry, Settled, UnitNo};
@@ -31,7 +31,7 @@ impl Parts {
     pub(crate) fn bad(&mut self, line: u32, why: BadRequest) -> Result<CoreReply, AllocError>
         requires can { CanDo self.old (Bad line why) }
         ensures ok { IfOk result (λ reply. Does self.old (Bad line why) reply self.new) }
-        ensures err { OnErr result (Keeps self.old self.new) }
+        ensures err { OnErr result (KeepsMeaning self.old self.new) }
         ensures opens { opens_with self.new.cells ≡ opens_with self.old.cells }
     {
         let room = self.owed() + 1;

@@ -8,7 +8,7 @@ ghost use Rattle.core_model.specs.declared.events.CoreEvent.TheVariants.{Begin};
 ghost use Rattle.cell_table.specs.Table.{opens_with};
 ghost use Rattle.history_core.specs.Asked.{is_decided_in, is_next_child_in};
 ghost use Rattle.history_core.specs.Kept.{Stands};
-ghost use Rattle.history_core.specs.Steps.{CanDo, Keeps, Tells, Does};
+ghost use Rattle.history_core.specs.Steps.{CanDo, KeepsMeaning, Tells, Does};
 
 use crate::parts::Parts;
 use crate::steps::fits_line;
@@ -62,7 +62,7 @@ impl Parts {
         requires can { CanDo self.old (Begin origin call plain) }
         ensures ok { IfOk result (λ reply. Does self.old (Begin origin call plain) reply self.new) }
         ensures back { IfErr result (λ e. e.1 ≡ Begin origin call plain) }
-        ensures err { OnErr result (Keeps self.old self.new) }
+        ensures err { OnErr result (KeepsMeaning self.old self.new) }
         ensures opens { opens_with self.new.cells ≡ opens_with self.old.cells }
     {
         if let Err(error) = self.units.reserve_begin(&origin) {

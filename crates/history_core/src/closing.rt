@@ -10,7 +10,7 @@ ghost use Rattle.core_lists.specs.States.{last_in, has_place, KeepsPlaces};
 ghost use Rattle.open_batch.specs.Members.{effect_in};
 ghost use Rattle.unit_table.specs.Table.{units_of, verdict_in, result_in, phase_in};
 ghost use Rattle.cell_model.specs.declared.outcomes.Decision.{Decision as ADecision};
-ghost use Rattle.history_core.specs.Closes.{IsReady, Closes, decisions_in};
+ghost use Rattle.history_core.specs.Closes.{IsReadyToClose, Closes, decisions_in};
 ghost use Rattle.history_core.specs.Closing.{ArePlaced, state_after, grains_with};
 ghost use Rattle.history_core.specs.Fronts.{ends_as, told_as, pairs_of, verdicts_after, entries_after, pairs_after, last_after, writes_after, AreOver, PlacedAfter};
 
@@ -35,7 +35,7 @@ pub(crate) enum Closing {
 impl Parts {
     // Closes the open batch, which is decided. Takes no memory.
     pub(crate) fn close(&mut self, how: Closing)
-        requires { IsReady self.old }
+        requires { IsReadyToClose self.old }
         ensures closes { (ds : AList ADecision) → decisions_in self.old.batch ≡ Some ds → Closes how ds self.old self.new }
         ensures doubt { self.new.doubt ≡ self.old.doubt }
         ensures opens { opens_with self.new.cells ≡ opens_with self.old.cells }

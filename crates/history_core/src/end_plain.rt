@@ -9,8 +9,8 @@ ghost use Rattle.unit_table.specs.Known.{known_running};
 ghost use Rattle.history_core.specs.Effects.{ends_as_plain};
 ghost use Rattle.cell_table.specs.Table.{opens_with};
 ghost use Rattle.unit_table.specs.Table.{known_in, phase_in};
-ghost use Rattle.history_core.specs.Kept.{Stands, IsReached, owed_in};
-ghost use Rattle.history_core.specs.Steps.{CanDo, Keeps, Tells, Does};
+ghost use Rattle.history_core.specs.Kept.{Stands, IsCoreReached, owed_in};
+ghost use Rattle.history_core.specs.Steps.{CanDo, KeepsMeaning, Tells, Does};
 
 use crate::parts::Parts;
 use crate::refuse::settle;
@@ -56,7 +56,7 @@ impl Parts {
         requires can { CanDo self.old (EndPlain unit effect) }
         ensures ok { IfOk result (λ reply. Does self.old (EndPlain unit effect) reply self.new) }
         ensures back { IfErr result (λ e. e.1 ≡ EndPlain unit effect) }
-        ensures err { OnErr result (Keeps self.old self.new) }
+        ensures err { OnErr result (KeepsMeaning self.old self.new) }
         ensures opens { opens_with self.new.cells ≡ opens_with self.old.cells }
     {
         match self.prepare_end(&effect.result) {
@@ -72,7 +72,7 @@ impl Parts {
     pub(crate) fn prepare_end(&mut self, outcome: &Outcome) -> Result<Outcome, AllocError>
         ensures copied { IfOk result (λ made. made ≡ outcome.now) }
         ensures room { OnOk result (owed_in self.new.batch < self.new.entries.spare) }
-        ensures keeps { Keeps self.old self.new }
+        ensures keeps { KeepsMeaning self.old self.new }
         ensures units { self.new.units ≡ self.old.units }
         ensures opens { opens_with self.new.cells ≡ opens_with self.old.cells }
     {
@@ -86,7 +86,7 @@ impl Parts {
         requires runs { is_running (phase_in self.old.units unit) ≡ true }
         requires room { owed_in self.old.batch < self.old.entries.spare }
         requires same { kept ≡ told }
-        ensures ended { (w : CoreState) → Stands self.old w → IsReached w → (answers : AList AnOutcome) (at : AnOption ℕ) → Stands self.new (ended w unit answers told at) }
+        ensures ended { (w : CoreState) → Stands self.old w → IsCoreReached w → (answers : AList AnOutcome) (at : AnOption ℕ) → Stands self.new (ended w unit answers told at) }
         ensures opens { opens_with self.new.cells ≡ opens_with self.old.cells }
     {
         let origin = self.origin(unit);

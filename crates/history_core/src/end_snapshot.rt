@@ -5,7 +5,7 @@ ghost use Rattle.unit_table.specs.Known.{known_running};
 ghost use Rattle.unit_table.specs.Table.{known_in};
 ghost use Rattle.history_core.specs.Effects.{ends_as_snapshot};
 ghost use Rattle.cell_table.specs.Table.{opens_with};
-ghost use Rattle.history_core.specs.Steps.{CanDo, Keeps, Tells, Does};
+ghost use Rattle.history_core.specs.Steps.{CanDo, KeepsMeaning, Tells, Does};
 
 use crate::parts::Parts;
 use base_types::{Outcome, UnitNo};
@@ -42,7 +42,7 @@ impl Parts {
         requires can { CanDo self.old (EndSnapshot unit at outcome) }
         ensures ok { IfOk result (λ reply. Does self.old (EndSnapshot unit at outcome) reply self.new) }
         ensures back { IfErr result (λ e. e.1 ≡ EndSnapshot unit at outcome) }
-        ensures err { OnErr result (Keeps self.old self.new) }
+        ensures err { OnErr result (KeepsMeaning self.old self.new) }
         ensures opens { opens_with self.new.cells ≡ opens_with self.old.cells }
     {
         match self.prepare_end(&outcome) {

@@ -12,7 +12,7 @@ ghost use Rattle.unit_table.specs.Table.{known_in, phase_in};
 ghost use Rattle.unit_table.specs.Known.{known_running};
 ghost use Rattle.history_core.specs.Effects.{finishes_as};
 ghost use Rattle.history_core.specs.Handing.{cleared, with_writes};
-ghost use Rattle.history_core.specs.Steps.{CanDo, Keeps, Tells, Does};
+ghost use Rattle.history_core.specs.Steps.{CanDo, KeepsMeaning, Tells, Does};
 
 use crate::parts::Parts;
 use base_types::{GrainId, Outcome, State, UnitNo};
@@ -69,7 +69,7 @@ impl Parts {
         requires can { CanDo self.old (Finish unit effect) }
         ensures ok { IfOk result (λ reply. Does self.old (Finish unit effect) reply self.new) }
         ensures back { IfErr result (λ e. e.1 ≡ Finish unit effect) }
-        ensures err { OnErr result (Keeps self.old self.new) }
+        ensures err { OnErr result (KeepsMeaning self.old self.new) }
         ensures opens { opens_with self.new.cells ≡ opens_with self.old.cells }
     {
         match self.prepare_finish(unit, &effect) {

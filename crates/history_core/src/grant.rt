@@ -12,7 +12,7 @@ ghost use Rattle.core_model.specs.declared.events.CoreEvent.TheVariants.{Grant};
 ghost use Rattle.cell_table.specs.Table.{cell_in, has_cell, spare_in, opens_with};
 ghost use Rattle.unit_table.specs.Table.{verdict_in};
 ghost use Rattle.history_core.specs.Granting.{cell_without, is_sure_in};
-ghost use Rattle.history_core.specs.Steps.{CanDo, Keeps, Tells, Does, Refuses};
+ghost use Rattle.history_core.specs.Steps.{CanDo, KeepsMeaning, Tells, Does, Refuses};
 
 use crate::parts::Parts;
 use base_types::{GrainId, Mode, UnitNo, Version};
@@ -49,7 +49,7 @@ impl Parts {
     ) -> Result<CoreReply, AllocError>
         requires can { CanDo self.old (Grant unit grain mode) }
         ensures ok { IfOk result (λ reply. Does self.old (Grant unit grain mode) reply self.new) }
-        ensures err { OnErr result (Keeps self.old self.new) }
+        ensures err { OnErr result (KeepsMeaning self.old self.new) }
         ensures opens { opens_with self.new.cells ≡ opens_with self.old.cells }
     {
         self.cells.make_room(grain)?;

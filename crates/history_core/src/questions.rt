@@ -4,8 +4,8 @@ ghost use Rattle.core_model.specs.CoreState.{CoreState};
 ghost use Rattle.core_model.specs.Answers.{known, view};
 ghost use Rattle.core_access.specs.Spared.{is_plain};
 ghost use Rattle.unit_table.specs.Table.{lines_in};
-ghost use Rattle.history_core.specs.Kept.{Stands, IsKept, members_in};
-ghost use Rattle.history_core.specs.Questions.{Answers};
+ghost use Rattle.history_core.specs.Kept.{Stands, StandsForReached, members_in};
+ghost use Rattle.history_core.specs.Questions.{AnswersQuestion};
 
 use crate::parts::Parts;
 use base_types::{Entry, Outcome};
@@ -16,9 +16,9 @@ use std::alloc::AllocError;
 impl Parts {
     // What is answered. Memory is taken for an outcome, a batch, an entry and what the settler does next.
     pub(crate) fn answer(&self, question: &CoreQuestion) -> Result<CoreAnswer, AllocError>
-        requires kept { IsKept self.now }
+        requires kept { StandsForReached self.now }
         requires few { lines_in self.now.units < 2 ^ 32 }
-        ensures told { IfOk result (λ a. Answers self.now question.now a) }
+        ensures told { IfOk result (λ a. AnswersQuestion self.now question.now a) }
         ensures untold { OnErr result (is_plain question.now ≡ false) }
     {
         match question {
@@ -54,7 +54,7 @@ impl Parts {
 
     // All that is shown of the open batch, where there is one.
     fn batch_view(&self) -> Result<Option<BatchView>, AllocError>
-        requires { IsKept self.now }
+        requires { StandsForReached self.now }
         ensures { IfOk result (λ shown. (w : CoreState) → Stands self.now w → shown ≡ option_map (view w) w.manager.batch) }
     {
         match &self.batch {
@@ -68,7 +68,7 @@ impl Parts {
 
     // The units of the open batch.
     pub(crate) fn members(&self) -> &[FinishedUnit]
-        requires { IsKept self.now }
+        requires { StandsForReached self.now }
         ensures { result.now ≡ members_in self.now }
     {
         let size = self.owed();

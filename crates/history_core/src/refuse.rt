@@ -5,7 +5,7 @@ ghost use Rattle.core_model.specs.Tests.{is_running};
 ghost use Rattle.core_model.specs.declared.events.CoreEvent.TheVariants.{Refuse};
 ghost use Rattle.cell_table.specs.Table.{opens_with};
 ghost use Rattle.unit_table.specs.Table.{phase_in, origin_in};
-ghost use Rattle.history_core.specs.Steps.{CanDo, Keeps, Tells, Does};
+ghost use Rattle.history_core.specs.Steps.{CanDo, KeepsMeaning, Tells, Does};
 
 use crate::parts::Parts;
 use base_types::{Entry, GrainId, Mode, Origin, Settled, UnitNo};
@@ -30,7 +30,7 @@ impl Parts {
     ) -> Result<CoreReply, AllocError>
         requires can { CanDo self.old (Refuse unit grain mode) }
         ensures ok { IfOk result (λ reply. Does self.old (Refuse unit grain mode) reply self.new) }
-        ensures err { OnErr result (Keeps self.old self.new) }
+        ensures err { OnErr result (KeepsMeaning self.old self.new) }
         ensures opens { opens_with self.new.cells ≡ opens_with self.old.cells }
     {
         let room = self.owed() + 1;

@@ -3,7 +3,7 @@ ghost use Rattle.std.specs.Prelude.{◌≡◌, ◌&&◌, Some, IfOk, if◌then�
 ghost use Rattle.core_model.specs.Events.{applies};
 ghost use Rattle.core_model.specs.declared.events.CoreEvent.TheVariants.{Take};
 ghost use Rattle.core_model.specs.Settler.{Takes, Rests, later_step, last_step, settler_step};
-ghost use Rattle.history_core.specs.Kept.{IsKept};
+ghost use Rattle.history_core.specs.Kept.{StandsForReached};
 ghost use Rattle.history_core.specs.Questions.{ShowsStep};
 
 use crate::parts::Parts;
@@ -15,7 +15,7 @@ impl Parts {
     // What the settler does next, with all that it needs for it. Each version is copied for its vote, each effect for its
     // seal and each entry for its writing, and nothing else.
     pub(crate) fn next_work(&self) -> Result<SettlerWork, AllocError>
-        requires { IsKept self.now }
+        requires { StandsForReached self.now }
         ensures { IfOk result (ShowsStep self.now settler_step) }
     {
         match &self.batch {
@@ -26,7 +26,7 @@ impl Parts {
 
     // An open batch comes first: its votes, then its decision, then its seal.
     fn batch_work(&self, batch: &OpenBatch) -> Result<SettlerWork, AllocError>
-        requires kept { IsKept self.now }
+        requires kept { StandsForReached self.now }
         requires open { self.now.batch ≡ Some batch.now }
         ensures { IfOk result (ShowsStep self.now settler_step) }
     {

@@ -9,7 +9,7 @@ ghost use Rattle.open_batch.specs.Members.{effect_in};
 ghost use Rattle.history_core.specs.Kept.{Stands, writes_in, AllPlaced};
 ghost use Rattle.history_core.specs.Closing.{ArePlaced};
 ghost use Rattle.history_core.specs.Taking.{is_free_by, front_by};
-ghost use Rattle.history_core.specs.Steps.{CanDo, Keeps, Tells, Does};
+ghost use Rattle.history_core.specs.Steps.{CanDo, KeepsMeaning, Tells, Does};
 ghost use Rattle.base_types.specs.declared.calls.GrainId.{GrainId as AGrain};
 
 use crate::parts::Parts;
@@ -67,7 +67,7 @@ impl Parts {
     pub(crate) fn take(&mut self) -> Result<CoreReply, AllocError>
         requires can { CanDo self.old Take }
         ensures ok { IfOk result (λ reply. Does self.old Take reply self.new) }
-        ensures err { OnErr result (Keeps self.old self.new) }
+        ensures err { OnErr result (KeepsMeaning self.old self.new) }
         ensures opens { opens_with self.new.cells ≡ opens_with self.old.cells }
     {
         let size = self.batch_size();
@@ -86,7 +86,7 @@ impl Parts {
     // leaves.
     fn prepare_take(&mut self, size: usize) -> Result<(), AllocError>
         requires within { size ≤ length self.old.waiting.items }
-        ensures keeps { self.old.batch ≡ None → Keeps self.old self.new }
+        ensures keeps { self.old.batch ≡ None → KeepsMeaning self.old self.new }
         ensures entries { OnOk result (size ≤ self.new.entries.spare) }
         ensures learn { OnOk result (writes_in (take size self.old.waiting.items) ≤ self.new.learn.spare) }
         ensures places { OnOk result (AllPlaced (has_place self.new.last) (take size self.old.waiting.items)) }

@@ -8,7 +8,7 @@ ghost use Rattle.core_model.specs.declared.events.CoreEvent.TheVariants.{Want};
 ghost use Rattle.cell_table.specs.Table.{opens_with};
 ghost use Rattle.unit_table.specs.Table.{wants_in};
 ghost use Rattle.history_core.specs.Kept.{Stands};
-ghost use Rattle.history_core.specs.Steps.{CanDo, Keeps, Tells, Does};
+ghost use Rattle.history_core.specs.Steps.{CanDo, KeepsMeaning, Tells, Does};
 
 use crate::parts::Parts;
 use base_types::{GrainId, UnitNo};
@@ -45,7 +45,7 @@ impl Parts {
     // The unit waits for the grain.
     pub(crate) fn want(&mut self, unit: UnitNo, grain: GrainId) -> Result<CoreReply, AllocError>
         ensures ok { IfOk result (λ reply. Does self.old (Want unit grain) reply self.new) }
-        ensures err { OnErr result (Keeps self.old self.new) }
+        ensures err { OnErr result (KeepsMeaning self.old self.new) }
         ensures opens { opens_with self.new.cells ≡ opens_with self.old.cells }
     {
         self.units.reserve_want()?;

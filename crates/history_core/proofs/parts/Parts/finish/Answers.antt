@@ -8,7 +8,7 @@ use Rattle.unit_table.specs.Table.{phase_in, result_in}
 use Rattle.unit_table.specs.declared.table.UnitTable.{UnitTable}
 use Rattle.open_batch.specs.declared.members.FinishedUnit.{FinishedUnit}
 use Rattle.history_core.specs.declared.parts.Parts.{Parts}
-use Rattle.history_core.specs.Steps.{Keeps}
+use Rattle.history_core.specs.Steps.{KeepsMeaning}
 use Rattle.history_core.proofs.Alike.{keeps-does}
 use Rattle.history_core.proofs.Finishes.{does-finish, finish-runs, keeps-prepared}
 use Rattle.history_core.proofs.parts.Parts.finish.Goals as goal
@@ -28,7 +28,7 @@ returns-in-Ok-clause-ok c =
     let old = c.args.self.now in
     let e = c.prepare_finish.ensures in
     let mid : Parts = c.prepare_finish.new.self in
-    let keeps : Keeps old mid = keeps-prepared old mid c.args.unit (finish-runs old c.args.unit c.args.effect c.requires.can) e.units e.cells e.waiting e.batches e.batch e.doubt e.entries e.learn e.last e.others in
+    let keeps : KeepsMeaning old mid = keeps-prepared old mid c.args.unit (finish-runs old c.args.unit c.args.effect c.requires.can) e.units e.cells e.waiting e.batches e.batch e.doubt e.entries e.learn e.last e.others in
     let m : FinishedUnit = record { effect = c.args.effect; deps = c.finish-deps.result } in
     let new : Parts = record mid { units = c.finish-deps.new.self; waiting = c.push_reserved.new.self } in
     keeps-does old mid keeps (Finish c.args.unit c.args.effect) reply.Done new
