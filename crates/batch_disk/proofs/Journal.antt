@@ -58,7 +58,7 @@ module _ (p : Program) (head : List ℕ) (batches : List (List Commit)) (old new
   -- which of the two a doubt is
   pub doubt_on : (batch : List Commit) (settled : Settlement) → settled.commits ≡ batch → Passes (IsSeam (shape_in p) head (log_of batches) batch old) old.past new.past
       → EachImage (λ image. HasLog (log_of batches) image ⊎ HasLog (log_of batches ++ batch) image) new.disk
-      → NoneHas (shape_in p) head (log_of batches) old new ⊎ SomeImage (λ image. IsLog live_slot (shape_in p) image (log_of batches ++ batch)) new.disk
-      → Seals p (log_of batches) [] old new ⊎ (Doubts p (log_of batches) settled old new × SomeImage (λ image. IsLog live_slot (shape_in p) image (log_of batches ++ batch)) new.disk)
-  doubt_on batch settled is moments logs (inl none) = inl (as_it_was none.moments none.logs)
-  doubt_on batch settled is moments logs (inr some) = inr (doubts_on batch settled is moments logs, some)
+      → {A B : Type 0} → (A × NoneHas (shape_in p) head (log_of batches) old new) ⊎ (B × SomeImage (λ image. IsLog live_slot (shape_in p) image (log_of batches ++ batch)) new.disk)
+      → (A × Seals p (log_of batches) [] old new) ⊎ (B × (Doubts p (log_of batches) settled old new × SomeImage (λ image. IsLog live_slot (shape_in p) image (log_of batches ++ batch)) new.disk))
+  doubt_on batch settled is moments logs (inl none) = inl (none.0, as_it_was none.1.moments none.1.logs)
+  doubt_on batch settled is moments logs (inr some) = inr (some.0, (doubts_on batch settled is moments logs, some.1))

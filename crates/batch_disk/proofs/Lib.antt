@@ -4,6 +4,7 @@ pub mod Keeping
 pub mod Votes
 pub mod Recorded
 pub mod NextGate
+pub mod OpenGates
 pub mod Sealed
 pub mod Standing
 pub mod Sealing

@@ -22,7 +22,7 @@ use Rattle.commit_log.specs.Bodies.{IsCallIn, IsShapeType}
 use Rattle.commit_log.specs.Spelling.{RecordFits}
 use Rattle.promise_spec.specs.Records.{Commit, AreRecordsOf}
 use Rattle.batch_disk.specs.Resting.{Voted}
-use Rattle.batch_disk.specs.Records.{is_version, place_among, HavePlaces, IsRecordFor, AreRecordsFor, IsPlaceOfOne, MayBeLogged, IsAsWritten}
+use Rattle.batch_disk.specs.Records.{commits_by, is_version, place_among, HavePlaces, IsRecordFor, AreRecordsFor, IsPlaceOfOne, MayBeLogged, IsAsWritten}
 use Rattle.batch_disk.proofs.Lists.{each_leads}
 use Rattle.batch_disk.proofs.Keeping.{AreVoted, IsVoted, IsNextBatch}
 
@@ -71,12 +71,6 @@ found_among u g (v ∷ vs) p is = elim (cases_Bool (is_version u g v)) [
 
 abbrev states_of : Effect → List (List Value)
 states_of e = map (λ x. x.1) e.writes
-
--- the records, each with the states that its unit wrote
-abbrev pub commits_by : List Effect → List CommitRecord → List Commit
-commits_by [] rs = []
-commits_by (e ∷ es) [] = []
-commits_by (e ∷ es) (r ∷ rs) = record { logged = r; states = states_of e } ∷ commits_by es rs
 
 writes_are : (voted : List Voted) (u : UnitNo) (xs : List (GrainId × List Value)) (ws : List Written) → HavePlaces voted u xs ws → zip (map (λ w. w.grain) ws) (map (λ (x : GrainId × List Value). x.1) xs) ≡ xs
 writes_are voted u [] [] are = refl

@@ -1,13 +1,13 @@
 -- What each image keeps while the records of a batch are sealed.
-use Rattle.std.proofs.Common.{◌≡◌, ◌≢◌, ◌⊎◌, inl, inr, ℕ, ◌+◌, ◌<◌, ◌≤◌, List, [], ◌∷◌, ◌++◌, length, take, drop, map, refl, sym, ◌∙◌, ap, subst, arith, append_assoc}
+use Rattle.std.proofs.Common.{◌≡◌, ◌≢◌, ◌⊎◌, inl, inr, ℕ, ◌+◌, ◌<◌, ◌≤◌, List, [], ◌∷◌, ◌++◌, length, slice_index, take, drop, map, true, false, refl, sym, ◌∙◌, ap, subst, arith, append_assoc, length-append}
 use Rattle.std.specs.List.{AllByRecursion}
 use Rattle.std.proofs.lemmas.List.{length-take, take_at, drop_at}
-use Rattle.std.proofs.lemmas.Bool.{cases_lt}
+use Rattle.std.proofs.lemmas.Bool.{cases_lt, cases_eq}
 use Rattle.base_types.specs.declared.calls.GrainId.{GrainId}
 use Rattle.base_types.specs.declared.shapes.Shape.{Shape}
 use Rattle.host_trait.specs.declared.channels.FileId.{FileId}
 use Rattle.host_trait.specs.declared.channels.FileId.TheVariants.{Program, Manager, Grain}
-use Rattle.host_trait.specs.Disk.{MayLeave, Tears}
+use Rattle.host_trait.specs.Disk.{FileState, MayLeave, Tears}
 use Rattle.host_trait.specs.World.{World, Moment, Disk, Image, IsImage, Passes, moment_of, with_bytes}
 use Rattle.host_trait.specs.Runs.{ChangesFile}
 use Rattle.host_trait.proofs.Crashes.{Tears-overlaid, Tears-at}
@@ -15,8 +15,8 @@ use Rattle.host_trait.proofs.Moments.{met, weaker}
 use Rattle.host_trait.proofs.Names.{cases_file}
 use Rattle.host_trait.proofs.Runs.{image_from, with_bytes-there, with_bytes-other}
 use Rattle.gate_block.specs.Blocks.{block_of}
-use Rattle.gate_block.specs.Log.{LogsUpTo, SomeLogs, EachLogs, EachLogsOrMore}
-use Rattle.gate_block.proofs.Logs.{blocks_same}
+use Rattle.gate_block.specs.Log.{HasBlocks, LogsUpTo, SomeLogs, EachLogs, EachLogsOrMore}
+use Rattle.gate_block.proofs.Logs.{blocks_same, still_closed, one_log}
 use Rattle.commit_log.specs.declared.records.Written.{Written}
 use Rattle.commit_log.specs.declared.gate.Sealing.TheVariants.{InDoubt}
 use Rattle.commit_log.specs.Sealing.{staged, EndsAs, DoubtAs, StaysClosed}
@@ -26,9 +26,10 @@ use Rattle.promise_spec.specs.Crashes.{IsAside}
 use Rattle.promise_spec.specs.Logs.{IsLog, IsKept, body_of}
 use Rattle.batch_disk.specs.Resting.{grain_file, log_of, EachImage, SomeImage, IsBelow, AreBelow, PlacesAreNamed, Voted, StandsIn, IsAtRest, raised_ends, all_writes}
 use Rattle.batch_disk.specs.Moments.{LeavesRest, KeepsLog, IsSeam}
-use Rattle.batch_disk.specs.Seals.{NoneHas, IsSealInDoubt}
+use Rattle.batch_disk.specs.Seals.{may_open, NoneHas, IsSealInDoubt}
 use Rattle.batch_disk.proofs.Lists.{each_any, each_leads, each_list, both_parts, flat_push, map_push}
 use Rattle.batch_disk.proofs.Ends.{raised_up, raised_each, raised_long, kept_within}
+use Rattle.batch_disk.proofs.OpenGates.{opens, stays_shut}
 use Rattle.batch_disk.proofs.Keeping.{IsSameAt, IsNextBatch, stands_same, kept_same, shorter_front, batch_stands, silo_of}
 
 -- the slot of a manager file, this one for any other file
@@ -194,11 +195,28 @@ module _ (shape : Shape) (head : List ℕ) (batches : List (List Commit)) (gate 
                   (subst (λ (l : List ℕ). LogsUpTo (map body_of batches ++ body_of batch ∷ []) (gate + length block) l) (sym (with_bytes-there (λ f. (new.disk f).seen) manager some.image)) some.logs);
             }
 
+        -- the gate of an image that has the batch is open
+        is_open : (c : List ℕ) → HasBlocks (map body_of batches) gate c → LogsUpTo (map body_of batches ++ body_of batch ∷ []) (gate + length block) c → slice_index c gate ≡ 1
+        is_open c front logs = elim (cases_eq (slice_index c gate) 1) [
+          | inl one ↦ one
+          | inr closed ↦ absurd (
+              let same : map body_of batches ++ body_of batch ∷ [] ≡ map body_of batches =
+              (one_log (map body_of batches ++ body_of batch ∷ []) (map body_of batches) (gate + length block) gate c logs (record { blocks = front; closed = closed })).0 in
+              omega (arith, ap length same, length-append (map body_of batches) (body_of batch ∷ []))
+              )
+        ]
+
         -- which of the two a doubt is
-        which_doubt : StaysClosed (map body_of batches) gate block old new ⊎ SomeLogs (map body_of batches ++ body_of batch ∷ []) (gate + length block) manager new.disk
-            → NoneHas shape head (log_of batches) old new ⊎ SomeImage (λ image. IsLog live_slot shape image (log_of batches ++ batch)) new.disk
-        which_doubt (inl closed) = inl (record { moments = still_moments new moments closed.moments; logs = (seal_still (moment_of new) changes closed.now).logs })
-        which_doubt (inr some) = inr (some_has some)
+        which_doubt : ((c : List ℕ) → MayLeave (new.disk manager) c → HasBlocks (map body_of batches) gate c) → gate < length (staged gate block old) → slice_index (staged gate block old) gate ≢ 1
+            → StaysClosed (map body_of batches) gate block old new ⊎ SomeLogs (map body_of batches ++ body_of batch ∷ []) (gate + length block) manager new.disk
+            → ((may_open gate (new.disk manager) ≡ false) × NoneHas shape head (log_of batches) old new)
+            ⊎ ((may_open gate (new.disk manager) ≡ true) × SomeImage (λ image. IsLog live_slot shape image (log_of batches ++ batch)) new.disk)
+        which_doubt front long shut (inl closed) =
+            inl (
+              subst (λ (f : FileState). may_open gate f ≡ false) (sym closed.lasts) (stays_shut gate (staged gate block old) long shut),
+              record { moments = still_moments new moments closed.moments; logs = (seal_still (moment_of new) changes closed.now).logs },
+            )
+        which_doubt front long shut (inr some) = inr (opens gate (new.disk manager) some.image some.left (is_open some.image (front some.image some.left) some.logs), some_has some)
 
         pub in_doubt : EndsAs InDoubt gate block old new → EachLogsOrMore (map body_of batches) (body_of batch) gate manager new.disk → DoubtAs InDoubt (map body_of batches) (body_of batch) gate block old new
             → IsSealInDoubt shape head batches batch gate old new
@@ -214,13 +232,16 @@ module _ (shape : Shape) (head : List ℕ) (batches : List (List Commit)) (gate 
             let size : length (take (gate + 1) file) ≡ gate + 1 = omega (arith, length-take (gate + 1) file, within) in
             let rest = drop (gate + 1 + length block) file in
             let behind : drop (gate + 1) whole ≡ block ++ rest = ap (drop (gate + 1)) (append_assoc (take (gate + 1) file) block rest) ∙ drop_at (take (gate + 1) file) (block ++ rest) (gate + 1) size in
+            let fronts : (c : List ℕ) → MayLeave (new.disk manager) c → HasBlocks (map body_of batches) gate c =
+            (λ c left.
+            let torn = ends_as c left in
+            let there : gate < length c = omega (arith, long, torn.no_shorter) in
+            blocks_same (map body_of batches) gate file c front.blocks there (torn.before ∙ head_same)) in
+            let closed = still_closed gate (length block) file whole (front.blocks.within, front.closed) over in
             record {
               rest = seal_rest (moment_of new) changes;
               logs = (seal_seam (moment_of new) changes logs).logs;
-              front = λ image left.
-                  let torn = ends_as (image manager) (left manager) in
-                  let there : gate < length (image manager) = omega (arith, long, torn.no_shorter) in
-                  blocks_same (map body_of batches) gate file (image manager) front.blocks there (torn.before ∙ head_same);
+              front = λ image left. fronts (image manager) (left manager);
               block = λ image left.
                   let torn = ends_as (image manager) (left manager) in
                   subst (λ (b : List ℕ). take (length b) (drop (gate + 1) (image manager)) ≡ b) is_block (ap (take (length block)) (torn.after ∙ behind) ∙ take_at block rest (length block) refl);
@@ -239,5 +260,5 @@ module _ (shape : Shape) (head : List ℕ) (batches : List (List Commit)) (gate 
                         ] in
                         Tears-at gate 1 whole (one manager) a i where_is ∙ sym (Tears-at gate 1 whole (other manager) b i where_is);
                   };
-              which = which_doubt which;
+              which = which_doubt fronts closed.0 closed.1 which;
             }

@@ -1,5 +1,5 @@
 -- What a seal leaves of the writer and of the disk.
-use Rattle.std.proofs.Common.{◌≡◌, ℕ, ◌+◌, ◌<◌, ◌≤◌, ◌^◌, true, false, List, [], ◌∷◌, ◌++◌, length, map, sym, ◌∙◌, ap, subst, arith}
+use Rattle.std.proofs.Common.{◌≡◌, ℕ, ◌+◌, ◌<◌, ◌≤◌, ◌^◌, true, false, List, [], ◌∷◌, ◌++◌, length, map, refl, sym, ◌∙◌, ap, subst, arith}
 use Rattle.std.specs.List.{flat_map, AllByRecursion}
 use Rattle.std.proofs.lemmas.Bool.{false≢true}
 use Rattle.base_types.specs.Stores.{has_room}
@@ -28,14 +28,14 @@ use Rattle.promise_spec.specs.Logs.{body_of}
 use Rattle.batch_disk.specs.Resting.{grain_file, log_of, write_end, PlacesAreNamed, Voted, IsAtRest, raised_ends, all_writes}
 use Rattle.batch_disk.specs.Moments.{KeepsLog}
 use Rattle.batch_disk.specs.Writers.{file_end, kept_of, voted_of, CanCount, FitsDisk, KeepsDisk, HasSameEnds}
-use Rattle.batch_disk.specs.Records.{AreRecordsFor, IsPlaceOfOne, MayBeLogged, IsAsWritten}
+use Rattle.batch_disk.specs.Records.{commits_by, AreRecordsFor, IsPlaceOfOne, MayBeLogged, IsAsWritten}
 use Rattle.batch_disk.specs.Seals.{StandsAfter, SealsAs}
 use Rattle.batch_disk.specs.declared.writer.BatchWriter.{BatchWriter}
 use Rattle.batch_disk.proofs.Lists.{each_of, each_leads, all_lists, flat_of_map}
 use Rattle.batch_disk.proofs.Ends.{raised_long}
 use Rattle.batch_disk.proofs.Keeping.{IsNextBatch}
 use Rattle.batch_disk.proofs.NextGate.{next_closed}
-use Rattle.batch_disk.proofs.Recorded.{commits_by, records_are, logged_are, next_batch}
+use Rattle.batch_disk.proofs.Recorded.{records_are, logged_are, next_batch}
 use Rattle.batch_disk.proofs.Sealed as sealed
 use Rattle.batch_disk.proofs.Standing.{LiesIn, voted_within, keeps_with}
 
@@ -136,9 +136,10 @@ module _ (shape : Shape) (head : List ℕ) (batches : List (List Commit)) (batch
   module _ (run : RunsOnFile manager (Tears a.gate_at (length block + 1)) 2 old new) where
     -- the seam
     pub seals_as : (answer : Sealing) (b : BatchWriter) → Passes (λ m. EachLogsOrMore (map body_of batches) (body_of commits) a.gate_at manager m.disk) old.past new.past
-        → StandsAfter shape head batches commits answer a b old new → SealsAs shape head batches es answer a b old new
+        → StandsAfter shape head batches commits answer a b old new → SealsAs shape head batches es rs answer a b old new
     seals_as answer b moments stands = record {
       batch = commits;
+      made_of = refl;
       records = records_are (voted_of batch a) es rs are;
       moments = sealed.seal_moments shape head batches a.gate_at (file_end a) (kept_of a) commits keeps.named next old keeps.images (length block + 1) new run.moments moments;
       stands = stands;

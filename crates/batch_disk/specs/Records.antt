@@ -1,5 +1,5 @@
 -- The records of a batch's units to commit, with the places that its votes keep.
-use Rattle.std.specs.Prelude.{◌≡◌, ◌<◌, ◌^◌, if◌then◌else◌, Bool, true, ◌&&◌, List, [], ◌∷◌, Option, Some, None, length, ⊤}
+use Rattle.std.specs.Prelude.{◌≡◌, ◌<◌, ◌^◌, if◌then◌else◌, Bool, true, ◌&&◌, List, [], ◌∷◌, Option, Some, None, length, map, ⊤}
 use Rattle.std.specs.List.{AllByRecursion}
 use Rattle.base_types.specs.declared.calls.GrainId.{GrainId}
 use Rattle.base_types.specs.declared.calls.UnitNo.{UnitNo}
@@ -15,6 +15,7 @@ use Rattle.commit_log.specs.declared.records.Written.{Written}
 use Rattle.commit_log.specs.declared.records.CommitRecord.{CommitRecord}
 use Rattle.commit_log.specs.Bodies.{IsCallIn, IsShapeType}
 use Rattle.commit_log.specs.Spelling.{spelling_of_body, spelling_of_block, RecordsFit}
+use Rattle.promise_spec.specs.Records.{Commit}
 use Rattle.batch_disk.specs.Resting.{Voted}
 use Rattle.batch_disk.specs.Writers.{kept_of}
 use Rattle.batch_disk.specs.declared.recording.SealWork.{SealWork}
@@ -51,6 +52,12 @@ AreRecordsFor voted [] [] = ⊤
 AreRecordsFor voted [] (r ∷ rs) = ⊥
 AreRecordsFor voted (e ∷ es) [] = ⊥
 AreRecordsFor voted (e ∷ es) (r ∷ rs) = IsRecordFor voted e r × AreRecordsFor voted es rs
+
+-- the records, each with the states that its unit wrote
+abbrev pub commits_by : List Effect → List CommitRecord → List Commit
+commits_by [] rs = []
+commits_by (e ∷ es) [] = []
+commits_by (e ∷ es) (r ∷ rs) = record { logged = r; states = map (λ x. x.1) e.writes } ∷ commits_by es rs
 
 -- a version that is kept has this place
 pub record IsPlaceOfOne (kept : List Voted) (w : Written) : Type 0 where

@@ -1,7 +1,8 @@
 -- What stands after a batch was to be sealed, by the answer.
-use Rattle.std.specs.Prelude.{◌≡◌, ◌⊎◌, ℕ, true, List, [], ◌∷◌, ◌++◌, map}
+use Rattle.std.specs.Prelude.{◌≡◌, ◌⊎◌, ◌+◌, ◌==◌, nat_lt, ℕ, Bool, true, false, ◌&&◌, ◌||◌, not, List, [], ◌∷◌, ◌++◌, length, map, slice_index}
 use Rattle.base_types.specs.declared.calls.GrainId.{GrainId}
 use Rattle.base_types.specs.declared.shapes.Shape.{Shape}
+use Rattle.host_trait.specs.Disk.{FileState}
 use Rattle.host_trait.specs.World.{World, Image, IsImage, Passes, moment_of}
 use Rattle.gate_block.specs.Log.{HasBlocks}
 use Rattle.commit_log.specs.declared.records.CommitRecord.{CommitRecord}
@@ -16,7 +17,18 @@ use Rattle.std.specs.List.{flat_map}
 use Rattle.batch_disk.specs.Resting.{log_of, EachImage, SomeImage, raised_ends}
 use Rattle.batch_disk.specs.Moments.{LeavesRest, KeepsLog, IsSeam}
 use Rattle.batch_disk.specs.Writers.{file_end, kept_of, HasSameEnds, KeepsDisk}
+use Rattle.batch_disk.specs.Records.{commits_by}
 use Rattle.batch_disk.specs.declared.writer.BatchWriter.{BatchWriter}
+
+-- whether an offset lies in none of these ranges
+abbrev pub is_untouched : List (ℕ × ℕ) → ℕ → Bool
+is_untouched [] i = true
+is_untouched (range ∷ ranges) i = (nat_lt i range.0 || not (nat_lt i (range.0 + range.1))) && is_untouched ranges i
+
+-- whether a crash may leave a file with this gate open: it can't where the byte of the last sync is there, closed, and nothing
+-- was written over it since
+abbrev pub may_open : ℕ → FileState → Bool
+may_open gate file = not ((nat_lt gate (length file.base) && is_untouched file.ranges gate) && not (slice_index file.base gate == 1))
 
 -- at each moment and now no image has the batch: the gate was never written
 pub record NoneHas (shape : Shape) (head : List ℕ) (log : List Commit) (old new : World) : Type 0 where
@@ -24,14 +36,15 @@ pub record NoneHas (shape : Shape) (head : List ℕ) (log : List Commit) (old ne
   pub logs : EachImage (λ image. IsLog live_slot shape image log) new.disk
 
 -- In doubt. Each image's log is as it was, or has the batch whole; the batch's whole block stands behind the gate in each, and
--- they differ at most in that gate. The gate was never written, or some image has the batch.
+-- they differ at most in that gate. The gate was never written, and no crash may leave it open, or some image has the batch.
 pub record IsSealInDoubt (shape : Shape) (head : List ℕ) (batches : List (List Commit)) (batch : List Commit) (gate : ℕ) (old new : World) : Type 0 where
   pub rest : LeavesRest head old (moment_of new)
   pub logs : EachImage (λ image. IsLog live_slot shape image (log_of batches) ⊎ IsLog live_slot shape image (log_of batches ++ batch)) new.disk
   pub front : EachImage (λ image. HasBlocks (map body_of batches) gate (image manager)) new.disk
   pub block : EachImage (HasBlock live_slot gate batch) new.disk
   pub differ : (one other : Image) → IsImage new.disk one → IsImage new.disk other → DifferAt gate (one manager) (other manager)
-  pub which : NoneHas shape head (log_of batches) old new ⊎ SomeImage (λ image. IsLog live_slot shape image (log_of batches ++ batch)) new.disk
+  pub which : ((may_open gate (new.disk manager) ≡ false) × NoneHas shape head (log_of batches) old new)
+      ⊎ ((may_open gate (new.disk manager) ≡ true) × SomeImage (λ image. IsLog live_slot shape image (log_of batches ++ batch)) new.disk)
 
 -- Sealed: each image has the batch. Not sealed: none has it, at no moment. In doubt: as above.
 abbrev pub StandsAfter : Shape → List ℕ → List (List Commit) → List Commit → Sealing → BatchWriter → BatchWriter → World → World → Type 0
@@ -40,10 +53,11 @@ StandsAfter shape head batches batch NotSealed before after old new =
     Passes (KeepsLog shape head (log_of batches) old) old.past new.past × KeepsDisk shape head batches after new.disk
 StandsAfter shape head batches batch InDoubt before after old new = IsSealInDoubt shape head batches batch before.gate_at old new
 
--- What sealing these units does: there are their records, and at each moment each image has the log that it had, or it with all
--- of them; and after it, by the answer.
-pub record SealsAs (shape : Shape) (head : List ℕ) (batches : List (List Commit)) (effects : List Effect) (answer : Sealing) (before after : BatchWriter) (old new : World) : Type 0 where
+-- What sealing these units does, of whom these records were made: there are their records, which are those, and at each moment
+-- each image has the log that it had, or it with all of them; and after it, by the answer.
+pub record SealsAs (shape : Shape) (head : List ℕ) (batches : List (List Commit)) (effects : List Effect) (made : List CommitRecord) (answer : Sealing) (before after : BatchWriter) (old new : World) : Type 0 where
   pub batch : List Commit
+  pub made_of : batch ≡ commits_by effects made
   pub records : AreRecordsOf effects batch
   pub moments : Passes (IsSeam shape head (log_of batches) batch old) old.past new.past
   pub stands : StandsAfter shape head batches batch answer before after old new

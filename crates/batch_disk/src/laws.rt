@@ -1,8 +1,9 @@
-ghost use Rattle.std.specs.Prelude.{◌≡◌, ◌⊎◌, ℕ, List, [], ◌++◌, take};
+ghost use Rattle.std.specs.Prelude.{◌≡◌, ◌⊎◌, ℕ, List, [], ◌++◌, take, true, false};
 ghost use Rattle.base_types.specs.declared.shapes.Shape.{Shape};
 ghost use Rattle.host_trait.specs.declared.channels.FileId.{FileId};
 ghost use Rattle.host_trait.specs.Disk.{MayLeave};
 ghost use Rattle.host_trait.specs.World.{World, Disk, Passes};
+ghost use Rattle.commit_log.specs.declared.records.CommitRecord.{CommitRecord};
 ghost use Rattle.commit_log.specs.declared.gate.Sealing.TheVariants.{Sealed, NotSealed, InDoubt};
 ghost use Rattle.core_model.specs.declared.effects.Effect.{Effect};
 ghost use Rattle.log_reading.specs.Steps.{live_slot, manager};
@@ -13,7 +14,7 @@ ghost use Rattle.promise_spec.specs.Journals.{Settlement, Seals, Doubts, commits
 ghost use Rattle.batch_disk.specs.Resting.{log_of, EachImage, SomeImage};
 ghost use Rattle.batch_disk.specs.Moments.{KeepsLog};
 ghost use Rattle.batch_disk.specs.Writers.{FitsDisk, KeepsDisk};
-ghost use Rattle.batch_disk.specs.Seals.{SealsAs};
+ghost use Rattle.batch_disk.specs.Seals.{may_open, SealsAs};
 ghost use Rattle.batch_disk.specs.declared.writer.BatchWriter.{BatchWriter};
 
 /// What a writer keeps of the disk gives each image's log and header, and what its calls ask of the files as they read.
@@ -32,14 +33,15 @@ pub fn batches_go_on_the_journal()
     ensures votes { (p : Program) (head : List ℕ) (batches : List (List Commit)) (after : BatchWriter) (old new : World)
         → Passes (KeepsLog (shape_in p) head (log_of batches) old) old.past new.past → new.output ≡ old.output
         → KeepsDisk (shape_in p) head batches after new.disk → Seals p (log_of batches) [] old new }
-    ensures seals { (p : Program) (head : List ℕ) (batches : List (List Commit)) (effects : List Effect) (next : ℕ) (before after : BatchWriter) (old new : World)
-        → (s : SealsAs (shape_in p) head batches effects (Sealed next) before after old new) → new.output ≡ old.output
+    ensures seals { (p : Program) (head : List ℕ) (batches : List (List Commit)) (effects : List Effect) (made : List CommitRecord) (next : ℕ) (before after : BatchWriter) (old new : World)
+        → (s : SealsAs (shape_in p) head batches effects made (Sealed next) before after old new) → new.output ≡ old.output
         → (settled : List Settlement) → commits_of settled ≡ s.batch → Seals p (log_of batches) settled old new }
-    ensures unsealed { (p : Program) (head : List ℕ) (batches : List (List Commit)) (effects : List Effect) (before after : BatchWriter) (old new : World)
-        → SealsAs (shape_in p) head batches effects NotSealed before after old new → new.output ≡ old.output → Seals p (log_of batches) [] old new }
-    ensures doubts { (p : Program) (head : List ℕ) (batches : List (List Commit)) (effects : List Effect) (before after : BatchWriter) (old new : World)
-        → (s : SealsAs (shape_in p) head batches effects InDoubt before after old new) → new.output ≡ old.output
+    ensures unsealed { (p : Program) (head : List ℕ) (batches : List (List Commit)) (effects : List Effect) (made : List CommitRecord) (before after : BatchWriter) (old new : World)
+        → SealsAs (shape_in p) head batches effects made NotSealed before after old new → new.output ≡ old.output → Seals p (log_of batches) [] old new }
+    ensures doubts { (p : Program) (head : List ℕ) (batches : List (List Commit)) (effects : List Effect) (made : List CommitRecord) (before after : BatchWriter) (old new : World)
+        → (s : SealsAs (shape_in p) head batches effects made InDoubt before after old new) → new.output ≡ old.output
         → (settled : Settlement) → settled.commits ≡ s.batch
-        → Seals p (log_of batches) [] old new
-        ⊎ (Doubts p (log_of batches) settled old new × SomeImage (λ image. IsLog live_slot (shape_in p) image (log_of batches ++ s.batch)) new.disk) }
+        → ((may_open before.gate_at (new.disk manager) ≡ false) × Seals p (log_of batches) [] old new)
+        ⊎ ((may_open before.gate_at (new.disk manager) ≡ true)
+        × (Doubts p (log_of batches) settled old new × SomeImage (λ image. IsLog live_slot (shape_in p) image (log_of batches ++ s.batch)) new.disk)) }
 {}

@@ -296,7 +296,7 @@ impl BatchWriter {
             → AreRecordsFor (voted_of batch self.old) effects work.records
             → AllByRecursion (MayBeLogged shape) effects → AllByRecursion (IsAsWritten (voted_of batch self.old)) effects
             → KeepsDisk shape head batches self.old (H.world host.old).disk
-            → SealsAs shape head batches effects result self.old self.new (H.world host.old) (H.world host.new) }
+            → SealsAs shape head batches effects work.records result self.old self.new (H.world host.old) (H.world host.new) }
         ensures after { WriterAfter result work.records self.old self.new }
 
         // Not sealed and in doubt are faults of the manager file, and of nothing else.

@@ -6,6 +6,7 @@ use Rattle.base_types.specs.declared.calls.GrainId.{GrainId}
 use Rattle.host_trait.specs.declared.channels.Channel.{Channel}
 use Rattle.host_trait.specs.World.{World, Moment, Passes, Arrives, moment_of, last_of}
 use Rattle.host_trait.proofs.Moments.{started, weaker}
+use Rattle.commit_log.specs.declared.records.CommitRecord.{CommitRecord}
 use Rattle.commit_log.specs.declared.gate.Sealing.{Sealing}
 use Rattle.commit_log.specs.declared.gate.Sealing.TheVariants as sealing
 use Rattle.core_model.specs.CoreState.{CoreState}
@@ -18,12 +19,13 @@ use Rattle.promise_spec.specs.Records.{Commit}
 use Rattle.batch_disk.specs.Resting.{log_of}
 use Rattle.batch_disk.specs.Moments.{LeavesRest, KeepsLog, IsSeam}
 use Rattle.batch_disk.specs.Writers.{KeepsDisk}
+use Rattle.batch_disk.specs.Records.{commits_by}
 use Rattle.batch_disk.specs.Seals.{SealsAs}
 use Rattle.batch_disk.specs.declared.writer.BatchWriter.{BatchWriter}
 use Rattle.batch_disk.proofs.Standing.{keeps_log}
 use Rattle.batch_disk.proofs.Journal.{as_it_was, seals_on, doubt_on}
 use Rattle.settle_loop.specs.Works.{event_of}
-use Rattle.settle_loop.specs.HostSteps.{MakesNoCall, VotesOn, SealsUnits, DoubtsAgain, WritesEntry, DoesFor}
+use Rattle.settle_loop.specs.HostSteps.{MakesNoCall, VotesOn, SealsUnits, DoubtsAgain, WritesEntry, DoesFor, batch_made}
 use Rattle.settle_loop.specs.Journaling.{IsFair, as_settled, LeavesLogs, SealsBatch, DoubtsBatch, JournalsAs}
 
 -- ---- what holds at each moment holds now
@@ -57,16 +59,15 @@ module _ (p : Program) (head : List ℕ) (batches : List (List Commit)) (before 
         disk = after_keeps;
       }
 
-  module _ (effects : List Effect) (output : new.output ≡ old.output) (clock : Arrives old new) where
+  module _ (effects : List Effect) (made : List CommitRecord) (output : new.output ≡ old.output) (clock : Arrives old new) where
     seam_rest : (batch : List Commit) → Passes (IsSeam (shape_in p) head (log_of batches) batch old) old.past new.past → Passes (LeavesRest head old) old.past new.past
     seam_rest batch moments = weaker (IsSeam (shape_in p) head (log_of batches) batch old) (LeavesRest head old) (λ m k. k.rest) moments
 
     -- a batch is sealed
-    pub sealed : (next : ℕ) → SealsAs (shape_in p) head batches effects (sealing.Sealed next) before after old new → SealsBatch p head batches before after old new effects
+    pub sealed : (next : ℕ) → (s : SealsAs (shape_in p) head batches effects made (sealing.Sealed next) before after old new) → SealsBatch p head batches before after old new effects s.batch
     sealed next s =
         let rest : Passes (LeavesRest head old) old.past new.past = seam_rest s.batch s.moments in
         record {
-          batch = s.batch;
           records = s.records;
           seals = seals_on p head batches old new output s.batch (as_settled s.batch ∷ []) (append-nil s.batch) s.moments (keeps_log (shape_in p) head (batches ++ s.batch ∷ []) after new.disk s.stands);
           rest = rest;
@@ -75,13 +76,12 @@ module _ (p : Program) (head : List ℕ) (batches : List (List Commit)) (before 
         }
 
     -- it isn't
-    pub not_sealed : SealsAs (shape_in p) head batches effects sealing.NotSealed before after old new → LeavesLogs p head batches before after old new
+    pub not_sealed : SealsAs (shape_in p) head batches effects made sealing.NotSealed before after old new → LeavesLogs p head batches before after old new
     not_sealed s = leaves output clock s.stands.0 s.stands.1
 
     -- it is in doubt
-    pub doubted : SealsAs (shape_in p) head batches effects sealing.InDoubt before after old new → DoubtsBatch p head batches before after old new before.gate_at effects
+    pub doubted : (s : SealsAs (shape_in p) head batches effects made sealing.InDoubt before after old new) → DoubtsBatch p head batches before after old new before.gate_at effects s.batch
     doubted s = record {
-      batch = s.batch;
       records = s.records;
       journal = doubt_on p head batches old new output s.batch (as_settled s.batch) refl s.moments s.stands.logs s.stands.which;
       rest = seam_rest s.batch s.moments;
@@ -100,26 +100,30 @@ module _ {H : Type 0} (tells : Bool) (told : tells ≡ true) (world : H → Worl
 
   -- a seal, by its answer
   seals : (n : ℕ) (e : CoreEvent) → settler_step w ≡ SealStep n → (x : SealsUnits tells world faults n e (to_commit w w.manager.batch) before after old new)
-      → SealsAs (shape_in p) head batches (to_commit w w.manager.batch) x.answer before after (world old) (world new)
+      → SealsAs (shape_in p) head batches (to_commit w w.manager.batch) x.work.records x.answer before after (world old) (world new)
   seals n e is x = let facts = fair.seal n is in x.seals told (shape_in p) head batches facts.0 facts.1 keeps
 
-  by_sealed : (n : ℕ) (a : Sealing) → event.Sealed n ≡ event_of n a → (world new).output ≡ (world old).output → Arrives (world old) (world new)
-      → SealsAs (shape_in p) head batches (to_commit w w.manager.batch) a before after (world old) (world new) → SealsBatch p head batches before after (world old) (world new) (to_commit w w.manager.batch)
-  by_sealed n (sealing.Sealed next) q output clock s = sealed p head batches before after (world old) (world new) keeps (to_commit w w.manager.batch) output clock next s
-  by_sealed n sealing.NotSealed q output clock s = absurd (cc q)
-  by_sealed n sealing.InDoubt q output clock s = absurd (cc q)
+  by_sealed : (n : ℕ) (made : List CommitRecord) (a : Sealing) → event.Sealed n ≡ event_of n a → (world new).output ≡ (world old).output → Arrives (world old) (world new)
+      → SealsAs (shape_in p) head batches (to_commit w w.manager.batch) made a before after (world old) (world new) → SealsBatch p head batches before after (world old) (world new) (to_commit w w.manager.batch) (commits_by (to_commit w w.manager.batch) made)
+  by_sealed n made (sealing.Sealed next) q output clock s =
+      subst (SealsBatch p head batches before after (world old) (world new) (to_commit w w.manager.batch)) s.made_of
+      (sealed p head batches before after (world old) (world new) keeps (to_commit w w.manager.batch) made output clock next s)
+  by_sealed n made sealing.NotSealed q output clock s = absurd (cc q)
+  by_sealed n made sealing.InDoubt q output clock s = absurd (cc q)
 
-  by_not_sealed : (n : ℕ) (a : Sealing) → event.NotSealed n ≡ event_of n a → (world new).output ≡ (world old).output → Arrives (world old) (world new)
-      → SealsAs (shape_in p) head batches (to_commit w w.manager.batch) a before after (world old) (world new) → LeavesLogs p head batches before after (world old) (world new)
-  by_not_sealed n (sealing.Sealed next) q output clock s = absurd (cc q)
-  by_not_sealed n sealing.NotSealed q output clock s = not_sealed p head batches before after (world old) (world new) keeps (to_commit w w.manager.batch) output clock s
-  by_not_sealed n sealing.InDoubt q output clock s = absurd (cc q)
+  by_not_sealed : (n : ℕ) (made : List CommitRecord) (a : Sealing) → event.NotSealed n ≡ event_of n a → (world new).output ≡ (world old).output → Arrives (world old) (world new)
+      → SealsAs (shape_in p) head batches (to_commit w w.manager.batch) made a before after (world old) (world new) → LeavesLogs p head batches before after (world old) (world new)
+  by_not_sealed n made (sealing.Sealed next) q output clock s = absurd (cc q)
+  by_not_sealed n made sealing.NotSealed q output clock s = not_sealed p head batches before after (world old) (world new) keeps (to_commit w w.manager.batch) made output clock s
+  by_not_sealed n made sealing.InDoubt q output clock s = absurd (cc q)
 
-  by_doubt : (n : ℕ) (a : Sealing) → event.Doubt n ≡ event_of n a → (world new).output ≡ (world old).output → Arrives (world old) (world new)
-      → SealsAs (shape_in p) head batches (to_commit w w.manager.batch) a before after (world old) (world new) → DoubtsBatch p head batches before after (world old) (world new) before.gate_at (to_commit w w.manager.batch)
-  by_doubt n (sealing.Sealed next) q output clock s = absurd (cc q)
-  by_doubt n sealing.NotSealed q output clock s = absurd (cc q)
-  by_doubt n sealing.InDoubt q output clock s = doubted p head batches before after (world old) (world new) keeps (to_commit w w.manager.batch) output clock s
+  by_doubt : (n : ℕ) (made : List CommitRecord) (a : Sealing) → event.Doubt n ≡ event_of n a → (world new).output ≡ (world old).output → Arrives (world old) (world new)
+      → SealsAs (shape_in p) head batches (to_commit w w.manager.batch) made a before after (world old) (world new) → DoubtsBatch p head batches before after (world old) (world new) before.gate_at (to_commit w w.manager.batch) (commits_by (to_commit w w.manager.batch) made)
+  by_doubt n made (sealing.Sealed next) q output clock s = absurd (cc q)
+  by_doubt n made sealing.NotSealed q output clock s = absurd (cc q)
+  by_doubt n made sealing.InDoubt q output clock s =
+      subst (DoubtsBatch p head batches before after (world old) (world new) before.gate_at (to_commit w w.manager.batch)) s.made_of
+      (doubted p head batches before after (world old) (world new) keeps (to_commit w w.manager.batch) made output clock s)
 
   -- no call
   by_none : MakesNoCall tells world faults before after old new → LeavesLogs p head batches before after (world old) (world new)
@@ -130,42 +134,46 @@ module _ {H : Type 0} (tells : Bool) (told : tells ≡ true) (world : H → Worl
       (subst (λ (h : H). LeavesLogs p head batches before before (world old) (world h)) (sym none.host) same)
 
   -- a doubt, of this seal or an earlier one
-  doubt_or_not : (n : ℕ) → settler_step w ≡ SealStep n
-      → SealsUnits tells world faults n (event.Doubt n) (to_commit w w.manager.batch) before after old new ⊎ DoubtsAgain tells world faults before after old new
-      → DoubtsBatch p head batches before after (world old) (world new) before.gate_at (to_commit w w.manager.batch) ⊎ (world new ≡ world old)
-  doubt_or_not n is (inl x) = inl (by_doubt n x.answer x.event (x.run told).now.output (x.run told).clock (seals n (event.Doubt n) is x))
-  doubt_or_not n is (inr d) = inr (ap world d.none.host)
+  doubt_or_not : (n : ℕ) (quiet : Bool) → settler_step w ≡ SealStep n → (does : SealsUnits tells world faults n (event.Doubt n) (to_commit w w.manager.batch) before after old new ⊎ DoubtsAgain tells world faults before after old new)
+      → DoubtsBatch p head batches before after (world old) (world new) before.gate_at (to_commit w w.manager.batch) (batch_made tells world faults (event.Doubt n) quiet (shape_in p) w before after old new does) ⊎ (world new ≡ world old)
+  doubt_or_not n quiet is (inl x) = inl (by_doubt n x.work.records x.answer x.event (x.run told).now.output (x.run told).clock (seals n (event.Doubt n) is x))
+  doubt_or_not n quiet is (inr d) = inr (ap world d.none.host)
 
   -- an entry
-  by_write : (quiet : Bool) → WritesEntry tells world faults quiet (shape_in p) w before after old new → JournalsAs p head batches before after (world old) (world new) event.Emitted quiet w
+  by_write : (quiet : Bool) → WritesEntry tells world faults quiet (shape_in p) w before after old new → JournalsAs p head batches before after (world old) (world new) event.Emitted quiet w []
   by_write true x = (ap world x.line, x.writer)
   by_write false x = (x.writer, (x.entry, x.line.1 told))
 
+  -- what an event journals, whatever was done for it
+  abbrev Journal : Bool → CoreEvent → Type 0
+  Journal quiet x = (does : DoesFor tells world faults x quiet (shape_in p) w before after old new)
+      → JournalsAs p head batches before after (world old) (world new) x quiet w (batch_made tells world faults x quiet (shape_in p) w before after old new does)
+
   -- the step's event, whichever it is
-  pub journals : (quiet : Bool) (s : Step) (e : CoreEvent) → settler_step w ≡ s → MakesEvent s e → DoesFor tells world faults e quiet (shape_in p) w before after old new
-      → JournalsAs p head batches before after (world old) (world new) e quiet w
+  pub journals : (quiet : Bool) (s : Step) (e : CoreEvent) → settler_step w ≡ s → MakesEvent s e → (does : DoesFor tells world faults e quiet (shape_in p) w before after old new)
+      → JournalsAs p head batches before after (world old) (world new) e quiet w (batch_made tells world faults e quiet (shape_in p) w before after old new does)
   journals quiet (Votes n g) e is m does =
-      subst (λ (x : CoreEvent). DoesFor tells world faults x quiet (shape_in p) w before after old new → JournalsAs p head batches before after (world old) (world new) x quiet w)
+      subst (Journal quiet)
       (sym m.1) (λ v. by_vote n g m.0 is v) does
   journals quiet (Decides n) e is m does =
-      subst (λ (x : CoreEvent). DoesFor tells world faults x quiet (shape_in p) w before after old new → JournalsAs p head batches before after (world old) (world new) x quiet w)
+      subst (Journal quiet)
       (sym m) (λ none. by_none none) does
   journals quiet (SealStep n) e is (inl m) does =
-      subst (λ (x : CoreEvent). DoesFor tells world faults x quiet (shape_in p) w before after old new → JournalsAs p head batches before after (world old) (world new) x quiet w)
-      (sym m) (λ x. by_sealed n x.answer x.event (x.run told).now.output (x.run told).clock (seals n (event.Sealed n) is x)) does
+      subst (Journal quiet)
+      (sym m) (λ x. by_sealed n x.work.records x.answer x.event (x.run told).now.output (x.run told).clock (seals n (event.Sealed n) is x)) does
   journals quiet (SealStep n) e is (inr (inl m)) does =
-      subst (λ (x : CoreEvent). DoesFor tells world faults x quiet (shape_in p) w before after old new → JournalsAs p head batches before after (world old) (world new) x quiet w)
-      (sym m) (λ x. by_not_sealed n x.answer x.event (x.run told).now.output (x.run told).clock (seals n (event.NotSealed n) is x)) does
+      subst (Journal quiet)
+      (sym m) (λ x. by_not_sealed n x.work.records x.answer x.event (x.run told).now.output (x.run told).clock (seals n (event.NotSealed n) is x)) does
   journals quiet (SealStep n) e is (inr (inr m)) does =
-      subst (λ (x : CoreEvent). DoesFor tells world faults x quiet (shape_in p) w before after old new → JournalsAs p head batches before after (world old) (world new) x quiet w)
-      (sym m) (λ d. doubt_or_not n is d) does
+      subst (Journal quiet)
+      (sym m) (λ d. doubt_or_not n quiet is d) does
   journals quiet (Learns u g) e is m does =
-      subst (λ (x : CoreEvent). DoesFor tells world faults x quiet (shape_in p) w before after old new → JournalsAs p head batches before after (world old) (world new) x quiet w)
+      subst (Journal quiet)
       (sym m) (λ none. by_none none) does
   journals quiet Writes e is m does =
-      subst (λ (x : CoreEvent). DoesFor tells world faults x quiet (shape_in p) w before after old new → JournalsAs p head batches before after (world old) (world new) x quiet w)
+      subst (Journal quiet)
       (sym m) (λ x. by_write quiet x) does
   journals quiet Takes e is m does =
-      subst (λ (x : CoreEvent). DoesFor tells world faults x quiet (shape_in p) w before after old new → JournalsAs p head batches before after (world old) (world new) x quiet w)
+      subst (Journal quiet)
       (sym m) (λ none. by_none none) does
   journals quiet Rests e is m does = absurd m

@@ -1,5 +1,6 @@
 -- What the settler does to the host and to what it keeps of the disk, by the event that it makes of it.
-use Rattle.std.specs.Prelude.{◌≡◌, ◌⊎◌, ◌+◌, ◌++◌, ℕ, List, length, Bool, true, false, Some, slice_get, IsTrue}
+use Rattle.std.proofs.Common.{inl, inr}
+use Rattle.std.specs.Prelude.{◌≡◌, ◌⊎◌, ◌+◌, ◌++◌, ℕ, List, [], length, Bool, true, false, Some, slice_get, IsTrue}
 use Rattle.std.specs.List.{AllByRecursion}
 use Rattle.base_types.specs.declared.calls.GrainId.{GrainId}
 use Rattle.base_types.specs.declared.shapes.Shape.{Shape}
@@ -26,10 +27,11 @@ use Rattle.promise_spec.specs.Records.{Commit}
 use Rattle.batch_disk.specs.Resting.{grain_file, log_of, NotAmong, AreOfType, voted_from}
 use Rattle.batch_disk.specs.Moments.{KeepsLog}
 use Rattle.batch_disk.specs.Writers.{file_end, voted_of, KeepsDisk, HasSameEnds}
-use Rattle.batch_disk.specs.Records.{AreRecordsFor, IsSealable, MayBeLogged, IsAsWritten}
+use Rattle.batch_disk.specs.Records.{commits_by, AreRecordsFor, IsSealable, MayBeLogged, IsAsWritten}
 use Rattle.batch_disk.specs.Seals.{SealsAs, WriterAfter}
 use Rattle.batch_disk.specs.declared.recording.SealWork.{SealWork}
 use Rattle.batch_disk.specs.declared.writer.BatchWriter.{BatchWriter}
+use Rattle.settler_rules.specs.Entries.{IsEntryInRange}
 use Rattle.settle_loop.specs.Works.{event_of}
 
 -- a vote of no is the grain's file's fault, and with a vote of yes nothing failed
@@ -90,7 +92,7 @@ module _ {H : Type 0} (tells : Bool) (world : H → World) (faults : H → Chann
     pub seals : IsTrue tells → (shape : Shape) (head : List ℕ) (batches : List (List Commit))
         → AllByRecursion (MayBeLogged shape) effects → AllByRecursion (IsAsWritten (voted_of n before)) effects
         → KeepsDisk shape head batches before (world old).disk
-        → SealsAs shape head batches effects answer before after (world old) (world new)
+        → SealsAs shape head batches effects work.records answer before after (world old) (world new)
     pub after_is : WriterAfter answer work.records before after
     pub cause : SealHasCause answer before.gate_at (length work.block) (faults old) (faults new)
 
@@ -107,6 +109,7 @@ module _ {H : Type 0} (tells : Bool) (world : H → World) (faults : H → Chann
   -- The next entry's line is written.
   pub record WritesEntry (quiet : Bool) (shape : Shape) (w : CoreState) (before after : BatchWriter) (old new : H) : Type 0 where
     pub entry : Entry
+    pub range : IsEntryInRange entry
     pub next : slice_get w.manager.settled w.manager.emitted ≡ Some entry
     pub line : HasLine quiet shape entry old new
     pub writer : after ≡ before
@@ -115,6 +118,7 @@ module _ {H : Type 0} (tells : Bool) (world : H → World) (faults : H → Chann
   pub record CutsEntry (quiet : Bool) (shape : Shape) (w : CoreState) (before after : BatchWriter) (old new : H) : Type 0 where
     pub loud : quiet ≡ false
     pub entry : Entry
+    pub range : IsEntryInRange entry
     pub next : slice_get w.manager.settled w.manager.emitted ≡ Some entry
     pub part : IsTrue tells → (length_of : ℕ) × IsAppended length_of (reply_line shape entry) (world old) (world new)
     pub fault : FailedOn Output (faults old) (faults new)
@@ -128,3 +132,11 @@ module _ {H : Type 0} (tells : Bool) (world : H → World) (faults : H → Chann
   DoesFor (Doubt n) quiet shape w before after old new = SealsUnits n (Doubt n) (to_commit w w.manager.batch) before after old new ⊎ DoubtsAgain before after old new
   DoesFor Emitted quiet shape w before after old new = WritesEntry quiet shape w before after old new
   DoesFor _ quiet shape w before after old new = MakesNoCall before after old new
+
+  -- the batch that was to be sealed, as its records were made: none by any other event
+  abbrev pub batch_made : (e : CoreEvent) (quiet : Bool) (shape : Shape) (w : CoreState) (before after : BatchWriter) (old new : H) → DoesFor e quiet shape w before after old new → List Commit
+  batch_made (Sealed n) quiet shape w before after old new does = commits_by (to_commit w w.manager.batch) does.work.records
+  batch_made (NotSealed n) quiet shape w before after old new does = commits_by (to_commit w w.manager.batch) does.work.records
+  batch_made (Doubt n) quiet shape w before after old new (inl does) = commits_by (to_commit w w.manager.batch) does.work.records
+  batch_made (Doubt n) quiet shape w before after old new (inr does) = []
+  batch_made _ quiet shape w before after old new does = []

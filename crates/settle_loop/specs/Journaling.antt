@@ -11,6 +11,7 @@ use Rattle.core_model.specs.declared.effects.Effect.{Effect}
 use Rattle.core_model.specs.declared.events.CoreEvent.{CoreEvent}
 use Rattle.core_model.specs.declared.events.CoreEvent.TheVariants.{Sealed, Doubt, Emitted}
 use Rattle.core_model.specs.Settler.{settler_step, Votes, Seals as SealStep, versions_to_write, to_commit}
+use Rattle.log_reading.specs.Steps.{manager}
 use Rattle.promise_spec.specs.Programs.{Program, shape_in}
 use Rattle.promise_spec.specs.Records.{Commit, AreRecordsOf}
 use Rattle.promise_spec.specs.Journals.{Settlement, Seals, Doubts}
@@ -19,7 +20,7 @@ use Rattle.batch_disk.specs.Resting.{log_of, NotAmong, AreOfType, SomeImage}
 use Rattle.batch_disk.specs.Moments.{LeavesRest}
 use Rattle.batch_disk.specs.Writers.{voted_of, KeepsDisk}
 use Rattle.batch_disk.specs.Records.{MayBeLogged, IsAsWritten}
-use Rattle.batch_disk.specs.Seals.{IsSealInDoubt}
+use Rattle.batch_disk.specs.Seals.{may_open, IsSealInDoubt}
 use Rattle.batch_disk.specs.declared.writer.BatchWriter.{BatchWriter}
 
 -- What the core's batch has to be for the step that this state asks for: no version of the grain is kept yet, and the units'
@@ -42,27 +43,26 @@ module _ (p : Program) (head : List ℕ) (batches : List (List Commit)) (before 
     pub disk : KeepsDisk (shape_in p) head batches after new.disk
 
   -- The batch of these units is sealed: each image has it behind the logs of before.
-  pub record SealsBatch (effects : List Effect) : Type 0 where
-    pub batch : List Commit
+  pub record SealsBatch (effects : List Effect) (batch : List Commit) : Type 0 where
     pub records : AreRecordsOf effects batch
     pub seals : Seals p (log_of batches) (as_settled batch ∷ []) old new
     pub rest : Passes (LeavesRest head old) old.past new.past
     pub rest_now : LeavesRest head old (moment_of new)
     pub disk : KeepsDisk (shape_in p) head (batches ++ batch ∷ []) after new.disk
 
-  -- It is in doubt: no image has it, or some may have it.
-  pub record DoubtsBatch (gate : ℕ) (effects : List Effect) : Type 0 where
-    pub batch : List Commit
+  -- It is in doubt. Where no crash may leave its gate open no image has it; else some has it.
+  pub record DoubtsBatch (gate : ℕ) (effects : List Effect) (batch : List Commit) : Type 0 where
     pub records : AreRecordsOf effects batch
-    pub journal : Seals p (log_of batches) [] old new
-        ⊎ (Doubts p (log_of batches) (as_settled batch) old new × SomeImage (λ image. IsLog live_slot (shape_in p) image (log_of batches ++ batch)) new.disk)
+    pub journal : ((may_open gate (new.disk manager) ≡ false) × Seals p (log_of batches) [] old new)
+        ⊎ ((may_open gate (new.disk manager) ≡ true)
+        × (Doubts p (log_of batches) (as_settled batch) old new × SomeImage (λ image. IsLog live_slot (shape_in p) image (log_of batches ++ batch)) new.disk))
     pub rest : Passes (LeavesRest head old) old.past new.past
     pub doubt : IsSealInDoubt (shape_in p) head batches batch gate old new
 
-  -- by the event that was made
-  abbrev pub JournalsAs : CoreEvent → Bool → CoreState → Type 0
-  JournalsAs (Sealed n) quiet w = SealsBatch (to_commit w w.manager.batch)
-  JournalsAs (Doubt n) quiet w = DoubtsBatch before.gate_at (to_commit w w.manager.batch) ⊎ (new ≡ old)
-  JournalsAs Emitted true w = (new ≡ old) × (after ≡ before)
-  JournalsAs Emitted false w = (after ≡ before) × ((entry : Entry) × IsEmitted (reply_line (shape_in p) entry) old new)
-  JournalsAs _ quiet w = LeavesLogs
+  -- by the event that was made, and the batch whose records were made
+  abbrev pub JournalsAs : CoreEvent → Bool → CoreState → List Commit → Type 0
+  JournalsAs (Sealed n) quiet w batch = SealsBatch (to_commit w w.manager.batch) batch
+  JournalsAs (Doubt n) quiet w batch = DoubtsBatch before.gate_at (to_commit w w.manager.batch) batch ⊎ (new ≡ old)
+  JournalsAs Emitted true w batch = (new ≡ old) × (after ≡ before)
+  JournalsAs Emitted false w batch = (after ≡ before) × ((entry : Entry) × IsEmitted (reply_line (shape_in p) entry) old new)
+  JournalsAs _ quiet w batch = LeavesLogs

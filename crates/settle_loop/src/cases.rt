@@ -1,4 +1,4 @@
-ghost use Rattle.std.specs.Prelude.{◌≡◌, false, IsTrue};
+ghost use Rattle.std.specs.Prelude.{◌≡◌, ◌<◌, ◌^◌, false, IsTrue};
 ghost use Rattle.base_types.specs.declared.shapes.Shape.{Shape as AShape};
 ghost use Rattle.host_trait.specs.Files.{StaysReady};
 ghost use Rattle.core_model.specs.CoreState.{CoreState};
@@ -6,11 +6,12 @@ ghost use Rattle.core_model.specs.Settler.{settler_step};
 ghost use Rattle.core_model.specs.declared.questions.SettlerWork.TheVariants as shown;
 ghost use Rattle.batch_disk.specs.Writers.{IsInBounds, FitsDisk};
 ghost use Rattle.settle_loop.specs.Works.{ShowsWork};
+ghost use Rattle.settler_rules.specs.Entries.{IsSaidInRange};
 ghost use Rattle.settle_loop.specs.Making.{MadeAs};
 
 use crate::gate::{Gate, GatePlace};
 use crate::settler::Settler;
-use base_types::{Entry, GrainId, List, Shape, Version};
+use base_types::{Entry, GrainId, List, Outcome, Settled, Shape, UnitNo, Value, Version};
 use commit_log::Sealing;
 use core_model::{CoreEvent, Effect, SettlerWork};
 use host_trait::Host;
@@ -30,6 +31,47 @@ pub(crate) enum Made {
     Idle,
     /// The output failed.
     Cut,
+}
+
+// A unit's number is what its type can hold.
+fn read_unit(unit: UnitNo)
+    ensures { unit.0 < 2 ^ 64 }
+{}
+
+// So is a grain's key.
+fn read_grain(grain: GrainId)
+    ensures { grain.key < 2 ^ 32 }
+{}
+
+// Reads what an entry says: its parts are what their types can hold.
+fn read_said(what: &Settled)
+    ensures { IsSaidInRange what.now }
+{
+    match what {
+        Settled::Done(Outcome::Value(Value::Int(number))) => {
+            let _number = *number;
+        }
+        Settled::Done(Outcome::Value(Value::Text(text))) => {
+            let _text = text.as_str();
+        }
+        Settled::Done(Outcome::Fault(text)) => {
+            let _text = text.as_str();
+        }
+        Settled::Done(Outcome::Aborted) => {}
+        Settled::Lock { by, grain } => {
+            read_unit(*by);
+            read_grain(*grain);
+        }
+        Settled::Vote { grain } => {
+            read_grain(*grain);
+        }
+        Settled::Dependency { on } => {
+            read_unit(*on);
+        }
+        Settled::Disk => {}
+        Settled::InDoubt => {}
+        Settled::Bad(_) => {}
+    }
 }
 
 impl Settler {
@@ -114,6 +156,7 @@ impl Settler {
         ensures disk { IsTrue H.tells → (H.world host.new).disk ≡ (H.world host.old).disk }
         ensures ready { StaysReady (H.is_ready host.old) (H.is_ready host.new) }
     {
+        read_said(&entry.what);
         if self.quiet {
             return Ok(Made::Event {
                 event: CoreEvent::Emitted,

@@ -8,11 +8,11 @@ pub returns-clause-votes : goal.returns-clause-votes
 returns-clause-votes c p head batches after old new moments quiet keeps = as_it_was p head batches old new quiet moments (keeps_log (shape_in p) head batches after new.disk keeps)
 
 pub returns-clause-seals : goal.returns-clause-seals
-returns-clause-seals c p head batches effects next before after old new s quiet settled is =
+returns-clause-seals c p head batches effects made next before after old new s quiet settled is =
     seals_on p head batches old new quiet s.batch settled is s.moments (keeps_log (shape_in p) head (batches ++ s.batch ∷ []) after new.disk s.stands)
 
 pub returns-clause-unsealed : goal.returns-clause-unsealed
-returns-clause-unsealed c p head batches effects before after old new s quiet = as_it_was p head batches old new quiet s.stands.0 (keeps_log (shape_in p) head batches after new.disk s.stands.1)
+returns-clause-unsealed c p head batches effects made before after old new s quiet = as_it_was p head batches old new quiet s.stands.0 (keeps_log (shape_in p) head batches after new.disk s.stands.1)
 
 pub returns-clause-doubts : goal.returns-clause-doubts
-returns-clause-doubts c p head batches effects before after old new s quiet settled is = doubt_on p head batches old new quiet s.batch settled is s.moments s.stands.logs s.stands.which
+returns-clause-doubts c p head batches effects made before after old new s quiet settled is = doubt_on p head batches old new quiet s.batch settled is s.moments s.stands.logs s.stands.which

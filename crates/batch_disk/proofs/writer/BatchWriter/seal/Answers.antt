@@ -10,7 +10,7 @@ use Rattle.promise_spec.specs.Logs.{body_of}
 use Rattle.batch_disk.specs.Resting.{raised_ends}
 use Rattle.batch_disk.specs.Writers.{file_end, voted_by, kept_of, HasSameEnds}
 use Rattle.batch_disk.specs.declared.writer.BatchWriter.{BatchWriter}
-use Rattle.batch_disk.proofs.Recorded.{commits_by}
+use Rattle.batch_disk.specs.Records.{commits_by}
 use Rattle.batch_disk.proofs.Sealing.{WriteCanCount, records_can_count, fits_sealed, fits_unsealed, fits_in_doubt, is_next, seals_as, stands_sealed, stands_unsealed, stands_in_doubt}
 use Rattle.batch_disk.proofs.writer.BatchWriter.seal.Goals as goal
 
