@@ -1,5 +1,5 @@
 -- What one step of an agent does, and what each of its answers says.
-use Rattle.std.specs.Prelude.{◌≡◌, ◌⊎◌, ℕ, List, length, filter, not, Bool, true, false, Some, None, ⊤}
+use Rattle.std.specs.Prelude.{◌≡◌, ◌==◌, ◌⊎◌, ℕ, List, length, filter, not, Bool, true, false, Some, None, ⊤}
 use Rattle.base_types.specs.declared.calls.Mode.{Mode}
 use Rattle.base_types.specs.declared.calls.Origin.TheVariants.{Child}
 use Rattle.core_model.specs.CoreState.{UnitNo, GrainId, Value, Call, same_grain, CoreState}
@@ -82,6 +82,13 @@ children_of (Asks work pause) = work.kids
 children_of (Awaits work child) = work.kids
 children_of (Frees held) = 0
 children_of Stopped = 0
+
+-- the unit is over, and no lock of it is left
+abbrev pub has_freed_all : Doing → Bool
+has_freed_all (Asks work pause) = false
+has_freed_all (Awaits work child) = false
+has_freed_all (Frees held) = length held == 0
+has_freed_all Stopped = false
 
 -- where a unit waits for its child still, the core showed that the child isn't decided
 abbrev pub Hears : Sight → Doing → Type 0

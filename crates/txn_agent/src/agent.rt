@@ -3,7 +3,8 @@ ghost use Rattle.core_access.specs.Sights.{Sight, Counts, Looks};
 ghost use Rattle.script_tree.specs.Programs.{ProgramTree, program_tree};
 ghost use Rattle.promise_spec.specs.Serial.{depth_of as depth_in};
 ghost use Rattle.txn_agent.specs.Linked.{IfOwn, IsNew, Knows};
-ghost use Rattle.txn_agent.specs.Stepping.{Acts, AnswerSays, Hears, children_of};
+ghost use Rattle.promise_spec.specs.TurnRule.{is_line};
+ghost use Rattle.txn_agent.specs.Stepping.{Acts, AnswerSays, Hears, children_of, has_freed_all};
 ghost use Rattle.txn_agent.specs.Movable.{ShowsMove};
 
 use crate::steps::{hear_child, moves_now, step};
@@ -93,6 +94,32 @@ impl Agent {
         ensures { result ≡ self.now.carried.unit }
     {
         self.carried.unit
+    }
+
+    /// Whether the unit is a line's.
+    pub fn is_line(&self) -> bool
+        ensures { result ≡ is_line self.now.carried.origin }
+    {
+        match self.carried.origin {
+            Origin::Line(_line) => true,
+            Origin::Child {
+                parent: _parent,
+                index: _index,
+                depth: _depth,
+            } => false,
+        }
+    }
+
+    /// Whether the unit is over and has given back all its locks.
+    pub fn has_freed_all(&self) -> bool
+        ensures { result ≡ has_freed_all self.now.doing }
+    {
+        match &self.doing {
+            Doing::Asks { .. } => false,
+            Doing::Awaits { .. } => false,
+            Doing::Frees { held } => held.is_empty(),
+            Doing::Stopped => false,
+        }
     }
 
     /// How many units of its own the unit has begun, while it runs: the number of the next one among them.

@@ -1,0 +1,27 @@
+-- What a look tells of a unit that has heard of its child.
+use Rattle.std.proofs.Common.{◌≡◌, Bool, sym, ap, ◌∙◌, subst}
+use Rattle.core_model.specs.Asked.{IsGoing}
+use Rattle.core_model.specs.Legal.{ends}
+use Rattle.core_model.specs.declared.events.CoreEvent.{CoreEvent}
+use Rattle.core_access.specs.Sights.{Sight, run_seen, Looks, Counts}
+use Rattle.script_tree.specs.Programs.{ProgramTree}
+use Rattle.txn_agent.specs.declared.agent.Agent.{Agent}
+use Rattle.txn_agent.specs.Linked.{IfOwn, Knows}
+use Rattle.txn_agent.specs.Stepping.{Hears}
+use Rattle.txn_agent.specs.Movable.{ShowsMove, moves}
+use Rattle.unit_carrier.specs.Carrying.{HasCoreAlone}
+use Rattle.unit_carrier.proofs.Known.{looks-same, shows-move}
+
+-- what the look answers is the turn rule's, of the run before
+pub move-told : (types : ProgramTree) (may : CoreEvent → Bool) (s s1 s2 : Sight) (old new : Agent) (b : Bool) → HasCoreAlone may s → Looks may s s1 → Looks may s1 s2
+    → new.carried ≡ old.carried → Knows types s1 new → Hears s1 new.doing
+    → (Counts s1 → Knows types s1 new → IfOwn new.carried s2 (λ r. ShowsMove types r new.carried new.doing b))
+    → IsGoing (ends (run_seen s)) → b ≡ moves types (run_seen s) old.carried
+move-told types may s s1 s2 old new b h first second same knows hears shows going =
+    let one : s1 ≡ s = looks-same may s s1 h.none first in
+    let two : s2 ≡ s1 = looks-same may s1 s2 h.none second in
+    let holds : HasCoreAlone may s1 = subst (HasCoreAlone may) (sym one) h in
+    let after : HasCoreAlone may s2 = subst (HasCoreAlone may) (sym two) holds in
+    let told : ShowsMove types (run_seen s1) new.carried new.doing b = subst (λ (x : Sight). ShowsMove types (run_seen x) new.carried new.doing b) two (shows holds.counts knows (after.alone _)) in
+    shows-move types may s1 new.carried new.doing b holds knows hears told (subst (λ (x : Sight). IsGoing (ends (run_seen x))) (sym one) going)
+    ∙ ap (λ (x : Sight). moves types (run_seen x) new.carried) one ∙ ap (moves types (run_seen s)) same

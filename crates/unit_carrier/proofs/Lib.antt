@@ -1,0 +1,6 @@
+pub mod Known
+pub mod Finding
+pub mod Heard
+pub mod Places
+pub mod Movers
+pub mod Beginning

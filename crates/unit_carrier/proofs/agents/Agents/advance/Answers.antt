@@ -1,0 +1,111 @@
+use Rattle.std.proofs.Common.{◌≡◌, refl, Some}
+use Rattle.std.proofs.Common.{subst}
+use Rattle.std.specs.Prelude.{slice_get, slice_set}
+use Rattle.std.proofs.lemmas.Option.{slice_get_read}
+use Rattle.script_tree.specs.Programs.{program_tree}
+use Rattle.txn_agent.specs.declared.agent.Advanced.{Advanced}
+use Rattle.txn_agent.specs.declared.agent.Advanced.TheVariants as came
+use Rattle.txn_agent.specs.Stepping.{AnswerSays, children_of}
+use Rattle.unit_carrier.proofs.Places.{acts-here, child-carried, child-units, steps-carried, steps-on, units-set}
+use Rattle.unit_carrier.proofs.agents.Agents.advance.Goals as goal
+
+pub returns-in_err-child-clause-acts : goal.returns-in_err-child-clause-acts
+returns-in_err-child-clause-acts g c =
+    let q : slice_get c.args.self.now.list.items c.args.index ≡ Some c.index_mut-agent.result.now = slice_get_read c.args.self.now.list.items _ c.args.index c.index_mut-agent.result.now refl c.requires.within c.index_mut-agent.ensures.value in
+    acts-here (program_tree c.args.checked.now) g.A.Access.may_come (g.A.Access.sight c.args.access.now) (g.A.Access.sight c.advance.new.access) c.args.self.now.list.items c.args.index c.index_mut-agent.result.now q c.advance.ensures.acts
+
+pub returns-in_err-carry-in-Began-clause-acts : goal.returns-in_err-carry-in-Began-clause-acts
+returns-in_err-carry-in-Began-clause-acts g c =
+    let q : slice_get c.args.self.now.list.items c.args.index ≡ Some c.index_mut-agent.result.now = slice_get_read c.args.self.now.list.items _ c.args.index c.index_mut-agent.result.now refl c.requires.within c.index_mut-agent.ensures.value in
+    acts-here (program_tree c.args.checked.now) g.A.Access.may_come (g.A.Access.sight c.args.access.now) (g.A.Access.sight c.advance.new.access) c.args.self.now.list.items c.args.index c.index_mut-agent.result.now q c.advance.ensures.acts
+
+pub returns-in-Began-clause-acts : goal.returns-in-Began-clause-acts
+returns-in-Began-clause-acts g c =
+    let q : slice_get c.args.self.now.list.items c.args.index ≡ Some c.index_mut-agent.result.now = slice_get_read c.args.self.now.list.items _ c.args.index c.index_mut-agent.result.now refl c.requires.within c.index_mut-agent.ensures.value in
+    acts-here (program_tree c.args.checked.now) g.A.Access.may_come (g.A.Access.sight c.args.access.now) (g.A.Access.sight c.advance.new.access) c.args.self.now.list.items c.args.index c.index_mut-agent.result.now q c.advance.ensures.acts
+
+pub returns-in-Began-clause-steps : goal.returns-in-Began-clause-steps
+returns-in-Began-clause-steps g c =
+    let q : slice_get c.args.self.now.list.items c.args.index ≡ Some c.index_mut-agent.result.now = slice_get_read c.args.self.now.list.items _ c.args.index c.index_mut-agent.result.now refl c.requires.within c.index_mut-agent.ensures.value in
+    steps-on (program_tree c.args.checked.now) g.A.Access.may_come (g.A.Access.sight c.args.access.now) (g.A.Access.sight c.advance.new.access) c.args.self.now.list.items c.carry.new.self.list.items c.args.index c.index_mut-agent.result.now (came.Began c.in-Began.child c.in-Began.call c.in-Began.depth) q
+    (subst (λ (x : Advanced). AnswerSays g.A.Access.may_come (program_tree c.args.checked.now) c.index_mut-agent.result.now.carried.unit (children_of c.index_mut-agent.result.now.doing) (g.A.Access.sight c.args.access.now) (g.A.Access.sight c.advance.new.access) x) c.in-Began.is c.in_ok-child.ensures.told)
+    (child-units (program_tree c.args.checked.now) g.A.Access.may_come (g.A.Access.sight c.args.access.now) (g.A.Access.sight c.advance.new.access) c.args.self.now.list.items c.args.index c.index_mut-agent.result.now c.advance.new.self q c.advance.ensures.carried c.in-Began.child c.in-Began.call c.in-Began.depth
+    (subst (λ (x : Advanced). AnswerSays g.A.Access.may_come (program_tree c.args.checked.now) c.index_mut-agent.result.now.carried.unit (children_of c.index_mut-agent.result.now.doing) (g.A.Access.sight c.args.access.now) (g.A.Access.sight c.advance.new.access) x) c.in-Began.is c.in_ok-child.ensures.told)
+    c.unit-unit.result c.unit-unit.ensures c.children-children.result c.children-children.ensures c.carry.new.self.list.items c.in_ok-carry-in-Began.ensures)
+
+pub returns-in-Began-clause-carried : goal.returns-in-Began-clause-carried
+returns-in-Began-clause-carried g c =
+    let q : slice_get c.args.self.now.list.items c.args.index ≡ Some c.index_mut-agent.result.now = slice_get_read c.args.self.now.list.items _ c.args.index c.index_mut-agent.result.now refl c.requires.within c.index_mut-agent.ensures.value in
+    child-carried (program_tree c.args.checked.now) g.A.Access.may_come (g.A.Access.sight c.args.access.now) (g.A.Access.sight c.advance.new.access) c.args.self.now.list.items c.args.index c.index_mut-agent.result.now c.advance.new.self q c.advance.ensures.carried c.in-Began.child c.in-Began.call c.in-Began.depth
+    (subst (λ (x : Advanced). AnswerSays g.A.Access.may_come (program_tree c.args.checked.now) c.index_mut-agent.result.now.carried.unit (children_of c.index_mut-agent.result.now.doing) (g.A.Access.sight c.args.access.now) (g.A.Access.sight c.advance.new.access) x) c.in-Began.is c.in_ok-child.ensures.told)
+    c.unit-unit.result c.unit-unit.ensures c.children-children.result c.children-children.ensures c.carry.new.self.list.items c.in_ok-carry-in-Began.ensures c.in_ok-child.ensures.knows c.requires.carried
+
+pub returns-in-Granted-clause-acts : goal.returns-in-Granted-clause-acts
+returns-in-Granted-clause-acts g c =
+    let q : slice_get c.args.self.now.list.items c.args.index ≡ Some c.index_mut-agent.result.now = slice_get_read c.args.self.now.list.items _ c.args.index c.index_mut-agent.result.now refl c.requires.within c.index_mut-agent.ensures.value in
+    acts-here (program_tree c.args.checked.now) g.A.Access.may_come (g.A.Access.sight c.args.access.now) (g.A.Access.sight c.advance.new.access) c.args.self.now.list.items c.args.index c.index_mut-agent.result.now q c.advance.ensures.acts
+
+pub returns-in-Granted-clause-steps : goal.returns-in-Granted-clause-steps
+returns-in-Granted-clause-steps g c =
+    let q : slice_get c.args.self.now.list.items c.args.index ≡ Some c.index_mut-agent.result.now = slice_get_read c.args.self.now.list.items _ c.args.index c.index_mut-agent.result.now refl c.requires.within c.index_mut-agent.ensures.value in
+    steps-on (program_tree c.args.checked.now) g.A.Access.may_come (g.A.Access.sight c.args.access.now) (g.A.Access.sight c.advance.new.access) c.args.self.now.list.items (slice_set c.args.self.now.list.items c.args.index c.advance.new.self) c.args.index c.index_mut-agent.result.now (came.Granted c.in-Granted.grain c.in-Granted.source) q
+    (subst (λ (x : Advanced). AnswerSays g.A.Access.may_come (program_tree c.args.checked.now) c.index_mut-agent.result.now.carried.unit (children_of c.index_mut-agent.result.now.doing) (g.A.Access.sight c.args.access.now) (g.A.Access.sight c.advance.new.access) x) c.in-Granted.is c.in_ok-child.ensures.told)
+    (units-set c.args.self.now.list.items c.args.index c.index_mut-agent.result.now c.advance.new.self q c.advance.ensures.carried)
+
+pub returns-in-Granted-clause-carried : goal.returns-in-Granted-clause-carried
+returns-in-Granted-clause-carried g c =
+    let q : slice_get c.args.self.now.list.items c.args.index ≡ Some c.index_mut-agent.result.now = slice_get_read c.args.self.now.list.items _ c.args.index c.index_mut-agent.result.now refl c.requires.within c.index_mut-agent.ensures.value in
+    steps-carried (program_tree c.args.checked.now) g.A.Access.may_come (g.A.Access.sight c.args.access.now) (g.A.Access.sight c.advance.new.access) c.args.self.now.list.items c.args.index c.index_mut-agent.result.now c.advance.new.self q c.advance.ensures.carried c.advance.ensures.acts c.in_ok-child.ensures.knows c.requires.carried
+
+pub returns-in-Moved-clause-acts : goal.returns-in-Moved-clause-acts
+returns-in-Moved-clause-acts g c =
+    let q : slice_get c.args.self.now.list.items c.args.index ≡ Some c.index_mut-agent.result.now = slice_get_read c.args.self.now.list.items _ c.args.index c.index_mut-agent.result.now refl c.requires.within c.index_mut-agent.ensures.value in
+    acts-here (program_tree c.args.checked.now) g.A.Access.may_come (g.A.Access.sight c.args.access.now) (g.A.Access.sight c.advance.new.access) c.args.self.now.list.items c.args.index c.index_mut-agent.result.now q c.advance.ensures.acts
+
+pub returns-in-Moved-clause-steps : goal.returns-in-Moved-clause-steps
+returns-in-Moved-clause-steps g c =
+    let q : slice_get c.args.self.now.list.items c.args.index ≡ Some c.index_mut-agent.result.now = slice_get_read c.args.self.now.list.items _ c.args.index c.index_mut-agent.result.now refl c.requires.within c.index_mut-agent.ensures.value in
+    steps-on (program_tree c.args.checked.now) g.A.Access.may_come (g.A.Access.sight c.args.access.now) (g.A.Access.sight c.advance.new.access) c.args.self.now.list.items (slice_set c.args.self.now.list.items c.args.index c.advance.new.self) c.args.index c.index_mut-agent.result.now came.Moved q
+    (subst (λ (x : Advanced). AnswerSays g.A.Access.may_come (program_tree c.args.checked.now) c.index_mut-agent.result.now.carried.unit (children_of c.index_mut-agent.result.now.doing) (g.A.Access.sight c.args.access.now) (g.A.Access.sight c.advance.new.access) x) c.in-Moved.is c.in_ok-child.ensures.told)
+    (units-set c.args.self.now.list.items c.args.index c.index_mut-agent.result.now c.advance.new.self q c.advance.ensures.carried)
+
+pub returns-in-Moved-clause-carried : goal.returns-in-Moved-clause-carried
+returns-in-Moved-clause-carried g c =
+    let q : slice_get c.args.self.now.list.items c.args.index ≡ Some c.index_mut-agent.result.now = slice_get_read c.args.self.now.list.items _ c.args.index c.index_mut-agent.result.now refl c.requires.within c.index_mut-agent.ensures.value in
+    steps-carried (program_tree c.args.checked.now) g.A.Access.may_come (g.A.Access.sight c.args.access.now) (g.A.Access.sight c.advance.new.access) c.args.self.now.list.items c.args.index c.index_mut-agent.result.now c.advance.new.self q c.advance.ensures.carried c.advance.ensures.acts c.in_ok-child.ensures.knows c.requires.carried
+
+pub returns-in-Waits-clause-steps : goal.returns-in-Waits-clause-steps
+returns-in-Waits-clause-steps g c =
+    let q : slice_get c.args.self.now.list.items c.args.index ≡ Some c.index_mut-agent.result.now = slice_get_read c.args.self.now.list.items _ c.args.index c.index_mut-agent.result.now refl c.requires.within c.index_mut-agent.ensures.value in
+    steps-on (program_tree c.args.checked.now) g.A.Access.may_come (g.A.Access.sight c.args.access.now) (g.A.Access.sight c.advance.new.access) c.args.self.now.list.items (slice_set c.args.self.now.list.items c.args.index c.advance.new.self) c.args.index c.index_mut-agent.result.now (came.Waits c.in-Waits._holder) q
+    (subst (λ (x : Advanced). AnswerSays g.A.Access.may_come (program_tree c.args.checked.now) c.index_mut-agent.result.now.carried.unit (children_of c.index_mut-agent.result.now.doing) (g.A.Access.sight c.args.access.now) (g.A.Access.sight c.advance.new.access) x) c.in-Waits.is c.in_ok-child.ensures.told)
+    (units-set c.args.self.now.list.items c.args.index c.index_mut-agent.result.now c.advance.new.self q c.advance.ensures.carried)
+
+pub returns-in-Waits-clause-carried : goal.returns-in-Waits-clause-carried
+returns-in-Waits-clause-carried g c =
+    let q : slice_get c.args.self.now.list.items c.args.index ≡ Some c.index_mut-agent.result.now = slice_get_read c.args.self.now.list.items _ c.args.index c.index_mut-agent.result.now refl c.requires.within c.index_mut-agent.ensures.value in
+    steps-carried (program_tree c.args.checked.now) g.A.Access.may_come (g.A.Access.sight c.args.access.now) (g.A.Access.sight c.advance.new.access) c.args.self.now.list.items c.args.index c.index_mut-agent.result.now c.advance.new.self q c.advance.ensures.carried c.advance.ensures.acts c.in_ok-child.ensures.knows c.requires.carried
+
+pub returns-in-WaitsFor-clause-steps : goal.returns-in-WaitsFor-clause-steps
+returns-in-WaitsFor-clause-steps g c =
+    let q : slice_get c.args.self.now.list.items c.args.index ≡ Some c.index_mut-agent.result.now = slice_get_read c.args.self.now.list.items _ c.args.index c.index_mut-agent.result.now refl c.requires.within c.index_mut-agent.ensures.value in
+    steps-on (program_tree c.args.checked.now) g.A.Access.may_come (g.A.Access.sight c.args.access.now) (g.A.Access.sight c.advance.new.access) c.args.self.now.list.items (slice_set c.args.self.now.list.items c.args.index c.advance.new.self) c.args.index c.index_mut-agent.result.now (came.WaitsFor c.in-WaitsFor._child) q
+    (subst (λ (x : Advanced). AnswerSays g.A.Access.may_come (program_tree c.args.checked.now) c.index_mut-agent.result.now.carried.unit (children_of c.index_mut-agent.result.now.doing) (g.A.Access.sight c.args.access.now) (g.A.Access.sight c.advance.new.access) x) c.in-WaitsFor.is c.in_ok-child.ensures.told)
+    (units-set c.args.self.now.list.items c.args.index c.index_mut-agent.result.now c.advance.new.self q c.advance.ensures.carried)
+
+pub returns-in-WaitsFor-clause-carried : goal.returns-in-WaitsFor-clause-carried
+returns-in-WaitsFor-clause-carried g c =
+    let q : slice_get c.args.self.now.list.items c.args.index ≡ Some c.index_mut-agent.result.now = slice_get_read c.args.self.now.list.items _ c.args.index c.index_mut-agent.result.now refl c.requires.within c.index_mut-agent.ensures.value in
+    steps-carried (program_tree c.args.checked.now) g.A.Access.may_come (g.A.Access.sight c.args.access.now) (g.A.Access.sight c.advance.new.access) c.args.self.now.list.items c.args.index c.index_mut-agent.result.now c.advance.new.self q c.advance.ensures.carried c.advance.ensures.acts c.in_ok-child.ensures.knows c.requires.carried
+
+pub returns-in-Ended-clause-steps : goal.returns-in-Ended-clause-steps
+returns-in-Ended-clause-steps g c =
+    let q : slice_get c.args.self.now.list.items c.args.index ≡ Some c.index_mut-agent.result.now = slice_get_read c.args.self.now.list.items _ c.args.index c.index_mut-agent.result.now refl c.requires.within c.index_mut-agent.ensures.value in
+    steps-on (program_tree c.args.checked.now) g.A.Access.may_come (g.A.Access.sight c.args.access.now) (g.A.Access.sight c.advance.new.access) c.args.self.now.list.items (slice_set c.args.self.now.list.items c.args.index c.advance.new.self) c.args.index c.index_mut-agent.result.now came.Ended q
+    (subst (λ (x : Advanced). AnswerSays g.A.Access.may_come (program_tree c.args.checked.now) c.index_mut-agent.result.now.carried.unit (children_of c.index_mut-agent.result.now.doing) (g.A.Access.sight c.args.access.now) (g.A.Access.sight c.advance.new.access) x) c.in-Ended.is c.in_ok-child.ensures.told)
+    (units-set c.args.self.now.list.items c.args.index c.index_mut-agent.result.now c.advance.new.self q c.advance.ensures.carried)
+
+pub returns-in-Ended-clause-carried : goal.returns-in-Ended-clause-carried
+returns-in-Ended-clause-carried g c =
+    let q : slice_get c.args.self.now.list.items c.args.index ≡ Some c.index_mut-agent.result.now = slice_get_read c.args.self.now.list.items _ c.args.index c.index_mut-agent.result.now refl c.requires.within c.index_mut-agent.ensures.value in
+    steps-carried (program_tree c.args.checked.now) g.A.Access.may_come (g.A.Access.sight c.args.access.now) (g.A.Access.sight c.advance.new.access) c.args.self.now.list.items c.args.index c.index_mut-agent.result.now c.advance.new.self q c.advance.ensures.carried c.advance.ensures.acts c.in_ok-child.ensures.knows c.requires.carried

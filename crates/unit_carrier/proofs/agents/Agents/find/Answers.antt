@@ -1,0 +1,72 @@
+use Rattle.std.proofs.Common.{◌≡◌, sym, ◌∙◌, subst, arith, Some}
+use Rattle.std.specs.Prelude.{slice_get}
+use Rattle.core_access.specs.Sights.{Sight, run_seen}
+use Rattle.script_tree.specs.Programs.{program_tree}
+use Rattle.txn_agent.specs.declared.agent.Agent.{Agent}
+use Rattle.unit_carrier.specs.Carrying.{AreCarried, units_carried}
+use Rattle.unit_carrier.proofs.Finding.{map-set}
+use Rattle.unit_carrier.proofs.Places.{agent-here, set-carried}
+use Rattle.unit_carrier.proofs.Movers.{unit-first, units-past, one-fits, told-first, found-here, one-moves, none-moves, all-counted}
+use Rattle.unit_carrier.proofs.agents.Agents.find.Goals.{then-branch+else-movers-place, else-branch}
+use Rattle.unit_carrier.proofs.agents.Agents.find.Goals as goal
+
+pub returns-then-movers-place-clause-carried : goal.returns-then-movers-place-clause-carried
+returns-then-movers-place-clause-carried g c =
+    let q : slice_get c.loop-index.self.list.items c.loop-index.index ≡ Some c.index_mut.result.now =
+    agent-here c.args.self.now.list.items c.loop-index.self.list.items c.len-index-end.result c.loop-index.index c.index_mut.result.now c.loop-index.invariant.units (search) c.loop-index-test.true c.index_mut.ensures.value in
+    set-carried (program_tree c.args.checked.now) g.A.Access.may_come (g.A.Access.sight c.can_move_now.new.access) c.loop-index.self.list.items c.loop-index.index c.index_mut.result.now c.can_move_now.new.agent q
+    c.can_move_now.ensures.carried c.in_ok-can_move_now.ensures.knows
+    (subst (λ (s : Sight). AreCarried (program_tree c.args.checked.now) g.A.Access.may_come s c.loop-index.self.list.items) (sym c.can_move_now.ensures.same) c.loop-index.invariant.carried)
+
+pub returns-then-movers-place-clause-units : goal.returns-then-movers-place-clause-units
+returns-then-movers-place-clause-units g c =
+    let q : slice_get c.loop-index.self.list.items c.loop-index.index ≡ Some c.index_mut.result.now =
+    agent-here c.args.self.now.list.items c.loop-index.self.list.items c.len-index-end.result c.loop-index.index c.index_mut.result.now c.loop-index.invariant.units (search) c.loop-index-test.true c.index_mut.ensures.value in
+    map-set (λ (a : Agent). a.carried) c.loop-index.self.list.items c.loop-index.index c.index_mut.result.now c.can_move_now.new.agent q c.can_move_now.ensures.carried
+    ∙ c.loop-index.invariant.units
+
+pub returns-then-movers-place-clause-found : goal.returns-then-movers-place-clause-found
+returns-then-movers-place-clause-found g c = λ going.
+    let q : slice_get c.loop-index.self.list.items c.loop-index.index ≡ Some c.index_mut.result.now =
+    agent-here c.args.self.now.list.items c.loop-index.self.list.items c.len-index-end.result c.loop-index.index c.index_mut.result.now c.loop-index.invariant.units (search) c.loop-index-test.true c.index_mut.ensures.value in
+    let here = unit-first c.args.self.now.list.items c.loop-index.self.list.items c.loop-index.index c.index_mut.result.now c.loop-index.invariant.units q in
+    let moves = told-first (program_tree c.args.checked.now) (g.A.Access.sight c.args.access.now) (g.A.Access.sight c.loop-index.access) c.index_mut.result.now.carried.unit c.in_ok-can_move_now.field-0
+    c.loop-index.invariant.same c.in_ok-can_move_now.ensures.moves going in
+    found-here (program_tree c.args.checked.now) (run_seen (g.A.Access.sight c.args.access.now)) (units_carried c.args.self.now.list.items) c.loop-index.index c.index_mut.result.now.carried.unit here c.loop-index.movers
+    (c.loop-index.invariant.movers going) c.args.place (sym c.if-branch.true ∙ moves) c.if-movers-place.true
+
+pub loop-index-preserved : goal.loop-index-preserved
+loop-index-preserved g c =
+    let q : slice_get c.loop-index.self.list.items c.loop-index.index ≡ Some c.index_mut.result.now =
+    agent-here c.args.self.now.list.items c.loop-index.self.list.items c.len-index-end.result c.loop-index.index c.index_mut.result.now c.loop-index.invariant.units (search) c.loop-index-test.true c.index_mut.ensures.value in
+    let here = unit-first c.args.self.now.list.items c.loop-index.self.list.items c.loop-index.index c.index_mut.result.now c.loop-index.invariant.units q in
+    let types = program_tree c.args.checked.now in
+    let units = units_carried c.args.self.now.list.items in
+    let moves = told-first types (g.A.Access.sight c.args.access.now) (g.A.Access.sight c.loop-index.access) c.index_mut.result.now.carried.unit c.in_ok-can_move_now.field-0
+    c.loop-index.invariant.same c.in_ok-can_move_now.ensures.moves in
+    record {
+      fit = c.can_move_now.ensures.fit;
+      aside = c.can_move_now.ensures.aside ∙ c.loop-index.invariant.aside;
+      same = c.can_move_now.ensures.same ∙ c.loop-index.invariant.same;
+      carried = set-carried types g.A.Access.may_come (g.A.Access.sight c.can_move_now.new.access) c.loop-index.self.list.items c.loop-index.index c.index_mut.result.now c.can_move_now.new.agent q
+          c.can_move_now.ensures.carried c.in_ok-can_move_now.ensures.knows
+          (subst (λ (s : Sight). AreCarried types g.A.Access.may_come s c.loop-index.self.list.items) (sym c.can_move_now.ensures.same) c.loop-index.invariant.carried);
+      units = map-set (λ (a : Agent). a.carried) c.loop-index.self.list.items c.loop-index.index c.index_mut.result.now c.can_move_now.new.agent q c.can_move_now.ensures.carried
+          ∙ c.loop-index.invariant.units;
+      movers = λ going. elim c.if-branch.branch [
+        | then-branch+else-movers-place w ↦ w.movers-is ∙ one-moves types (run_seen (g.A.Access.sight c.args.access.now)) units c.loop-index.index c.index_mut.result.now.carried.unit here c.loop-index.movers
+            (c.loop-index.invariant.movers going) (sym w.if-branch.true ∙ moves going)
+        | else-branch w ↦ w.movers-is ∙ none-moves types (run_seen (g.A.Access.sight c.args.access.now)) units c.loop-index.index c.index_mut.result.now.carried.unit here c.loop-index.movers
+            (c.loop-index.invariant.movers going) (sym w.if-branch.false ∙ moves going)
+      ];
+      place = elim c.if-branch.branch [
+        | then-branch+else-movers-place w ↦ (let fits = one-fits c.loop-index.movers c.args.place c.loop-index.invariant.place w.if-movers-place.false in omega (arith, w.movers-is, fits))
+        | else-branch w ↦ omega (arith, w.movers-is, c.loop-index.invariant.place)
+      ];
+      few = elim c.if-branch.branch [ then-branch+else-movers-place w ↦ omega (arith, w.movers-is, c.loop-index.invariant.few) | else-branch w ↦ omega (arith, w.movers-is, c.loop-index.invariant.few) ];
+    }
+
+pub returns-clause-found : goal.returns-clause-found
+returns-clause-found g c = λ going.
+    all-counted (program_tree c.args.checked.now) (run_seen (g.A.Access.sight c.args.access.now)) (units_carried c.args.self.now.list.items) c.loop-index.index c.loop-index.movers c.args.place
+    (units-past c.args.self.now.list.items c.len-index-end.result c.loop-index.index (search) c.loop-index-test.false) (c.loop-index.invariant.movers going) c.loop-index.invariant.place

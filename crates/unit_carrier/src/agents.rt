@@ -1,0 +1,137 @@
+ghost use Rattle.std.specs.Prelude.{◌≡◌, ◌<◌, [], length, IfOk};
+ghost use Rattle.core_model.specs.Asked.{IsGoing};
+ghost use Rattle.core_model.specs.Legal.{ends};
+ghost use Rattle.core_access.specs.Sights.{run_seen};
+ghost use Rattle.script_tree.specs.Programs.{program_tree};
+ghost use Rattle.txn_agent.specs.Stepping.{Acts};
+ghost use Rattle.unit_carrier.specs.Carrying.{AreCarried, CarriesOneMore, FindsMover, StepsOn, as_carried, units_carried, unit_at};
+
+use crate::moves::can_move_now;
+use base_types::{Call, GrainId, Origin, UnitNo};
+use core_access::Access;
+use script_check::Checked;
+use std::alloc::{AllocError, Global};
+use txn_agent::{Advanced, Agent};
+
+/// Units that are carried, in number order.
+#[derive(Drop)]
+pub struct Agents {
+    pub list: Vec<Agent>,
+}
+
+/// Who is found among the units that are carried.
+#[derive(Clone, Copy)]
+pub enum Found {
+    /// The unit at this index.
+    At(usize),
+    /// There are so many movers, and no more.
+    Few(usize),
+}
+
+/// What became of a unit's step.
+#[derive(Clone, Copy)]
+pub enum Went {
+    /// An event of the unit came.
+    Moved,
+    /// The unit locked the grain, or made its lock exclusive, and found the source's version there.
+    Granted { grain: GrainId, source: UnitNo },
+    /// A child of the unit began, and is carried too.
+    Began { child: UnitNo },
+    /// Nothing came.
+    Stayed,
+}
+
+impl Agents {
+    /// Nobody is carried yet.
+    pub fn new(alloc: Global) -> Agents
+        ensures { result.list.items ≡ [] }
+    {
+        Agents {
+            list: Vec::new(alloc),
+        }
+    }
+
+    /// The mover of this place, counted from 0, among the units that are carried.
+    pub fn find<A: Access>(
+        &mut self,
+        alloc: Global,
+        checked: &Checked,
+        access: &mut A,
+        place: usize,
+    ) -> Result<Found, AllocError>
+        requires fit { A.is_fit access.old }
+        requires carried { AreCarried (program_tree checked.now) A.may_come (A.sight access.old) self.old.list.items }
+        ensures fit { A.is_fit access.new }
+        ensures aside { A.aside access.new ≡ A.aside access.old }
+        ensures same { A.sight access.new ≡ A.sight access.old }
+        ensures carried { IfOk result (λ _. AreCarried (program_tree checked.now) A.may_come (A.sight access.new) self.new.list.items) }
+        ensures units { IfOk result (λ _. as_carried self.new.list.items ≡ as_carried self.old.list.items) }
+        ensures found { IsGoing (ends (run_seen (A.sight access.old))) → IfOk result (λ found. FindsMover (program_tree checked.now) (run_seen (A.sight access.old)) (units_carried self.old.list.items) place found) }
+    {
+        let mut movers = 0usize;
+        for index in 0..self.list.len() {
+            if can_move_now(alloc, checked, access, &mut self.list[index])? {
+                if movers == place {
+                    return Ok(Found::At(index));
+                }
+                movers += 1;
+            }
+        }
+        Ok(Found::Few(movers))
+    }
+
+    /// Carries a unit that has just begun.
+    pub(crate) fn carry(
+        &mut self,
+        alloc: Global,
+        checked: &Checked,
+        unit: UnitNo,
+        origin: Origin,
+        call: Call,
+        plain: bool,
+    ) -> Result<(), AllocError>
+        ensures { IfOk result (λ _. CarriesOneMore (program_tree checked.now) unit origin call plain self.old.list.items self.new.list.items) }
+    {
+        let agent = Agent::new(alloc, checked, unit, origin, call, plain)?;
+        self.list.push(agent)?;
+        Ok(())
+    }
+
+    /// The unit at this index goes on by one event. A child that it begins is carried too.
+    pub fn advance<A: Access>(
+        &mut self,
+        alloc: Global,
+        checked: &Checked,
+        access: &mut A,
+        index: usize,
+    ) -> Result<Went, AllocError>
+        requires fit { A.is_fit access.old }
+        requires within { index < length self.old.list.items }
+        requires carried { AreCarried (program_tree checked.now) A.may_come (A.sight access.old) self.old.list.items }
+        ensures fit { A.is_fit access.new }
+        ensures aside { A.aside access.new ≡ A.aside access.old }
+        ensures acts { Acts A.may_come (program_tree checked.now) (unit_at self.old.list.items index) (A.sight access.old) (A.sight access.new) }
+        ensures steps { IfOk result (λ went. StepsOn A.may_come (program_tree checked.now) (unit_at self.old.list.items index) (A.sight access.old) (A.sight access.new) (units_carried self.old.list.items) (units_carried self.new.list.items) went) }
+        ensures carried { IfOk result (λ _. AreCarried (program_tree checked.now) A.may_come (A.sight access.new) self.new.list.items) }
+    {
+        let agent = &mut self.list[index];
+        let unit = agent.unit();
+        let children = agent.children();
+        match agent.advance(alloc, checked, access)? {
+            Advanced::Began { child, call, depth } => {
+                let origin = Origin::Child {
+                    parent: unit,
+                    index: children,
+                    depth,
+                };
+                self.carry(alloc, checked, child, origin, call, false)?;
+                return Ok(Went::Began { child });
+            }
+            Advanced::Granted { grain, source } => return Ok(Went::Granted { grain, source }),
+            Advanced::Moved => return Ok(Went::Moved),
+            Advanced::Waits { holder: _holder } => return Ok(Went::Stayed),
+            Advanced::WaitsFor { child: _child } => return Ok(Went::Stayed),
+            Advanced::Ended => return Ok(Went::Stayed),
+        }
+    }
+}

@@ -1,0 +1,15 @@
+//! The units that a run on one thread carries: how a line's unit and a child come among them, who of them can move, and their
+//! steps.
+//!
+//! [`Agents`] are carried units in number order. What is known of them is `AreCarried`, over a core that nobody else puts events
+//! into (`HasCoreAlone`); `laws` says what leaves that so.
+#![tactic(auto)]
+
+mod agents;
+mod begin;
+mod laws;
+mod moves;
+
+pub use agents::{Agents, Found, Went};
+pub use begin::begin_line;
+pub use laws::others_leave_the_carried;
