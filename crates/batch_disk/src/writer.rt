@@ -194,7 +194,7 @@ impl BatchWriter {
             → AreOfType shape grain versions.now → KeepsDisk shape head batches self.old (H.world host.old).disk
             → KeepsDisk shape head batches self.new (H.world host.new).disk }
 
-        // A vote of yes: they are on disk, and are kept. No other vote is kept more.
+        // A vote of yes: they are on disk, and are kept. No other vote is kept more, and what is kept is this batch's.
         ensures there { IfOk result (λ yes. IsTrue yes → IsTrue H.tells → (H.world host.new).disk (grain_file grain)
             ≡ settled (overlaid ((H.world host.old).disk (grain_file grain)).seen (file_end self.old grain) (spelling_of_versions versions.now))) }
         ensures once { IfOk result (λ yes. IsTrue yes → IsTrue H.tells → (H.world host.new).syncs ≡ (H.world host.old).syncs + 1) }
@@ -202,6 +202,7 @@ impl BatchWriter {
             ≡ (if yes then voted_of batch self.old ++ voted_from grain (file_end self.old grain) versions.now else voted_of batch self.old)) }
         ensures unvoted { OnErr result (voted_of batch self.new ≡ voted_of batch self.old) }
         ensures same { HasSameEnds self.old self.new }
+        ensures batch { self.new.batch ≡ batch }
 
         // A vote of no is a fault of the grain's file, and of nothing else.
         ensures yes { IfOk result (λ yes. IsTrue yes → NoneFailed (H.faults host.old) (H.faults host.new)) }

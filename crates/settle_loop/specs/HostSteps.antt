@@ -68,6 +68,7 @@ module _ {H : Type 0} (tells : Bool) (world : H → World) (faults : H → Chann
     pub run : IsTrue tells → RunsOnFile (grain_file g) (Tears (file_end before g) (length (spelling_of_versions versions))) 1 (world old) (world new)
     pub there : IsTrue tells → said ≡ true → IsOnDisk g (file_end before g) versions (world old) (world new)
     pub kept : KeepsVotes said n g versions before after
+    pub batch : after.batch ≡ n
     pub same : HasSameEnds before after
     pub images : IsTrue tells → KeepsImages n g versions before after (world old) (world new)
 
@@ -76,6 +77,7 @@ module _ {H : Type 0} (tells : Bool) (world : H → World) (faults : H → Chann
     pub calm : NoneFailed (faults old) (faults new)
     pub world_is : IsTrue tells → world new ≡ world old
     pub kept : voted_of n after ≡ voted_of n before
+    pub batch : after.batch ≡ n
     pub same : HasSameEnds before after
     pub images : IsTrue tells → KeepsImages n g versions before after (world old) (world new)
 

@@ -16,6 +16,7 @@ returns-clause-made g c = λ shape w shown.
       run = c.write_work.ensures.run;
       there = λ told is. record { file = c.in_ok-kept.ensures.there is told; once = c.in_ok-kept.ensures.once is told };
       kept = vote_kept kept c.args.batch c.args.grain c.args.versions a.writer b.writer c.in_ok-kept.ensures.voted;
+      batch = c.write_work.ensures.batch;
       same = c.write_work.ensures.same;
       images = λ told. record { still = c.write_work.ensures.still told; keeps = c.write_work.ensures.keeps told };
     })
@@ -29,6 +30,7 @@ returns-in_err-kept-clause-made g c = λ shape w shown.
       calm = c.in_err-kept.ensures.calm;
       world_is = c.in_err-kept.ensures.unwritten;
       kept = c.in_err-kept.ensures.unvoted;
+      batch = c.write_work.ensures.batch;
       same = c.write_work.ensures.same;
       images = λ told. record { still = c.write_work.ensures.still told; keeps = c.write_work.ensures.keeps told };
     })))
