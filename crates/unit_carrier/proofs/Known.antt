@@ -23,6 +23,7 @@ use Rattle.core_access.proofs.OneHolder.{own-counts, own-alone}
 use Rattle.script_tree.specs.Programs.{ProgramTree}
 use Rattle.promise_spec.specs.TurnRule.{OfUnit, mover_of}
 use Rattle.turn_rules.specs.Turning.{AreOlder}
+use Rattle.turn_rules.proofs.Growth.{ends-more}
 use Rattle.worker_rules.specs.Stories.{NoneLoads, is_load}
 use Rattle.txn_agent.specs.declared.agent.Agent.{Agent}
 use Rattle.txn_agent.specs.declared.work.Doing.TheVariants.{Asks, Awaits, Frees, Stopped}
@@ -32,7 +33,8 @@ use Rattle.txn_agent.specs.Linked.{IsLegalRun, Knows, KnowsDoing}
 use Rattle.txn_agent.specs.Stepping.{Acts, Hears}
 use Rattle.txn_agent.specs.Movable.{ShowsMove, moves}
 use Rattle.txn_agent.proofs.Promised.{knows-settles}
-use Rattle.unit_carrier.specs.Carrying.{HasCoreAlone, AreCarried, units_carried}
+use Rattle.unit_carrier.specs.Carrying.{HasCoreAlone, AreCarried, CameAs, units_carried}
+use Rattle.unit_carrier.proofs.Origins.{origin-event}
 
 -- ---- nobody else puts events
 
@@ -95,11 +97,29 @@ acts-next may types u s t none (inr (e, (r, p))) = tells-next may s t e r none p
 pub below-more : (us : List UnitNo) (a b : ℕ) → a ≤ b → ((u : UnitNo) → Member u us → u.0 < a) → (u : UnitNo) → Member u us → u.0 < b
 below-more us a b le below u m = let x = below u m in omega (arith, x, le)
 
+-- and is of the same origin
+pub tells-origin : (may : CoreEvent → Bool) (s t : Sight) (e : CoreEvent) (r : CoreReply) (u : UnitNo) → may ≡ none_comes → Tells may s e r t → u.0 < (ends (run_seen s)).units.next
+    → (ends (run_seen t)).units.origin u ≡ (ends (run_seen s)).units.origin u
+tells-origin may s t e r u none l less =
+    ap (λ (x : Run). (ends x).units.origin u) (ap run_seen (tells-same may s t e r none l) ∙ run-told s e r)
+    ∙ ap (λ (w : CoreState). w.units.origin u) (ends-more (run_seen s) e) ∙ origin-event u (ends (run_seen s)) e less
+
+pub acts-origin : (may : CoreEvent → Bool) (types : ProgramTree) (u : UnitNo) (s t : Sight) (v : UnitNo) → may ≡ none_comes → Acts may types u s t → v.0 < (ends (run_seen s)).units.next
+    → (ends (run_seen t)).units.origin v ≡ (ends (run_seen s)).units.origin v
+acts-origin may types u s t v none (inl l) less = ap (λ (x : Sight). (ends (run_seen x)).units.origin v) (looks-same may s t none l)
+acts-origin may types u s t v none (inr (e, (r, p))) less = tells-origin may s t e r v none p.told less
+
 -- ---- all of a list
 
 pub all-each : {A : Type 0} (P Q : A → Type 0) (xs : List A) → ((x : A) → Member x xs → P x → Q x) → AllByRecursion P xs → AllByRecursion Q xs
 all-each P Q [] f all = all
 all-each P Q (x ∷ xs) f all = (f x (inl refl) all.0, all-each P Q xs (λ y m. f y (inr m)) all.1)
+
+-- what an element of it is made to is one of those
+pub map-member : {A B : Type 0} (f : A → B) (xs : List A) (x : A) → Member x xs → Member (f x) (map f xs)
+map-member f [] x m = absurd m
+map-member f (y ∷ xs) x (inl e) = inl (ap f e)
+map-member f (y ∷ xs) x (inr m) = inr (map-member f xs x m)
 
 pub all-filter : {A : Type 0} (P : A → Type 0) (p : A → Bool) (xs : List A) → AllByRecursion P xs → AllByRecursion P (filter p xs)
 all-filter P p [] all = all
@@ -122,12 +142,19 @@ older-some p (a ∷ agents) o =
 
 -- ---- what is known of all
 
+-- they came from where they came, where each unit that has begun is of the same origin
+pub came-still : (s t : Sight) (agents : List Agent) → ((v : UnitNo) → v.0 < (ends (run_seen s)).units.next → (ends (run_seen t)).units.origin v ≡ (ends (run_seen s)).units.origin v)
+    → ((u : UnitNo) → Member u (units_carried agents) → u.0 < (ends (run_seen s)).units.next) → AllByRecursion (CameAs s) agents → AllByRecursion (CameAs t) agents
+came-still s t agents same below all =
+    all-each (CameAs s) (CameAs t) agents (λ a m k. same a.carried.unit (below a.carried.unit (map-member (λ (x : Agent). x.carried.unit) agents a m)) ∙ k) all
+
 -- behind an event of the settler's
 pub settles-carried : (types : ProgramTree) (may : CoreEvent → Bool) (s t : Sight) (e : CoreEvent) (r : CoreReply) (agents : List Agent)
     → Tells may s e r t → is_settling e ≡ true → AreCarried types may s agents → AreCarried types may t agents
 settles-carried types may s t e r agents l q c = record {
   holds = tells-holds may s t e r l (settling-loads e q) c.holds;
   known = all-each (Knows types s) (Knows types t) agents (λ a m k. knows-settles may types a.carried a.doing s t e r l q c.holds.counts k) c.known;
+  came = came-still s t agents (λ v less. tells-origin may s t e r v c.holds.none l less) c.below c.came;
   older = c.older;
   below = below-more (units_carried agents) (ends (run_seen s)).units.next (ends (run_seen t)).units.next (tells-next may s t e r c.holds.none l) c.below;
 }
@@ -137,6 +164,7 @@ pub drops-carried : (types : ProgramTree) (may : CoreEvent → Bool) (s : Sight)
 drops-carried types may s agents stays c = record {
   holds = c.holds;
   known = all-filter (Knows types s) stays agents c.known;
+  came = all-filter (CameAs s) stays agents c.came;
   older = older-some stays agents c.older;
   below = λ u m. c.below u (map-filter-member (λ (a : Agent). a.carried.unit) stays agents u m);
 }
@@ -146,6 +174,7 @@ pub none-carried : (types : ProgramTree) (r : Run) → IsLegalRun (own_sight r).
 none-carried types r sound loads = record {
   holds = record { none = refl; counts = own-counts r; alone = λ harmless. own-alone harmless r; sound = sound; loads = loads };
   known = tt;
+  came = tt;
   older = tt;
   below = λ u m. absurd m;
 }

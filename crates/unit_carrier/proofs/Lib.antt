@@ -1,3 +1,4 @@
+pub mod Origins
 pub mod Known
 pub mod Finding
 pub mod Heard

@@ -1,5 +1,5 @@
 -- Which unit is found, as those that are carried are gone through.
-use Rattle.std.proofs.Common.{◌≡◌, ℕ, ◌+◌, ◌≤◌, suc, List, length, Bool, true, false, inl, inr, sym, ap, ◌∙◌, subst, arith, take, Some}
+use Rattle.std.proofs.Common.{◌≡◌, ℕ, ◌+◌, ◌<◌, ◌≤◌, suc, List, length, Bool, true, false, inl, inr, sym, ap, ◌∙◌, subst, arith, take, Some}
 use Rattle.std.specs.Prelude.{if◌then◌else◌, slice_get}
 use Rattle.std.proofs.lemmas.List.{length-map, take_all}
 use Rattle.std.proofs.lemmas.Bool.{cases_lt}
@@ -12,7 +12,7 @@ use Rattle.promise_spec.specs.Gotten.{got_in}
 use Rattle.promise_spec.specs.TurnRule.{can_move}
 use Rattle.txn_agent.specs.declared.agent.Agent.{Agent}
 use Rattle.unit_carrier.specs.declared.agents.Found.TheVariants.{At, Few}
-use Rattle.unit_carrier.specs.Carrying.{FindsMover, moving, as_carried, units_carried}
+use Rattle.unit_carrier.specs.Carrying.{FindsMover, FindsWithin, moving, as_carried, units_carried}
 use Rattle.unit_carrier.proofs.Finding.{one-more, stands-at, map-at}
 use Rattle.unit_carrier.proofs.Places.{units-same}
 
@@ -29,6 +29,10 @@ told-first types first s u b same told =
 -- all were gone through
 pub units-past : (agents : List Agent) (n i : ℕ) → n ≡ length agents → n ≤ i → length (units_carried agents) ≤ i
 units-past agents n i q le = let l = length-map agents (λ (a : Agent). a.carried.unit) in omega (arith, l, q, le)
+
+-- one at which it was looked is one of them
+pub index-within : (agents : List Agent) (n i : ℕ) → n ≡ length agents → i < n → FindsWithin (At i) (length agents)
+index-within agents n i q less = omega (arith, q, less)
 
 -- so many and one more are no more than the place
 pub one-fits : (movers place : ℕ) → movers ≤ place → (movers ≡ place → ⊥) → movers + 1 ≤ place

@@ -35,9 +35,9 @@ use Rattle.txn_agent.specs.Linked.{IfOwn, IsNew, Knows}
 use Rattle.txn_agent.specs.Stepping.{Acts, AnswerSays, children_of}
 use Rattle.txn_agent.proofs.Beginning.{began-reply}
 use Rattle.txn_agent.proofs.Promised.{knows-steps, knows-tells, new-carried}
-use Rattle.unit_carrier.specs.Carrying.{HasCoreAlone, AreCarried, CarriesOneMore, StepsOn, as_carried, units_carried, unit_at, went_by, with_child}
-use Rattle.unit_carrier.proofs.Finding.{all-set, map-set, map-at}
-use Rattle.unit_carrier.proofs.Known.{acts-holds, acts-next, below-more, all-each, tells-holds, tells-next}
+use Rattle.unit_carrier.specs.Carrying.{HasCoreAlone, AreCarried, CameAs, CarriesOneMore, StepsOn, as_carried, units_carried, unit_at, went_by, with_child}
+use Rattle.unit_carrier.proofs.Finding.{all-at, all-set, map-set, map-at}
+use Rattle.unit_carrier.proofs.Known.{acts-holds, acts-next, acts-origin, below-more, all-each, came-still, map-member, tells-holds, tells-next, tells-origin}
 
 -- ---- units by what is carried of them
 
@@ -65,6 +65,11 @@ agent-here first now n i a e q low value = slice_get_read now n i a (q ∙ sym (
 pub units-set : (agents : List Agent) (i : ℕ) (old new : Agent) → slice_get agents i ≡ Some old → new.carried ≡ old.carried → units_carried (slice_set agents i new) ≡ units_carried agents
 units-set agents i old new q e = map-set (λ (a : Agent). a.carried.unit) agents i old new q (ap (λ (c : Carried). c.unit) e)
 
+-- it came from where the other did
+came-set : (s : Sight) (agents : List Agent) (i : ℕ) (old new : Agent) → slice_get agents i ≡ Some old → new.carried ≡ old.carried → AllByRecursion (CameAs s) agents → AllByRecursion (CameAs s) (slice_set agents i new)
+came-set s agents i old new q e all =
+    all-set (CameAs s) agents i new all (subst (λ (c : Carried). (ends (run_seen s)).units.origin c.unit ≡ c.origin) (sym e) (all-at (CameAs s) agents i old q all))
+
 -- it is known in that place
 pub set-carried : (types : ProgramTree) (may : CoreEvent → Bool) (s : Sight) (agents : List Agent) (i : ℕ) (old new : Agent) → slice_get agents i ≡ Some old → new.carried ≡ old.carried
     → Knows types s new → AreCarried types may s agents → AreCarried types may s (slice_set agents i new)
@@ -72,6 +77,7 @@ set-carried types may s agents i old new q e knows c =
     let same = units-set agents i old new q e in record {
       holds = c.holds;
       known = all-set (Knows types s) agents i new c.known knows;
+      came = came-set s agents i old new q e c.came;
       older = subst AreOlder (sym same) c.older;
       below = λ u m. c.below u (subst (Member u) same m);
     }
@@ -86,12 +92,6 @@ at-member {A} (y ∷ xs) zero x q = inl (same x y (sym q))
     same : (a b : A) → Some a ≡ Some b → a ≡ b
     same a b e = cc
 at-member (y ∷ xs) (suc i) x q = inr (at-member xs i x q)
-
--- so is what it is made to
-map-member : {A B : Type 0} (f : A → B) (xs : List A) (x : A) → Member x xs → Member (f x) (map f xs)
-map-member f [] x m = absurd m
-map-member f (y ∷ xs) x (inl e) = inl (ap f e)
-map-member f (y ∷ xs) x (inr m) = inr (map-member f xs x m)
 
 -- an older unit is another
 older-apart : (u v : UnitNo) → u.0 < v.0 → u ≡ v → ⊥
@@ -124,6 +124,7 @@ steps-carried types may s t agents i old new q e acts knows c =
     let same = units-set agents i old new q e in record {
       holds = acts-holds may types old.carried.unit s t acts c.holds;
       known = steps-known types may s t c.holds.counts agents i old new acts q knows c.older c.known;
+      came = came-set t agents i old new q e (came-still s t agents (λ v less. acts-origin may types old.carried.unit s t v c.holds.none acts less) c.below c.came);
       older = subst AreOlder (sym same) c.older;
       below = λ u m. below-more (units_carried agents) (ends (run_seen s)).units.next (ends (run_seen t)).units.next (acts-next may types old.carried.unit s t c.holds.none acts) c.below u (subst (Member u) same m);
     }
@@ -140,6 +141,7 @@ pub tells-carried : (types : ProgramTree) (may : CoreEvent → Bool) (s t : Sigh
 tells-carried types may s t e r agents l plain none c = record {
   holds = tells-holds may s t e r l plain c.holds;
   known = all-each (Knows types s) (Knows types t) agents (λ a m k. knows-tells may types a.carried a.doing s t e r l (is-harmless a.carried.unit e (none a.carried.unit) plain) c.holds.counts k) c.known;
+  came = came-still s t agents (λ v less. tells-origin may s t e r v c.holds.none l less) c.below c.came;
   older = c.older;
   below = below-more (units_carried agents) (ends (run_seen s)).units.next (ends (run_seen t)).units.next (tells-next may s t e r c.holds.none l) c.below;
 }
@@ -170,6 +172,7 @@ pub begins-carried : (types : ProgramTree) (may : CoreEvent → Bool) (s t : Sig
 begins-carried types may s t origin call plain unit agents after l plainly h below c k = record {
   holds = c.holds;
   known = subst (AllByRecursion (Knows types t)) (sym k.list) (all-last (Knows types t) agents k.agent c.known (k.knows t fresh));
+  came = subst (AllByRecursion (CameAs t)) (sym k.list) (all-last (CameAs t) agents k.agent c.came (fresh (c.holds.alone _)).came);
   older = subst AreOlder (sym units) (older-last (units_carried agents) unit older c.older);
   below = λ u m. within u (subst (Member u) units m);
 }

@@ -1,5 +1,5 @@
 -- The units that a run carries, what is known of them, and who of them moves.
-use Rattle.std.specs.Prelude.{◌≡◌, ◌<◌, ◌≤◌, ℕ, Bool, List, [], ◌∷◌, ◌++◌, length, map, filter, slice_get, get_or, Some}
+use Rattle.std.specs.Prelude.{◌≡◌, ◌<◌, ◌≤◌, ℕ, ⊤, Bool, List, [], ◌∷◌, ◌++◌, length, map, filter, slice_get, get_or, Some}
 use Rattle.std.specs.List.{AllByRecursion}
 use Rattle.base_types.specs.declared.calls.Call.{Call}
 use Rattle.base_types.specs.declared.calls.Origin.{Origin}
@@ -44,10 +44,15 @@ pub record HasCoreAlone (may_come : CoreEvent → Bool) (s : Sight) : Type 0 whe
   pub sound : IsLegalRun s.first
   pub loads : NoneLoads s.mine
 
--- Each agent knows its unit; they stand in number order, and have begun.
+-- the agent's unit is of the origin that the agent has
+abbrev pub CameAs : Sight → Agent → Type 0
+CameAs s a = (ends (run_seen s)).units.origin a.carried.unit ≡ a.carried.origin
+
+-- Each agent knows its unit, and where it came from; they stand in number order, and have begun.
 pub record AreCarried (types : ProgramTree) (may_come : CoreEvent → Bool) (s : Sight) (agents : List Agent) : Type 0 where
   pub holds : HasCoreAlone may_come s
   pub known : AllByRecursion (Knows types s) agents
+  pub came : AllByRecursion (CameAs s) agents
   pub older : AreOlder (units_carried agents)
   pub below : (u : UnitNo) → Member u (units_carried agents) → u.0 < (ends (run_seen s)).units.next
 
@@ -59,6 +64,11 @@ moving types r units = filter (can_move types (ends r) (got_in r)) units
 abbrev pub FindsMover : ProgramTree → Run → List UnitNo → ℕ → Found → Type 0
 FindsMover types r units place (At index) = (u : UnitNo) × (slice_get units index ≡ Some u) × (slice_get (moving types r units) place ≡ Some u)
 FindsMover types r units place (Few count) = (count ≡ length (moving types r units)) × (count ≤ place)
+
+-- where a unit was found, it is one of so many
+abbrev pub FindsWithin : Found → ℕ → Type 0
+FindsWithin (At index) many = index < many
+FindsWithin (Few count) many = ⊤
 
 -- the units with the child, where one began
 abbrev pub with_child : List UnitNo → Advanced → List UnitNo

@@ -4,7 +4,7 @@ ghost use Rattle.core_model.specs.Legal.{ends};
 ghost use Rattle.core_access.specs.Sights.{run_seen};
 ghost use Rattle.script_tree.specs.Programs.{program_tree};
 ghost use Rattle.txn_agent.specs.Stepping.{Acts};
-ghost use Rattle.unit_carrier.specs.Carrying.{AreCarried, CarriesOneMore, FindsMover, StepsOn, as_carried, units_carried, unit_at};
+ghost use Rattle.unit_carrier.specs.Carrying.{AreCarried, CarriesOneMore, FindsMover, FindsWithin, StepsOn, as_carried, units_carried, unit_at};
 
 use crate::moves::can_move_now;
 use base_types::{Call, GrainId, Origin, UnitNo};
@@ -66,6 +66,7 @@ impl Agents {
         ensures same { A.sight access.new ≡ A.sight access.old }
         ensures carried { IfOk result (λ _. AreCarried (program_tree checked.now) A.may_come (A.sight access.new) self.new.list.items) }
         ensures units { IfOk result (λ _. as_carried self.new.list.items ≡ as_carried self.old.list.items) }
+        ensures within { IfOk result (λ found. FindsWithin found (length self.old.list.items)) }
         ensures found { IsGoing (ends (run_seen (A.sight access.old))) → IfOk result (λ found. FindsMover (program_tree checked.now) (run_seen (A.sight access.old)) (units_carried self.old.list.items) place found) }
     {
         let mut movers = 0usize;

@@ -6,7 +6,7 @@ use Rattle.txn_agent.specs.declared.agent.Agent.{Agent}
 use Rattle.unit_carrier.specs.Carrying.{AreCarried, units_carried}
 use Rattle.unit_carrier.proofs.Finding.{map-set}
 use Rattle.unit_carrier.proofs.Places.{agent-here, set-carried}
-use Rattle.unit_carrier.proofs.Movers.{unit-first, units-past, one-fits, told-first, found-here, one-moves, none-moves, all-counted}
+use Rattle.unit_carrier.proofs.Movers.{unit-first, units-past, index-within, one-fits, told-first, found-here, one-moves, none-moves, all-counted}
 use Rattle.unit_carrier.proofs.agents.Agents.find.Goals.{then-branch+else-movers-place, else-branch}
 use Rattle.unit_carrier.proofs.agents.Agents.find.Goals as goal
 
@@ -24,6 +24,9 @@ returns-then-movers-place-clause-units g c =
     agent-here c.args.self.now.list.items c.loop-index.self.list.items c.len-index-end.result c.loop-index.index c.index_mut.result.now c.loop-index.invariant.units (search) c.loop-index-test.true c.index_mut.ensures.value in
     map-set (λ (a : Agent). a.carried) c.loop-index.self.list.items c.loop-index.index c.index_mut.result.now c.can_move_now.new.agent q c.can_move_now.ensures.carried
     ∙ c.loop-index.invariant.units
+
+pub returns-then-movers-place-clause-within : goal.returns-then-movers-place-clause-within
+returns-then-movers-place-clause-within g c = index-within c.args.self.now.list.items c.len-index-end.result c.loop-index.index (search) c.loop-index-test.true
 
 pub returns-then-movers-place-clause-found : goal.returns-then-movers-place-clause-found
 returns-then-movers-place-clause-found g c = λ going.
