@@ -11,7 +11,7 @@ use Rattle.core_model.specs.Legal.{Run, begins, ends}
 use Rattle.core_model.specs.Laws.{extended}
 use Rattle.core_model.proofs.Further.{run-append}
 use Rattle.access_tests.specs.declared.line_core.LineCore.{LineCore}
-use Rattle.access_tests.specs.Lines.{run_of, is_carried, applies_to, counted_if, may_apply, lines_with, written_with, halted_with, Stands, IsFit}
+use Rattle.access_tests.specs.Lines.{line_run, is_carried, applies_to, counted_if, may_apply, lines_with, written_with, halted_with, Stands, IsFit}
 
 -- ---- tests
 
@@ -160,5 +160,5 @@ carried-fit old mid e es fit c is noted =
     (subst (λ (m : LineCore). Stands m.lines m.written m.halted (ends (run-at (m.history.events ++ (e ∷ []))))) (sym is) (all (applies_to old e) refl))
   where
     all : (a : Bool) → applies_to old e ≡ a → Stands (counted_if a old e).lines (counted_if a old e).written (counted_if a old e).halted (ends (run-at ((counted_if a old e).history.events ++ (e ∷ []))))
-    all true a = run-stands old.lines old.written old.halted (run_of old) e fit c true a
-    all false a = run-stands old.lines old.written old.halted (run_of old) e fit c false a
+    all true a = run-stands old.lines old.written old.halted (line_run old) e fit c true a
+    all false a = run-stands old.lines old.written old.halted (line_run old) e fit c false a

@@ -16,8 +16,8 @@ use Rattle.core_model.specs.Legal.{Run, ends}
 use Rattle.access_tests.specs.declared.line_core.LineCore.{LineCore}
 
 -- its run: no type, no limit of memory, and all events that it took
-abbrev pub run_of : LineCore → Run
-run_of c = record { base = 1; kinds = 0; capacity = None; opening = λ g. []; events = c.history.events }
+abbrev pub line_run : LineCore → Run
+line_run c = record { base = 1; kinds = 0; capacity = None; opening = λ g. []; events = c.history.events }
 
 -- the events that it takes
 abbrev pub is_carried : CoreEvent → Bool
@@ -96,4 +96,4 @@ pub record Stands (bad told : ℕ) (stopped : Bool) (w : CoreState) : Type 0 whe
 
 -- the counters say so of the core's run
 abbrev pub IsFit : LineCore → Type 0
-IsFit c = Stands c.lines c.written c.halted (ends (run_of c))
+IsFit c = Stands c.lines c.written c.halted (ends (line_run c))

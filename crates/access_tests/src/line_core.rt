@@ -6,7 +6,7 @@ ghost use Rattle.core_model.specs.Legal.{ends};
 ghost use Rattle.core_access.specs.Histories.{reply_in};
 ghost use Rattle.core_access.specs.Spared.{is_spared, is_plain};
 ghost use Rattle.core_access.specs.OneHolder.{own_sight, none_comes};
-ghost use Rattle.access_tests.specs.Lines.{run_of, is_carried, applies_to, counted, counted_if, shown_by, IsFit};
+ghost use Rattle.access_tests.specs.Lines.{line_run, is_carried, applies_to, counted, counted_if, shown_by, IsFit};
 
 use core_access::Access;
 use core_model::{AskAnswer, CoreAnswer, CoreEvent, CoreQuestion, CoreReply, KnownOutcome};
@@ -104,9 +104,9 @@ impl LineCore {
     fn carry(&mut self, event: CoreEvent) -> Result<CoreReply, (AllocError, CoreEvent)>
         requires { IsFit self.old }
         ensures fit { IsFit self.new }
-        ensures taken { IfOk result (λ r. (run_of self.new ≡ extended (run_of self.old) (event ∷ [])) × (r ≡ reply_in (run_of self.old) event)) }
-        ensures refused { IfErr result (λ e. (run_of self.new ≡ run_of self.old) × (e.1 ≡ event)) }
-        ensures unspared { IfErr result (λ _. is_spared (run_of self.old) event ≡ false) }
+        ensures taken { IfOk result (λ r. (line_run self.new ≡ extended (line_run self.old) (event ∷ [])) × (r ≡ reply_in (line_run self.old) event)) }
+        ensures refused { IfErr result (λ e. (line_run self.new ≡ line_run self.old) × (e.1 ≡ event)) }
+        ensures unspared { IfErr result (λ _. is_spared (line_run self.old) event ≡ false) }
     {
         if !is_carried(&event) {
             return Err((AllocError, event));
@@ -139,7 +139,7 @@ impl LineCore {
     // Answers from the counts, or not at all.
     fn answer(&self, question: &CoreQuestion) -> Result<CoreAnswer, AllocError>
         requires { IsFit self.now }
-        ensures told { IfOk result (λ a. a ≡ answer_to (ends (run_of self.now)) question.now) }
+        ensures told { IfOk result (λ a. a ≡ answer_to (ends (line_run self.now)) question.now) }
         ensures untold { IfErr result (λ _. is_plain question.now ≡ false) }
     {
         match self.shown(question) {
@@ -153,7 +153,7 @@ impl LineCore {
 impl Access for LineCore {
     ghost is_fit = { IsFit };
 
-    ghost sight = { λ c. own_sight (run_of c) };
+    ghost sight = { λ c. own_sight (line_run c) };
 
     ghost may_come = { none_comes };
 

@@ -7,7 +7,7 @@ use Rattle.std.proofs.lemmas.Bool.Decides.{eqb_tells}
 use Rattle.promise_spec.specs.Words.{Choice, Width, Turns, Workers, Form, Apart, Joined, GivenOption, Manner, choice_name, value_text, list_text, words_in, words_of, words_of_all, IsWithin, DifferInName, plain_manner, with_choice, manner_of, is_workers, AreOptions, IsNoTurns}
 use Rattle.command_words.specs.Parts.{OptionName, WidthName, TurnsName, WorkersName, dashed_name, WordPart, OptionPart, NumberPart, part_words, parts_words, is_same_name, option_values, number_words}
 use Rattle.command_words.specs.CutParts.{one_value, two_values, AreCutInto, AreFew, HaveParts}
-use Rattle.command_words.specs.Options.{Chosen, number_text, picks_text, AreSpelled, MayStand, chosen_manner, is_asked}
+use Rattle.command_words.specs.Options.{Chosen, number_text, picks_text, AreSpelled, MayStand, chosen_manner, is_choice_asked}
 use Rattle.command_words.specs.declared.cutting.CutWords.{CutWords}
 
 -- ---- the options of parts
@@ -24,7 +24,7 @@ options_of c (NumberPart word ∷ parts) = options_of c parts
 
 -- a value of an option is the one that was chosen, which the option takes
 abbrev IsIt : Chosen → OptionName → List ℕ → Type 0
-IsIt c name value = (value ≡ value_text (choice_of c name)) × IsWithin (choice_of c name) × (is_asked c.workers (choice_of c name) ≡ true)
+IsIt c name value = (value ≡ value_text (choice_of c name)) × IsWithin (choice_of c name) × (is_choice_asked c.workers (choice_of c name) ≡ true)
 
 abbrev pub Agree : Chosen → List WordPart → Type 0
 Agree c parts = (name : OptionName) → AllByRecursion (IsIt c name) (option_values name parts)
@@ -113,7 +113,7 @@ all_within c [] agree = tt
 all_within c (NumberPart word ∷ parts) agree = all_within c parts agree
 all_within c (OptionPart name form value ∷ parts) agree = ((first_agrees c name form value parts agree).1, all_within c parts (rest_agrees c name form value parts agree))
 
-all_asked : (c : Chosen) (parts : List WordPart) → Agree c parts → list_all (λ (g : GivenOption). is_asked c.workers g.what) (options_of c parts) ≡ true
+all_asked : (c : Chosen) (parts : List WordPart) → Agree c parts → list_all (λ (g : GivenOption). is_choice_asked c.workers g.what) (options_of c parts) ≡ true
 all_asked c [] agree = refl
 all_asked c (NumberPart word ∷ parts) agree = all_asked c parts agree
 all_asked c (OptionPart name form value ∷ parts) agree = rw (first_agrees c name form value parts agree).2 (all_asked c parts (rest_agrees c name form value parts agree))
@@ -234,7 +234,7 @@ module _ (parts : List WordPart) (c : Chosen) (s : AreSpelled parts c) (m : MayS
         tt,
       )
 
-  pub are_options : AreOptions (λ (g : GivenOption). is_asked c.workers g.what) (options_of c parts)
+  pub are_options : AreOptions (λ (g : GivenOption). is_choice_asked c.workers g.what) (options_of c parts)
   are_options = record {
     taken = all_asked c parts agrees;
     within = all_within c parts agrees;

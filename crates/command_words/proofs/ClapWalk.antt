@@ -15,7 +15,7 @@ use Rattle.clap.specs.declared.error.kind.ErrorKind.TheVariants as kind
 use Rattle.clap.specs.declared.builder.action.ArgAction.TheVariants.{Append}
 use Rattle.clap.specs.declared.builder.value_parser.ValueParser.TheVariants as parser
 use Rattle.promise_spec.specs.Words.{Form, Apart, Joined}
-use Rattle.command_words.specs.Parts.{OptionName, WidthName, TurnsName, WorkersName, bare_name, option_named, WordPart, OptionPart, NumberPart, is_stray, onto_parts, cut_value, cut_option, cut_word, is_long, parts_from, is_same_name, option_values, number_words}
+use Rattle.command_words.specs.Parts.{OptionName, WidthName, TurnsName, WorkersName, bare_name, option_of_name, WordPart, OptionPart, NumberPart, is_stray, onto_parts, cut_value, cut_option, cut_word, is_long, word_parts_from, is_same_name, option_values, number_words}
 use Rattle.command_words.specs.Clap.{option_rule, number_rule, silo_app}
 use Rattle.command_words.proofs.Rows.{values_at, with_value, value_at_own, value_at_other}
 
@@ -193,7 +193,7 @@ settles_well rows (Some (Optional WorkersName, v)) = refl
 settles_well rows (Some (Number, v)) = refl
 
 -- the argument of a name
-rule_named : (name : Text) → arg_by_long rules name ≡ option_map ready (option_named name)
+rule_named : (name : Text) → arg_by_long rules name ≡ option_map ready (option_of_name name)
 rule_named name = go (bytes_eq (codes "width") name) (bytes_eq (codes "turns") name) (bytes_eq (codes "workers") name)
   where
     go : (a b c : Bool) → cond (a || false) (Some (ready WidthName)) (cond (b || false) (Some (ready TurnsName)) (cond (c || false) (Some (ready WorkersName)) None))
@@ -355,40 +355,40 @@ abbrev AreUsual : List Text → Type 0
 AreUsual words = AllByRecursion (λ (w : Text). is_stray w ≡ false) words
 
 module _ (word : Text) (rest : List Text) (dashes : bytes_eq word (45 ∷ 45 ∷ []) ≡ false) (short : long_of word ≡ None → short_of word ≡ None)
-    (later : (rows : List Row) (spot : Spot) → Follows rows spot rest (parts_from (awaited spot) rest)) where
+    (later : (rows : List Row) (spot : Spot) → Follows rows spot rest (word_parts_from (awaited spot) rest)) where
   awaiting : (rows : List Row) (name : OptionName) (l : Option (Text × Option Text)) → long_of word ≡ l
-      → Follows rows (Awaits name) (word ∷ rest) (cut_value name (is_long l) word (parts_from None rest))
+      → Follows rows (Awaits name) (word ∷ rest) (cut_value name (is_long l) word (word_parts_from None rest))
   awaiting rows name None e =
       let step = takes_value rows name word dashes e (short e) in
       goes_on_with rows (Awaits name) word rest rows (Rests false (Some (Optional name, word))) step.0 step.1 (OptionPart name Apart word)
-      (λ s parts. gains_option s name Apart word rows parts) (parts_from None rest) (later rows (Rests false (Some (Optional name, word))))
-  awaiting rows name (Some p) e = stops rows (Awaits name) word rest (go (option_named p.0) refl)
+      (λ s parts. gains_option s name Apart word rows parts) (word_parts_from None rest) (later rows (Rests false (Some (Optional name, word))))
+  awaiting rows name (Some p) e = stops rows (Awaits name) word rest (go (option_of_name p.0) refl)
     where
-      go : (o : Option OptionName) → option_named p.0 ≡ o → has_fault (turn_fault top [] (walk_at rows (Awaits name)) word) ≡ true
+      go : (o : Option OptionName) → option_of_name p.0 ≡ o → has_fault (turn_fault top [] (walk_at rows (Awaits name)) word) ≡ true
       go None n = is_unknown rows (Awaits name) word p.0 p.1 dashes e (rule_named p.0 ∙ ap (option_map ready) n)
       go (Some other) n = is_missing rows name other word p.0 p.1 dashes e (rule_named p.0 ∙ ap (option_map ready) n)
 
   resting : (rows : List Row) (behind : Bool) (p : Option (Slot × Text)) (l : Option (Text × Option Text)) → long_of word ≡ l
-      → Follows rows (Rests behind p) (word ∷ rest) (cut_word l word (parts_from None rest) (λ name. parts_from (Some name) rest))
+      → Follows rows (Rests behind p) (word ∷ rest) (cut_word l word (word_parts_from None rest) (λ name. word_parts_from (Some name) rest))
   resting rows behind p None e =
       let step = stands_alone rows behind p word dashes e (short e) in
       goes_on_with rows (Rests behind p) word rest (rows_at p rows) (Rests true (Some (Number, word))) step.0 step.1 (NumberPart word)
-      (λ s parts. gains_number s word (rows_at p rows) parts) (parts_from None rest) (later (rows_at p rows) (Rests true (Some (Number, word))))
-  resting rows behind p (Some q) e = go (option_named q.0) refl q.1 e
+      (λ s parts. gains_number s word (rows_at p rows) parts) (word_parts_from None rest) (later (rows_at p rows) (Rests true (Some (Number, word))))
+  resting rows behind p (Some q) e = go (option_of_name q.0) refl q.1 e
     where
-      go : (o : Option OptionName) → option_named q.0 ≡ o → (value : Option Text) → long_of word ≡ Some (q.0, value)
-          → Follows rows (Rests behind p) (word ∷ rest) (cut_option o value (parts_from None rest) (λ name. parts_from (Some name) rest))
+      go : (o : Option OptionName) → option_of_name q.0 ≡ o → (value : Option Text) → long_of word ≡ Some (q.0, value)
+          → Follows rows (Rests behind p) (word ∷ rest) (cut_option o value (word_parts_from None rest) (λ name. word_parts_from (Some name) rest))
       go None n value e = stops rows (Rests behind p) word rest (is_unknown rows (Rests behind p) word q.0 value dashes e (rule_named q.0 ∙ ap (option_map ready) n))
       go (Some name) n None e =
           let step = waits_for rows behind p name word q.0 dashes e (rule_named q.0 ∙ ap (option_map ready) n) in
-          goes_on rows (Rests behind p) word rest (rows_at p rows) (Awaits name) step.0 step.1 (λ s. refl) (parts_from (Some name) rest) (later (rows_at p rows) (Awaits name))
+          goes_on rows (Rests behind p) word rest (rows_at p rows) (Awaits name) step.0 step.1 (λ s. refl) (word_parts_from (Some name) rest) (later (rows_at p rows) (Awaits name))
       go (Some name) n (Some value) e =
           let step = gives_value rows behind p name word q.0 value dashes e (rule_named q.0 ∙ ap (option_map ready) n) in
           goes_on_with rows (Rests behind p) word rest (with_value (bare_name name) value (rows_at p rows)) (Rests false None) step.0 step.1 (OptionPart name Joined value)
-          (λ s parts. gains_option s name Joined value (rows_at p rows) parts) (parts_from None rest) (later (with_value (bare_name name) value (rows_at p rows)) (Rests false None))
+          (λ s parts. gains_option s name Joined value (rows_at p rows) parts) (word_parts_from None rest) (later (with_value (bare_name name) value (rows_at p rows)) (Rests false None))
 
 -- the walk follows the cutting
-follows : (words : List Text) → AreUsual words → (rows : List Row) (spot : Spot) → Follows rows spot words (parts_from (awaited spot) words)
+follows : (words : List Text) → AreUsual words → (rows : List Row) (spot : Spot) → Follows rows spot words (word_parts_from (awaited spot) words)
 follows [] usual rows (Awaits name) = ends_awaiting rows name
 follows [] usual rows (Rests behind p) = ends_resting rows behind p
 follows (word ∷ rest) usual rows (Awaits name) =
@@ -469,8 +469,8 @@ ParsesTo words (Some parts) = (fault_of silo_app words ≡ [])
     × (values_at (codes "number") (matches_of silo_app words) ≡ number_words parts)
 
 -- clap takes words exactly where they have parts, and says the parts' values
-pub parses : (words : List Text) → AllByRecursion (λ (w : Text). is_stray w ≡ false) (drop 1 words) → ParsesTo words (parts_from None (drop 1 words))
-parses words usual = go (parts_from None (drop 1 words)) (follows (drop 1 words) usual [] start)
+pub parses : (words : List Text) → AllByRecursion (λ (w : Text). is_stray w ≡ false) (drop 1 words) → ParsesTo words (word_parts_from None (drop 1 words))
+parses words usual = go (word_parts_from None (drop 1 words)) (follows (drop 1 words) usual [] start)
   where
     go : (c : Option (List WordPart)) → Follows [] start (drop 1 words) c → ParsesTo words c
     go None f = λ e. absurd (true≢false (sym f ∙ ap has_fault (sym (fault_is words) ∙ e)))

@@ -7,7 +7,7 @@ use Rattle.std.proofs.lemmas.Bool.Decides.{eqb_tells}
 use Rattle.std.proofs.lemmas.Slice.Eq.{bytes_eq-Decides}
 use Rattle.clap.specs.Lexer.{long_of, has_byte, name_and_value}
 use Rattle.promise_spec.specs.Words.{Form, Apart, Joined, words_in}
-use Rattle.command_words.specs.Parts.{OptionName, WidthName, TurnsName, WorkersName, bare_name, dashed_name, option_named, WordPart, OptionPart, NumberPart, part_words, parts_words, is_stray, onto_parts, cut_value, cut_option, cut_word, is_long, parts_from}
+use Rattle.command_words.specs.Parts.{OptionName, WidthName, TurnsName, WorkersName, bare_name, dashed_name, option_of_name, WordPart, OptionPart, NumberPart, part_words, parts_words, is_stray, onto_parts, cut_value, cut_option, cut_word, is_long, word_parts_from}
 use Rattle.command_words.specs.CutParts.{AreUsual, HaveParts}
 
 -- ---- a word with two dashes
@@ -71,7 +71,7 @@ long_back (a ∷ b ∷ rest) text value e = elim (eqb_tells a 45) [
     go [] e = absurd (cc e)
     go (x ∷ xs) e = text_back (x ∷ xs) text value (ap (pair_in (text, value)) e)
 
-name_back : (text : List ℕ) (name : OptionName) → option_named text ≡ Some name → text ≡ bare_name name
+name_back : (text : List ℕ) (name : OptionName) → option_of_name text ≡ Some name → text ≡ bare_name name
 name_back text name e = go (bytes_eq (codes "width") text) refl (bytes_eq (codes "turns") text) refl (bytes_eq (codes "workers") text) refl
   where
     same : (t : List ℕ) → bytes_eq t text ≡ true → text ≡ t
@@ -88,7 +88,7 @@ name_back text name e = go (bytes_eq (codes "width") text) refl (bytes_eq (codes
     go false h false g false f = absurd (cc (rw (h, g, f) at e))
 
 -- an option's word
-option_back : (word text : List ℕ) (value : Option (List ℕ)) (name : OptionName) → long_of word ≡ Some (text, value) → option_named text ≡ Some name → word ≡ spelled (dashed_name name) value
+option_back : (word text : List ℕ) (value : Option (List ℕ)) (name : OptionName) → long_of word ≡ Some (text, value) → option_of_name text ≡ Some name → word ≡ spelled (dashed_name name) value
 option_back word text value name e n = long_back word text value e ∙ ap (λ (t : List ℕ). 45 ∷ 45 ∷ spelled t value) (name_back text name n) ∙ go name value
   where
     go : (name : OptionName) (value : Option (List ℕ)) → 45 ∷ 45 ∷ spelled (bare_name name) value ≡ spelled (dashed_name name) value
@@ -114,27 +114,27 @@ part_back : (waiting : Option OptionName) (words : List (List ℕ)) (part : Word
 part_back waiting words part None rest e back = tt
 part_back waiting words part (Some parts) rest e back = e ∙ ap (λ (l : List (List ℕ)). part_words part ++ l) back
 
-module _ (word : List ℕ) (rest : List (List ℕ)) (later : (waiting : Option OptionName) → WordsBack waiting rest (parts_from waiting rest)) where
-  waiting_back : (name : OptionName) (b : Bool) → WordsBack (Some name) (word ∷ rest) (cut_value name b word (parts_from None rest))
+module _ (word : List ℕ) (rest : List (List ℕ)) (later : (waiting : Option OptionName) → WordsBack waiting rest (word_parts_from waiting rest)) where
+  waiting_back : (name : OptionName) (b : Bool) → WordsBack (Some name) (word ∷ rest) (cut_value name b word (word_parts_from None rest))
   waiting_back name true = tt
-  waiting_back name false = part_back (Some name) (word ∷ rest) (OptionPart name Apart word) (parts_from None rest) rest refl (later None)
+  waiting_back name false = part_back (Some name) (word ∷ rest) (OptionPart name Apart word) (word_parts_from None rest) rest refl (later None)
 
-  word_back : (l : Option (List ℕ × Option (List ℕ))) → long_of word ≡ l → WordsBack None (word ∷ rest) (cut_word l word (parts_from None rest) (λ name. parts_from (Some name) rest))
-  word_back None e = part_back None (word ∷ rest) (NumberPart word) (parts_from None rest) rest refl (later None)
-  word_back (Some p) e = go (option_named p.0) refl p.1 e
+  word_back : (l : Option (List ℕ × Option (List ℕ))) → long_of word ≡ l → WordsBack None (word ∷ rest) (cut_word l word (word_parts_from None rest) (λ name. word_parts_from (Some name) rest))
+  word_back None e = part_back None (word ∷ rest) (NumberPart word) (word_parts_from None rest) rest refl (later None)
+  word_back (Some p) e = go (option_of_name p.0) refl p.1 e
     where
       moved : (name : OptionName) (c : Option (List WordPart)) → word ≡ dashed_name name → WordsBack (Some name) rest c → WordsBack None (word ∷ rest) c
       moved name None e back = tt
       moved name (Some parts) e back = ap (λ (w : List ℕ). w ∷ rest) e ∙ back
 
-      go : (o : Option OptionName) → option_named p.0 ≡ o → (value : Option (List ℕ)) → long_of word ≡ Some (p.0, value)
-          → WordsBack None (word ∷ rest) (cut_option o value (parts_from None rest) (λ name. parts_from (Some name) rest))
+      go : (o : Option OptionName) → option_of_name p.0 ≡ o → (value : Option (List ℕ)) → long_of word ≡ Some (p.0, value)
+          → WordsBack None (word ∷ rest) (cut_option o value (word_parts_from None rest) (λ name. word_parts_from (Some name) rest))
       go None n value e = tt
-      go (Some name) n None e = moved name (parts_from (Some name) rest) (option_back word p.0 None name e n) (later (Some name))
+      go (Some name) n None e = moved name (word_parts_from (Some name) rest) (option_back word p.0 None name e n) (later (Some name))
       go (Some name) n (Some value) e =
-          part_back None (word ∷ rest) (OptionPart name Joined value) (parts_from None rest) rest (ap (λ (w : List ℕ). w ∷ rest) (option_back word p.0 (Some value) name e n)) (later None)
+          part_back None (word ∷ rest) (OptionPart name Joined value) (word_parts_from None rest) rest (ap (λ (w : List ℕ). w ∷ rest) (option_back word p.0 (Some value) name e n)) (later None)
 
-words_back : (words : List (List ℕ)) (waiting : Option OptionName) → WordsBack waiting words (parts_from waiting words)
+words_back : (words : List (List ℕ)) (waiting : Option OptionName) → WordsBack waiting words (word_parts_from waiting words)
 words_back [] None = refl
 words_back [] (Some name) = tt
 words_back (word ∷ rest) None = word_back word rest (words_back rest) (long_of word) refl

@@ -15,7 +15,7 @@ use Rattle.clap.specs.declared.error.kind.ErrorKind.{ErrorKind}
 use Rattle.clap.specs.declared.error.kind.ErrorKind.TheVariants as kind
 use Rattle.clap.specs.declared.parser.matches.Found.{Found}
 use Rattle.clap.proofs.WalkLemmas.{raw_values-rows}
-use Rattle.command_words.specs.Parts.{OptionName, WordPart, bare_name, is_stray, parts_from, option_values, number_words}
+use Rattle.command_words.specs.Parts.{OptionName, WordPart, bare_name, is_stray, word_parts_from, option_values, number_words}
 use Rattle.command_words.specs.Clap.{silo_app, matched_values, SaysParts}
 use Rattle.command_words.specs.CutParts.{AreUsual, HaveParts, AreFew, texts_of}
 use Rattle.command_words.proofs.Rows.{values_at}
@@ -62,9 +62,9 @@ values_are found id = ap (λ (o : Option (List (List ℕ))). unwrap_or o []) (ra
 -- what clap takes has parts, and its matches say them
 pub taken : (words : List (List ℕ)) (found : Found) → list_any is_stray (drop 1 words) ≡ false → fault_of silo_app words ≡ [] → rows_of found ≡ matches_of silo_app words
     → (parts : List WordPart) × HaveParts (drop 1 words) parts × SaysParts found parts
-taken words found usual well rows = go (parts_from None (drop 1 words)) refl (parses words (none_stray (drop 1 words) usual))
+taken words found usual well rows = go (word_parts_from None (drop 1 words)) refl (parses words (none_stray (drop 1 words) usual))
   where
-    go : (c : Option (List WordPart)) → parts_from None (drop 1 words) ≡ c → ParsesTo words c → (parts : List WordPart) × HaveParts (drop 1 words) parts × SaysParts found parts
+    go : (c : Option (List WordPart)) → word_parts_from None (drop 1 words) ≡ c → ParsesTo words c → (parts : List WordPart) × HaveParts (drop 1 words) parts × SaysParts found parts
     go None e p = absurd (p well)
     go (Some parts) e p = (
       parts,
@@ -78,7 +78,7 @@ taken words found usual well rows = go (parts_from None (drop 1 words)) refl (pa
 -- what clap refuses has none, unless memory is wanting
 pub refused : (words : List (List ℕ)) (e : Error) → HasKind (fault_of silo_app words) e → (kind_of e ≡ kind.OutOfMemory → ⊥)
     → (parts : List WordPart) → HaveParts (drop 1 words) parts → ⊥
-refused words e has room parts h = go (parts_from None (drop 1 words)) h.parted (parses words h.usual) has
+refused words e has room parts h = go (word_parts_from None (drop 1 words)) h.parted (parses words h.usual) has
   where
     none : (kinds : Kinds) → kinds ≡ [] → HasKind kinds e → ⊥
     none kinds well k = elim (subst (λ (ks : Kinds). HasKind ks e) well k) [

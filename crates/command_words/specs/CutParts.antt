@@ -3,7 +3,7 @@ use Rattle.std.specs.Prelude.{◌≡◌, ◌⊎◌, ℕ, ◌≤◌, false, List,
 use Rattle.std.specs.List.{AllByRecursion}
 use Rattle.std.specs.declared.alloc.Global.{Global}
 use Rattle.std.specs.Borrow.{Bor}
-use Rattle.command_words.specs.Parts.{OptionName, WidthName, TurnsName, WorkersName, WordPart, is_stray, parts_from, option_values, number_words}
+use Rattle.command_words.specs.Parts.{OptionName, WidthName, TurnsName, WorkersName, WordPart, is_stray, word_parts_from, option_values, number_words}
 use Rattle.command_words.specs.declared.cutting.CutWords.{CutWords}
 
 -- the texts of words
@@ -17,7 +17,7 @@ AreUsual words = AllByRecursion (λ word. is_stray word ≡ false) words
 -- the words have these parts
 pub record HaveParts (words : List (List ℕ)) (parts : List WordPart) : Type 0 where
   pub usual : AreUsual words
-  pub parted : parts_from None words ≡ Some parts
+  pub parted : word_parts_from None words ≡ Some parts
 
 -- each option is there at most once, and there are two numbers or none
 pub record AreFew (parts : List WordPart) : Type 0 where

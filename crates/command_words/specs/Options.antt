@@ -51,10 +51,10 @@ abbrev pub chosen_manner : Chosen → Manner
 chosen_manner chosen = record { threaded = is_some chosen.workers; width = unwrap_or chosen.width 1; picks = unwrap_or chosen.turns [] }
 
 -- the option is no other number of workers
-abbrev pub is_asked : Option ℕ → Choice → Bool
-is_asked workers (Width n) = true
-is_asked workers (Turns picks) = true
-is_asked workers (Workers n) = option_map_or (λ k. k == n) workers false
+abbrev pub is_choice_asked : Option ℕ → Choice → Bool
+is_choice_asked workers (Width n) = true
+is_choice_asked workers (Turns picks) = true
+is_choice_asked workers (Workers n) = option_map_or (λ k. k == n) workers false
 
 -- ---- the answers
 
@@ -80,4 +80,4 @@ workers_of (words.Load options) = options.workers
 workers_of _ = None
 
 abbrev pub has_option : Words → GivenOption → Bool
-has_option w given = is_asked (workers_of w) given.what
+has_option w given = is_choice_asked (workers_of w) given.what

@@ -23,8 +23,8 @@ dashed_name TurnsName = codes "--turns"
 dashed_name WorkersName = codes "--workers"
 
 -- the option of a name without dashes
-abbrev pub option_named : List ℕ → Option OptionName
-option_named name = if bytes_eq (codes "width") name then Some WidthName
+abbrev pub option_of_name : List ℕ → Option OptionName
+option_of_name name = if bytes_eq (codes "width") name then Some WidthName
     else (if bytes_eq (codes "turns") name then Some TurnsName
     else (if bytes_eq (codes "workers") name then Some WorkersName else None))
 
@@ -68,7 +68,7 @@ cut_option (Some name) (Some value) rest waiting = onto_parts (OptionPart name J
 
 abbrev pub cut_word : Option (List ℕ × Option (List ℕ)) → List ℕ → Option (List WordPart) → (OptionName → Option (List WordPart)) → Option (List WordPart)
 cut_word None word rest waiting = onto_parts (NumberPart word) rest
-cut_word (Some long) word rest waiting = cut_option (option_named long.0) long.1 rest waiting
+cut_word (Some long) word rest waiting = cut_option (option_of_name long.0) long.1 rest waiting
 
 abbrev pub is_long : Option (List ℕ × Option (List ℕ)) → Bool
 is_long None = false
@@ -76,11 +76,11 @@ is_long (Some long) = true
 
 -- the parts of words without stray ones, where an option may be waiting for its value; none where an option is unknown
 -- or has no value
-abbrev pub parts_from : Option OptionName → List (List ℕ) → Option (List WordPart)
-parts_from None [] = Some []
-parts_from (Some name) [] = None
-parts_from None (word ∷ words) = cut_word (long_of word) word (parts_from None words) (λ name. parts_from (Some name) words)
-parts_from (Some name) (word ∷ words) = cut_value name (is_long (long_of word)) word (parts_from None words)
+abbrev pub word_parts_from : Option OptionName → List (List ℕ) → Option (List WordPart)
+word_parts_from None [] = Some []
+word_parts_from (Some name) [] = None
+word_parts_from None (word ∷ words) = cut_word (long_of word) word (word_parts_from None words) (λ name. word_parts_from (Some name) words)
+word_parts_from (Some name) (word ∷ words) = cut_value name (is_long (long_of word)) word (word_parts_from None words)
 
 -- ---- what parts say
 
