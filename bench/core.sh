@@ -30,7 +30,7 @@ cat >"$work/crates/core_bench/src/main.rt" <<'PROGRAM'
 //! Times the core over units, each of which writes one of 1,000 grains.
 #![tactic(auto)]
 
-ghost use Rattle.std.specs.Prelude.{◌<◌, IfOk};
+ghost use Rattle.std.specs.Prelude.{◌≡◌, IfOk};
 
 use base_types::{Call, GrainId, List, Mode, Origin, Outcome, Shape, State, Store, Text, TypeShape, UnitNo, Value};
 use core_model::{CoreAnswer, CoreEvent, CoreQuestion, CoreReply, Effect, Read, SettlerWork};
@@ -42,7 +42,7 @@ use std::{env, io};
 const GRAINS: u32 = 1000;
 
 fn opening(alloc: Global) -> Result<Opening, AllocError>
-    ensures { IfOk result (λ o. 0 < o.next_unit.0) }
+    ensures { IfOk result (λ o. o.next_unit.0 ≡ 1) }
 {
     let Some(name) = Text::new(alloc, "account")? else {
         return Err(AllocError);

@@ -4,7 +4,7 @@ use Rattle.std.specs.List.{list_any as any}
 use Rattle.std.proofs.lemmas.Bool.{cases_Bool, cond_both, or_cases, or_parts}
 use Rattle.cell_model.specs.Units.{UnitNo}
 use Rattle.cell_model.specs.Stacks.{Version, is_of, top, cut, committed_stack, removed, has_version}
-use Rattle.cell_model.specs.Cells.{Cell, learnt, learned}
+use Rattle.cell_model.specs.Cells.{Cell, learnt, cell_learned}
 use Rattle.cell_model.specs.Laws.{KeepsDownTo, TakesOffFrom, StackFollows}
 use Rattle.cell_model.proofs.Units.{same_unit-true}
 
@@ -89,5 +89,5 @@ pub learnt-twice : (commits : Bool) (unit : UnitNo) (stack : List Version) → l
 learnt-twice true unit stack = committed-twice unit stack
 learnt-twice false unit stack = cut-stranger (is_of unit) (removed unit stack) (cut-none (is_of unit) stack)
 
-pub learned-twice : (cell : Cell) (unit : UnitNo) (commits : Bool) → learned (learned cell unit commits) unit commits ≡ learned cell unit commits
+pub learned-twice : (cell : Cell) (unit : UnitNo) (commits : Bool) → cell_learned (cell_learned cell unit commits) unit commits ≡ cell_learned cell unit commits
 learned-twice cell unit commits = (λ i. record { stack = learnt-twice commits unit cell.stack i; holds = cell.holds; readings = cell.readings })

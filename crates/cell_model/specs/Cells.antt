@@ -33,8 +33,8 @@ abbrev pub without_reading : List Reading → UnitNo → List Reading
 without_reading readings unit = filter (λ r. not (is_reading_of unit r)) readings
 
 -- the unit gets the lock, and reads the top version where it had no lock of the grain
-abbrev pub granted : Cell → UnitNo → Mode → Cell
-granted cell unit mode = record {
+abbrev pub cell_granted : Cell → UnitNo → Mode → Cell
+cell_granted cell unit mode = record {
   stack = cell.stack;
   holds = locks.granted cell.holds unit mode;
   readings = with_reading cell.readings unit (top cell.stack).unit;
@@ -50,8 +50,8 @@ stacked readings stack unit None = stack
 stacked readings stack unit (Some state) = if reads_top readings stack unit then pushed stack unit state else stack
 
 -- the unit gives its new state, if it has one, and its lock back
-abbrev pub released : Cell → UnitNo → Option (List Value) → Cell
-released cell unit new = record {
+abbrev pub cell_released : Cell → UnitNo → Option (List Value) → Cell
+cell_released cell unit new = record {
   stack = stacked cell.readings cell.stack unit new;
   holds = dropped cell.holds unit;
   readings = without_reading cell.readings unit;
@@ -62,5 +62,5 @@ abbrev pub learnt : Bool → UnitNo → List Version → List Version
 learnt commits unit stack = if commits then stacks.committed_stack unit stack else removed unit stack
 
 -- the cell learns the unit's decision
-abbrev pub learned : Cell → UnitNo → Bool → Cell
-learned cell unit commits = record { stack = learnt commits unit cell.stack; holds = cell.holds; readings = cell.readings }
+abbrev pub cell_learned : Cell → UnitNo → Bool → Cell
+cell_learned cell unit commits = record { stack = learnt commits unit cell.stack; holds = cell.holds; readings = cell.readings }

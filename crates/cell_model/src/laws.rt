@@ -5,7 +5,7 @@ ghost use Rattle.cell_model.specs.Stacks.{Version};
 ghost use Rattle.cell_model.specs.Locks.{Hold, Mode, ask};
 ghost use Rattle.cell_model.specs.Sources.{SourcesAscend, first_aborted, is_among};
 ghost use Rattle.cell_model.specs.Decisions.{Prepared, all_decided};
-ghost use Rattle.cell_model.specs.Cells.{Cell, learned};
+ghost use Rattle.cell_model.specs.Cells.{Cell, cell_learned};
 ghost use Rattle.cell_model.specs.Laws.{AnswersExactly, StackFollows, LocksFollow, SourcesFollow, CommitsExactly, DecidesInOrder};
 
 /// What a commit keeps and which version is the bottom then, what an abort takes off, and that strangers change nothing.
@@ -38,5 +38,5 @@ pub fn decisions_are_exact()
 
 /// A decision that is learnt twice is learnt once.
 pub fn learning_twice_is_once()
-    ensures { (cell : Cell) (unit : UnitNo) (commits : Bool) → learned (learned cell unit commits) unit commits ≡ learned cell unit commits }
+    ensures { (cell : Cell) (unit : UnitNo) (commits : Bool) → cell_learned (cell_learned cell unit commits) unit commits ≡ cell_learned cell unit commits }
 {}

@@ -4,7 +4,7 @@ ghost use Rattle.base_types.specs.declared.calls.Mode.TheVariants.{Update};
 ghost use Rattle.cell_model.specs.declared.locks.Ask.TheVariants.{Free};
 ghost use Rattle.cell_model.specs.Stacks.{top};
 ghost use Rattle.cell_model.specs.Locks.{ask, covers, holds_lock};
-ghost use Rattle.cell_model.specs.Cells.{opened, granted, released, learned};
+ghost use Rattle.cell_model.specs.Cells.{opened, cell_granted, cell_released, cell_learned};
 ghost use Rattle.core_model.specs.CoreState.{put_grain};
 ghost use Rattle.rw_locks.specs.Locked.{holds_alone};
 ghost use Rattle.grain_cell.specs.Room.{without_aborted};
@@ -156,7 +156,7 @@ impl CellTable {
     pub fn lock(&mut self, unit: UnitNo, grain: GrainId, mode: Mode)
         requires free { ask (cell_in self.old grain).holds unit mode ≡ Free }
         requires room { 0 < spare_in self.old grain }
-        ensures locks { cell_in self.new ≡ put_grain (cell_in self.old) grain (granted (cell_in self.old grain) unit mode) }
+        ensures locks { cell_in self.new ≡ put_grain (cell_in self.old) grain (cell_granted (cell_in self.old grain) unit mode) }
         ensures opens { opens_with self.new ≡ opens_with self.old }
     {
         if let Some(cell) = self.cells.get_mut(&grain) {
@@ -168,7 +168,7 @@ impl CellTable {
     pub fn release(&mut self, unit: UnitNo, grain: GrainId, new: Option<State>)
         requires holds { holds_lock unit (cell_in self.old grain).holds ≡ true }
         requires writes { IsSome new → list_any (covers unit Update) (cell_in self.old grain).holds ≡ true }
-        ensures releases { cell_in self.new ≡ put_grain (cell_in self.old) grain (released (cell_in self.old grain) unit new) }
+        ensures releases { cell_in self.new ≡ put_grain (cell_in self.old) grain (cell_released (cell_in self.old grain) unit new) }
         ensures opens { opens_with self.new ≡ opens_with self.old }
     {
         if let Some(cell) = self.cells.get_mut(&grain) {
@@ -179,7 +179,7 @@ impl CellTable {
     /// A grain that has a cell learns the unit's decision. Takes no memory, and leaves the room.
     pub fn learn(&mut self, unit: UnitNo, grain: GrainId, committed: bool)
         requires { has_cell self.old grain ≡ true }
-        ensures learns { cell_in self.new ≡ put_grain (cell_in self.old) grain (learned (cell_in self.old grain) unit committed) }
+        ensures learns { cell_in self.new ≡ put_grain (cell_in self.old) grain (cell_learned (cell_in self.old grain) unit committed) }
         ensures spare { spare_in self.old grain ≤ spare_in self.new grain }
         ensures opens { opens_with self.new ≡ opens_with self.old }
     {

@@ -15,7 +15,7 @@ use Rattle.core_model.specs.declared.phases.Phase.TheVariants.{Unborn, Running, 
 use Rattle.core_model.specs.declared.phases.Verdict.{Verdict}
 use Rattle.core_model.specs.declared.phases.Verdict.TheVariants.{Chosen}
 use Rattle.core_model.specs.CoreState.{UnitNo, GrainId, Mode, Value, Entry, Settled, Hold, Batch, CoreState, Member, nobody, same_unit}
-use Rattle.core_model.specs.Tests.{is_bad, is_good, members, ask}
+use Rattle.core_model.specs.Tests.{is_bad, is_good, members, ask_answer}
 use Rattle.core_model.specs.Dead.{Dead, itself}
 use Rattle.core_model.specs.Holders.{DifferInUnit}
 use Rattle.core_model.specs.Causes.{Settles, HasCause, IsRefusedLock}
@@ -93,7 +93,7 @@ locked-out opening h w c t e u by g r = record {
     parts = and_parts (not (is_hold_of u k)) (is_update r.mode || is_update k.mode) r.rival.rival.2
 
 -- the cause of a refusal
-pub refused-in : (opening : GrainId → List Value) (h : List Applied) (w : CoreState) (u : UnitNo) (g : GrainId) (mode : Mode) (why : Settled) → Core opening w → Tells h w → FatesOf h w → SameGone h w → w.units.phase u ≡ Running → refusal g (ask w u g mode) ≡ Some why →
+pub refused-in : (opening : GrainId → List Value) (h : List Applied) (w : CoreState) (u : UnitNo) (g : GrainId) (mode : Mode) (why : Settled) → Core opening w → Tells h w → FatesOf h w → SameGone h w → w.units.phase u ≡ Running → refusal g (ask_answer w u g mode) ≡ Some why →
     CauseIn h (answered w (Refuse u g mode)) u why
 refused-in opening h w u g mode why c t f same running q = elim (ask-refused w u g mode why q).1 [
   | inl d ↦ subst (CauseIn h (answered w (Refuse u g mode)) u) (sym d.2) (elim (subst (HasCause w (Refuse u g mode) w u) d.2 cause) [
@@ -112,7 +112,7 @@ refused-in opening h w u g mode why c t f same running q = elim (ask-refused w u
     cause = (refused-cause opening w u g mode why w c.kept running q).0
 
 -- who is refused for a cause has its line
-refused-line : (h : List Applied) (w : CoreState) (u : UnitNo) (g : GrainId) (mode : Mode) (why : Settled) (x : Entry) → refusal g (ask w u g mode) ≡ Some why → BeganFor h x.unit x.line → HasLineIn h (Refuse u g mode) x why
+refused-line : (h : List Applied) (w : CoreState) (u : UnitNo) (g : GrainId) (mode : Mode) (why : Settled) (x : Entry) → refusal g (ask_answer w u g mode) ≡ Some why → BeganFor h x.unit x.line → HasLineIn h (Refuse u g mode) x why
 refused-line h w u g mode why x q l = elim (ask-refused w u g mode why q).1 [
   | inl d ↦ subst (HasLineIn h (Refuse u g mode) x) (sym d.2) l
   | inr d ↦ subst (HasLineIn h (Refuse u g mode) x) (sym d.3) l

@@ -19,7 +19,7 @@ use Rattle.core_model.specs.CoreState.{UnitNo, GrainId, Mode, Value, Version, Co
 use Rattle.core_model.specs.Tests.{is_aborted, is_committed, is_final, is_gone, state_written}
 use Rattle.core_model.specs.Chains.{Chain, IsBottom, IsLink}
 use Rattle.core_model.specs.Serial.{IsTrueLoad}
-use Rattle.core_model.specs.Changes.{new_unit, restacked, cleaned, locked, released, loaded, read_of}
+use Rattle.core_model.specs.Changes.{new_unit, restacked, cleaned, after_lock, after_release, loaded, read_of}
 use Rattle.core_model.proofs.Decoded.{Change, begin, lock, raise, refuse, finish, end_plain, end_snapshot, release, learn, load}
 use Rattle.core_model.proofs.Puts.{put-from, grain-at, grain-from}
 use Rattle.core_model.proofs.Basics.{is_aborted-true, is_final-cases}
@@ -245,7 +245,7 @@ viewed-restacked G w g xs tops k u r p m = grain-at w.cells.stack g xs (λ t. (r
     (λ e. k u r p m)
 
 -- where a unit reads the top
-viewed-locked : (G : Read → Type 0) (w : CoreState) (u : UnitNo) (g : GrainId) (mode : Mode) → Viewed G w → Viewed G (locked w u g mode)
+viewed-locked : (G : Read → Type 0) (w : CoreState) (u : UnitNo) (g : GrainId) (mode : Mode) → Viewed G w → Viewed G (after_lock w u g mode)
 viewed-locked G w u g mode k x r p = put-from w.units.reads u (w.units.reads u ++ read_of g (top (w.cells.stack g)) ∷ []) (Member r) ((r.source ≡ (top (w.cells.stack r.grain)).unit) ⊎ G r) x
     (λ e m. elim (Member-append r (w.units.reads u) (read_of g (top (w.cells.stack g)) ∷ []) m) [
       | inl o ↦ k x r p (subst (λ z. Member r (w.units.reads z)) (sym e) o)
@@ -254,7 +254,7 @@ viewed-locked G w u g mode k x r p = put-from w.units.reads u (w.units.reads u +
     (λ e m. k x r p m)
 
 -- while another unit holds the grain, a release pushes nothing
-viewed-released : (opening : GrainId → List Value) (G : Read → Type 0) (n : ℕ) (w : CoreState) → Inv opening n w → (u : UnitNo) (g : GrainId) → holds_lock u (w.cells.holds g) ≡ true → Viewed G w → Viewed G (released w u g)
+viewed-released : (opening : GrainId → List Value) (G : Read → Type 0) (n : ℕ) (w : CoreState) → Inv opening n w → (u : UnitNo) (g : GrainId) → holds_lock u (w.cells.holds g) ≡ true → Viewed G w → Viewed G (after_release w u g)
 viewed-released opening G n w i u g held k x r p m = grain-at w.cells.stack g stack_g (λ t. (r.source ≡ (top t).unit) ⊎ G r) r.grain
     (λ e. subst (λ t. (r.source ≡ (top t).unit) ⊎ G r) (ap w.cells.stack e ∙ sym (same e)) (k x r p m))
     (λ e. k x r p m)

@@ -7,7 +7,7 @@ use Rattle.core_model.specs.declared.events.CoreEvent.{CoreEvent}
 use Rattle.core_model.specs.declared.events.CoreEvent.TheVariants.{Refuse, Decide, Sealed, NotSealed, Doubt}
 use Rattle.core_model.specs.declared.phases.Verdict.TheVariants.{Aborted}
 use Rattle.core_model.specs.CoreState.{UnitNo, GrainId, Mode, Value, Settled, CoreState}
-use Rattle.core_model.specs.Tests.{ask, members}
+use Rattle.core_model.specs.Tests.{ask_answer, members}
 use Rattle.core_model.specs.Causes.{IsAbort}
 use Rattle.core_model.specs.Changes.{told, decisions_of, judged, seal, spoil, leave, refusal}
 use Rattle.core_model.proofs.Decoded.{Change, refuse, decide_some, decide_none, seal_batch, spoil_batch, doubt_batch, ask-refused}
@@ -58,7 +58,7 @@ told-abort (decision.Vote g) = tt
 told-abort (decision.Dependency on) = tt
 
 -- a refusal is an abort
-refused-abort : (w : CoreState) (u : UnitNo) (g : GrainId) (mode : Mode) (why : Settled) → refusal g (ask w u g mode) ≡ Some why → IsAbort why
+refused-abort : (w : CoreState) (u : UnitNo) (g : GrainId) (mode : Mode) (why : Settled) → refusal g (ask_answer w u g mode) ≡ Some why → IsAbort why
 refused-abort w u g mode why q = elim (ask-refused w u g mode why q).1 [
   | inl d ↦ subst IsAbort (sym d.2) tt
   | inr d ↦ subst IsAbort (sym d.3) tt

@@ -11,7 +11,7 @@ use Rattle.core_model.specs.declared.phases.Verdict.{Verdict}
 use Rattle.core_model.specs.declared.phases.Verdict.TheVariants.{Open, Chosen, Condemned, Committed, Aborted}
 use Rattle.core_model.specs.declared.events.CoreEvent.{CoreEvent}
 use Rattle.core_model.specs.declared.events.CoreEvent.TheVariants.{Refuse, Decide, Sealed, NotSealed, Doubt}
-use Rattle.core_model.specs.Tests.{ask, is_final, members, waiting}
+use Rattle.core_model.specs.Tests.{ask_answer, is_final, members, waiting}
 use Rattle.core_model.specs.Changes.{refusal, verdict_of, judged, decisions_of, with_decisions, seal, spoil, leave, swept, swept_by}
 use Rattle.core_model.specs.Events.{applies, can, does, step, run, is_allowed}
 use Rattle.core_model.specs.Serial.{AllLoadsTrue, batch_begin}
@@ -154,7 +154,7 @@ by-reason opening w v e next b u i s m at (decision.Dependency on) r commit =
     (settled.Dependency on, tt, inr (at (λ v b. DependsOnDead v b u on) (depends-on opening v b i s u on m r)))
 
 -- who is refused is aborted for it
-refuse-stops : (opening : GrainId → List Value) (w : CoreState) (u : UnitNo) (g : GrainId) (mode : Mode) (why : Settled) (next : CoreState) → Kept opening w → w.units.phase u ≡ Running → refusal g (ask w u g mode) ≡ Some why → Stopped w (Refuse u g mode) next u
+refuse-stops : (opening : GrainId → List Value) (w : CoreState) (u : UnitNo) (g : GrainId) (mode : Mode) (why : Settled) (next : CoreState) → Kept opening w → w.units.phase u ≡ Running → refusal g (ask_answer w u g mode) ≡ Some why → Stopped w (Refuse u g mode) next u
 refuse-stops opening w u g mode why next k running q = (
   why,
   elim (ask-refused w u g mode why q).1 [

@@ -10,10 +10,10 @@ use Rattle.cell_model.proofs.Asking.{ask-exact}
 use Rattle.core_model.specs.declared.questions.AskAnswer.{AskAnswer}
 use Rattle.core_model.specs.declared.questions.AskAnswer.TheVariants as answer
 use Rattle.core_model.specs.CoreState.{UnitNo, GrainId, Member, Mode, Read, Running, Effect, Batch, CoreState}
-use Rattle.core_model.specs.Tests.{is_running, is_gone, is_active, doomed_by, ask, ask_lock, ask_doom}
+use Rattle.core_model.specs.Tests.{is_running, is_gone, is_active, doomed_by, ask_answer, ask_lock, ask_doom}
 use Rattle.core_model.specs.Causes.{IsRemoved, GoneIsRemoved}
 use Rattle.core_model.specs.Asked.{IsActive, IsOldestRemoved, AskExactly, IsGoing, GrantApplies, TakeApplies, TakesBatch}
-use Rattle.core_model.specs.Changes.{taken, new_batch, swept, swept_by}
+use Rattle.core_model.specs.Changes.{after_take, new_batch, swept, swept_by}
 use Rattle.core_model.specs.Events.{CoreEvent, Grant, Take, applies, batch_size, can, does, step, is_allowed, is_after_doubt, is_after_halt, is_free_answer}
 use Rattle.core_model.specs.Legal.{Run, IsLegal, ends}
 use Rattle.core_model.proofs.Basics.{is_running-true}
@@ -63,12 +63,12 @@ module _ (w : CoreState) (gone : GoneIsRemoved w) (u : UnitNo) (g : GrainId) (mo
   by_doom act None q = by_lock act (unharmed-by act.0 q) (locks.ask (w.cells.holds g) u mode) (ask-exact (w.cells.holds g) u mode) (w.cells.here g) refl
   by_doom act (Some s) q = (act, oldest-by act.0 s q)
 
-  asked : AskExactly w u g mode (ask w u g mode)
+  asked : AskExactly w u g mode (ask_answer w u g mode)
   asked = cond_both (is_active w u g) (ask_doom (doomed_by w u) (ask_lock (w.cells.here g) (locks.ask (w.cells.holds g) u mode))) answer.NotActive (AskExactly w u g mode)
       (λ e. by_doom (active-is e) (doomed_by w u) refl)
       (λ e. inactive-is e)
 
-pub ask-ends : (plays : Effect → Bool) (r : Run) → IsLegal plays r → (u : UnitNo) (g : GrainId) (mode : Mode) → AskExactly (ends r) u g mode (ask (ends r) u g mode)
+pub ask-ends : (plays : Effect → Bool) (r : Run) → IsLegal plays r → (u : UnitNo) (g : GrainId) (mode : Mode) → AskExactly (ends r) u g mode (ask_answer (ends r) u g mode)
 ask-ends plays r l u g mode = asked (ends r) (removed-ends plays r l) u g mode
 
 -- ---- where a grant and a take apply
@@ -97,7 +97,7 @@ free-is answer.Free e = refl
 
 pub grant-applies : (w : CoreState) (u : UnitNo) (g : GrainId) (mode : Mode) → GrantApplies w u g mode
 grant-applies w u g mode = (
-  (λ a. (let p = and_parts (is_allowed w (Grant u g mode)) (can w (Grant u g mode)) a in (going-is w (Grant u g mode) refl refl p.0, free-is (ask w u g mode) p.1))),
+  (λ a. (let p = and_parts (is_allowed w (Grant u g mode)) (can w (Grant u g mode)) a in (going-is w (Grant u g mode) refl refl p.0, free-is (ask_answer w u g mode) p.1))),
   (λ t. and_from (is_allowed w (Grant u g mode)) (can w (Grant u g mode)) (allowed-by w (Grant u g mode) t.0) (ap is_free_answer t.1)),
 )
 
@@ -117,6 +117,6 @@ take-opens w a = cond_both (applies w Take) (swept (does w Take)) w (λ v. (b : 
     (λ t. by w.cells.capacity)
     (λ f. (let z : true ≡ false = sym a ∙ f in cc))
   where
-    by : (c : Option ℕ) → (b : Batch) × TakesBatch w (swept_by (taken w (batch_size w)) c) b
+    by : (c : Option ℕ) → (b : Batch) × TakesBatch w (swept_by (after_take w (batch_size w)) c) b
     by None = (new_batch w (batch_size w), record { batch = refl; number = refl; units = refl; votes = refl; undecided = refl })
     by (Some m) = (new_batch w (batch_size w), record { batch = refl; number = refl; units = refl; votes = refl; undecided = refl })

@@ -19,8 +19,8 @@ use Rattle.cell_model.proofs.Asking.{ask-die}
 use Rattle.core_model.specs.CoreState.{Entry, Outcome}
 use Rattle.cell_model.specs.Locks as locks
 use Rattle.cell_model.specs.declared.locks.Ask.TheVariants.{MustDie}
-use Rattle.core_model.specs.Tests.{doomed_by, members, waiting, outcome_of, outcome_in, is_gone, ask}
-use Rattle.core_model.specs.Changes.{entry_for, told, entries_in, result_told, refusal, ended, verdict_of, decisions_of, with_decisions, seal, swept, swept_by}
+use Rattle.core_model.specs.Tests.{doomed_by, members, waiting, outcome_of, outcome_in, is_gone, ask_answer}
+use Rattle.core_model.specs.Changes.{entry_for, told, entries_in, result_told, refusal, after_end, verdict_of, decisions_of, with_decisions, seal, swept, swept_by}
 use Rattle.core_model.specs.Causes.{IsVotedDown, DependsOnDead, CanCommit, EndsWith, IsRefusedFor, IsRefusedLock, AtDecision, HasCause, HasLine, IsCaused}
 use Rattle.core_model.specs.Legal.{Run, IsLegal, begins, ends}
 use Rattle.core_model.specs.Events.{CoreEvent, Bad, Refuse, EndPlain, EndSnapshot, Decide, Sealed, NotSealed, Doubt, applies, can, does, step, run, is_allowed}
@@ -143,7 +143,7 @@ sealed-outcome : (v : CoreState) (u : UnitNo) → v.units.phase u ≡ Finished �
 sealed-outcome v u p q = λ i. outcome_in (p i) (seal (q i)) (v.manager.result u)
 
 -- a refusal's cause
-pub refused-cause : (opening : GrainId → List Value) (w : CoreState) (u : UnitNo) (g : GrainId) (mode : Mode) (why : Settled) (next : CoreState) → Kept opening w → w.units.phase u ≡ Running → refusal g (ask w u g mode) ≡ Some why →
+pub refused-cause : (opening : GrainId → List Value) (w : CoreState) (u : UnitNo) (g : GrainId) (mode : Mode) (why : Settled) (next : CoreState) → Kept opening w → w.units.phase u ≡ Running → refusal g (ask_answer w u g mode) ≡ Some why →
     HasCause w (Refuse u g mode) next u why × ((x : Entry) → w.units.origin x.unit ≡ Line x.line → HasLine w x why)
 refused-cause opening w u g mode why next k running q = elim (ask-refused w u g mode why q).1 [
   | inl d ↦ (
@@ -197,7 +197,7 @@ no-commit votes writes deps verdict (y ∷ us) (d ∷ ds) r none u (inl q) c = j
     judged_so (decision.Dependency on) n e = cc
 no-commit votes writes deps verdict (y ∷ us) (d ∷ ds) r none u (inr m) c = no-commit votes writes deps verdict us ds r.2 (or_parts (is_commit d) (any is_commit ds) none).1 u m c
 
-ended-cause : (w : CoreState) (e : CoreEvent) (next : CoreState) (u : UnitNo) (answers : List Outcome) (result : Outcome) (at : Option ℕ) → EndsWith w e u result → ((x : UnitNo) → outcome_of next x ≡ outcome_of (ended w u answers result at) x) →
+ended-cause : (w : CoreState) (e : CoreEvent) (next : CoreState) (u : UnitNo) (answers : List Outcome) (result : Outcome) (at : Option ℕ) → EndsWith w e u result → ((x : UnitNo) → outcome_of next x ≡ outcome_of (after_end w u answers result at) x) →
     (x : Entry) → Member x (w.manager.settled ++ entry_for (w.units.origin u) u (settled.Done result)) → Member x w.manager.settled ⊎ Told w e next x
 ended-cause w e next u answers result at end same x m = elim (Member-append x w.manager.settled (entry_for (w.units.origin u) u (settled.Done result)) m) [
   | inl h ↦ inl h

@@ -13,9 +13,9 @@ use Rattle.cell_model.specs.Decisions.{is_commit}
 use Rattle.cell_model.proofs.Asking.{ask-free}
 use Rattle.core_model.specs.declared.questions.AskAnswer.TheVariants as answer
 use Rattle.core_model.specs.CoreState.{UnitNo, GrainId, Member, same_unit, same_grain, Value, Call, Outcome, Origin, Settled, Running, Hold, Mode, Effect, Batch, Decision, CoreState}
-use Rattle.core_model.specs.Tests.{any, all, is_running, is_over, is_final, state_written, ask, ask_lock, ask_doom, doomed_by, is_active, is_planned, is_vote_on, is_voted, is_wanted, is_empty}
+use Rattle.core_model.specs.Tests.{any, all, is_running, is_over, is_final, state_written, ask_answer, ask_lock, ask_doom, doomed_by, is_active, is_planned, is_vote_on, is_voted, is_wanted, is_empty}
 use Rattle.core_model.specs.Equality.{same_reads, same_outcome}
-use Rattle.core_model.specs.Changes.{spoiled_line, begun, restacked, cleaned, locked, raised, refusal, refused, refused_by, finished, ended, released, taken, voted, decisions_of, with_decisions, decided, on_batch, on_decided, on_decisions, sealed, spoiled, in_doubt, learned, loaded}
+use Rattle.core_model.specs.Changes.{spoiled_line, begun, restacked, cleaned, after_lock, after_raise, refusal, after_refusal, refused_by, finished, after_end, after_release, after_take, voted, decisions_of, with_decisions, decided, on_batch, on_decided, on_decisions, sealed, spoiled, in_doubt, after_learn, loaded}
 use Rattle.core_model.specs.Events.{CoreEvent, Bad, Begin, Grant, Refuse, Finish, EndPlain, EndSnapshot, Release, Take, Vote, Decide, Sealed, NotSealed, Doubt, Learn, Emitted, Halt, Want, Load, is_free_answer, can_begin, is_of_call, holds_alone, batch_size, is_open, is_judged, can, does}
 use Rattle.core_model.proofs.Basics.{is_running-true, same_reads-true}
 
@@ -23,17 +23,17 @@ pub data Change (w : CoreState) : CoreEvent → CoreState → Type 0 where
   bad : (line : ℕ) (why : BadRequest) → line ≡ w.units.lines + 1 → Change w (Bad line why) (spoiled_line w line why)
   begin : (origin : Origin) (call : Call) (plain : Bool) → can_begin w origin ≡ true → Change w (Begin origin call plain) (begun w origin call plain)
   lock : (u : UnitNo) (g : GrainId) (mode : Mode) → w.units.phase u ≡ Running → ((h : Hold) → Member h (w.cells.holds g) → conflicts u mode h ≡ false) →
-      holds_lock u (w.cells.holds g) ≡ false → w.cells.here g ≡ true → Change w (Grant u g mode) (locked (restacked w g (cleaned w g)) u g mode)
+      holds_lock u (w.cells.holds g) ≡ false → w.cells.here g ≡ true → Change w (Grant u g mode) (after_lock (restacked w g (cleaned w g)) u g mode)
   raise : (u : UnitNo) (g : GrainId) (mode : Mode) → w.units.phase u ≡ Running → ((h : Hold) → Member h (w.cells.holds g) → conflicts u mode h ≡ false) →
-      holds_lock u (w.cells.holds g) ≡ true → w.cells.here g ≡ true → any (covers u mode) (w.cells.holds g) ≡ false → Change w (Grant u g mode) (raised (restacked w g (cleaned w g)) u g mode)
-  refuse : (u : UnitNo) (g : GrainId) (mode : Mode) (why : Settled) → w.units.phase u ≡ Running → refusal g (ask w u g mode) ≡ Some why → Change w (Refuse u g mode) (refused w u why)
+      holds_lock u (w.cells.holds g) ≡ true → w.cells.here g ≡ true → any (covers u mode) (w.cells.holds g) ≡ false → Change w (Grant u g mode) (after_raise (restacked w g (cleaned w g)) u g mode)
+  refuse : (u : UnitNo) (g : GrainId) (mode : Mode) (why : Settled) → w.units.phase u ≡ Running → refusal g (ask_answer w u g mode) ≡ Some why → Change w (Refuse u g mode) (after_refusal w u why)
   finish : (u : UnitNo) (effect : Effect) → w.units.phase u ≡ Running → w.units.plain u ≡ false → is_of_call w u effect ≡ true → effect.reads ≡ w.units.reads u →
       all (λ x. holds_alone w u x.0) effect.writes ≡ true → Change w (Finish u effect) (finished w u effect)
-  end_plain : (u : UnitNo) (effect : Effect) → w.units.phase u ≡ Running → w.units.plain u ≡ true → is_of_call w u effect ≡ true → (is_empty effect.reads ≡ true) × (is_empty effect.writes ≡ true) → Change w (EndPlain u effect) (ended w u effect.answers effect.result None)
+  end_plain : (u : UnitNo) (effect : Effect) → w.units.phase u ≡ Running → w.units.plain u ≡ true → is_of_call w u effect ≡ true → (is_empty effect.reads ≡ true) × (is_empty effect.writes ≡ true) → Change w (EndPlain u effect) (after_end w u effect.answers effect.result None)
   end_snapshot : (u : UnitNo) (at : ℕ) (outcome : Outcome) → w.units.phase u ≡ Running → w.units.plain u ≡ true → is_empty (w.units.kids u) ≡ true → same_outcome outcome aborted ≡ false →
-      Change w (EndSnapshot u at outcome) (ended w u [] outcome (Some at))
-  release : (u : UnitNo) (g : GrainId) → is_over (w.units.phase u) ≡ true → holds_lock u (w.cells.holds g) ≡ true → Change w (Release u g) (released w u g)
-  take_batch : w.manager.batch ≡ None → 0 < batch_size w → Change w Take (taken w (batch_size w))
+      Change w (EndSnapshot u at outcome) (after_end w u [] outcome (Some at))
+  release : (u : UnitNo) (g : GrainId) → is_over (w.units.phase u) ≡ true → holds_lock u (w.cells.holds g) ≡ true → Change w (Release u g) (after_release w u g)
+  take_batch : w.manager.batch ≡ None → 0 < batch_size w → Change w Take (after_take w (batch_size w))
   vote : (n : ℕ) (g : GrainId) (kept : Bool) (b : Batch) → w.manager.batch ≡ Some b → b.number ≡ n → b.decisions ≡ None → is_planned b g ≡ true → any (is_vote_on g) b.votes ≡ false →
       Change w (Vote n g kept) (voted w b g kept)
   decide_some : (n : ℕ) (b : Batch) → w.manager.batch ≡ Some b → b.number ≡ n → b.decisions ≡ None → is_voted b ≡ true → any is_commit (decisions_of w b) ≡ true →
@@ -43,7 +43,7 @@ pub data Change (w : CoreState) : CoreEvent → CoreState → Type 0 where
   seal_batch : (n : ℕ) (b : Batch) (ds : List Decision) → w.manager.batch ≡ Some b → b.number ≡ n → b.decisions ≡ Some ds → Change w (Sealed n) (sealed w b ds)
   spoil_batch : (n : ℕ) (b : Batch) (ds : List Decision) → w.manager.batch ≡ Some b → b.number ≡ n → b.decisions ≡ Some ds → Change w (NotSealed n) (spoiled w b ds)
   doubt_batch : (n : ℕ) (b : Batch) (ds : List Decision) → w.manager.batch ≡ Some b → b.number ≡ n → b.decisions ≡ Some ds → Change w (Doubt n) (in_doubt w b ds)
-  learn : (u : UnitNo) (g : GrainId) → is_some (state_written g (w.manager.writes u)) ≡ true → is_final (w.manager.verdict u) ≡ true → w.cells.learnt u g ≡ false → Change w (Learn u g) (learned w u g)
+  learn : (u : UnitNo) (g : GrainId) → is_some (state_written g (w.manager.writes u)) ≡ true → is_final (w.manager.verdict u) ≡ true → w.cells.learnt u g ≡ false → Change w (Learn u g) (after_learn w u g)
   emit : w.manager.emitted < length w.manager.settled → Change w Emitted (does w Emitted)
   halt_run : w.units.halt ≡ false → Change w Halt (does w Halt)
   want : (u : UnitNo) (g : GrainId) → w.units.phase u ≡ Running → holds_lock u (w.cells.holds g) ≡ false → any (λ t. same_unit t.0 u && same_grain t.1 g) w.units.wants ≡ false → Change w (Want u g) (does w (Want u g))
@@ -75,7 +75,7 @@ judged-is : (w : CoreState) (f : Batch → List Decision → CoreState) (b : Bat
 judged-is w f b ds e d = ap (on_decided w f) e ∙ ap (on_decisions w (f b)) d
 
 -- what the tests of a grant say
-pub ask-granted : (w : CoreState) (u : UnitNo) (g : GrainId) (mode : Mode) → is_free_answer (ask w u g mode) ≡ true →
+pub ask-granted : (w : CoreState) (u : UnitNo) (g : GrainId) (mode : Mode) → is_free_answer (ask_answer w u g mode) ≡ true →
     (is_active w u g ≡ true) × (doomed_by w u ≡ None) × (locks.ask (w.cells.holds g) u mode ≡ Free) × (w.cells.here g ≡ true)
 ask-granted w u g mode e = by_active (is_active w u g) refl e
   where
@@ -97,7 +97,7 @@ ask-granted w u g mode e = by_active (is_active w u g) refl e
     by_active false q t = cc
 
 -- what the tests of a refusal say
-pub ask-refused : (w : CoreState) (u : UnitNo) (g : GrainId) (mode : Mode) (why : Settled) → refusal g (ask w u g mode) ≡ Some why →
+pub ask-refused : (w : CoreState) (u : UnitNo) (g : GrainId) (mode : Mode) (why : Settled) → refusal g (ask_answer w u g mode) ≡ Some why →
     (is_active w u g ≡ true)
     × (((source : UnitNo) × (doomed_by w u ≡ Some source) × (why ≡ settled.Dependency source))
     ⊎ ((holder : UnitNo) × (doomed_by w u ≡ None) × (locks.ask (w.cells.holds g) u mode ≡ MustDie holder) × (why ≡ settled.Lock holder g)))
@@ -132,11 +132,11 @@ decode w (Begin origin call plain) c = begin origin call plain c
 decode w (Grant u g mode) c =
     let t = ask-granted w u g mode c in
     let free = ask-free (w.cells.holds g) u mode t.2 in
-    cond_both (holds_lock u (w.cells.holds g)) (raised (restacked w g (cleaned w g)) u g mode) (locked (restacked w g (cleaned w g)) u g mode) (Change w (Grant u g mode))
+    cond_both (holds_lock u (w.cells.holds g)) (after_raise (restacked w g (cleaned w g)) u g mode) (after_lock (restacked w g (cleaned w g)) u g mode) (Change w (Grant u g mode))
     (λ h. raise u g mode (active-running w u g t.0) free.1 h t.3 free.0)
     (λ h. lock u g mode (active-running w u g t.0) free.1 h t.3)
 decode w (Refuse u g mode) c =
-    let t = some-true (refusal g (ask w u g mode)) c in
+    let t = some-true (refusal g (ask_answer w u g mode)) c in
     subst (Change w (Refuse u g mode)) (sym (ap (refused_by w u) t.1))
     (refuse u g mode t.0 (active-running w u g (ask-refused w u g mode t.0 t.1).0) t.1)
 decode w (Finish u effect) c =

@@ -7,7 +7,7 @@ use Rattle.core_model.specs.Tests.{is_committed}
 use Rattle.core_model.proofs.Puts.{put-at, put-from, put-is}
 use Rattle.cell_model.specs.Sources.{with_source, SourcesAscend}
 use Rattle.cell_model.proofs.Sources.{with-only, with-ascending}
-use Rattle.core_model.specs.Changes.{restacked, cleaned, locked, deps_with, is_sure, read_of, swept, swept_by}
+use Rattle.core_model.specs.Changes.{restacked, cleaned, after_lock, deps_with, is_sure, read_of, swept, swept_by}
 use Rattle.core_model.specs.Events.{CoreEvent, applies, can, does, step, run, is_allowed}
 use Rattle.core_model.specs.Serial.{IsTrueLoad, AllLoadsTrue}
 use Rattle.core_model.proofs.Decoded.{Change, bad, begin, lock, raise, refuse, finish, end_plain, end_snapshot, release, take_batch, vote, decide_some, decide_none, seal_batch, spoil_batch, doubt_batch, learn, emit, halt_run, want, load, decode}
@@ -18,7 +18,7 @@ Depends w =
     ((u : UnitNo) → SourcesAscend (w.units.deps u))
     × ((u d : UnitNo) → Member d (w.units.deps u) → (r : Read) × Member r (w.units.reads u) × (r.source ≡ d) × (d ≡ nobody → ⊥))
 
-depends-locked : (w : CoreState) (u : UnitNo) (g : GrainId) (mode : Mode) → Depends w → Depends (locked w u g mode)
+depends-locked : (w : CoreState) (u : UnitNo) (g : GrainId) (mode : Mode) → Depends w → Depends (after_lock w u g mode)
 depends-locked w u g mode s = (
   (λ x. put-at w.units.deps u new_deps SourcesAscend x
       (λ e. cond_both (is_sure w source) (w.units.deps u) (with_source (w.units.deps u) source) SourcesAscend (λ q. s.0 u) (λ q. with-ascending (w.units.deps u) source (s.0 u)))

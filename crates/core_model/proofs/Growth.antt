@@ -12,7 +12,7 @@ use Rattle.core_model.specs.Tests.{is_running}
 use Rattle.core_model.proofs.Basics.{is_running-true}
 use Rattle.std.proofs.Common.{le_refl}
 use Rattle.core_model.specs.Tests.{is_over, outcome_in, outcome_of, members}
-use Rattle.core_model.specs.Changes.{cleaned, read_of, begun, new_unit, kids_with, ended, judged, decisions_of, with_decisions, sealed, spoiled, in_doubt, seal, spoil, leave, swept, swept_by}
+use Rattle.core_model.specs.Changes.{cleaned, read_of, begun, new_unit, kids_with, after_end, judged, decisions_of, with_decisions, sealed, spoiled, in_doubt, seal, spoil, leave, swept, swept_by}
 use Rattle.base_types.specs.declared.calls.Origin.TheVariants.{Line, Child}
 use Rattle.core_model.specs.Events.{can_begin}
 use Rattle.core_model.specs.Events.{CoreEvent, applies, can, does, step, run, is_allowed}
@@ -119,7 +119,7 @@ grows-decided opening w b ds k q d = (
     other : (x : UnitNo) → (Member x (members w b) → ⊥) → judged (members w b) ds w.manager.verdict x ≡ w.manager.verdict x
     other x n = judged-other (members w b) ds w.manager.verdict x n
 
-grows-ended : (w : CoreState) (u : UnitNo) (answers : List Outcome) (result : Outcome) (at : Option ℕ) → w.units.phase u ≡ Running → Grows w (ended w u answers result at)
+grows-ended : (w : CoreState) (u : UnitNo) (answers : List Outcome) (result : Outcome) (at : Option ℕ) → w.units.phase u ≡ Running → Grows w (after_end w u answers result at)
 grows-ended w u answers result at running = (
   (λ x e. e),
   (λ x e. refl),

@@ -14,7 +14,7 @@ use Rattle.cell_model.specs.Cells.{with_reading, without_reading, is_reading_of}
 use Rattle.cell_model.proofs.Asking.{dropped-member}
 use Rattle.cell_model.proofs.Units.{cases_grain}
 use Rattle.core_model.specs.Holders.{DifferInUnit, HoldersHaveRead}
-use Rattle.core_model.specs.Changes.{restacked, cleaned, locked, released, finished, read_of, refused, decisions_of, with_decisions, sealed, spoiled, in_doubt, swept, swept_by}
+use Rattle.core_model.specs.Changes.{restacked, cleaned, after_lock, after_release, finished, read_of, after_refusal, decisions_of, with_decisions, sealed, spoiled, in_doubt, swept, swept_by}
 use Rattle.core_model.specs.Events.{holds_alone}
 use Rattle.core_model.specs.Legal.{Run, IsLegal, begins, ends}
 use Rattle.core_model.specs.Events.{CoreEvent, Refuse, Decide, Sealed, NotSealed, Doubt, applies, can, does, step, run, is_allowed}
@@ -68,7 +68,7 @@ tidy-held w u g mode s = (
   (λ k. grain-at w.cells.readings g (with_reading (w.cells.readings g) u (top (w.cells.stack g)).unit) (DifferInUnit (λ (s : Reading). s.unit)) k (λ e. differ-reading (w.cells.readings g) u (top (w.cells.stack g)).unit (s.1 g)) (λ e. s.1 k)),
 )
 
-tidy-locked : (n : ℕ) (w : CoreState) (u : UnitNo) (g : GrainId) (mode : Mode) → LoadlessAt n w → w.units.phase u ≡ Running → holds_lock u (w.cells.holds g) ≡ false → Tidy w → Tidy (locked w u g mode)
+tidy-locked : (n : ℕ) (w : CoreState) (u : UnitNo) (g : GrainId) (mode : Mode) → LoadlessAt n w → w.units.phase u ≡ Running → holds_lock u (w.cells.holds g) ≡ false → Tidy w → Tidy (after_lock w u g mode)
 tidy-locked n w u g mode i running first s = (
   (tidy-held w u g mode s).0,
   (tidy-held w u g mode s).1,
@@ -103,7 +103,7 @@ tidy-locked n w u g mode i running first s = (
         let h = i.keeps u r running m in
         same_unit-false h.0.unit u (any-false (is_hold_of u) (w.cells.holds g) first h.0 (subst (λ j. Member h.0 (w.cells.holds j)) q h.1)) h.2
 
-tidy-released : (w : CoreState) (u : UnitNo) (g : GrainId) → Tidy w → Tidy (released w u g)
+tidy-released : (w : CoreState) (u : UnitNo) (g : GrainId) → Tidy w → Tidy (after_release w u g)
 tidy-released w u g s = (
   (λ k. grain-at w.cells.holds g (dropped (w.cells.holds g) u) (DifferInUnit (λ (h : Hold). h.unit)) k (λ e. differ-filter (λ (h : Hold). h.unit) (λ h. not (is_hold_of u h)) (w.cells.holds g) (s.0 g)) (λ e. s.0 k)),
   (λ k. grain-at w.cells.readings g (without_reading (w.cells.readings g) u) (DifferInUnit (λ (s : Reading). s.unit)) k (λ e. differ-filter (λ (s : Reading). s.unit) (λ r. not (is_reading_of u r)) (w.cells.readings g) (s.1 g)) (λ e. s.1 k)),
@@ -185,7 +185,7 @@ knows-change opening w e w' (bad line why q) a k s = s
 knows-change opening w e w' (begin origin call plain c) a k s = s
 knows-change opening w e w' (lock u g mode running free first here) a k s = s
 knows-change opening w e w' (raise u g mode running free held here uncovered) a k s = s
-knows-change opening w e w' (refuse u g mode why running q) a k s = knows-from w (put w.manager.verdict u Aborted) (grows-change opening w (Refuse u g mode) (refused w u why) (refuse u g mode why running q) a k).1 s
+knows-change opening w e w' (refuse u g mode why running q) a k s = knows-from w (put w.manager.verdict u Aborted) (grows-change opening w (Refuse u g mode) (after_refusal w u why) (refuse u g mode why running q) a k).1 s
 knows-change opening w e w' (finish u effect running plain of_call reads alone) a k s =
     λ x g z. (let t = s x g z in
     let apart : x ≡ u → ⊥ = λ q. (let y : false ≡ true = sym (ap is_final (ap w.manager.verdict q ∙ k.0.undecided u (inr running))) ∙ t.0 in cc) in

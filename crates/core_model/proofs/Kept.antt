@@ -16,7 +16,7 @@ use Rattle.core_model.specs.Tests.{members, failed_in, waiting}
 use Rattle.base_types.specs.declared.entries.Settled.TheVariants as settled
 use Rattle.std.proofs.lemmas.Bool.{or_cases}
 use Rattle.core_model.proofs.Basics.{is_over-not}
-use Rattle.core_model.specs.Changes.{swept_by, restacked, cleaned, locked, deps_with, is_sure, read_of, voted, decisions_of, with_decisions, closed, result_told, swept, seal, spoil, leave}
+use Rattle.core_model.specs.Changes.{swept_by, restacked, cleaned, after_lock, deps_with, is_sure, read_of, voted, decisions_of, with_decisions, closed, result_told, swept, seal, spoil, leave}
 use Rattle.core_model.specs.Events.{CoreEvent, can, applies, does, step, run, start, is_allowed}
 use Rattle.core_model.specs.Serial.{IsTrueLoad, AllLoadsTrue}
 use Rattle.core_model.proofs.Orders.{free_prefix-length, take_length, at_part, in_part, judged-other}
@@ -56,7 +56,7 @@ covers-more reads deps v v' keeps covers u r m = elim (covers u r m) [
 deps-keeps : (w : CoreState) (deps : List UnitNo) (source d : UnitNo) → Member d deps → Member d (deps_with w deps source)
 deps-keeps w deps source d m = cond_both (is_sure w source) deps (with_source deps source) (Member d) (λ e. m) (λ e. with-keeps deps source d m)
 
-covers-locked : (w : CoreState) (u : UnitNo) (g : GrainId) (mode : Mode) → Covers w.units.reads w.units.deps w.manager.verdict → Covers (locked w u g mode).units.reads (locked w u g mode).units.deps w.manager.verdict
+covers-locked : (w : CoreState) (u : UnitNo) (g : GrainId) (mode : Mode) → Covers w.units.reads w.units.deps w.manager.verdict → Covers (after_lock w u g mode).units.reads (after_lock w u g mode).units.deps w.manager.verdict
 covers-locked w u g mode covers x r = put-from w.units.reads u _ (Member r) ((r.source ≡ nobody) ⊎ ((w.manager.verdict r.source ≡ Committed) ⊎ Member r.source (put w.units.deps u new_deps x))) x
     (λ e m. elim (Member-append r (w.units.reads u) (read_of g (top (w.cells.stack g)) ∷ []) m) [
       | inl o ↦ old x r (subst (λ z. Member r (w.units.reads z)) (sym e) o)

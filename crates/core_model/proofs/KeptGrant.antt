@@ -13,7 +13,7 @@ use Rattle.core_model.proofs.Invariant.{Inv}
 use Rattle.cell_model.specs.Locks.{granted}
 use Rattle.cell_model.specs.Cells.{with_reading}
 use Rattle.cell_model.proofs.Asking.{no_conflict, granted-stays}
-use Rattle.core_model.specs.Changes.{locked, raised, read_of}
+use Rattle.core_model.specs.Changes.{after_lock, after_raise, read_of}
 use Rattle.core_model.proofs.Readings.{with_reading-member, with_reading-same}
 use Rattle.core_model.proofs.Invariant.{loadless-of}
 use Rattle.core_model.proofs.LoadlessEvents.{loadless-locked}
@@ -26,7 +26,7 @@ Src opening w x r = ((r.source ≡ nobody) × (r.state ≡ opening r.grain))
     ⊎ ((w.units.phase r.source ≡ Finished) × (state_written r.grain (w.manager.writes r.source) ≡ Some r.state) × (w.units.phase x ≡ Finished → w.manager.place r.source < w.manager.place x))
 
 pub kept-locked : (opening : GrainId → List Value) (n : ℕ) (w : CoreState) (u : UnitNo) (g : GrainId) (mode : Mode) → Inv opening n w →
-    w.units.phase u ≡ Running → ((h : Hold) → Member h (w.cells.holds g) → conflicts u mode h ≡ false) → holds_lock u (w.cells.holds g) ≡ false → w.cells.here g ≡ true → Inv opening n (locked w u g mode)
+    w.units.phase u ≡ Running → ((h : Hold) → Member h (w.cells.holds g) → conflicts u mode h ≡ false) → holds_lock u (w.cells.holds g) ≡ false → w.cells.here g ≡ true → Inv opening n (after_lock w u g mode)
 kept-locked opening n w u g mode i running free first here_g =
     let p = loadless-locked n w u g mode (loadless-of opening n w i) running free first here_g in
     record {
@@ -138,7 +138,7 @@ kept-locked opening n w u g mode i running free first here_g =
 
 -- the unit's own lock becomes one for an update
 pub kept-raised : (opening : GrainId → List Value) (n : ℕ) (w : CoreState) (u : UnitNo) (g : GrainId) (mode : Mode) → Inv opening n w →
-    w.units.phase u ≡ Running → ((h : Hold) → Member h (w.cells.holds g) → conflicts u mode h ≡ false) → holds_lock u (w.cells.holds g) ≡ true → w.cells.here g ≡ true → Inv opening n (raised w u g mode)
+    w.units.phase u ≡ Running → ((h : Hold) → Member h (w.cells.holds g) → conflicts u mode h ≡ false) → holds_lock u (w.cells.holds g) ≡ true → w.cells.here g ≡ true → Inv opening n (after_raise w u g mode)
 kept-raised opening n w u g mode i running free held here_g =
     let p = loadless-raised n w u g mode (loadless-of opening n w i) running free held here_g in
     record {

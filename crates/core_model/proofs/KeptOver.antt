@@ -8,7 +8,7 @@ use Rattle.core_model.proofs.Puts.{put-at, put-from, put-same, put-other}
 use Rattle.core_model.proofs.Basics.{Dead-more}
 use Rattle.core_model.proofs.Chained.{Chain-more}
 use Rattle.core_model.proofs.Invariant.{Inv}
-use Rattle.core_model.specs.Changes.{refused}
+use Rattle.core_model.specs.Changes.{after_refusal}
 use Rattle.core_model.proofs.Invariant.{loadless-of}
 use Rattle.core_model.proofs.LoadlessEvents.{loadless-over}
 use Rattle.core_model.proofs.Invariant.{loadless-of}
@@ -111,7 +111,7 @@ kept-aborted opening n w u i refused_u open_u =
     more : (x : UnitNo) → Dead w.manager.verdict w.units.reads x → Dead (put w.manager.verdict u Aborted) w.units.reads x
     more = Dead-more w.manager.verdict (put w.manager.verdict u Aborted) w.units.reads w.units.reads (λ k h. put-at w.manager.verdict u Aborted (λ v. is_bad v ≡ true) k (λ e. refl) (λ e. h)) (λ k r m. m)
 
-pub kept-refused : (opening : GrainId → List Value) (n : ℕ) (w : CoreState) (u : UnitNo) (why : Settled) → Inv opening n w → w.units.phase u ≡ Running → Inv opening n (refused w u why)
+pub kept-refused : (opening : GrainId → List Value) (n : ℕ) (w : CoreState) (u : UnitNo) (why : Settled) → Inv opening n w → w.units.phase u ≡ Running → Inv opening n (after_refusal w u why)
 kept-refused opening n w u why i running =
     kept-aborted opening n (record w { units = record w.units { phase = put w.units.phase u Refused } }) u
     (kept-over opening n w u Refused i running (λ e. cc) (λ e. cc) (λ e. cc)) (put-same w.units.phase u Refused) (i.undecided u (inr running))

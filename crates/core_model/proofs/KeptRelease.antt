@@ -13,13 +13,13 @@ use Rattle.core_model.proofs.Invariant.{Inv, wrote-finished}
 use Rattle.cell_model.specs.Stacks.{pushed}
 use Rattle.cell_model.specs.Cells.{stacked, reads_top, without_reading}
 use Rattle.cell_model.proofs.Asking.{dropped-member, dropped-stays}
-use Rattle.core_model.specs.Changes.{released}
+use Rattle.core_model.specs.Changes.{after_release}
 use Rattle.core_model.proofs.Readings.{without_reading-member, reads_top-true, reads_top-has}
 use Rattle.core_model.proofs.Invariant.{loadless-of}
 use Rattle.core_model.proofs.LoadlessEvents.{loadless-released}
 
 pub kept-released : (opening : GrainId → List Value) (n : ℕ) (w : CoreState) (u : UnitNo) (g : GrainId) → Inv opening n w →
-    (w.units.phase u ≡ Running → ⊥) → holds_lock u (w.cells.holds g) ≡ true → Inv opening n (released w u g)
+    (w.units.phase u ≡ Running → ⊥) → holds_lock u (w.cells.holds g) ≡ true → Inv opening n (after_release w u g)
 kept-released opening n w u g i stopped held =
     let p = loadless-released n w u g (loadless-of opening n w i) stopped held in
     record {

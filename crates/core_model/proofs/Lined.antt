@@ -13,7 +13,7 @@ use Rattle.core_model.specs.CoreState.{Entry, Outcome, Call}
 use Rattle.core_model.specs.Tests.{members, waiting}
 use Rattle.core_model.specs.Lines.{HasBegunFor, IsSettled, DifferInLine, SettleInOrder, LinesAreTaken, EntriesAreOnce}
 use Rattle.core_model.proofs.TakenLines.{taken-change}
-use Rattle.core_model.specs.Changes.{begun, new_unit, lines_with, entry_for, told, entries_in, refused, finished, ended, decisions_of, with_decisions, closed, result_told, seal, spoil, leave, swept, swept_by}
+use Rattle.core_model.specs.Changes.{begun, new_unit, lines_with, entry_for, told, entries_in, after_refusal, finished, after_end, decisions_of, with_decisions, closed, result_told, seal, spoil, leave, swept, swept_by}
 use Rattle.core_model.specs.Events.{can_begin}
 use Rattle.core_model.specs.Legal.{Run, IsLegal, begins, ends}
 use Rattle.core_model.specs.Events.{CoreEvent, applies, can, does, step, run, is_allowed}
@@ -419,10 +419,10 @@ once-begun opening n w origin call plain i c s = (
         go (Line m) = omega arith
         go (Child p j d) = omega arith
 
-once-ended : (opening : GrainId → List Value) (w : CoreState) (u : UnitNo) (answers : List Outcome) (result : Outcome) (at : Option ℕ) → Kept opening w → w.units.phase u ≡ Running → Once w → Once (ended w u answers result at)
+once-ended : (opening : GrainId → List Value) (w : CoreState) (u : UnitNo) (answers : List Outcome) (result : Outcome) (at : Option ℕ) → Kept opening w → w.units.phase u ≡ Running → Once w → Once (after_end w u answers result at)
 once-ended opening w u answers result at k running s =
-    once-settles w (ended w u answers result at) (entry_for (w.units.origin u) u (settled.Done result))
-    (settles-stops opening _ w (ended w u answers result at) u Ended (settled.Done result) k.0 running (inr refl) (record { phase = refl; origin = refl; lines = refl; place = refl; closed = refl; emitted = refl; all = refl }) s) s
+    once-settles w (after_end w u answers result at) (entry_for (w.units.origin u) u (settled.Done result))
+    (settles-stops opening _ w (after_end w u answers result at) u Ended (settled.Done result) k.0 running (inr refl) (record { phase = refl; origin = refl; lines = refl; place = refl; closed = refl; emitted = refl; all = refl }) s) s
 
 -- who finishes isn't settled yet
 once-finished : (opening : GrainId → List Value) (w : CoreState) (u : UnitNo) (effect : Effect) → Kept opening w → w.units.phase u ≡ Running → Once w → Once (finished w u effect)
@@ -463,8 +463,8 @@ once-change opening w e w' (begin origin call plain c) a k dep arg s = once-begu
 once-change opening w e w' (lock u g mode running free first here) a k dep arg s = s
 once-change opening w e w' (raise u g mode running free held here uncovered) a k dep arg s = s
 once-change opening w e w' (refuse u g mode why running q) a k dep arg s =
-    once-settles w (refused w u why) (entry_for (w.units.origin u) u why)
-    (settles-stops opening _ w (refused w u why) u Refused why k.0 running (inl refl) (record { phase = refl; origin = refl; lines = refl; place = refl; closed = refl; emitted = refl; all = refl }) s) s
+    once-settles w (after_refusal w u why) (entry_for (w.units.origin u) u why)
+    (settles-stops opening _ w (after_refusal w u why) u Refused why k.0 running (inl refl) (record { phase = refl; origin = refl; lines = refl; place = refl; closed = refl; emitted = refl; all = refl }) s) s
 once-change opening w e w' (finish u effect running plain of_call reads alone) a k dep arg s = once-finished opening w u effect k running s
 once-change opening w e w' (end_plain u effect running plain of_call bare) a k dep arg s = once-ended opening w u effect.answers effect.result None k running s
 once-change opening w e w' (end_snapshot u at outcome running plain kids answer) a k dep arg s = once-ended opening w u [] outcome (Some at) k running s

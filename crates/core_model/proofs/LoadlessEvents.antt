@@ -8,7 +8,7 @@ use Rattle.cell_model.proofs.Asking.{no_conflict, granted-member, granted-new, g
 use Rattle.core_model.specs.CoreState.{UnitNo, GrainId, nobody, put, put_grain, Member, Value, Call, Origin, Phase, Unborn, Running, Finished, Refused, Verdict, Open, Aborted, Read, Write, top, Hold, Mode, Reading, Effect, Settled, CoreState}
 use Rattle.core_model.specs.Tests.{any, all, state_written}
 use Rattle.core_model.specs.Chains.{WroteGrain}
-use Rattle.core_model.specs.Changes.{begun, new_unit, finished, locked, raised, released, read_of, refused}
+use Rattle.core_model.specs.Changes.{begun, new_unit, finished, after_lock, after_raise, after_release, read_of, after_refusal}
 use Rattle.core_model.specs.Events.{holds_alone}
 use Rattle.core_model.proofs.Puts.{put-at, put-from, put-same, put-other, grain-at, grain-from, grain-is}
 use Rattle.core_model.proofs.Basics.{written-member}
@@ -146,7 +146,7 @@ loadless-aborted n w u i refused_u open_u =
     not_finished : (x : UnitNo) → x ≡ u → w.units.phase x ≡ Finished → ⊥
     not_finished x q e = (let t : Finished ≡ Refused = sym e ∙ ap w.units.phase q ∙ refused_u in cc)
 
-pub loadless-refused : (n : ℕ) (w : CoreState) (u : UnitNo) (why : Settled) → LoadlessAt n w → w.units.phase u ≡ Running → LoadlessAt n (refused w u why)
+pub loadless-refused : (n : ℕ) (w : CoreState) (u : UnitNo) (why : Settled) → LoadlessAt n w → w.units.phase u ≡ Running → LoadlessAt n (after_refusal w u why)
 loadless-refused n w u why i running =
     loadless-aborted n (record w { units = record w.units { phase = put w.units.phase u Refused } }) u
     (loadless-over n w u Refused i running (λ e. cc) (λ e. cc) (λ e. cc)) (put-same w.units.phase u Refused) (i.undecided u (inr running))
@@ -219,7 +219,7 @@ loadless-finished n w u effect i running holds =
     old_wrote x g e wr = (wr.0, ap (state_written g) (sym (put-other w.manager.writes u ws x e)) ∙ wr.1)
 
 pub loadless-locked : (n : ℕ) (w : CoreState) (u : UnitNo) (g : GrainId) (mode : Mode) → LoadlessAt n w →
-    w.units.phase u ≡ Running → ((h : Hold) → Member h (w.cells.holds g) → conflicts u mode h ≡ false) → holds_lock u (w.cells.holds g) ≡ false → w.cells.here g ≡ true → LoadlessAt n (locked w u g mode)
+    w.units.phase u ≡ Running → ((h : Hold) → Member h (w.cells.holds g) → conflicts u mode h ≡ false) → holds_lock u (w.cells.holds g) ≡ false → w.cells.here g ≡ true → LoadlessAt n (after_lock w u g mode)
 loadless-locked n w u g mode i running free first here_g =
     record {
       fresh = i.fresh;
@@ -319,7 +319,7 @@ loadless-locked n w u g mode i running free first here_g =
     ]
 
 pub loadless-raised : (n : ℕ) (w : CoreState) (u : UnitNo) (g : GrainId) (mode : Mode) → LoadlessAt n w →
-    w.units.phase u ≡ Running → ((h : Hold) → Member h (w.cells.holds g) → conflicts u mode h ≡ false) → holds_lock u (w.cells.holds g) ≡ true → w.cells.here g ≡ true → LoadlessAt n (raised w u g mode)
+    w.units.phase u ≡ Running → ((h : Hold) → Member h (w.cells.holds g) → conflicts u mode h ≡ false) → holds_lock u (w.cells.holds g) ≡ true → w.cells.here g ≡ true → LoadlessAt n (after_raise w u g mode)
 loadless-raised n w u g mode i running free held here_g =
     record {
       fresh = i.fresh;
@@ -391,7 +391,7 @@ loadless-raised n w u g mode i running free held here_g =
         (λ e m. (h, m, refl))
 
 pub loadless-released : (n : ℕ) (w : CoreState) (u : UnitNo) (g : GrainId) → LoadlessAt n w →
-    (w.units.phase u ≡ Running → ⊥) → holds_lock u (w.cells.holds g) ≡ true → LoadlessAt n (released w u g)
+    (w.units.phase u ≡ Running → ⊥) → holds_lock u (w.cells.holds g) ≡ true → LoadlessAt n (after_release w u g)
 loadless-released n w u g i stopped held =
     record {
       fresh = i.fresh;

@@ -5,7 +5,7 @@ use Rattle.core_model.specs.CoreState.{UnitNo, GrainId, put, Value, Phase, Runni
 use Rattle.core_model.proofs.Puts.{put-from, put-is, put-other}
 use Rattle.core_model.specs.CoreState.{Outcome}
 use Rattle.core_model.specs.Tests.{is_empty}
-use Rattle.core_model.specs.Changes.{begun, new_unit, ended, finished, swept, swept_by}
+use Rattle.core_model.specs.Changes.{begun, new_unit, after_end, finished, swept, swept_by}
 use Rattle.core_model.specs.Serial.{Plays, AllPlay}
 use Rattle.core_model.specs.Consistent.{plain_effect, PlainRunsArePlays}
 use Rattle.core_model.specs.Legal.{Run, IsLegal, begins, ends}
@@ -28,8 +28,8 @@ plain-phase : (plays : Effect → Bool) (w : CoreState) (u : UnitNo) (end : Phas
 plain-phase plays w u end n v x = put-from w.units.phase u end (λ z. z ≡ Ended) (w.units.seen_at x ≡ None → plays (plain_effect w x) ≡ true) x (λ q f. absurd (n f)) (λ q f. v x f)
 
 -- who ended before isn't the unit that ends now
-plain-other : (w : CoreState) (u : UnitNo) (answers : List Outcome) (result : Outcome) (at : Option ℕ) (x : UnitNo) → (x ≡ u → ⊥) → plain_effect (ended w u answers result at) x ≡ plain_effect w x
-plain-other w u answers result at x q = other-plain w (ended w u answers result at) x refl refl (put-other w.manager.answers u answers x q) (put-other w.manager.result u result x q)
+plain-other : (w : CoreState) (u : UnitNo) (answers : List Outcome) (result : Outcome) (at : Option ℕ) (x : UnitNo) → (x ≡ u → ⊥) → plain_effect (after_end w u answers result at) x ≡ plain_effect w x
+plain-other w u answers result at x q = other-plain w (after_end w u answers result at) x refl refl (put-other w.manager.answers u answers x q) (put-other w.manager.result u result x q)
 
 plain-change : (opening : GrainId → List Value) (plays : Effect → Bool) (w : CoreState) (e : CoreEvent) (w' : CoreState) → Change w e w' → Plays plays e → Kept opening w → PlainRunsArePlays plays w → PlainRunsArePlays plays w'
 plain-change opening plays w e w' (bad line why q) p k v = v
@@ -45,7 +45,7 @@ plain-change opening plays w e w' (finish u effect running plain of_call reads a
     (λ q f. cc)
     (λ q f n. ap plays (other-plain w (finished w u effect) x refl refl (put-other w.manager.answers u effect.answers x q) (put-other w.manager.result u effect.result x q)) ∙ v x f n)
 plain-change opening plays w e w' (end_plain u effect running plain of_call bare) p k v =
-    λ x. put-from w.units.phase u Ended (λ z. z ≡ Ended) (put w.units.seen_at u None x ≡ None → plays (plain_effect (ended w u effect.answers effect.result None) x) ≡ true) x
+    λ x. put-from w.units.phase u Ended (λ z. z ≡ Ended) (put w.units.seen_at u None x ≡ None → plays (plain_effect (after_end w u effect.answers effect.result None) x) ≡ true) x
     (λ q f n. (let t = parts-of w u effect of_call in
     let o : w.units.origin x ≡ effect.origin = ap w.units.origin q ∙ sym t.1 in
     let c : w.units.call x ≡ effect.call = ap w.units.call q ∙ sym t.2 in
@@ -53,12 +53,12 @@ plain-change opening plays w e w' (end_plain u effect running plain of_call bare
     let s : put w.manager.result u effect.result x ≡ effect.result = put-is w.manager.result u effect.result x q in
     let one : x ≡ effect.unit = q ∙ sym t.0 in
     let rs = sym (empty-list effect.reads bare.0) in let ws = sym (empty-list effect.writes bare.1) in
-    let same : plain_effect (ended w u effect.answers effect.result None) x ≡ effect =
+    let same : plain_effect (after_end w u effect.answers effect.result None) x ≡ effect =
     λ i. record { unit = one i; origin = o i; call = c i; answers = a i; reads = rs i; writes = ws i; result = s i } in
     ap plays same ∙ p))
     (λ q f n. ap plays (plain-other w u effect.answers effect.result None x q) ∙ v x f (sym (put-other w.units.seen_at u None x q) ∙ n))
 plain-change opening plays w e w' (end_snapshot u at outcome running plain kids answer) p k v =
-    λ x. put-from w.units.phase u Ended (λ z. z ≡ Ended) (put w.units.seen_at u (Some at) x ≡ None → plays (plain_effect (ended w u [] outcome (Some at)) x) ≡ true) x
+    λ x. put-from w.units.phase u Ended (λ z. z ≡ Ended) (put w.units.seen_at u (Some at) x ≡ None → plays (plain_effect (after_end w u [] outcome (Some at)) x) ≡ true) x
     (λ q f n. (let t : Some at ≡ None = sym (put-is w.units.seen_at u (Some at) x q) ∙ n in cc))
     (λ q f n. ap plays (plain-other w u [] outcome (Some at) x q) ∙ v x f (sym (put-other w.units.seen_at u (Some at) x q) ∙ n))
 plain-change opening plays w e w' (release u g over held) p k v = v

@@ -6,7 +6,7 @@ use Rattle.cell_model.proofs.Units.{any-true, any-none, any-member, same_grain-t
 use Rattle.core_model.specs.CoreState.{UnitNo, GrainId, same_grain, Member, Value, Running, Finished, Aborted, Write, Effect, Batch, CoreState}
 use Rattle.core_model.specs.Tests.{any, is_bad, is_before, members, has_bad_source, with_grain, grains_of, grains_to_write, planned}
 use Rattle.core_model.specs.Chains.{WroteGrain}
-use Rattle.core_model.specs.Changes.{finished, taken, swept, swept_by}
+use Rattle.core_model.specs.Changes.{finished, after_take, swept, swept_by}
 use Rattle.core_model.specs.Events.{CoreEvent, Take, applies, batch_size, can, does, step, run, is_allowed}
 use Rattle.core_model.specs.Steps.{AreAscending, IsPlan}
 use Rattle.core_model.specs.Legal.{Run, IsLegal, begins, ends}
@@ -232,7 +232,7 @@ plan-taken w a b q = plan-is (step w Take) b (cond_both (applies w Take) (swept 
     (λ t. by w.cells.capacity)
     (λ f. (let z : true ≡ false = sym a ∙ f in cc)) q)
   where
-    by : (c : Option ℕ) → (swept_by (taken w (batch_size w)) c).manager.batch ≡ Some b → b.plan ≡ planned (swept_by (taken w (batch_size w)) c) (members (swept_by (taken w (batch_size w)) c) b)
+    by : (c : Option ℕ) → (swept_by (after_take w (batch_size w)) c).manager.batch ≡ Some b → b.plan ≡ planned (swept_by (after_take w (batch_size w)) c) (members (swept_by (after_take w (batch_size w)) c) b)
     by None z = (let is = some-is _ b z in subst (λ (t : Batch). t.plan ≡ planned w (members w t)) is refl)
     by (Some m) z = (let is = some-is _ b z in subst (λ (t : Batch). t.plan ≡ planned w (members w t)) is refl)
 

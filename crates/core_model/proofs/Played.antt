@@ -7,7 +7,7 @@ use Rattle.core_model.proofs.Puts.{put-from, put-is, put-other}
 use Rattle.core_model.specs.CoreState.{Call, Outcome}
 use Rattle.core_model.specs.Equality.{same_origin, same_call}
 use Rattle.core_model.specs.Tests.{answered_by}
-use Rattle.core_model.specs.Changes.{locked, restacked, cleaned, read_of, begun, new_unit, ended, finished, swept, swept_by}
+use Rattle.core_model.specs.Changes.{after_lock, restacked, cleaned, read_of, begun, new_unit, after_end, finished, swept, swept_by}
 use Rattle.core_model.specs.Events.{CoreEvent, is_of_call, applies, does, step, run, can, is_allowed}
 use Rattle.core_model.specs.Answers.{effect_of}
 use Rattle.core_model.specs.Serial.{Plays, AllPlay, AllLoadsTrue}
@@ -43,7 +43,7 @@ valid-change opening plays w e w' (begin origin call plain c) p k v = λ x. put-
     (λ q f. cc)
     (λ q f. ap plays (other-effect w (begun w origin call plain) x (put-other w.units.origin (new_unit w) origin x q) (put-other w.units.call (new_unit w) call x q) refl refl refl refl) ∙ v x f)
 valid-change opening plays w e w' (lock u g mode running free first here) p k v = λ x f.
-    ap plays (other-effect w (locked (restacked w g (cleaned w g)) u g mode) x refl refl refl (put-other w.units.reads u (w.units.reads u ++ read_of g (top (put_grain w.cells.stack g (cleaned w g) g)) ∷ []) x (λ q. (let t : Finished ≡ Running = sym f ∙ ap w.units.phase q ∙ running in cc))) refl refl) ∙ v x f
+    ap plays (other-effect w (after_lock (restacked w g (cleaned w g)) u g mode) x refl refl refl (put-other w.units.reads u (w.units.reads u ++ read_of g (top (put_grain w.cells.stack g (cleaned w g) g)) ∷ []) x (λ q. (let t : Finished ≡ Running = sym f ∙ ap w.units.phase q ∙ running in cc))) refl refl) ∙ v x f
 valid-change opening plays w e w' (raise u g mode running free held here uncovered) p k v = v
 valid-change opening plays w e w' (refuse u g mode why running q) p k v = λ x. put-from w.units.phase u Refused (λ z. z ≡ Finished) (plays (effect_of w x) ≡ true) x (λ q f. cc) (λ q f. v x f)
 valid-change opening plays w e w' (finish u effect running plain of_call reads alone) p k v = λ x. put-from w.units.phase u Finished (λ z. z ≡ Finished) (plays (effect_of (finished w u effect) x) ≡ true) x
@@ -54,13 +54,13 @@ valid-change opening plays w e w' (finish u effect running plain of_call reads a
     (λ q f. ap plays (other-effect w (finished w u effect) x refl refl (put-other w.manager.answers u effect.answers x q) refl (put-other w.manager.writes u effect.writes x q) (put-other w.manager.result u effect.result x q)) ∙ v x f)
 valid-change opening plays w e w' (end_plain u effect running plain of_call bare) p k v = valid-ended opening plays w u effect.answers effect.result None running v
   where
-    valid-ended : (opening : GrainId → List Value) (plays : Effect → Bool) (w : CoreState) (u : UnitNo) (answers : List Outcome) (result : Outcome) (at : Option ℕ) → w.units.phase u ≡ Running → Valid plays w → Valid plays (ended w u answers result at)
-    valid-ended opening plays w u answers result at running v = λ x. put-from w.units.phase u Ended (λ z. z ≡ Finished) (plays (effect_of (ended w u answers result at) x) ≡ true) x
+    valid-ended : (opening : GrainId → List Value) (plays : Effect → Bool) (w : CoreState) (u : UnitNo) (answers : List Outcome) (result : Outcome) (at : Option ℕ) → w.units.phase u ≡ Running → Valid plays w → Valid plays (after_end w u answers result at)
+    valid-ended opening plays w u answers result at running v = λ x. put-from w.units.phase u Ended (λ z. z ≡ Finished) (plays (effect_of (after_end w u answers result at) x) ≡ true) x
         (λ q f. cc)
-        (λ q f. ap plays (other-effect w (ended w u answers result at) x refl refl (put-other w.manager.answers u answers x q) refl refl (put-other w.manager.result u result x q)) ∙ v x f)
-valid-change opening plays w e w' (end_snapshot u at outcome running plain kids answer) p k v = λ x. put-from w.units.phase u Ended (λ z. z ≡ Finished) (plays (effect_of (ended w u [] outcome (Some at)) x) ≡ true) x
+        (λ q f. ap plays (other-effect w (after_end w u answers result at) x refl refl (put-other w.manager.answers u answers x q) refl refl (put-other w.manager.result u result x q)) ∙ v x f)
+valid-change opening plays w e w' (end_snapshot u at outcome running plain kids answer) p k v = λ x. put-from w.units.phase u Ended (λ z. z ≡ Finished) (plays (effect_of (after_end w u [] outcome (Some at)) x) ≡ true) x
     (λ q f. cc)
-    (λ q f. ap plays (other-effect w (ended w u [] outcome (Some at)) x refl refl (put-other w.manager.answers u [] x q) refl refl (put-other w.manager.result u outcome x q)) ∙ v x f)
+    (λ q f. ap plays (other-effect w (after_end w u [] outcome (Some at)) x refl refl (put-other w.manager.answers u [] x q) refl refl (put-other w.manager.result u outcome x q)) ∙ v x f)
 valid-change opening plays w e w' (release u g over held) p k v = v
 valid-change opening plays w e w' (take_batch none some) p k v = v
 valid-change opening plays w e w' (vote n g kept b q number d planned fresh) p k v = v

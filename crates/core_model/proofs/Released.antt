@@ -11,7 +11,7 @@ use Rattle.cell_model.specs.Locks.{granted}
 use Rattle.cell_model.specs.Stacks.{pushed, is_of, committed_stack}
 use Rattle.cell_model.specs.Cells.{stacked, reads_top, learnt}
 use Rattle.cell_model.proofs.Asking.{granted-member, dropped-member}
-use Rattle.core_model.specs.Changes.{restacked, cleaned, released, learned, loaded, swept, swept_by}
+use Rattle.core_model.specs.Changes.{restacked, cleaned, after_release, after_learn, loaded, swept, swept_by}
 use Rattle.core_model.specs.Events.{CoreEvent, applies, can, does, step, run, is_allowed}
 use Rattle.core_model.specs.Serial.{IsTrueLoad, AllLoadsTrue}
 use Rattle.core_model.proofs.Decoded.{Change, bad, begin, lock, raise, refuse, finish, end_plain, end_snapshot, release, take_batch, vote, decide_some, decide_none, seal_batch, spoil_batch, doubt_batch, learn, emit, halt_run, want, load, decode}
@@ -68,7 +68,7 @@ gone-held opening w u g mode i running s k x h mx m = grain-from w.cells.holds g
     ])
     (λ e m'. s k x h mx m') m
 
-gone-released : (w : CoreState) (u : UnitNo) (g : GrainId) → Gone w → Gone (released w u g)
+gone-released : (w : CoreState) (u : UnitNo) (g : GrainId) → Gone w → Gone (after_release w u g)
 gone-released w u g s k x h mx m = grain-from w.cells.holds g (dropped (w.cells.holds g) u) (Member h) (h.unit ≡ x.unit → ⊥) k
     (λ e m'. (let t = dropped-member u (w.cells.holds g) h m' in
     elim (old x (subst (Member x) (grain-is w.cells.stack g stack_g k e) mx)) [
@@ -88,7 +88,7 @@ gone-released w u g s k x h mx m = grain-from w.cells.holds g (dropped (w.cells.
         go (Some v) m = cond_both (reads_top (w.cells.readings g) (w.cells.stack g) u) (pushed (w.cells.stack g) u v) (w.cells.stack g) (λ t. Member x t → Member x (w.cells.stack g) ⊎ (x.unit ≡ u))
             (λ e m'. elim m' [ inl q ↦ inr (ap (λ (z : Version). z.unit) q) | inr q ↦ inl q ]) (λ e m'. inl m') m
 
-gone-learnt : (w : CoreState) (u : UnitNo) (g : GrainId) → Gone w → Gone (learned w u g)
+gone-learnt : (w : CoreState) (u : UnitNo) (g : GrainId) → Gone w → Gone (after_learn w u g)
 gone-learnt w u g s = gone-cut w g (learnt (is_committed (w.manager.verdict u)) u (w.cells.stack g)) s (λ x m. learnt-member (is_committed (w.manager.verdict u)) u (w.cells.stack g) x m)
 
 gone-loaded : (opening : GrainId → List Value) (w : CoreState) (g : GrainId) (u : UnitNo) (state : List Value) → Kept opening w → w.cells.here g ≡ false → Gone w → Gone (loaded w g u state)

@@ -15,7 +15,7 @@ use Rattle.core_model.specs.Tests.{is_gone}
 use Rattle.cell_model.proofs.Units.{same_unit-not}
 use Rattle.std.proofs.lemmas.Bool.{not_from_false}
 use Rattle.core_model.proofs.Basics.{is_over-not}
-use Rattle.core_model.specs.Changes.{new_unit, restacked, cleaned, locked, released, loaded, read_of, swept, swept_by}
+use Rattle.core_model.specs.Changes.{new_unit, restacked, cleaned, after_lock, after_release, loaded, read_of, swept, swept_by}
 use Rattle.std.proofs.Common.{le_refl}
 use Rattle.core_model.specs.Events.{CoreEvent, applies, can, does, step, run, is_allowed}
 use Rattle.core_model.specs.Serial.{IsTrueLoad, AllLoadsTrue}
@@ -76,7 +76,7 @@ removed-learnt : (opening : GrainId → List Value) (n : ℕ) (w : CoreState) �
 removed-learnt opening n w i u g s true = removed-restacked w g (committed_stack u (w.cells.stack g)) (λ x m. committed-member u (w.cells.stack g) x m) (inl (ap (λ (t : Version). t.unit) (committed-top u (w.cells.stack g)))) s
 removed-learnt opening n w i u g s false = removed-cut opening n w i g (is_of u) s
 
-removed-locked : (w : CoreState) (u : UnitNo) (g : GrainId) (mode : Mode) → Removed w → Removed (locked w u g mode)
+removed-locked : (w : CoreState) (u : UnitNo) (g : GrainId) (mode : Mode) → Removed w → Removed (after_lock w u g mode)
 removed-locked w u g mode s x r p = put-from w.units.reads u (w.units.reads u ++ read_of g (top (w.cells.stack g)) ∷ []) (Member r) ((r.source ≡ (top (w.cells.stack r.grain)).unit) ⊎ Absent r.source (w.cells.stack r.grain)) x
     (λ e m. elim (Member-append r (w.units.reads u) (read_of g (top (w.cells.stack g)) ∷ []) m) [
       | inl o ↦ s x r p (subst (λ z. Member r (w.units.reads z)) (sym e) o)
@@ -85,7 +85,7 @@ removed-locked w u g mode s x r p = put-from w.units.reads u (w.units.reads u ++
     (λ e m. s x r p m)
 
 -- while another unit holds the grain, a release pushes nothing
-removed-released : (opening : GrainId → List Value) (n : ℕ) (w : CoreState) → Inv opening n w → (u : UnitNo) (g : GrainId) → (w.units.phase u ≡ Running → ⊥) → holds_lock u (w.cells.holds g) ≡ true → Removed w → Removed (released w u g)
+removed-released : (opening : GrainId → List Value) (n : ℕ) (w : CoreState) → Inv opening n w → (u : UnitNo) (g : GrainId) → (w.units.phase u ≡ Running → ⊥) → holds_lock u (w.cells.holds g) ≡ true → Removed w → Removed (after_release w u g)
 removed-released opening n w i u g over held s x r p m = grain-at w.cells.stack g stack_g (λ t. (r.source ≡ (top t).unit) ⊎ Absent r.source t) r.grain
     (λ e. subst (λ t. (r.source ≡ (top t).unit) ⊎ Absent r.source t) (ap w.cells.stack e ∙ sym (same e)) (s x r p m))
     (λ e. s x r p m)

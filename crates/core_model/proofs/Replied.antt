@@ -7,7 +7,7 @@ use Rattle.base_types.specs.declared.entries.Settled.TheVariants as settled
 use Rattle.core_model.specs.declared.questions.AskAnswer.{AskAnswer}
 use Rattle.core_model.specs.declared.questions.AskAnswer.TheVariants as answer
 use Rattle.core_model.specs.declared.events.CoreReply.TheVariants as reply
-use Rattle.core_model.specs.Tests.{ask, members, is_voted}
+use Rattle.core_model.specs.Tests.{ask_answer, members, is_voted}
 use Rattle.core_model.specs.Replies.{says_no, BeginsWith, OnlyExtends}
 use Rattle.core_model.specs.Changes.{entry_for, entries_in, result_told, with_decisions, decisions_of, swept, swept_by}
 use Rattle.core_model.specs.Events.{not_granted, reply_with, reply_without, decided_reply, reply_to, is_open}
@@ -18,7 +18,7 @@ use Rattle.core_model.proofs.Decoded.{Change, bad, begin, lock, raise, refuse, f
 use Rattle.core_model.proofs.Further.{run-append}
 
 without-no : (w : CoreState) (e : CoreEvent) → says_no (reply_without w e) ≡ true
-without-no w (Grant u g mode) = cond_both (is_allowed w (Grant u g mode)) (not_granted (ask w u g mode)) reply.Unapplied (λ r. says_no r ≡ true) (λ e. by_ask (ask w u g mode)) (λ e. refl)
+without-no w (Grant u g mode) = cond_both (is_allowed w (Grant u g mode)) (not_granted (ask_answer w u g mode)) reply.Unapplied (λ r. says_no r ≡ true) (λ e. by_ask (ask_answer w u g mode)) (λ e. refl)
   where
     by_ask : (a : AskAnswer) → says_no (not_granted a) ≡ true
     by_ask answer.NotActive = refl

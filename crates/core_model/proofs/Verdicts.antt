@@ -11,7 +11,7 @@ use Rattle.std.proofs.Common.{le_refl, map}
 use Rattle.core_model.specs.Tests.{members, outcome_of, outcome_in, is_running}
 use Rattle.core_model.specs.Laws.{AnswersAreOutcomes}
 use Rattle.core_model.specs.Events.{can_begin}
-use Rattle.core_model.specs.Changes.{begun, refused, new_unit, kids_with, decisions_of, with_decisions, closed, result_told, seal, spoil, leave, swept, swept_by}
+use Rattle.core_model.specs.Changes.{begun, after_refusal, new_unit, kids_with, decisions_of, with_decisions, closed, result_told, seal, spoil, leave, swept, swept_by}
 use Rattle.core_model.specs.Events.{CoreEvent, applies, can, does, step, run, is_allowed}
 use Rattle.core_model.specs.Serial.{IsTrueLoad, AllLoadsTrue}
 use Rattle.core_model.proofs.Decoded.{Change, bad, begin, lock, raise, refuse, finish, end_plain, end_snapshot, release, take_batch, vote, decide_some, decide_none, seal_batch, spoil_batch, doubt_batch, learn, emit, halt_run, want, load, decode}
@@ -53,7 +53,7 @@ turned-mapped w f answer b ds still aborted s = (
   (λ x q. ap f (s.1 x q) ∙ aborted),
 )
 
-pub turned-refused : (w : CoreState) (u : UnitNo) (why : Settled) → Turned w → Turned (refused w u why)
+pub turned-refused : (w : CoreState) (u : UnitNo) (why : Settled) → Turned w → Turned (after_refusal w u why)
 turned-refused w u why s = (
   (λ x d. elim (cases_unit x u) [
     | inl z ↦ inr (put-is w.units.phase u Refused x z)

@@ -9,7 +9,7 @@ use Rattle.core_model.specs.declared.questions.KnownOutcome.TheVariants.{Undecid
 use Rattle.core_model.specs.declared.questions.BatchView.{BatchView}
 use Rattle.cell_model.specs.Sources.{with_source}
 use Rattle.core_model.specs.CoreState.{UnitNo, GrainId, Outcome, Batch, CoreState}
-use Rattle.core_model.specs.Tests.{is_aborted, is_decided, outcome_of, ask, members, first_grain}
+use Rattle.core_model.specs.Tests.{is_aborted, is_decided, outcome_of, ask_answer, members, first_grain}
 pub use Rattle.core_model.specs.Effects.{effect_of}
 pub use Rattle.core_model.specs.Learning.{next_learn}
 use Rattle.core_model.specs.Settler.{settler_step, work_in}
@@ -45,7 +45,7 @@ next_wanted w = first_grain (filter (λ g. not (w.cells.here g)) (map (λ (t : U
 
 -- the answer to a question
 abbrev pub answer_to : CoreState → CoreQuestion → CoreAnswer
-answer_to w (question.Ask u g mode) = answer.Ask (ask w u g mode)
+answer_to w (question.Ask u g mode) = answer.Ask (ask_answer w u g mode)
 answer_to w (question.Outcome u) = answer.Outcome (known (outcome_of w u))
 answer_to w question.Batch = answer.Batch (option_map (view w) w.manager.batch)
 answer_to w question.NextLearn = answer.NextLearn (next_learn w)

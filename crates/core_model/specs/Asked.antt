@@ -6,7 +6,7 @@ use Rattle.cell_model.specs.declared.locks.Ask.TheVariants as locks
 use Rattle.core_model.specs.declared.questions.AskAnswer.{AskAnswer}
 use Rattle.core_model.specs.declared.questions.AskAnswer.TheVariants as answer
 use Rattle.core_model.specs.CoreState.{UnitNo, GrainId, Member, Value, Version, Mode, Read, Running, Finished, Batch, CoreState}
-use Rattle.core_model.specs.Tests.{ask, is_final, members, waiting}
+use Rattle.core_model.specs.Tests.{ask_answer, is_final, members, waiting}
 use Rattle.core_model.specs.Chains.{WroteGrain}
 use Rattle.core_model.specs.Causes.{IsRemoved}
 use Rattle.core_model.specs.Learning.{next_learn}
@@ -44,7 +44,7 @@ IsGoing w = (w.manager.doubt ≡ None) × (w.units.halt ≡ false)
 
 -- a grant applies exactly where the answer is that the lock can be had
 abbrev pub GrantApplies : CoreState → UnitNo → GrainId → Mode → Type 0
-GrantApplies w u g mode = (applies w (Grant u g mode) ≡ true) ↔ (IsGoing w × (ask w u g mode ≡ answer.Free))
+GrantApplies w u g mode = (applies w (Grant u g mode) ≡ true) ↔ (IsGoing w × (ask_answer w u g mode ≡ answer.Free))
 
 -- a take applies exactly where no batch is open and a finished undecided unit stands in front that holds no lock
 abbrev pub TakeApplies : CoreState → Type 0

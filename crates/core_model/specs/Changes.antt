@@ -89,8 +89,8 @@ abbrev pub deps_with : CoreState → List UnitNo → UnitNo → List UnitNo
 deps_with w deps source = if is_sure w source then deps else with_source deps source
 
 -- the unit locks the grain and reads the version on top
-abbrev pub locked : CoreState → UnitNo → GrainId → Mode → CoreState
-locked w u g mode = record w {
+abbrev pub after_lock : CoreState → UnitNo → GrainId → Mode → CoreState
+after_lock w u g mode = record w {
   units = record w.units {
     reads = put w.units.reads u (w.units.reads u ++ read_of g (top (w.cells.stack g)) ∷ []);
     deps = put w.units.deps u (deps_with w (w.units.deps u) (top (w.cells.stack g)).unit);
@@ -104,8 +104,8 @@ locked w u g mode = record w {
 }
 
 -- the unit's lock gets that mode
-abbrev pub raised : CoreState → UnitNo → GrainId → Mode → CoreState
-raised w u g mode = record w {
+abbrev pub after_raise : CoreState → UnitNo → GrainId → Mode → CoreState
+after_raise w u g mode = record w {
   cells = record w.cells {
     holds = put_grain w.cells.holds g (locks.granted (w.cells.holds g) u mode);
     readings = put_grain w.cells.readings g (with_reading (w.cells.readings g) u (top (w.cells.stack g)).unit);
@@ -113,11 +113,11 @@ raised w u g mode = record w {
 }
 
 -- the grain's stack is cleaned, then the unit gets the lock
-abbrev pub granted : CoreState → UnitNo → GrainId → Mode → CoreState
-granted w u g mode =
+abbrev pub after_grant : CoreState → UnitNo → GrainId → Mode → CoreState
+after_grant w u g mode =
     if holds_lock u (w.cells.holds g)
-    then raised (restacked w g (cleaned w g)) u g mode
-    else locked (restacked w g (cleaned w g)) u g mode
+    then after_raise (restacked w g (cleaned w g)) u g mode
+    else after_lock (restacked w g (cleaned w g)) u g mode
 
 -- why a unit that asks can be refused, if it can
 abbrev pub refusal : GrainId → AskAnswer → Option Settled
@@ -130,8 +130,8 @@ refusal g answer.Absent = None
 refusal g answer.Free = None
 
 -- the unit is aborted, and its line is settled
-abbrev pub refused : CoreState → UnitNo → Settled → CoreState
-refused w u why = record w {
+abbrev pub after_refusal : CoreState → UnitNo → Settled → CoreState
+after_refusal w u why = record w {
   units = record w.units { phase = put w.units.phase u Refused; wants = without_wants u w.units.wants };
   manager = record w.manager {
     verdict = put w.manager.verdict u Aborted;
@@ -142,7 +142,7 @@ refused w u why = record w {
 -- the unit is aborted for the cause, where there is one
 abbrev pub refused_by : CoreState → UnitNo → Option Settled → CoreState
 refused_by w u None = w
-refused_by w u (Some why) = refused w u why
+refused_by w u (Some why) = after_refusal w u why
 
 -- a transaction takes the last place in the finish order
 abbrev pub finished : CoreState → UnitNo → Effect → CoreState
@@ -158,8 +158,8 @@ finished w u effect = record w {
 }
 
 -- a plain run has ended, and its line is settled
-abbrev pub ended : CoreState → UnitNo → List Outcome → Outcome → Option ℕ → CoreState
-ended w u answers result at = record w {
+abbrev pub after_end : CoreState → UnitNo → List Outcome → Outcome → Option ℕ → CoreState
+after_end w u answers result at = record w {
   units = record w.units {
     phase = put w.units.phase u Ended;
     seen_at = put w.units.seen_at u at;
@@ -173,8 +173,8 @@ ended w u answers result at = record w {
 }
 
 -- the unit's new version goes on the grain's stack, and its lock goes
-abbrev pub released : CoreState → UnitNo → GrainId → CoreState
-released w u g = record w {
+abbrev pub after_release : CoreState → UnitNo → GrainId → CoreState
+after_release w u g = record w {
   cells = record w.cells {
     stack = put_grain w.cells.stack g (stacked (w.cells.readings g) (w.cells.stack g) u (state_written g (w.manager.writes u)));
     holds = put_grain w.cells.holds g (dropped (w.cells.holds g) u);
@@ -197,8 +197,8 @@ new_batch w size = record {
 }
 
 -- a batch of that many units is open
-abbrev pub taken : CoreState → ℕ → CoreState
-taken w size = record w {
+abbrev pub after_take : CoreState → ℕ → CoreState
+after_take w size = record w {
   manager = record w.manager { batches = w.manager.batches + 1; batch = Some (new_batch w size) };
 }
 
@@ -320,8 +320,8 @@ on_decided w f None = w
 on_decided w f (Some b) = on_decisions w (f b) b.decisions
 
 -- the grain learns the unit's decision
-abbrev pub learned : CoreState → UnitNo → GrainId → CoreState
-learned w u g = record w {
+abbrev pub after_learn : CoreState → UnitNo → GrainId → CoreState
+after_learn w u g = record w {
   cells = record w.cells {
     stack = put_grain w.cells.stack g (learnt (is_committed (w.manager.verdict u)) u (w.cells.stack g));
     learnt = put w.cells.learnt u (put_grain (w.cells.learnt u) g true);

@@ -13,8 +13,8 @@ use Rattle.core_model.specs.declared.questions.AskAnswer.{AskAnswer}
 use Rattle.core_model.specs.declared.questions.AskAnswer.TheVariants as answer
 use Rattle.core_model.specs.Equality.{same_origin, same_call, same_reads, same_outcome}
 use Rattle.core_model.specs.CoreState.{UnitNo, GrainId, nobody, same_unit, same_grain, Version, top, Value, Origin, Outcome, Effect, Unborn, Open, Batch, Units, Cells, Manager, CoreState}
-use Rattle.core_model.specs.Tests.{any, all, is_running, is_over, is_final, state_written, is_decided, answered_by, ask, is_active, free_prefix, waiting, is_planned, is_vote_on, is_voted, is_wanted, is_empty}
-use Rattle.core_model.specs.Changes.{spoiled_line, new_unit, begun, cleaned, granted, refusal, refused_by, finished, ended, released, taken, voted, decisions_of, decided, on_batch, on_decided, sealed, spoiled, in_doubt, learned, loaded, swept}
+use Rattle.core_model.specs.Tests.{any, all, is_running, is_over, is_final, state_written, is_decided, answered_by, ask_answer, is_active, free_prefix, waiting, is_planned, is_vote_on, is_voted, is_wanted, is_empty}
+use Rattle.core_model.specs.Changes.{spoiled_line, new_unit, begun, cleaned, after_grant, refusal, refused_by, finished, after_end, after_release, after_take, voted, decisions_of, decided, on_batch, on_decided, sealed, spoiled, in_doubt, after_learn, loaded, swept}
 
 -- the lock can be had
 abbrev pub is_free_answer : AskAnswer → Bool
@@ -91,8 +91,8 @@ can_want w u g =
 abbrev pub can : CoreState → CoreEvent → Bool
 can w (Bad line why) = line == w.units.lines + 1
 can w (Begin origin call plain) = can_begin w origin
-can w (Grant u g mode) = is_free_answer (ask w u g mode)
-can w (Refuse u g mode) = is_some (refusal g (ask w u g mode))
+can w (Grant u g mode) = is_free_answer (ask_answer w u g mode)
+can w (Refuse u g mode) = is_some (refusal g (ask_answer w u g mode))
 can w (Finish u effect) = can_finish w u effect
 can w (EndPlain u effect) = can_end_plain w u effect
 can w (EndSnapshot u at outcome) = can_end_snapshot w u outcome
@@ -151,19 +151,19 @@ applies w e = is_allowed w e && can w e
 abbrev pub does : CoreState → CoreEvent → CoreState
 does w (Bad line why) = spoiled_line w line why
 does w (Begin origin call plain) = begun w origin call plain
-does w (Grant u g mode) = granted w u g mode
-does w (Refuse u g mode) = refused_by w u (refusal g (ask w u g mode))
+does w (Grant u g mode) = after_grant w u g mode
+does w (Refuse u g mode) = refused_by w u (refusal g (ask_answer w u g mode))
 does w (Finish u effect) = finished w u effect
-does w (EndPlain u effect) = ended w u effect.answers effect.result None
-does w (EndSnapshot u at outcome) = ended w u [] outcome (Some at)
-does w (Release u g) = released w u g
-does w Take = taken w (batch_size w)
+does w (EndPlain u effect) = after_end w u effect.answers effect.result None
+does w (EndSnapshot u at outcome) = after_end w u [] outcome (Some at)
+does w (Release u g) = after_release w u g
+does w Take = after_take w (batch_size w)
 does w (Vote n g kept) = on_batch w (λ b. voted w b g kept) w.manager.batch
 does w (Decide n) = on_batch w (decided w) w.manager.batch
 does w (Sealed n) = on_decided w (sealed w) w.manager.batch
 does w (NotSealed n) = on_decided w (spoiled w) w.manager.batch
 does w (Doubt n) = on_decided w (in_doubt w) w.manager.batch
-does w (Learn u g) = learned w u g
+does w (Learn u g) = after_learn w u g
 does w Emitted = record w { manager = record w.manager { emitted = w.manager.emitted + 1 } }
 does w Halt = record w { units = record w.units { halt = true } }
 does w (Want u g) = record w { units = record w.units { wants = w.units.wants ++ (u, g) ∷ [] } }
@@ -246,7 +246,7 @@ not_granted answer.Free = reply.Unapplied
 
 -- the reply to an event that doesn't apply
 abbrev pub reply_without : CoreState → CoreEvent → CoreReply
-reply_without w (Grant u g mode) = if is_allowed w (Grant u g mode) then not_granted (ask w u g mode) else reply.Unapplied
+reply_without w (Grant u g mode) = if is_allowed w (Grant u g mode) then not_granted (ask_answer w u g mode) else reply.Unapplied
 reply_without w (Bad line why) = reply.Unapplied
 reply_without w (Begin origin call plain) = reply.Unapplied
 reply_without w (Refuse v g mode) = reply.Unapplied

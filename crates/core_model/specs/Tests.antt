@@ -1,7 +1,8 @@
 -- What the state tells of units and grains.
-use Rattle.std.specs.Prelude.{ℕ, ◌+◌, List, [], ◌∷◌, Bool, true, false, ◌&&◌, ◌||◌, not, Option, Some, None, ◌==◌, nat_lt, if◌then◌else◌, take, drop, is_some, map, filter, flat_map}
+use Rattle.std.specs.Prelude.{ℕ, ◌+◌, List, [], ◌∷◌, Bool, true, false, ◌&&◌, not, Option, Some, None, if◌then◌else◌, take, drop, nat_lt, is_some, map, filter, flat_map}
 pub use Rattle.std.specs.List.{list_any as any, list_all as all}
 use Rattle.base_types.specs.declared.calls.Outcome.TheVariants as outcome
+pub use Rattle.base_types.specs.Grains.{is_before}
 use Rattle.cell_model.specs.Units.{oldest}
 use Rattle.cell_model.specs.Locks.{is_update, is_hold_of, holds_lock}
 use Rattle.cell_model.specs.declared.locks.Ask.{Ask}
@@ -73,10 +74,6 @@ abbrev pub state_written : GrainId → List Write → Option (List Value)
 state_written g [] = None
 state_written g (x ∷ xs) = if same_grain x.0 g then Some x.1 else state_written g xs
 
--- one grain comes before the other: by type, then key
-abbrev pub is_before : GrainId → GrainId → Bool
-is_before a b = nat_lt a.kind b.kind || ((a.kind == b.kind) && nat_lt a.key b.key)
-
 -- the first of a grain and one that may be missing
 abbrev pub first_of_two : GrainId → Option GrainId → Option GrainId
 first_of_two g None = Some g
@@ -144,8 +141,8 @@ ask_doom None next = next
 ask_doom (Some source) next = answer.Doomed source
 
 -- what the core answers to a unit that asks for a lock
-abbrev pub ask : CoreState → UnitNo → GrainId → Mode → AskAnswer
-ask w u g mode =
+abbrev pub ask_answer : CoreState → UnitNo → GrainId → Mode → AskAnswer
+ask_answer w u g mode =
     if is_active w u g
     then ask_doom (doomed_by w u) (ask_lock (w.cells.here g) (locks.ask (w.cells.holds g) u mode))
     else answer.NotActive

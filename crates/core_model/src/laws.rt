@@ -11,7 +11,7 @@ ghost use Rattle.core_model.specs.CoreState.{Member};
 ghost use Rattle.core_model.specs.Causes.{IsCaused, GoneIsRemoved};
 ghost use Rattle.core_model.specs.Dead.{IsDead, DeadEitherWay};
 ghost use Rattle.core_model.specs.Replies.{says_no, OnlyExtends};
-ghost use Rattle.core_model.specs.Tests.{ask, outcome_of};
+ghost use Rattle.core_model.specs.Tests.{ask_answer, outcome_of};
 ghost use Rattle.core_model.specs.CoreState.{GrainId, Mode, Batch, Decision, CoreState};
 ghost use Rattle.core_model.specs.Asked.{AskExactly, GrantApplies, SettledStacksAreSingle, TakeApplies, TakesBatch};
 ghost use Rattle.core_model.specs.ComputedRuns.{RunsAreComputed};
@@ -128,7 +128,7 @@ pub fn plans_are_kept()
 /// unit, was taken off; or what the grain's locks say; or that the grain isn't in memory. A grant applies exactly where the
 /// answer is that the lock can be had, and no stop stands.
 pub fn asking_is_told()
-    ensures asked { (plays : Effect → Bool) (r : Run) → IsLegal plays r → (u : UnitNo) (g : GrainId) (mode : Mode) → AskExactly (ends r) u g mode (ask (ends r) u g mode) }
+    ensures asked { (plays : Effect → Bool) (r : Run) → IsLegal plays r → (u : UnitNo) (g : GrainId) (mode : Mode) → AskExactly (ends r) u g mode (ask_answer (ends r) u g mode) }
     ensures granted { (w : CoreState) (u : UnitNo) (g : GrainId) (mode : Mode) → GrantApplies w u g mode }
 {}
 

@@ -1,4 +1,4 @@
-ghost use Rattle.std.specs.Prelude.{◌<◌};
+ghost use Rattle.std.specs.Prelude.{◌<◌, ◌≤◌, ◌^◌};
 
 use crate::openings::opening;
 use crate::plain::Plain;
@@ -20,7 +20,8 @@ pub struct Pair {
 impl Pair {
     /// Both opened; the first unit has that number.
     pub fn new(alloc: Global, base: u64) -> Result<Pair, AllocError>
-        requires { 0 < base }
+        requires above { 0 < base }
+        requires few { base ≤ 2 ^ 63 }
     {
         let opening = opening(alloc, base)?;
         Ok(Pair {

@@ -1,4 +1,4 @@
-ghost use Rattle.std.specs.Prelude.{◌<◌};
+ghost use Rattle.std.specs.Prelude.{◌<◌, ◌≤◌, ◌^◌};
 
 use crate::drafts::{add_write, call, child, effect, event_copy, line, short};
 use crate::openings::number_state;
@@ -329,7 +329,8 @@ const LISTS: u64 = 40;
 
 // The number of a list's first unit.
 fn first_unit(seed: u64) -> u64
-    ensures { 0 < result }
+    ensures above { 0 < result }
+    ensures few { result ≤ 2 ^ 63 }
 {
     match seed.checked_rem(3) {
         Some(1) => 2,

@@ -1,4 +1,4 @@
-ghost use Rattle.std.specs.Prelude.{◌<◌};
+ghost use Rattle.std.specs.Prelude.{◌<◌, ◌≤◌, ◌^◌};
 
 use crate::drafts::{add_write, child, effect, line, short};
 use crate::pairs::Pair;
@@ -733,7 +733,9 @@ fn is_begin(event: &Option<CoreEvent>) -> bool {
 
 // The number, but for 0.
 fn at_least_one(number: u64) -> u64
-    ensures { 0 < result }
+    requires few { number ≤ 2 ^ 63 }
+    ensures above { 0 < result }
+    ensures few { result ≤ 2 ^ 63 }
 {
     if number > 0 { number } else { 1 }
 }

@@ -13,8 +13,8 @@ use Rattle.core_model.specs.declared.phases.Phase.TheVariants.{Finished, Ended}
 use Rattle.core_model.specs.declared.phases.Verdict.{Verdict}
 use Rattle.core_model.specs.declared.phases.Verdict.TheVariants.{Chosen, Condemned, Committed, Aborted}
 use Rattle.core_model.specs.CoreState.{UnitNo, GrainId, nobody, Member, Mode, Value, Outcome, Batch, Decision, CoreState}
-use Rattle.core_model.specs.Tests.{is_over, is_final, ask, members}
-use Rattle.core_model.specs.Changes.{entry_for, told, entries_in, result_told, refusal, refused, ended, verdict_of, decisions_of, with_decisions, closed, seal, spoil, leave, swept, swept_by}
+use Rattle.core_model.specs.Tests.{is_over, is_final, ask_answer, members}
+use Rattle.core_model.specs.Changes.{entry_for, told, entries_in, result_told, refusal, after_refusal, after_end, verdict_of, decisions_of, with_decisions, closed, seal, spoil, leave, swept, swept_by}
 use Rattle.core_model.specs.Events.{applies, can, does, step, run, is_allowed}
 use Rattle.core_model.specs.Serial.{AllLoadsTrue}
 use Rattle.core_model.specs.Legal.{Run, IsLegal, begins, ends}
@@ -74,22 +74,22 @@ tells-from : (types : ProgramTree) (lines : List (List ℕ)) (w : CoreState) (x 
 tells-from types lines w x what q t = subst (Tells types lines w x) (sym q) t
 
 -- who is refused is told an abort
-refused-tells : (types : ProgramTree) (lines : List (List ℕ)) (w : CoreState) (u : UnitNo) (g : GrainId) (mode : Mode) (why : Settled) → refusal g (ask w u g mode) ≡ Some why
-    → (x : Entry) → Member x (entry_for (w.units.origin u) u why) → Tells types lines (refused w u why) x x.what
+refused-tells : (types : ProgramTree) (lines : List (List ℕ)) (w : CoreState) (u : UnitNo) (g : GrainId) (mode : Mode) (why : Settled) → refusal g (ask_answer w u g mode) ≡ Some why
+    → (x : Entry) → Member x (entry_for (w.units.origin u) u why) → Tells types lines (after_refusal w u why) x x.what
 refused-tells types lines w u g mode why q x m =
     let t = entry-parts w u why x m in
     let dead = put-is w.manager.verdict u Aborted x.unit t.0 in
-    tells-from types lines (refused w u why) x why t.1 (elim (ask-refused w u g mode why q).1 [
-      | inl d ↦ subst (Tells types lines (refused w u why) x) (sym d.2) dead
-      | inr d ↦ subst (Tells types lines (refused w u why) x) (sym d.3) dead
+    tells-from types lines (after_refusal w u why) x why t.1 (elim (ask-refused w u g mode why q).1 [
+      | inl d ↦ subst (Tells types lines (after_refusal w u why) x) (sym d.2) dead
+      | inr d ↦ subst (Tells types lines (after_refusal w u why) x) (sym d.3) dead
     ])
 
 -- who ends as a plain run is told its result
 ended-tells : (types : ProgramTree) (lines : List (List ℕ)) (w : CoreState) (u : UnitNo) (answers : List Outcome) (result : Outcome) (at : Option ℕ)
-    → (x : Entry) → Member x (entry_for (w.units.origin u) u (settled.Done result)) → Tells types lines (ended w u answers result at) x x.what
+    → (x : Entry) → Member x (entry_for (w.units.origin u) u (settled.Done result)) → Tells types lines (after_end w u answers result at) x x.what
 ended-tells types lines w u answers result at x m =
     let t = entry-parts w u (settled.Done result) x m in
-    tells-from types lines (ended w u answers result at) x (settled.Done result) t.1
+    tells-from types lines (after_end w u answers result at) x (settled.Done result) t.1
     (inl (put-is w.units.phase u Ended x.unit t.0), put-is w.manager.result u result x.unit t.0)
 
 -- the entries of a batch that closes

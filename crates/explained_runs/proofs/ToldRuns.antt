@@ -8,7 +8,7 @@ use Rattle.core_model.specs.declared.effects.Read.{Read}
 use Rattle.core_model.specs.declared.phases.Phase.TheVariants.{Running, Finished, Refused, Ended}
 use Rattle.core_model.specs.declared.events.CoreEvent.{CoreEvent}
 use Rattle.core_model.specs.declared.events.CoreEvent.TheVariants.{Load, Grant}
-use Rattle.core_model.specs.Changes.{cleaned, restacked, locked, raised, read_of, swept, swept_by}
+use Rattle.core_model.specs.Changes.{cleaned, restacked, after_lock, after_raise, read_of, swept, swept_by}
 use Rattle.core_model.specs.Events.{applies, can, does, step, run, start, is_allowed}
 use Rattle.core_model.specs.Serial.{IsTrueLoad}
 use Rattle.core_model.specs.Legal.{Run, begins, ends}
@@ -25,8 +25,8 @@ use Rattle.explained_runs.proofs.Told.{Known, Told, IsSteady, steady-same, stead
 
 -- a first lock
 told-locked : (types : ProgramTree) (lines : List (List ℕ)) (base : ℕ) (opening : GrainId → List Value) (w : CoreState) (got : UnitNo → List Got) (u : UnitNo) (g : GrainId) (mode : Mode) → Kept opening w →
-    w.units.phase u ≡ Running → holds_lock u (w.cells.holds g) ≡ false → Grows w (locked (restacked w g (cleaned w g)) u g mode) → wanted_lock (wanted_by types w u (got u)) ≡ Some (g, mode) →
-    Told types lines base w got → Told types lines base (locked (restacked w g (cleaned w g)) u g mode) (λ x. got x ++ got_by w x (Grant u g mode))
+    w.units.phase u ≡ Running → holds_lock u (w.cells.holds g) ≡ false → Grows w (after_lock (restacked w g (cleaned w g)) u g mode) → wanted_lock (wanted_by types w u (got u)) ≡ Some (g, mode) →
+    Told types lines base w got → Told types lines base (after_lock (restacked w g (cleaned w g)) u g mode) (λ x. got x ++ got_by w x (Grant u g mode))
 told-locked types lines base opening w got u g mode k running free g' due t = (
   known-steady types lines base w w' steady g' t.0,
   traced-got types w w' got u one steady g' t.1 running
@@ -40,10 +40,10 @@ told-locked types lines base opening w got u g mode k running free g' due t = (
 )
   where
     w' : CoreState
-    w' = locked (restacked w g (cleaned w g)) u g mode
+    w' = after_lock (restacked w g (cleaned w g)) u g mode
 
-    steady : IsSteady w (locked (restacked w g (cleaned w g)) u g mode)
-    steady = steady-same w (locked (restacked w g (cleaned w g)) u g mode) refl refl refl refl refl refl
+    steady : IsSteady w (after_lock (restacked w g (cleaned w g)) u g mode)
+    steady = steady-same w (after_lock (restacked w g (cleaned w g)) u g mode) refl refl refl refl refl refl
 
     one : UnitNo → Got
     one x = got_lock w x g mode
@@ -59,8 +59,8 @@ told-locked types lines base opening w got u g mode k running free g' due t = (
 
 -- an exclusive lock in place of a shared one
 told-raised : (types : ProgramTree) (lines : List (List ℕ)) (base : ℕ) (opening : GrainId → List Value) (w : CoreState) (got : UnitNo → List Got) (u : UnitNo) (g : GrainId) (mode : Mode) → Kept opening w →
-    w.units.phase u ≡ Running → holds_lock u (w.cells.holds g) ≡ true → Grows w (raised (restacked w g (cleaned w g)) u g mode) → wanted_lock (wanted_by types w u (got u)) ≡ Some (g, mode) →
-    Told types lines base w got → Told types lines base (raised (restacked w g (cleaned w g)) u g mode) (λ x. got x ++ got_by w x (Grant u g mode))
+    w.units.phase u ≡ Running → holds_lock u (w.cells.holds g) ≡ true → Grows w (after_raise (restacked w g (cleaned w g)) u g mode) → wanted_lock (wanted_by types w u (got u)) ≡ Some (g, mode) →
+    Told types lines base w got → Told types lines base (after_raise (restacked w g (cleaned w g)) u g mode) (λ x. got x ++ got_by w x (Grant u g mode))
 told-raised types lines base opening w got u g mode k running held g' due t = (
   known-steady types lines base w w' steady g' t.0,
   traced-got types w w' got u one steady g' t.1 running
@@ -71,10 +71,10 @@ told-raised types lines base opening w got u g mode k running held g' due t = (
 )
   where
     w' : CoreState
-    w' = raised (restacked w g (cleaned w g)) u g mode
+    w' = after_raise (restacked w g (cleaned w g)) u g mode
 
-    steady : IsSteady w (raised (restacked w g (cleaned w g)) u g mode)
-    steady = steady-same w (raised (restacked w g (cleaned w g)) u g mode) refl refl refl refl refl refl
+    steady : IsSteady w (after_raise (restacked w g (cleaned w g)) u g mode)
+    steady = steady-same w (after_raise (restacked w g (cleaned w g)) u g mode) refl refl refl refl refl refl
 
     one : UnitNo → Got
     one x = got_lock w x g mode

@@ -16,7 +16,7 @@ use Rattle.core_model.specs.declared.phases.Verdict.{Verdict}
 use Rattle.core_model.specs.declared.phases.Verdict.TheVariants.{Open, Chosen, Condemned, Committed, Aborted}
 use Rattle.core_model.specs.declared.effects.Read.{Read}
 use Rattle.core_model.specs.CoreState.{UnitNo, GrainId, nobody, put, Member, Value, Settled, Write, Mode, Prepared, Decision, Batch, CoreState}
-use Rattle.core_model.specs.Tests.{is_bad, is_gone, is_vote_on, has_failed, failed_in, first_grain, prepared, doomed_by, ask, members}
+use Rattle.core_model.specs.Tests.{is_bad, is_gone, is_vote_on, has_failed, failed_in, first_grain, prepared, doomed_by, ask_answer, members}
 use Rattle.core_model.specs.Dead.{Dead}
 use Rattle.core_model.specs.Changes.{entry_for, entries_in, told, result_told, decisions_of, with_decisions, judged, verdict_of, closed, seal, swept, swept_by, refusal, new_unit}
 use Rattle.core_model.specs.declared.events.CoreEvent.{CoreEvent}
@@ -185,7 +185,7 @@ calm-decided w b ds all q s = record {
 }
 
 -- nobody is doomed, so a refusal is for a lock
-refusal-fine : (opening : GrainId → List Value) (n : ℕ) (w : CoreState) (u : UnitNo) (g : GrainId) (mode : Mode) (why : Settled) → Inv opening n w → IsCalm w → w.units.phase u ≡ Running → refusal g (ask w u g mode) ≡ Some why → IsUndisturbed why
+refusal-fine : (opening : GrainId → List Value) (n : ℕ) (w : CoreState) (u : UnitNo) (g : GrainId) (mode : Mode) (why : Settled) → Inv opening n w → IsCalm w → w.units.phase u ≡ Running → refusal g (ask_answer w u g mode) ≡ Some why → IsUndisturbed why
 refusal-fine opening n w u g mode why i s running q = elim (ask-refused w u g mode why q).1 [
   | inl d ↦ absurd (doomed d.0 d.1)
   | inr d ↦ subst IsUndisturbed (sym d.3) tt

@@ -15,7 +15,7 @@ use Rattle.core_model.specs.declared.phases.Phase.{Phase}
 use Rattle.core_model.specs.declared.phases.Phase.TheVariants.{Unborn, Running, Finished, Refused, Ended}
 use Rattle.core_model.specs.declared.effects.Read.{Read}
 use Rattle.core_model.specs.CoreState.{UnitNo, GrainId, nobody, same_unit, put, put_grain, Member, Value, Settled, Hold, Mode, Decision, CoreState}
-use Rattle.core_model.specs.Tests.{ask, is_free, members}
+use Rattle.core_model.specs.Tests.{ask_answer, is_free, members}
 use Rattle.core_model.specs.Changes.{entry_for, entries_in, told, result_told, decisions_of, refusal, with_decisions, new_unit, swept, swept_by}
 use Rattle.core_model.specs.declared.events.CoreEvent.{CoreEvent}
 use Rattle.core_model.specs.declared.events.CoreEvent.TheVariants.{Begin, Load}
@@ -145,7 +145,7 @@ more-free : (old new : List Entry) → ((x : Entry) → Member x old → IsNoLoc
 more-free old new a b x m = elim (Member-append x old new m) [ inl h ↦ a x h | inr h ↦ b x h ]
 
 -- the unit that runs is the last, so whoever holds a lock is no older
-refusal-free : (base : ℕ) (w : CoreState) (u : UnitNo) (g : GrainId) (mode : Mode) (why : Settled) → IsAlone base w → w.units.phase u ≡ Running → refusal g (ask w u g mode) ≡ Some why → IsNoLock why
+refusal-free : (base : ℕ) (w : CoreState) (u : UnitNo) (g : GrainId) (mode : Mode) (why : Settled) → IsAlone base w → w.units.phase u ≡ Running → refusal g (ask_answer w u g mode) ≡ Some why → IsNoLock why
 refusal-free base w u g mode why s running q = elim (ask-refused w u g mode why q).1 [
   | inl d ↦ subst IsNoLock (sym d.2) tt
   | inr d ↦ (let t = ask-die (w.cells.holds g) u mode d.0 d.2 in

@@ -4,7 +4,7 @@ ghost use Rattle.cell_model.specs.declared.locks.Ask.TheVariants.{Free};
 ghost use Rattle.base_types.specs.declared.calls.Mode.TheVariants.{Update};
 ghost use Rattle.cell_model.specs.Stacks.{top};
 ghost use Rattle.cell_model.specs.Locks.{ask, covers, holds_lock};
-ghost use Rattle.cell_model.specs.Cells.{opened, granted, released, learned, learnt, stacked, is_reading_of, with_reading, without_reading};
+ghost use Rattle.cell_model.specs.Cells.{opened, cell_granted, cell_released, cell_learned, learnt, stacked, is_reading_of, with_reading, without_reading};
 ghost use Rattle.rw_locks.specs.Locked.{holds_alone};
 ghost use Rattle.grain_cell.specs.Room.{needs, was_read, without_aborted};
 
@@ -127,7 +127,7 @@ impl Cell {
     pub fn lock(&mut self, unit: UnitNo, mode: Mode)
         requires free { ask self.old.cell.holds unit mode ≡ Free }
         requires room { 0 < self.old.spare }
-        ensures locks { self.new.cell ≡ granted self.old.cell unit mode }
+        ensures locks { self.new.cell ≡ cell_granted self.old.cell unit mode }
         ensures spare { self.old.spare ≤ self.new.spare + 1 }
     {
         let (source, _) = self.stack.top();
@@ -142,7 +142,7 @@ impl Cell {
     /// memory leaves the stack as it was: `reserve`, `top_over`, `learn`, `lock`.
     pub fn grant(&mut self, unit: UnitNo, mode: Mode) -> Result<Granted, AllocError>
         requires { ask self.old.cell.holds unit mode ≡ Free }
-        ensures locks { OnOk result (self.new.cell ≡ granted self.old.cell unit mode) }
+        ensures locks { OnOk result (self.new.cell ≡ cell_granted self.old.cell unit mode) }
         ensures finds { IfOk result (λ found. record { unit = found.source; state = found.state } ≡ top self.old.cell.stack) }
         ensures kept { OnErr result (self.new.cell ≡ self.old.cell) }
     {
@@ -157,7 +157,7 @@ impl Cell {
     pub fn release(&mut self, unit: UnitNo, new: Option<State>)
         requires holds { holds_lock unit self.old.cell.holds ≡ true }
         requires writes { IsSome new → list_any (covers unit Update) self.old.cell.holds ≡ true }
-        ensures { self.new.cell ≡ released self.old.cell unit new }
+        ensures { self.new.cell ≡ cell_released self.old.cell unit new }
     {
         self.locks.drop_lock(unit);
         put_new(&mut self.stack, &self.readings, unit, new);
@@ -168,7 +168,7 @@ impl Cell {
     /// has aborted, its version goes with all above it. Learning it twice is learning it once. Takes no
     /// memory, and leaves the room.
     pub fn learn(&mut self, unit: UnitNo, committed: bool)
-        ensures learns { self.new.cell ≡ learned self.old.cell unit committed }
+        ensures learns { self.new.cell ≡ cell_learned self.old.cell unit committed }
         ensures spare { self.old.spare ≤ self.new.spare }
     {
         settle(&mut self.stack, unit, committed);

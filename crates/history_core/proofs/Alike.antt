@@ -11,12 +11,13 @@ use Rattle.unit_table.specs.declared.table.UnitTable.{UnitTable}
 use Rattle.core_model.specs.declared.events.CoreEvent.{CoreEvent}
 use Rattle.core_model.specs.declared.events.CoreReply.{CoreReply}
 use Rattle.history_core.specs.declared.parts.Parts.{Parts}
-use Rattle.history_core.specs.Kept.{Stands, cells_of}
+use Rattle.history_core.specs.Kept.{PartsStand, cells_of}
 use Rattle.history_core.specs.Steps.{KeepsMeaning, Does}
 
 pub keeps-units : (p : Parts) (units : UnitTable) → SameUnits p.units units → KeepsMeaning p (record p { units = units })
 keeps-units p units e = λ w s. record {
   units = s.units ∙ sym (e.units w.units.seen_at);
+  numbers = s.numbers;
   cells = s.cells;
   verdict = s.verdict ∙ sym e.verdict;
   result = s.result ∙ sym e.result;
@@ -36,6 +37,7 @@ keeps-units p units e = λ w s. record {
 pub keeps-cells : (p : Parts) (cells : CellTable) → cell_in cells ≡ cell_in p.cells → KeepsMeaning p (record p { cells = cells })
 keeps-cells p cells e = λ w s. record {
   units = s.units;
+  numbers = s.numbers;
   cells = s.cells ∙ ap (λ (C : GrainId → Cell). cells_of C w.cells.learnt) (sym e);
   verdict = s.verdict;
   result = s.result;
@@ -56,6 +58,7 @@ pub keeps-entries : (p : Parts) (entries : EntriesInRoom) → entries.entries �
     KeepsMeaning p (record p { entries = entries })
 keeps-entries p entries es em more = λ w s. record {
   units = s.units;
+  numbers = s.numbers;
   cells = s.cells;
   verdict = s.verdict;
   result = s.result;

@@ -22,7 +22,7 @@ use Rattle.open_batch.specs.Shown.{ShowsBatch, AreUnits}
 use Rattle.open_batch.proofs.Linked.{units-taken, view-link, versions-link, commit-link}
 use Rattle.open_batch.proofs.Stages.{next-link}
 use Rattle.history_core.specs.declared.parts.Parts.{Parts}
-use Rattle.history_core.specs.Kept.{Stands, StandsForReached, IsCoreReached, ShowsOpen, owed_in, members_in}
+use Rattle.history_core.specs.Kept.{PartsStand, StandsForReached, IsCoreReached, ShowsOpen, owed_in, members_in}
 use Rattle.history_core.specs.Questions.{AnswersQuestion, ShowsStep}
 use Rattle.history_core.proofs.Shows.{to-cases}
 use Rattle.history_core.proofs.Finishes.{owed-within}
@@ -34,7 +34,7 @@ answers-that p q r a is h = subst (λ x. AnswersQuestion p x a) (sym is) h
 
 -- ---- units and grains
 
-pub outcome-is : (p : Parts) (w : CoreState) (u : UnitNo) → Stands p w → outcome_known p.units u ≡ outcome_of w u
+pub outcome-is : (p : Parts) (w : CoreState) (u : UnitNo) → PartsStand p w → outcome_known p.units u ≡ outcome_of w u
 outcome-is p w u s = λ i. outcome_in ((sym s.units i).phase u) (sym s.verdict i u) (sym s.result i u)
 
 first-kept : {A : Type 0} (test : A → Bool) (xs : List A) → slice_get (filter test xs) 0 ≡ find test xs
@@ -45,7 +45,7 @@ first-kept test (x ∷ xs) = by_test (test x) (first-kept test xs)
     by_test true rest = refl
     by_test false rest = rest
 
-pub learn-is : (p : Parts) (w : CoreState) → Stands p w → slice_get p.learn.pairs 0 ≡ next_learn w
+pub learn-is : (p : Parts) (w : CoreState) → PartsStand p w → slice_get p.learn.pairs 0 ≡ next_learn w
 learn-is p w s = ap (λ (ts : List (UnitNo × GrainId)). slice_get ts 0) s.learn ∙ first-kept (λ (t : UnitNo × GrainId). not (w.cells.learnt t.0 t.1)) (to_learn w)
 
 none-left : (xs : List GrainId) → filter (λ (g : GrainId). false) xs ≡ []
@@ -53,12 +53,12 @@ none-left [] = refl
 none-left (x ∷ xs) = none-left xs
 
 -- every grain is in memory
-pub wanted-is : (p : Parts) (w : CoreState) → Stands p w → next_wanted w ≡ None
+pub wanted-is : (p : Parts) (w : CoreState) → PartsStand p w → next_wanted w ≡ None
 wanted-is p w s =
     (λ i. first_grain (filter (λ (g : GrainId). not ((s.cells i).here g)) (map (λ (t : UnitNo × GrainId). t.1) w.units.wants)))
     ∙ ap first_grain (none-left (map (λ (t : UnitNo × GrainId). t.1) w.units.wants))
 
-pub next-is : (p : Parts) (w : CoreState) → Stands p w → slice_get p.entries.entries p.entries.emitted ≡ slice_get w.manager.settled w.manager.emitted
+pub next-is : (p : Parts) (w : CoreState) → PartsStand p w → slice_get p.entries.entries p.entries.emitted ≡ slice_get w.manager.settled w.manager.emitted
 next-is p w s = λ i. slice_get (sym s.settled i) (sym s.emitted i)
 
 -- ---- the open batch
@@ -80,10 +80,10 @@ shown-none : (ms : List FinishedUnit) (b : Option Batch) → ShowsOpen None ms b
 shown-none ms None s = refl
 shown-none ms (Some c) s = absurd s
 
-pub closed-is : (p : Parts) (w : CoreState) → Stands p w → p.batch ≡ None → w.manager.batch ≡ None
+pub closed-is : (p : Parts) (w : CoreState) → PartsStand p w → p.batch ≡ None → w.manager.batch ≡ None
 closed-is p w s q = shown-none p.waiting.items w.manager.batch (subst (λ o. ShowsOpen o p.waiting.items w.manager.batch) q (to-cases p.batch p.waiting.items w.manager.batch s.batch))
 
-module _ (p : Parts) (w : CoreState) (x : TakenBatch) (s : Stands p w) (q : p.batch ≡ Some x) where
+module _ (p : Parts) (w : CoreState) (x : TakenBatch) (s : PartsStand p w) (q : p.batch ≡ Some x) where
   -- the model's batch
   abbrev opened : (c : Batch) × (w.manager.batch ≡ Some c) × ShowsBatch x (take c.size p.waiting.items) c
   opened = shown-some x p.waiting.items w.manager.batch (subst (λ o. ShowsOpen o p.waiting.items w.manager.batch) q (to-cases p.batch p.waiting.items w.manager.batch s.batch))
@@ -150,7 +150,7 @@ pub doubt-is : (p : Parts) (work : SettlerWork) → p.doubt ≡ true → ShowsSt
 doubt-is p work here h = λ w s r. h w s r ∙ ap (work_in w) (sym (cond-true (is_some w.manager.doubt) (last_step w false) (learn_step w (next_learn w)) (s.doubt ∙ here)))
 
 -- no batch is in doubt
-sure-is : (p : Parts) (w : CoreState) → Stands p w → p.doubt ≡ false → learn_step w (next_learn w) ≡ later_step w
+sure-is : (p : Parts) (w : CoreState) → PartsStand p w → p.doubt ≡ false → learn_step w (next_learn w) ≡ later_step w
 sure-is p w s here = sym (cond-false (is_some w.manager.doubt) (last_step w false) (learn_step w (next_learn w)) (s.doubt ∙ here))
 
 pub learns-is : (p : Parts) (u : UnitNo) (g : GrainId) → p.doubt ≡ false → slice_get p.learn.pairs 0 ≡ Some (u, g) → ShowsStep p later_step (work.Learn u g)
@@ -179,8 +179,8 @@ written-is p work may e h = λ w s r.
     let no_more : nat_lt w.manager.emitted (length w.manager.settled) ≡ false = le-ltb w.manager.emitted (length w.manager.settled) (past w.manager.settled w.manager.emitted here) in
     h w s r ∙ ap (work_in w) (sym (cond-false (nat_lt w.manager.emitted (length w.manager.settled)) Writes (if may && applies w Take then Takes else Rests) no_more))
 
-pub takes-is : (p : Parts) (may can : Bool) → ((w : CoreState) → Stands p w → IsCoreReached w → can ≡ applies w Take) → (may && can) ≡ true → ShowsStep p (λ w. if may && applies w Take then Takes else Rests) work.Take
+pub takes-is : (p : Parts) (may can : Bool) → ((w : CoreState) → PartsStand p w → IsCoreReached w → can ≡ applies w Take) → (may && can) ≡ true → ShowsStep p (λ w. if may && applies w Take then Takes else Rests) work.Take
 takes-is p may can t e = λ w s r. ap (work_in w) (sym (cond-true (may && applies w Take) Takes Rests (ap (λ b. may && b) (sym (t w s r)) ∙ e)))
 
-pub rests-is : (p : Parts) (may can : Bool) → ((w : CoreState) → Stands p w → IsCoreReached w → can ≡ applies w Take) → (may && can) ≡ false → ShowsStep p (λ w. if may && applies w Take then Takes else Rests) work.Nothing
+pub rests-is : (p : Parts) (may can : Bool) → ((w : CoreState) → PartsStand p w → IsCoreReached w → can ≡ applies w Take) → (may && can) ≡ false → ShowsStep p (λ w. if may && applies w Take then Takes else Rests) work.Nothing
 rests-is p may can t e = λ w s r. ap (work_in w) (sym (cond-false (may && applies w Take) Takes Rests (ap (λ b. may && b) (sym (t w s r)) ∙ e)))

@@ -24,7 +24,7 @@ use Rattle.unit_table.specs.Rooms.{ParentRuns, LineIsCounted}
 use Rattle.unit_table.specs.declared.table.UnitTable.{UnitTable}
 use Rattle.history_core.specs.declared.parts.Parts.{Parts}
 use Rattle.history_core.specs.Asked.{is_next_child_in, FitsLine}
-use Rattle.history_core.specs.Kept.{Stands, IsCoreReached}
+use Rattle.history_core.specs.Kept.{PartsStand, IsCoreReached}
 use Rattle.history_core.specs.Steps.{CanDo, Does}
 use Rattle.history_core.proofs.Stepping.{can-is}
 use Rattle.history_core.proofs.Lists.{map-agree}
@@ -42,10 +42,11 @@ effect-begun w origin call plain x n = λ i. record (effect_of w x) {
 
 pub does-begin : (p : Parts) (origin : Origin) (call : Call) (plain : Bool) (unit : UnitNo) (units : UnitTable) →
     ((seen : UnitNo → Option ℕ) → units_of units seen ≡ units_begun (units_of p.units seen) origin call plain) → verdict_in units ≡ verdict_in p.units → result_in units ≡ result_in p.units →
-    unit ≡ record { 0 = next_in p.units } → Does p (Begin origin call plain) (reply.Began unit) (record p { units = units })
-does-begin p origin call plain unit units u v o number = λ w s r a. (
+    unit ≡ record { 0 = next_in p.units } → next_in p.units < 2 ^ 63 → Does p (Begin origin call plain) (reply.Began unit) (record p { units = units })
+does-begin p origin call plain unit units u v o number below = λ w s r a. (
   record {
     units = ap (λ us. units_begun us origin call plain) s.units ∙ sym (u w.units.seen_at);
+    numbers = (let n : w.units.next ≡ next_in p.units = ap (λ (us : Units). us.next) s.units in omega (arith, n, below));
     cells = s.cells;
     verdict = s.verdict ∙ sym v;
     result = s.result ∙ sym o;
@@ -82,7 +83,7 @@ line-counts t p (Line n) call plain c e fits =
 line-counts t p (Child q i d) call plain c e fits = tt
 
 -- whether a child can begin is told by what is kept
-pub next-child-is : (p : Parts) (w : CoreState) (q : UnitNo) (index depth : ℕ) → Stands p w → is_next_child_in p q index ≡ can_begin w (Child q index depth)
+pub next-child-is : (p : Parts) (w : CoreState) (q : UnitNo) (index depth : ℕ) → PartsStand p w → is_next_child_in p q index ≡ can_begin w (Child q index depth)
 next-child-is p w q index depth s = λ i.
     is_running ((sym s.units i).phase q)
     && ((index == length ((sym s.units i).kids q)) && all (λ u. is_some (outcome_in ((sym s.units i).phase u) (sym s.verdict i u) (sym s.result i u))) ((sym s.units i).kids q))

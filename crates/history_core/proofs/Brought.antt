@@ -13,7 +13,7 @@ use Rattle.unit_table.specs.Known.{KnownUnit}
 use Rattle.unit_table.specs.Table.{known_in, outcome_known}
 use Rattle.history_core.specs.declared.parts.Parts.{Parts}
 use Rattle.history_core.specs.Effects.{answered_in, is_of_call_in, finishes_as, ends_as_plain, ends_as_snapshot}
-use Rattle.history_core.specs.Kept.{Stands}
+use Rattle.history_core.specs.Kept.{PartsStand}
 
 answered-of : (w : CoreState) (ks : List UnitNo) (os : List Outcome) → answered_in (outcome_of w) ks os ≡ answered_by w ks os
 answered-of w [] [] = refl
@@ -21,7 +21,7 @@ answered-of w (k ∷ ks) (a ∷ rest) = ap (λ b. is_answer (outcome_of w k) a &
 answered-of w [] (a ∷ rest) = refl
 answered-of w (k ∷ ks) [] = refl
 
-answered-is : (p : Parts) (w : CoreState) (ks : List UnitNo) (os : List Outcome) → Stands p w → answered_in (outcome_known p.units) ks os ≡ answered_by w ks os
+answered-is : (p : Parts) (w : CoreState) (ks : List UnitNo) (os : List Outcome) → PartsStand p w → answered_in (outcome_known p.units) ks os ≡ answered_by w ks os
 answered-is p w ks os s = (λ i. answered_in (λ u. outcome_in ((sym s.units i).phase u) (sym s.verdict i u) (sym s.result i u)) ks os) ∙ answered-of w ks os
 
 -- as many answers as children
@@ -49,18 +49,18 @@ plain-not p u e k n = false-and (is_running k.phase) k.plain (is_of_call_in p u 
 pub snapshot-not : (o : Outcome) (k : KnownUnit) → is_running k.phase ≡ false → false ≡ ends_as_snapshot o k
 snapshot-not o k n = false-and (is_running k.phase) k.plain (is_empty k.kids && not (same_outcome o aborted)) n
 
-pub can-finish-is : (p : Parts) (w : CoreState) (u : UnitNo) (e : Effect) → Stands p w → finishes_as p u e (known_in p.units u) ≡ can_finish w u e
+pub can-finish-is : (p : Parts) (w : CoreState) (u : UnitNo) (e : Effect) → PartsStand p w → finishes_as p u e (known_in p.units u) ≡ can_finish w u e
 can-finish-is p w u e s = λ i.
     (is_running ((sym s.units i).phase u) && not ((sym s.units i).plain u))
     && ((same_unit e.unit u && (same_origin e.origin ((sym s.units i).origin u) && (same_call e.call ((sym s.units i).call u) && answered-is p w ((sym s.units i).kids u) e.answers s i)))
     && (same_reads e.reads ((sym s.units i).reads u) && all (λ t. holds_alone u ((sym s.cells i).holds t.0)) e.writes))
 
-pub can-plain-is : (p : Parts) (w : CoreState) (u : UnitNo) (e : Effect) → Stands p w → ends_as_plain p u e (known_in p.units u) ≡ can_end_plain w u e
+pub can-plain-is : (p : Parts) (w : CoreState) (u : UnitNo) (e : Effect) → PartsStand p w → ends_as_plain p u e (known_in p.units u) ≡ can_end_plain w u e
 can-plain-is p w u e s = λ i.
     (is_running ((sym s.units i).phase u) && (sym s.units i).plain u)
     && ((same_unit e.unit u && (same_origin e.origin ((sym s.units i).origin u) && (same_call e.call ((sym s.units i).call u) && answered-is p w ((sym s.units i).kids u) e.answers s i)))
     && (is_empty e.reads && is_empty e.writes))
 
-pub can-snapshot-is : (p : Parts) (w : CoreState) (u : UnitNo) (o : Outcome) → Stands p w → ends_as_snapshot o (known_in p.units u) ≡ can_end_snapshot w u o
+pub can-snapshot-is : (p : Parts) (w : CoreState) (u : UnitNo) (o : Outcome) → PartsStand p w → ends_as_snapshot o (known_in p.units u) ≡ can_end_snapshot w u o
 can-snapshot-is p w u o s = λ i.
     (is_running ((sym s.units i).phase u) && (sym s.units i).plain u) && (is_empty ((sym s.units i).kids u) && not (same_outcome o aborted))

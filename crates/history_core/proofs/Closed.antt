@@ -24,7 +24,7 @@ use Rattle.history_core.specs.Closing.{last_among, last_state, unlearnt, grains_
 use Rattle.history_core.specs.Closes.{Closes}
 use Rattle.history_core.specs.Fronts.{ends_as, told_as, verdicts_after, entries_after, pairs_after, last_after}
 use Rattle.cell_table.specs.Table.{cell_in}
-use Rattle.history_core.specs.Kept.{Stands, IsCoreReached, ShowsOpen, ShowsTakenBatch, AllPlaced, EachPlaced, cells_of, owed_in, writes_in}
+use Rattle.history_core.specs.Kept.{PartsStand, IsCoreReached, ShowsOpen, ShowsTakenBatch, AllPlaced, EachPlaced, cells_of, owed_in, writes_in}
 use Rattle.history_core.proofs.Shows.{to-cases, from-cases, each-placed, placed-each}
 use Rattle.history_core.proofs.Lists.{filter-agree, last-agree}
 use Rattle.history_core.proofs.Fronts.{ends-open, ends-final, mapped-is, verdicts-link, entries-link, pairs-link, last-link, last-append, take-more, drop-more, filter-append, flat-append, filter-whole}
@@ -51,7 +51,7 @@ front-is : (w : CoreState) (b : Batch) (ds : List Decision) → CanClose w b ds 
 front-is w b ds c = ap (λ n. take n (waiting w)) c.each
 
 -- the verdicts after it
-verdicts-closed : (h : Closing) (p : Parts) (w : CoreState) (b : Batch) (ds : List Decision) → Stands p w → CanClose w b ds →
+verdicts-closed : (h : Closing) (p : Parts) (w : CoreState) (b : Batch) (ds : List Decision) → PartsStand p w → CanClose w b ds →
     ◌≡◌ {A = UnitNo → Verdict} (λ x. ends_as h (w.manager.verdict x)) (verdicts_after (ends_as h) ds (map effect_in p.waiting.items) (verdict_in p.units))
 verdicts-closed h p w b ds s c =
     sym (mapped-is h (members w b) w.manager.verdict (λ x. elim (c.others x) [ inl m ↦ inl m | inr t ↦ inr (steady-stays h (w.manager.verdict x) t) ]))
@@ -59,7 +59,7 @@ verdicts-closed h p w b ds s c =
     ∙ sym (verdicts-link (ends_as h) ds w (waiting w) w.manager.verdict)
     ∙ (λ i. verdicts_after (ends_as h) ds (sym s.effects i) (s.verdict i))
 
-entries-closed : (h : Closing) (p : Parts) (w : CoreState) (b : Batch) (ds : List Decision) → Stands p w → CanClose w b ds →
+entries-closed : (h : Closing) (p : Parts) (w : CoreState) (b : Batch) (ds : List Decision) → PartsStand p w → CanClose w b ds →
     entries_in w (λ u. told_as h (w.manager.result u)) (members w b) ds ≡ entries_after h ds (map effect_in p.waiting.items)
 entries-closed h p w b ds s c =
     ap (λ us. entries_in w (λ u. told_as h (w.manager.result u)) us ds) (sym (front-is w b ds c))
@@ -67,7 +67,7 @@ entries-closed h p w b ds s c =
     ∙ ap (entries_after h ds) (sym s.effects)
 
 -- what the grains have to learn after it
-unlearnt-closed : (h : Closing) (p : Parts) (w : CoreState) (b : Batch) (ds : List Decision) (answer : UnitNo → Settled) → Stands p w → CanClose w b ds →
+unlearnt-closed : (h : Closing) (p : Parts) (w : CoreState) (b : Batch) (ds : List Decision) (answer : UnitNo → Settled) → PartsStand p w → CanClose w b ds →
     unlearnt w ++ pairs_after (ends_as h) ds (map effect_in p.waiting.items) (verdict_in p.units) ≡ unlearnt (closed w (ends_as h) answer b ds)
 unlearnt-closed h p w b ds answer s c =
     (λ i. unlearnt w ++ news i)
@@ -107,7 +107,7 @@ unlearnt-closed h p w b ds answer s c =
         let e = in-grains k.0 (w.manager.writes k.0) t k.2 in
         ap not (ap (λ z. w.cells.learnt z t.1) e ∙ c.unlearnt k.0 t.1 u.0))))
 
-last-closed : (h : Closing) (p : Parts) (w : CoreState) (b : Batch) (ds : List Decision) (answer : UnitNo → Settled) (g : GrainId) → Stands p w → CanClose w b ds →
+last-closed : (h : Closing) (p : Parts) (w : CoreState) (b : Batch) (ds : List Decision) (answer : UnitNo → Settled) (g : GrainId) → PartsStand p w → CanClose w b ds →
     last_after (ends_as h) g ds (map effect_in p.waiting.items) (verdict_in p.units) (last_in p.last g) ≡ last_state (closed w (ends_as h) answer b ds) g
 last-closed h p w b ds answer g s c =
     (λ i. last_after (ends_as h) g ds (s.effects i) (sym s.verdict i) (s.last g i))
@@ -120,13 +120,14 @@ last-closed h p w b ds answer g s c =
     olds = last-agree w.manager.verdict (λ x. ends_as h (w.manager.verdict x)) w.manager.writes w.manager.writes g (take w.manager.closed w.manager.order) None
         (λ x m. ap is_committed (sym (ends-final h (w.manager.verdict x) (c.final x m)))) (λ x m. refl)
 
-pub stands-closed : (h : Closing) (p q : Parts) (w : CoreState) (b : Batch) (ds : List Decision) → Stands p w → CanClose w b ds → Closes h ds p q → q.doubt ≡ p.doubt →
-    Stands q (closed w (ends_as h) (λ u. told_as h (w.manager.result u)) b ds)
+pub stands-closed : (h : Closing) (p q : Parts) (w : CoreState) (b : Batch) (ds : List Decision) → PartsStand p w → CanClose w b ds → Closes h ds p q → q.doubt ≡ p.doubt →
+    PartsStand q (closed w (ends_as h) (λ u. told_as h (w.manager.result u)) b ds)
 stands-closed h p q w b ds s c k doubt =
     let left = units-left (length ds) p.waiting.items w (waiting w) (are-units p w s) in
     let rest : drop (length ds) (waiting w) ≡ drop (w.manager.closed + b.size) w.manager.order = ap (λ n. drop n (waiting w)) c.each ∙ drop-more w.manager.closed b.size w.manager.order in
     record {
       units = s.units ∙ sym (k.units w.units.seen_at);
+      numbers = s.numbers;
       cells = s.cells ∙ ap (λ t. cells_of (cell_in t) w.cells.learnt) (sym k.cells);
       verdict = verdicts-closed h p w b ds s c ∙ sym k.verdict;
       result = s.result ∙ sym k.result;

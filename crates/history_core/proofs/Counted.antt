@@ -4,9 +4,9 @@ use Rattle.std.proofs.lemmas.Bool.{cond-true, cond-false}
 use Rattle.base_types.specs.declared.calls.Origin.TheVariants.{Line, Child}
 use Rattle.cell_model.specs.Locks.{holds_lock}
 use Rattle.core_model.specs.CoreState.{UnitNo, GrainId, Mode, Batch, Decision, Settled, CoreState}
-use Rattle.core_model.specs.Tests.{any, ask}
+use Rattle.core_model.specs.Tests.{any, ask_answer}
 use Rattle.cell_model.specs.Decisions.{is_commit}
-use Rattle.core_model.specs.Changes.{refusal, refused_by, granted, locked, raised, restacked, cleaned, on_batch, on_decided, on_decisions, voted, decided, decided_by, decisions_of, with_decisions, sealed, spoiled, in_doubt, swept, swept_by}
+use Rattle.core_model.specs.Changes.{refusal, refused_by, after_grant, after_lock, after_raise, restacked, cleaned, on_batch, on_decided, on_decisions, voted, decided, decided_by, decisions_of, with_decisions, sealed, spoiled, in_doubt, swept, swept_by}
 use Rattle.core_model.specs.Events.{applies, can, does, step}
 use Rattle.core_model.specs.declared.events.CoreEvent.{CoreEvent}
 use Rattle.core_model.specs.declared.events.CoreEvent.TheVariants.{Bad, Begin, Grant, Refuse, Finish, EndPlain, EndSnapshot, Release, Take, Vote, Decide, Sealed, NotSealed, Doubt, Learn, Emitted, Halt, Want, Load}
@@ -25,9 +25,9 @@ refused-lines : (w : CoreState) (u : UnitNo) (o : Option Settled) → lines (ref
 refused-lines w u None = refl
 refused-lines w u (Some why) = refl
 
-granted-lines : (w : CoreState) (u : UnitNo) (g : GrainId) (mode : Mode) (b : Bool) → holds_lock u (w.cells.holds g) ≡ b → lines (granted w u g mode) ≡ lines w
-granted-lines w u g mode true e = ap lines (cond-true (holds_lock u (w.cells.holds g)) (raised (restacked w g (cleaned w g)) u g mode) (locked (restacked w g (cleaned w g)) u g mode) e)
-granted-lines w u g mode false e = ap lines (cond-false (holds_lock u (w.cells.holds g)) (raised (restacked w g (cleaned w g)) u g mode) (locked (restacked w g (cleaned w g)) u g mode) e)
+granted-lines : (w : CoreState) (u : UnitNo) (g : GrainId) (mode : Mode) (b : Bool) → holds_lock u (w.cells.holds g) ≡ b → lines (after_grant w u g mode) ≡ lines w
+granted-lines w u g mode true e = ap lines (cond-true (holds_lock u (w.cells.holds g)) (after_raise (restacked w g (cleaned w g)) u g mode) (after_lock (restacked w g (cleaned w g)) u g mode) e)
+granted-lines w u g mode false e = ap lines (cond-false (holds_lock u (w.cells.holds g)) (after_raise (restacked w g (cleaned w g)) u g mode) (after_lock (restacked w g (cleaned w g)) u g mode) e)
 
 decided-lines : (w : CoreState) (b : Batch) (ds : List Decision) (c : Bool) → any is_commit ds ≡ c → lines (decided_by w b ds) ≡ lines w
 decided-lines w b ds true e = ap lines (cond-true (any is_commit ds) (with_decisions w b ds) (sealed (with_decisions w b ds) b ds) e)
@@ -53,8 +53,8 @@ does-few : (w : CoreState) (e : CoreEvent) → can w e ≡ true → FitsEvent e 
 does-few w (Bad line why) c fits h = subst (λ n. n < 2 ^ 32) (eqb-true line (lines w + 1) c) fits
 does-few w (Begin (Line n) call plain) c fits h = subst (λ k. k < 2 ^ 32) (eqb-true n (lines w + 1) c) fits
 does-few w (Begin (Child p i d) call plain) c fits h = h
-does-few w (Grant u g mode) c fits h = same w (granted w u g mode) (granted-lines w u g mode (holds_lock u (w.cells.holds g)) refl) h
-does-few w (Refuse u g mode) c fits h = same w (refused_by w u (refusal g (ask w u g mode))) (refused-lines w u (refusal g (ask w u g mode))) h
+does-few w (Grant u g mode) c fits h = same w (after_grant w u g mode) (granted-lines w u g mode (holds_lock u (w.cells.holds g)) refl) h
+does-few w (Refuse u g mode) c fits h = same w (refused_by w u (refusal g (ask_answer w u g mode))) (refused-lines w u (refusal g (ask_answer w u g mode))) h
 does-few w (Finish u effect) c fits h = h
 does-few w (EndPlain u effect) c fits h = h
 does-few w (EndSnapshot u at outcome) c fits h = h

@@ -39,7 +39,7 @@ use Rattle.history_core.specs.Closes.{Closes, IsReadyToClose, decisions_in}
 use Rattle.history_core.specs.Deciding.{judged_after, decisions_now, IsUndecided}
 use Rattle.history_core.specs.Closing.{unlearnt, last_state}
 use Rattle.history_core.specs.Fronts.{AreOver}
-use Rattle.history_core.specs.Kept.{Stands, IsCoreReached, HasRoom, ShowsOpen, ShowsTakenBatch, AllPlaced, EachPlaced, cells_of, owed_in, writes_in}
+use Rattle.history_core.specs.Kept.{PartsStand, IsCoreReached, HasRoom, ShowsOpen, ShowsTakenBatch, AllPlaced, EachPlaced, cells_of, owed_in, writes_in}
 use Rattle.history_core.specs.Steps.{CanDo, Does}
 use Rattle.history_core.proofs.Shows.{to-cases, from-cases, each-placed, placed-each}
 use Rattle.history_core.proofs.Stepping.{can-is, allowed-is, allowed-going}
@@ -69,7 +69,7 @@ going-known : (w : CoreState) (n : ℕ) → applies w (Decide n) ≡ true → w.
 going-known w n a = none-true w.manager.doubt (and_parts (is_none w.manager.doubt) (not w.units.halt) (sym (allowed-going w (Decide n) refl refl) ∙ allowed-is w (Decide n) a)).0
 
 -- what is kept of it
-pub shown-open : (p : Parts) (w : CoreState) (b : Batch) → Stands p w → w.manager.batch ≡ Some b → (x : TakenBatch) × (p.batch ≡ Some x) × ShowsBatch x (take b.size p.waiting.items) b
+pub shown-open : (p : Parts) (w : CoreState) (b : Batch) → PartsStand p w → w.manager.batch ≡ Some b → (x : TakenBatch) × (p.batch ≡ Some x) × ShowsBatch x (take b.size p.waiting.items) b
 shown-open p w b s q = go p.batch refl (subst (ShowsOpen p.batch p.waiting.items) q (to-cases p.batch p.waiting.items w.manager.batch s.batch))
   where
     go : (o : Option TakenBatch) → p.batch ≡ o → ShowsOpen p.batch p.waiting.items (Some b) → (x : TakenBatch) × (p.batch ≡ Some x) × ShowsBatch x (take b.size p.waiting.items) b
@@ -77,7 +77,7 @@ shown-open p w b s q = go p.batch refl (subst (ShowsOpen p.batch p.waiting.items
     go (Some x) e t = (x, e, subst (λ z. ShowsOpen z p.waiting.items (Some b)) e t)
 
 -- its decisions are the model's
-pub decisions-now : (p : Parts) (w : CoreState) (b : Batch) (x : TakenBatch) → Stands p w → ShowsBatch x (take b.size p.waiting.items) b → decisions_now p x ≡ decisions_of w b
+pub decisions-now : (p : Parts) (w : CoreState) (b : Batch) (x : TakenBatch) → PartsStand p w → ShowsBatch x (take b.size p.waiting.items) b → decisions_now p x ≡ decisions_of w b
 decisions-now p w b x s k =
     (λ i. decisions_by (λ u. is_bad (verdict_in p.units u)) (k.votes i) (take (k.size i) p.waiting.items))
     ∙ decisions-link (verdict_in p.units) (take b.size p.waiting.items) w b s.verdict (units-taken b.size p.waiting.items w (waiting w) (are-units p w s))
@@ -147,14 +147,15 @@ last-judged w b ds g r =
     (λ x m. ap is_committed (sym (judged-before w b ds r x m))) (λ x m. refl)
 
 -- the batch is decided
-stands-judged : (p q : Parts) (w : CoreState) (b : Batch) (x : TakenBatch) → Stands p w → IsCoreReached w → w.manager.batch ≡ Some b → p.batch ≡ Some x → ShowsBatch x (take b.size p.waiting.items) b → Judges p q x →
-    Stands q (with_decisions w b (decisions_of w b))
+stands-judged : (p q : Parts) (w : CoreState) (b : Batch) (x : TakenBatch) → PartsStand p w → IsCoreReached w → w.manager.batch ≡ Some b → p.batch ≡ Some x → ShowsBatch x (take b.size p.waiting.items) b → Judges p q x →
+    PartsStand q (with_decisions w b (decisions_of w b))
 stands-judged p q w b x s r e o k j =
     let ds = decisions_of w b in
     let same : decisions_now p x ≡ ds = decisions-now p w b x s k in
     let len : take (length ds) (waiting w) ≡ members w b = ap (λ n. take n (waiting w)) (decisions-length w b r e) in
     record {
       units = s.units ∙ sym (j.units w.units.seen_at);
+      numbers = s.numbers;
       cells = s.cells ∙ ap (λ t. cells_of (cell_in t) w.cells.learnt) (sym j.cells);
       verdict =
           ap (λ us. judged us ds w.manager.verdict) (sym len)
@@ -212,10 +213,10 @@ decided-closes w b r none q d = record {
 decide-is : (w : CoreState) (b : Batch) (n : ℕ) → w.manager.batch ≡ Some b → does w (Decide n) ≡ decided_by w b (decisions_of w b)
 decide-is w b n q = ap (on_batch w (decided w)) q
 
-commits-is : (p : Parts) (w : CoreState) (b : Batch) (x : TakenBatch) (commits : ℕ) → Stands p w → ShowsBatch x (take b.size p.waiting.items) b → commits ≡ commits_in (Some (decisions_now p x)) → nat_lt 0 commits ≡ any is_commit (decisions_of w b)
+commits-is : (p : Parts) (w : CoreState) (b : Batch) (x : TakenBatch) (commits : ℕ) → PartsStand p w → ShowsBatch x (take b.size p.waiting.items) b → commits ≡ commits_in (Some (decisions_now p x)) → nat_lt 0 commits ≡ any is_commit (decisions_of w b)
 commits-is p w b x commits s k e = ap (nat_lt 0) e ∙ commits-some (decisions_now p x) ∙ ap (any is_commit) (decisions-now p w b x s k)
 
-reply-is : (p : Parts) (w : CoreState) (b : Batch) (x : TakenBatch) (commits : ℕ) → Stands p w → w.manager.batch ≡ Some b → ShowsBatch x (take b.size p.waiting.items) b → commits ≡ commits_in (Some (decisions_now p x)) → reply.Decided commits ≡ decided_reply w w.manager.batch
+reply-is : (p : Parts) (w : CoreState) (b : Batch) (x : TakenBatch) (commits : ℕ) → PartsStand p w → w.manager.batch ≡ Some b → ShowsBatch x (take b.size p.waiting.items) b → commits ≡ commits_in (Some (decisions_now p x)) → reply.Decided commits ≡ decided_reply w w.manager.batch
 reply-is p w b x commits s q k e =
     ap reply.Decided (e ∙ ap (λ ds. length (filter is_commit ds)) (decisions-now p w b x s k)) ∙ sym (ap (decided_reply w) q)
 
@@ -228,7 +229,7 @@ does-decide p q n commits j e some = λ w s r a.
     let x = k.0 in
     let ds = decisions_of w b in
     let yes : any is_commit ds ≡ true = sym (commits-is p w b x commits s k.2 (e x k.1)) ∙ some in (
-      subst (Stands q) (sym (decide-is w b n t.1 ∙ cond-true (any is_commit ds) (with_decisions w b ds) (sealed (with_decisions w b ds) b ds) yes))
+      subst (PartsStand q) (sym (decide-is w b n t.1 ∙ cond-true (any is_commit ds) (with_decisions w b ds) (sealed (with_decisions w b ds) b ds) yes))
           (stands-judged p q w b x s r t.1 k.1 k.2 (j x k.1)),
       reply-is p w b x commits s t.1 k.2 (e x k.1),
     ))
@@ -244,7 +245,7 @@ does-decide-none p m q n commits j e none closing doubt = λ w s r a.
     let no : any is_commit ds ≡ false = sym (commits-is p w b x commits s k.2 (e x k.1)) ∙ none in
     let mid = stands-judged p m w b x s r t.1 k.1 k.2 (j x k.1) in
     let here : decisions_in m.batch ≡ Some ds = ap decisions_in (j x k.1).batch ∙ ap Some (decisions-now p w b x s k.2) in (
-      subst (Stands q) (sym (decide-is w b n t.1 ∙ cond-false (any is_commit ds) (with_decisions w b ds) (sealed (with_decisions w b ds) b ds) no))
+      subst (PartsStand q) (sym (decide-is w b n t.1 ∙ cond-false (any is_commit ds) (with_decisions w b ds) (sealed (with_decisions w b ds) b ds) no))
           (stands-closed how.Sealed m q (with_decisions w b ds) b ds mid (decided-closes w b r (going-known w n a) t.1 t.2) (closing ds here) doubt),
       reply-is p w b x commits s t.1 k.2 (e x k.1),
     ))

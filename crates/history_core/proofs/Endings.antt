@@ -11,9 +11,9 @@ use Rattle.core_model.specs.declared.phases.Verdict.{Verdict}
 use Rattle.core_model.specs.declared.phases.Verdict.TheVariants.{Aborted}
 use Rattle.core_model.specs.declared.events.CoreEvent.TheVariants.{Refuse, EndPlain, EndSnapshot}
 use Rattle.core_model.specs.declared.events.CoreReply.TheVariants as reply
-use Rattle.core_model.specs.Tests.{is_running, is_final, is_committed, ask, waiting, state_written}
+use Rattle.core_model.specs.Tests.{is_running, is_final, is_committed, ask_answer, waiting, state_written}
 use Rattle.core_model.specs.Answers.{effect_of}
-use Rattle.core_model.specs.Changes.{refused, refused_by, refusal, ended, entry_for}
+use Rattle.core_model.specs.Changes.{after_refusal, refused_by, refusal, after_end, entry_for}
 use Rattle.core_model.specs.Events.{applies, does}
 use Rattle.core_model.proofs.Basics.{is_running-true}
 use Rattle.core_model.proofs.Decoded.{Change, refuse, end_plain, end_snapshot, decode}
@@ -27,19 +27,19 @@ use Rattle.history_core.specs.declared.parts.Parts.{Parts}
 use Rattle.history_core.specs.Asked.{ask_in}
 use Rattle.history_core.proofs.Locking.{ask-is}
 use Rattle.history_core.specs.Closing.{unlearnt, last_state}
-use Rattle.history_core.specs.Kept.{Stands, IsCoreReached, owed_in}
+use Rattle.history_core.specs.Kept.{PartsStand, IsCoreReached, owed_in}
 use Rattle.history_core.specs.Steps.{CanDo, Does}
 use Rattle.history_core.proofs.Stepping.{can-is}
 use Rattle.history_core.proofs.Lists.{map-agree, filter-agree, last-agree}
 use Rattle.history_core.proofs.Reached.{waits-not, closes-not}
 
-unlearnt-refused : (w : CoreState) (u : UnitNo) (why : Settled) → IsCoreReached w → w.units.phase u ≡ Running → unlearnt w ≡ unlearnt (refused w u why)
+unlearnt-refused : (w : CoreState) (u : UnitNo) (why : Settled) → IsCoreReached w → w.units.phase u ≡ Running → unlearnt w ≡ unlearnt (after_refusal w u why)
 unlearnt-refused w u why r p =
     ap (λ us. filter (λ (t : UnitNo × GrainId). not (w.cells.learnt t.0 t.1)) (flat_map (λ x. map (λ (y : Write). (x, y.0)) (w.manager.writes x)) us))
     (filter-agree (λ x. is_final (w.manager.verdict x)) (λ x. is_final (put w.manager.verdict u Aborted x)) (take w.manager.closed w.manager.order)
     (λ x m. ap is_final (sym (put-other w.manager.verdict u Aborted x (closes-not w r u p x m)))))
 
-last-refused : (w : CoreState) (u : UnitNo) (why : Settled) (g : GrainId) → IsCoreReached w → w.units.phase u ≡ Running → last_state w g ≡ last_state (refused w u why) g
+last-refused : (w : CoreState) (u : UnitNo) (why : Settled) (g : GrainId) → IsCoreReached w → w.units.phase u ≡ Running → last_state w g ≡ last_state (after_refusal w u why) g
 last-refused w u why g r p =
     last-agree w.manager.verdict (put w.manager.verdict u Aborted) w.manager.writes w.manager.writes g (take w.manager.closed w.manager.order) None
     (λ x m. ap is_committed (sym (put-other w.manager.verdict u Aborted x (closes-not w r u p x m)))) (λ x m. refl)
@@ -55,15 +55,16 @@ pub can-refuse-runs : (p : Parts) (u : UnitNo) (g : GrainId) (mode : Mode) → C
 can-refuse-runs p u g mode c = (λ i. is_running ((sym c.1.units i).phase u)) ∙ ap is_running (refuse-runs c.0 u g mode c.3)
 
 pub does-refuse : (p : Parts) (u : UnitNo) (g : GrainId) (mode : Mode) (why : Settled) (origin : Origin) (units : UnitTable) (entries : EntriesInRoom) →
-    ((w : CoreState) → Stands p w → Some why ≡ refusal g (ask w u g mode)) → ((w : CoreState) → Stands p w → origin ≡ w.units.origin u) →
+    ((w : CoreState) → PartsStand p w → Some why ≡ refusal g (ask_answer w u g mode)) → ((w : CoreState) → PartsStand p w → origin ≡ w.units.origin u) →
     ((seen : UnitNo → Option ℕ) → units_of units seen ≡ units_over (units_of p.units seen) u Refused) → verdict_in units ≡ put (verdict_in p.units) u Aborted → result_in units ≡ result_in p.units →
     entries.entries ≡ p.entries.entries ++ entry_for origin u why → entries.emitted ≡ p.entries.emitted → owed_in p.batch ≤ entries.spare →
     Does p (Refuse u g mode) reply.Done (record p { units = units; entries = entries })
 does-refuse p u g mode why origin units entries cause from us v o es em room = λ w s r a. (
-  subst (λ c. Stands (record p { units = units; entries = entries }) (refused_by w u c)) (cause w s)
+  subst (λ c. PartsStand (record p { units = units; entries = entries }) (refused_by w u c)) (cause w s)
       (let runs = refuse-runs w u g mode a in
       record {
         units = ap (λ (x : Units). units_over x u Refused) s.units ∙ sym (us w.units.seen_at);
+        numbers = s.numbers;
         cells = s.cells;
         verdict = ap (λ (x : UnitNo → Verdict). put x u Aborted) s.verdict ∙ sym v;
         result = s.result ∙ sym o;
@@ -82,25 +83,26 @@ does-refuse p u g mode why origin units entries cause from us v o es em room = �
   refl,
 )
 
-effect-ended : (w : CoreState) (u : UnitNo) (answers : List Outcome) (result : Outcome) (at : Option ℕ) (x : UnitNo) → (x ≡ u → ⊥) → effect_of w x ≡ effect_of (ended w u answers result at) x
+effect-ended : (w : CoreState) (u : UnitNo) (answers : List Outcome) (result : Outcome) (at : Option ℕ) (x : UnitNo) → (x ≡ u → ⊥) → effect_of w x ≡ effect_of (after_end w u answers result at) x
 effect-ended w u answers result at x n = λ i. record (effect_of w x) {
   answers = sym (put-other w.manager.answers u answers x n) i;
   result = sym (put-other w.manager.result u result x n) i;
 }
 
 pub stands-ended : (p : Parts) (w : CoreState) (u : UnitNo) (answers : List Outcome) (result : Outcome) (at : Option ℕ) (origin : Origin) (units : UnitTable) (entries : EntriesInRoom) →
-    Stands p w → IsCoreReached w → is_running (phase_in p.units u) ≡ true → origin ≡ origin_in p.units u →
+    PartsStand p w → IsCoreReached w → is_running (phase_in p.units u) ≡ true → origin ≡ origin_in p.units u →
     ((seen : UnitNo → Option ℕ) → units_of units seen ≡ units_over (units_of p.units seen) u Ended) → verdict_in units ≡ verdict_in p.units → result_in units ≡ put (result_in p.units) u result →
     entries.entries ≡ p.entries.entries ++ entry_for origin u (settled.Done result) → entries.emitted ≡ p.entries.emitted → owed_in p.batch ≤ entries.spare →
-    Stands (record p { units = units; entries = entries }) (ended w u answers result at)
+    PartsStand (record p { units = units; entries = entries }) (after_end w u answers result at)
 stands-ended p w u answers result at origin units entries s r running from us v o es em room =
     let runs : w.units.phase u ≡ Running = is_running-true _ ((λ i. is_running ((s.units i).phase u)) ∙ running) in
     record {
       units = (λ i. record (units_over (s.units i) u Ended) { seen_at = put w.units.seen_at u at }) ∙ sym (us (put w.units.seen_at u at));
+      numbers = s.numbers;
       cells = s.cells;
       verdict = s.verdict ∙ sym v;
       result = ap (λ (x : UnitNo → Outcome). put x u result) s.result ∙ sym o;
-      effects = s.effects ∙ map-agree (effect_of w) (effect_of (ended w u answers result at)) (waiting w) (λ x m. effect-ended w u answers result at x (waits-not w r u runs x m));
+      effects = s.effects ∙ map-agree (effect_of w) (effect_of (after_end w u answers result at)) (waiting w) (λ x m. effect-ended w u answers result at x (waits-not w r u runs x m));
       sources = s.sources;
       batch = s.batch;
       batches = s.batches;
@@ -139,5 +141,5 @@ some-is (Some x) e = (x, refl)
 -- there is a cause
 pub refuse-some : (p : Parts) (u : UnitNo) (g : GrainId) (mode : Mode) → CanDo p (Refuse u g mode) → (why : Settled) × (refusal g (ask_in p u g mode) ≡ Some why)
 refuse-some p u g mode c =
-    let t = some-is (refusal g (ask c.0 u g mode)) (can-is c.0 (Refuse u g mode) c.3) in
+    let t = some-is (refusal g (ask_answer c.0 u g mode)) (can-is c.0 (Refuse u g mode) c.3) in
     (t.0, ap (refusal g) (ask-is p c.0 u g mode c.1) ∙ t.1)

@@ -33,7 +33,7 @@ use Rattle.open_batch.specs.Shown.{ShowsBatch}
 use Rattle.history_core.specs.declared.parts.Parts.{Parts}
 use Rattle.history_core.specs.Closing.{unlearnt, last_state, last_among}
 use Rattle.history_core.specs.Handing.{put_handed, cleared, with_writes}
-use Rattle.history_core.specs.Kept.{Stands, IsCoreReached, ShowsOpen, ShowsTakenBatch, HasRoom, AllPlaced, EachPlaced, owed_in, members_in, writes_in}
+use Rattle.history_core.specs.Kept.{PartsStand, IsCoreReached, ShowsOpen, ShowsTakenBatch, HasRoom, AllPlaced, EachPlaced, owed_in, members_in, writes_in}
 use Rattle.history_core.specs.Steps.{CanDo, KeepsMeaning, Does}
 use Rattle.history_core.proofs.Stepping.{can-is}
 use Rattle.history_core.proofs.Shows.{to-cases, from-cases, each-placed, placed-each}
@@ -181,6 +181,7 @@ pub keeps-handed : (p : Parts) (waiting : Vec FinishedUnit Global) (handed : Han
     ((x : UnitNo) (g : GrainId) → (x ≡ u → ⊥) → handed_in handed x g ≡ handed_in p.handed x g) → KeepsMeaning p (record p { waiting = waiting; handed = handed })
 keeps-handed p waiting handed u runs same others = λ w s. record {
   units = s.units;
+  numbers = s.numbers;
   cells = s.cells;
   verdict = s.verdict;
   result = s.result;
@@ -201,7 +202,7 @@ keeps-handed p waiting handed u runs same others = λ w s. record {
   };
 }
   where
-    not-running : (w : CoreState) → Stands p w → (x : UnitNo) → w.units.phase x ≡ Finished → x ≡ u → ⊥
+    not-running : (w : CoreState) → PartsStand p w → (x : UnitNo) → w.units.phase x ≡ Finished → x ≡ u → ⊥
     not-running w s x f e =
         (let t : w.units.phase u ≡ Running = is_running-true _ ((λ i. is_running ((s.units i).phase u)) ∙ runs) in
         let z : Finished ≡ Running = sym f ∙ ap w.units.phase e ∙ t in cc)
@@ -214,6 +215,7 @@ does-finish p u e units waiting m f us v o effect deps items hands = λ w s r a.
   (let t = finish-parts w u e a in
       record {
         units = ap (λ (x : Units). units_over x u Finished) s.units ∙ sym (us w.units.seen_at);
+        numbers = s.numbers;
         cells = s.cells;
         verdict = s.verdict ∙ sym v;
         result = ap (λ (x : UnitNo → Outcome). put x u e.result) s.result ∙ sym o;
@@ -241,7 +243,7 @@ does-finish p u e units waiting m f us v o effect deps items hands = λ w s r a.
   refl,
 )
   where
-    front : (w : CoreState) → Stands p w → take (owed_in p.batch) waiting.items ≡ members_in p
+    front : (w : CoreState) → PartsStand p w → take (owed_in p.batch) waiting.items ≡ members_in p
     front w s = ap (take (owed_in p.batch)) items ∙ take-last (owed_in p.batch) p.waiting.items m (owed-within p.batch p.waiting.items w.manager.batch (to-cases p.batch p.waiting.items w.manager.batch s.batch))
 
 -- the room and the copies of a finish change nothing

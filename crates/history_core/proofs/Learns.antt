@@ -6,7 +6,7 @@ use Rattle.std.proofs.lemmas.Bool.{and_parts, and_from, not-true, cases_Bool, ca
 use Rattle.cell_model.specs.Units.{Member, nobody, same_unit, same_grain}
 use Rattle.cell_model.specs.Stacks as stacks
 use Rattle.cell_model.specs.Stacks.{is_of, removed}
-use Rattle.cell_model.specs.Cells.{Cell, opened, learned, learnt}
+use Rattle.cell_model.specs.Cells.{Cell, opened, cell_learned, learnt}
 use Rattle.cell_model.proofs.Units.{any-true, any-member, filter-member, filter-stays, same_unit-true, same_unit-is, same_unit-not, same_grain-true, same_grain-is, cases_unit, cases_grain}
 use Rattle.core_model.specs.CoreState.{UnitNo, GrainId, Value, Version, Write, Cells, CoreState, put, put_grain}
 use Rattle.core_model.specs.declared.phases.Phase.{Phase}
@@ -29,7 +29,7 @@ use Rattle.cell_table.specs.declared.table.CellTable.{CellTable}
 use Rattle.unit_table.specs.Table.{verdict_in}
 use Rattle.history_core.specs.declared.parts.Parts.{Parts}
 use Rattle.history_core.specs.Closing.{unlearnt}
-use Rattle.history_core.specs.Kept.{Stands, IsCoreReached, cells_of, writes_in, members_in}
+use Rattle.history_core.specs.Kept.{PartsStand, IsCoreReached, cells_of, writes_in, members_in}
 use Rattle.history_core.specs.Steps.{CanDo, Does}
 use Rattle.history_core.proofs.Stepping.{can-is}
 use Rattle.history_core.proofs.Lists.{filter-agree}
@@ -181,7 +181,7 @@ unlearnt-less w u g =
         ∙ sym (ap (λ (f : GrainId → Bool). not (f k)) (put-other w.cells.learnt u (put_grain (w.cells.learnt u) g true) x n))
 
 -- a grain without a cell has nothing of the unit
-learned-opened : (state : List Value) (u : UnitNo) (commits : Bool) → (u ≡ nobody → ⊥) → learned (opened state) u commits ≡ opened state
+learned-opened : (state : List Value) (u : UnitNo) (commits : Bool) → (u ≡ nobody → ⊥) → cell_learned (opened state) u commits ≡ opened state
 learned-opened state u commits n = λ i. record { stack = same commits i; holds = []; readings = [] }
   where
     other : same_unit nobody u ≡ false
@@ -198,10 +198,10 @@ put-self f g x e = λ i q. at q i
     at q = grain-at f g x (λ y. y ≡ f q) q (λ z. e ∙ ap f (sym z)) (λ n. refl)
 
 pub learnt-nothing : (t : CellTable) (u : UnitNo) (g : GrainId) (commits : Bool) → (u ≡ nobody → ⊥) → has_cell t g ≡ false →
-    cell_in t ≡ put_grain (cell_in t) g (learned (cell_in t g) u commits)
-learnt-nothing t u g commits n none = sym (put-self (cell_in t) g (learned (cell_in t g) u commits) (by_cell (cell_at t g) none))
+    cell_in t ≡ put_grain (cell_in t) g (cell_learned (cell_in t g) u commits)
+learnt-nothing t u g commits n none = sym (put-self (cell_in t) g (cell_learned (cell_in t g) u commits) (by_cell (cell_at t g) none))
   where
-    by_cell : (o : Option CellInRoom) → is_some o ≡ false → learned (cell_or o (opens_with t g)) u commits ≡ cell_or o (opens_with t g)
+    by_cell : (o : Option CellInRoom) → is_some o ≡ false → cell_learned (cell_or o (opens_with t g)) u commits ≡ cell_or o (opens_with t g)
     by_cell None e = learned-opened (opens_with t g) u commits n
     by_cell (Some c) e = cc
 
@@ -231,7 +231,7 @@ no-pair (p ∷ ps) u g e = go (λ h. no-pair ps u g h) (is_pair u g p) refl e
     go rest false q h = ap (λ t. p ∷ t) (rest h)
 
 pub does-learn : (p : Parts) (u : UnitNo) (g : GrainId) (new : CellTable) (learn : PairsInRoom) →
-    cell_in new ≡ put_grain (cell_in p.cells) g (learned (cell_in p.cells g) u (is_committed (verdict_in p.units u))) →
+    cell_in new ≡ put_grain (cell_in p.cells) g (cell_learned (cell_in p.cells g) u (is_committed (verdict_in p.units u))) →
     learn.pairs ≡ other_pairs p.learn.pairs u g → p.learn.spare ≤ learn.spare → Does p (Learn u g) reply.Done (record p { cells = new; learn = learn })
 does-learn p u g new learn is pairs more = λ w s r a. (
   record {
@@ -243,6 +243,7 @@ does-learn p u g new learn is pairs more = λ w s r a. (
         })
         ∙ stacked-cells (put w.cells.learnt u (put_grain (w.cells.learnt u) g true))
         ∙ ap (λ (C : GrainId → Cell). cells_of C (put w.cells.learnt u (put_grain (w.cells.learnt u) g true))) (sym is);
+    numbers = s.numbers;
     verdict = s.verdict;
     result = s.result;
     effects = s.effects;
@@ -261,7 +262,7 @@ does-learn p u g new learn is pairs more = λ w s r a. (
 )
   where
     k : Cell
-    k = learned (cell_in p.cells g) u (is_committed (verdict_in p.units u))
+    k = cell_learned (cell_in p.cells g) u (is_committed (verdict_in p.units u))
 
     stacked-cells : (known : UnitNo → GrainId → Bool) → record (cells_of (cell_in p.cells) known) { stack = put_grain (λ q. (cell_in p.cells q).stack) g k.stack } ≡ cells_of (put_grain (cell_in p.cells) g k) known
     stacked-cells known = λ i. record {

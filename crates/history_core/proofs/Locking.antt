@@ -17,9 +17,9 @@ use Rattle.core_model.specs.CoreState.{UnitNo, GrainId, Version, Mode, Cells, Un
 use Rattle.core_model.specs.declared.effects.Read.{Read}
 use Rattle.core_model.specs.declared.phases.Phase.TheVariants.{Running, Finished}
 use Rattle.core_model.specs.declared.effects.Effect.{Effect}
-use Rattle.core_model.specs.Tests.{is_running, is_aborted, is_committed, ask, ask_doom, ask_lock, waiting, state_written}
+use Rattle.core_model.specs.Tests.{is_running, is_aborted, is_committed, ask_answer, ask_doom, ask_lock, waiting, state_written}
 use Rattle.core_model.specs.Answers.{effect_of}
-use Rattle.core_model.specs.Changes.{granted, raised, locked, restacked, cleaned, touched, read_of, is_sure, deps_with, without_want}
+use Rattle.core_model.specs.Changes.{after_grant, after_raise, after_lock, restacked, cleaned, touched, read_of, is_sure, deps_with, without_want}
 use Rattle.core_model.specs.Events.{applies, read_reply}
 use Rattle.core_model.specs.declared.events.CoreEvent.TheVariants.{Grant}
 use Rattle.core_model.specs.declared.events.CoreReply.TheVariants as reply
@@ -35,7 +35,7 @@ use Rattle.unit_table.specs.Parts.{units_read, deps_after}
 use Rattle.unit_table.specs.Table.{units_of, verdict_in, result_in, deps_in, phase_in}
 use Rattle.unit_table.specs.declared.table.UnitTable.{UnitTable}
 use Rattle.history_core.specs.declared.parts.Parts.{Parts}
-use Rattle.history_core.specs.Kept.{Stands, IsCoreReached, cells_of}
+use Rattle.history_core.specs.Kept.{PartsStand, IsCoreReached, cells_of}
 use Rattle.history_core.specs.Granting.{Cleans, cell_without, is_sure_in}
 use Rattle.history_core.specs.Steps.{CanDo, Does}
 use Rattle.history_core.specs.Asked.{ask_in}
@@ -49,7 +49,7 @@ left-cleans : (test : UnitNo → Bool) (stack : List Version) (aborted : Option 
 left-cleans test stack None e = sym (none-cleans test stack (sym e))
 left-cleans test stack (Some unit) e = found-cleans test stack unit (sym e)
 
-cleaned-is : (p : Parts) (w : CoreState) (g : GrainId) (aborted : Option UnitNo) → Stands p w → Cleans p g aborted → cleaned w g ≡ without_aborted aborted (cell_in p.cells g).stack
+cleaned-is : (p : Parts) (w : CoreState) (g : GrainId) (aborted : Option UnitNo) → PartsStand p w → Cleans p g aborted → cleaned w g ≡ without_aborted aborted (cell_in p.cells g).stack
 cleaned-is p w g aborted s e =
     (λ i. cut (λ x. is_aborted (s.verdict i x.unit)) ((s.cells i).stack g))
     ∙ sym (left-cleans (λ u. is_aborted (verdict_in p.units u)) (cell_in p.cells g).stack aborted e)
@@ -81,9 +81,9 @@ put-twice f g x y = λ i q. at q i
     at q = grain-at f g y (λ z. put_grain (put_grain f g x) g y q ≡ z) q (λ e. grain-is (put_grain f g x) g y q e) (λ n. grain-other (put_grain f g x) g y q n ∙ grain-other f g x q n)
 
 -- the cells after the grant
-locked-cells : (p : Parts) (new : CellTable) (w : CoreState) (u : UnitNo) (g : GrainId) (m : Mode) (aborted : Option UnitNo) → Stands p w → Cleans p g aborted →
-    cell_in new ≡ put_grain (cell_in p.cells) g (cells.granted (cell_without (cell_in p.cells g) aborted) u m) →
-    (locked (restacked w g (cleaned w g)) u g m).cells ≡ cells_of (cell_in new) w.cells.learnt
+locked-cells : (p : Parts) (new : CellTable) (w : CoreState) (u : UnitNo) (g : GrainId) (m : Mode) (aborted : Option UnitNo) → PartsStand p w → Cleans p g aborted →
+    cell_in new ≡ put_grain (cell_in p.cells) g (cells.cell_granted (cell_without (cell_in p.cells g) aborted) u m) →
+    (after_lock (restacked w g (cleaned w g)) u g m).cells ≡ cells_of (cell_in new) w.cells.learnt
 locked-cells p new w u g m aborted s e is =
     (λ i. record (s.cells i) {
       stack = put_grain (s.cells i).stack g (ys i);
@@ -91,7 +91,7 @@ locked-cells p new w u g m aborted s e is =
       readings = put_grain (s.cells i).readings g (with_reading ((s.cells i).readings g) u (top (zs i)).unit);
       recent = touched (s.cells i).capacity g (s.cells i).recent;
     })
-    ∙ put-cells (cell_in p.cells) w.cells.learnt g (cells.granted (cell_without (cell_in p.cells g) aborted) u m)
+    ∙ put-cells (cell_in p.cells) w.cells.learnt g (cells.cell_granted (cell_without (cell_in p.cells g) aborted) u m)
     ∙ ap (λ (C : GrainId → Cell). cells_of C w.cells.learnt) (sym is)
   where
     ys : cleaned w g ≡ without_aborted aborted (cell_in p.cells g).stack
@@ -100,16 +100,16 @@ locked-cells p new w u g m aborted s e is =
     zs : put_grain w.cells.stack g (cleaned w g) g ≡ without_aborted aborted (cell_in p.cells g).stack
     zs = grain-same w.cells.stack g (cleaned w g) ∙ ys
 
-raised-cells : (p : Parts) (new : CellTable) (w : CoreState) (u : UnitNo) (g : GrainId) (m : Mode) (aborted : Option UnitNo) → Stands p w → Cleans p g aborted →
-    cell_in new ≡ put_grain (cell_in p.cells) g (cells.granted (cell_without (cell_in p.cells g) aborted) u m) →
-    (raised (restacked w g (cleaned w g)) u g m).cells ≡ cells_of (cell_in new) w.cells.learnt
+raised-cells : (p : Parts) (new : CellTable) (w : CoreState) (u : UnitNo) (g : GrainId) (m : Mode) (aborted : Option UnitNo) → PartsStand p w → Cleans p g aborted →
+    cell_in new ≡ put_grain (cell_in p.cells) g (cells.cell_granted (cell_without (cell_in p.cells g) aborted) u m) →
+    (after_raise (restacked w g (cleaned w g)) u g m).cells ≡ cells_of (cell_in new) w.cells.learnt
 raised-cells p new w u g m aborted s e is =
     (λ i. record (s.cells i) {
       stack = put_grain (s.cells i).stack g (ys i);
       holds = put_grain (s.cells i).holds g (locks.granted ((s.cells i).holds g) u m);
       readings = put_grain (s.cells i).readings g (with_reading ((s.cells i).readings g) u (top (zs i)).unit);
     })
-    ∙ put-cells (cell_in p.cells) w.cells.learnt g (cells.granted (cell_without (cell_in p.cells g) aborted) u m)
+    ∙ put-cells (cell_in p.cells) w.cells.learnt g (cells.cell_granted (cell_without (cell_in p.cells g) aborted) u m)
     ∙ ap (λ (C : GrainId → Cell). cells_of C w.cells.learnt) (sym is)
   where
     ys : cleaned w g ≡ without_aborted aborted (cell_in p.cells g).stack
@@ -118,7 +118,7 @@ raised-cells p new w u g m aborted s e is =
     zs : put_grain w.cells.stack g (cleaned w g) g ≡ without_aborted aborted (cell_in p.cells g).stack
     zs = grain-same w.cells.stack g (cleaned w g) ∙ ys
 
-sure-is : (p : Parts) (w : CoreState) → Stands p w → (u : UnitNo) → is_sure w u ≡ is_sure_in p u
+sure-is : (p : Parts) (w : CoreState) → PartsStand p w → (u : UnitNo) → is_sure w u ≡ is_sure_in p u
 sure-is p w s u = λ i. same_unit u nobody || is_committed (s.verdict i u)
 
 if-not : {A : Type 0} (b : Bool) (x y : A) → (if b then x else y) ≡ (if not b then y else x)
@@ -126,9 +126,9 @@ if-not true x y = refl
 if-not false x y = refl
 
 -- the units after a first lock: what was read is the version on top, and a source that isn't sure is a dependency
-locked-units : (p : Parts) (w : CoreState) (u : UnitNo) (g : GrainId) (m : Mode) (aborted : Option UnitNo) (read : Read) (depends : Bool) → Stands p w → Cleans p g aborted →
+locked-units : (p : Parts) (w : CoreState) (u : UnitNo) (g : GrainId) (m : Mode) (aborted : Option UnitNo) (read : Read) (depends : Bool) → PartsStand p w → Cleans p g aborted →
     read ≡ read_of g (top (without_aborted aborted (cell_in p.cells g).stack)) → depends ≡ not (is_sure_in p read.source) →
-    (locked (restacked w g (cleaned w g)) u g m).units ≡ units_read (units_of p.units w.units.seen_at) u read depends
+    (after_lock (restacked w g (cleaned w g)) u g m).units ≡ units_read (units_of p.units w.units.seen_at) u read depends
 locked-units p w u g m aborted read depends s e is more =
     (λ i. record (s.units i) {
       reads = put (s.units i).reads u ((s.units i).reads u ++ now i ∷ []);
@@ -170,12 +170,13 @@ runs-not : (w : CoreState) (u : UnitNo) (g : GrainId) (m : Mode) → applies w (
 runs-not w u g m a x f e = (let t : Finished ≡ Running = sym f ∙ ap w.units.phase e ∙ grant-runs w u g m a in cc)
 
 pub does-raise : (p : Parts) (u : UnitNo) (g : GrainId) (m : Mode) (aborted : Option UnitNo) (new : CellTable) (found : Version) → Cleans p g aborted →
-    holds_lock u (cell_in p.cells g).holds ≡ true → cell_in new ≡ put_grain (cell_in p.cells) g (cells.granted (cell_without (cell_in p.cells g) aborted) u m) →
+    holds_lock u (cell_in p.cells g).holds ≡ true → cell_in new ≡ put_grain (cell_in p.cells) g (cells.cell_granted (cell_without (cell_in p.cells g) aborted) u m) →
     found ≡ top (without_aborted aborted (cell_in p.cells g).stack) → Does p (Grant u g m) (reply.Granted found.state found.unit) (record p { cells = new })
 does-raise p u g m aborted new found e held is top_is = λ w s r a. (
-  subst (Stands (record p { cells = new })) (sym (cond-true (holds_lock u (w.cells.holds g)) (raised (restacked w g (cleaned w g)) u g m) (locked (restacked w g (cleaned w g)) u g m) ((λ i. holds_lock u ((s.cells i).holds g)) ∙ held)))
+  subst (PartsStand (record p { cells = new })) (sym (cond-true (holds_lock u (w.cells.holds g)) (after_raise (restacked w g (cleaned w g)) u g m) (after_lock (restacked w g (cleaned w g)) u g m) ((λ i. holds_lock u ((s.cells i).holds g)) ∙ held)))
       (record {
         units = s.units;
+        numbers = s.numbers;
         cells = raised-cells p new w u g m aborted s e is;
         verdict = s.verdict;
         result = s.result;
@@ -197,20 +198,21 @@ does-raise p u g m aborted new found e held is top_is = λ w s r a. (
 )
 
 pub does-lock : (p : Parts) (u : UnitNo) (g : GrainId) (m : Mode) (aborted : Option UnitNo) (new : CellTable) (units : UnitTable) (found : Version) (read : Read) (depends : Bool) → Cleans p g aborted →
-    holds_lock u (cell_in p.cells g).holds ≡ false → cell_in new ≡ put_grain (cell_in p.cells) g (cells.granted (cell_without (cell_in p.cells g) aborted) u m) →
+    holds_lock u (cell_in p.cells g).holds ≡ false → cell_in new ≡ put_grain (cell_in p.cells) g (cells.cell_granted (cell_without (cell_in p.cells g) aborted) u m) →
     found ≡ top (without_aborted aborted (cell_in p.cells g).stack) → read ≡ read_of g found → depends ≡ not (is_sure_in p read.source) →
     ((seen : UnitNo → Option ℕ) → units_of units seen ≡ units_read (units_of p.units seen) u read depends) → verdict_in units ≡ verdict_in p.units → result_in units ≡ result_in p.units →
     Does p (Grant u g m) (reply.Granted found.state found.unit) (record p { cells = new; units = units })
 does-lock p u g m aborted new units found read depends e held is top_is read_is more us v o = λ w s r a. (
-  subst (Stands (record p { cells = new; units = units })) (sym (cond-false (holds_lock u (w.cells.holds g)) (raised (restacked w g (cleaned w g)) u g m) (locked (restacked w g (cleaned w g)) u g m) ((λ i. holds_lock u ((s.cells i).holds g)) ∙ held)))
+  subst (PartsStand (record p { cells = new; units = units })) (sym (cond-false (holds_lock u (w.cells.holds g)) (after_raise (restacked w g (cleaned w g)) u g m) (after_lock (restacked w g (cleaned w g)) u g m) ((λ i. holds_lock u ((s.cells i).holds g)) ∙ held)))
       (record {
         units = locked-units p w u g m aborted read depends s e (read_is ∙ ap (read_of g) top_is) more ∙ sym (us w.units.seen_at);
+        numbers = s.numbers;
         cells = locked-cells p new w u g m aborted s e is;
         verdict = s.verdict ∙ sym v;
         result = s.result ∙ sym o;
-        effects = s.effects ∙ map-agree (effect_of w) (effect_of (locked (restacked w g (cleaned w g)) u g m)) (waiting w)
+        effects = s.effects ∙ map-agree (effect_of w) (effect_of (after_lock (restacked w g (cleaned w g)) u g m)) (waiting w)
             (λ x k i. record (effect_of w x) { reads = sym (put-other w.units.reads u (w.units.reads u ++ read_of g (top (put_grain w.cells.stack g (cleaned w g) g)) ∷ []) x (apart w r a x k)) i });
-        sources = s.sources ∙ map-agree w.units.deps (locked (restacked w g (cleaned w g)) u g m).units.deps (waiting w)
+        sources = s.sources ∙ map-agree w.units.deps (after_lock (restacked w g (cleaned w g)) u g m).units.deps (waiting w)
             (λ x k. sym (put-other w.units.deps u (deps_with w (w.units.deps u) (top (put_grain w.cells.stack g (cleaned w g) g)).unit) x (apart w r a x k)));
         batch = s.batch;
         batches = s.batches;
@@ -238,7 +240,7 @@ pub grant-here : (p : Parts) (u : UnitNo) (g : GrainId) (m : Mode) → CanDo p (
 grant-here p u g m c = (λ i. is_running ((sym c.1.units i).phase u)) ∙ ap is_running (grant-runs c.0 u g m c.3)
 
 -- what is answered to a unit that asks
-pub ask-is : (p : Parts) (w : CoreState) (u : UnitNo) (g : GrainId) (m : Mode) → Stands p w → ask_in p u g m ≡ ask w u g m
+pub ask-is : (p : Parts) (w : CoreState) (u : UnitNo) (g : GrainId) (m : Mode) → PartsStand p w → ask_in p u g m ≡ ask_answer w u g m
 ask-is p w u g m s = λ i.
     if (is_running ((sym s.units i).phase u) && nat_lt g.kind (sym s.units i).kinds)
     then ask_doom (oldest (map (λ (r : Read). r.source) (filter (λ (r : Read). not (same_unit (top ((sym s.cells i).stack r.grain)).unit r.source)) ((sym s.units i).reads u))))

@@ -1,5 +1,5 @@
 -- What is kept before any event.
-use Rattle.std.proofs.Common.{◌≡◌, ℕ, ◌≤◌, List, [], ◌∷◌, Bool, true, false, refl, sym, ap, ◌∙◌, arith, Option, Some, None, length, map, take, subst}
+use Rattle.std.proofs.Common.{◌≡◌, ℕ, ◌≤◌, ◌^◌, List, [], ◌∷◌, Bool, true, false, refl, sym, ap, ◌∙◌, arith, Option, Some, None, length, map, take, subst}
 use Rattle.base_types.specs.declared.calls.Outcome.TheVariants.{Aborted as aborted}
 use Rattle.cell_model.specs.Cells.{Cell, opened}
 use Rattle.core_model.specs.CoreState.{UnitNo, GrainId, Value, Outcome}
@@ -12,13 +12,14 @@ use Rattle.unit_table.specs.Table.{units_of, verdict_in, result_in}
 use Rattle.open_batch.specs.Members.{effect_in, sources_in}
 use Rattle.history_core.proofs.Shows.{to-cases, from-cases, each-placed, placed-each}
 use Rattle.history_core.specs.declared.parts.Parts.{Parts}
-use Rattle.history_core.specs.Kept.{Stands, cells_of, ShowsOpen, ShowsTakenBatch, owed_in, writes_in, AllPlaced, EachPlaced}
+use Rattle.history_core.specs.Kept.{PartsStand, cells_of, ShowsOpen, ShowsTakenBatch, owed_in, writes_in, AllPlaced, EachPlaced}
 
 pub stands-new : (p : Parts) (base kinds : ℕ) → units_of p.units (λ u. None) ≡ first_units base kinds → ◌≡◌ {A = UnitNo → Verdict} (verdict_in p.units) (λ u. Open) → ◌≡◌ {A = UnitNo → Outcome} (result_in p.units) (λ u. aborted) →
     cell_in p.cells ≡ (λ (g : GrainId). opened (opens_with p.cells g)) → p.waiting.items ≡ [] → p.batches ≡ 0 → p.batch ≡ None → p.doubt ≡ false → p.entries.entries ≡ [] → p.entries.emitted ≡ 0 → p.learn.pairs ≡ [] →
-    ((g : GrainId) → last_in p.last g ≡ None) → Stands p (start base kinds None (opens_with p.cells))
-stands-new p base kinds units verdict result cells waits batches batch doubt entries emitted pairs last = record {
+    ((g : GrainId) → last_in p.last g ≡ None) → base ≤ 2 ^ 63 → PartsStand p (start base kinds None (opens_with p.cells))
+stands-new p base kinds units verdict result cells waits batches batch doubt entries emitted pairs last few = record {
   units = sym units;
+  numbers = few;
   cells = ap (λ (C : GrainId → Cell). cells_of C (λ u g. false)) (sym cells);
   verdict = sym verdict;
   result = sym result;

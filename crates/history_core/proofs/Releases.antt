@@ -24,7 +24,7 @@ use Rattle.cell_table.specs.Table.{cell_in}
 use Rattle.cell_table.specs.declared.table.CellTable.{CellTable}
 use Rattle.unit_table.specs.Table.{phase_in}
 use Rattle.history_core.specs.declared.parts.Parts.{Parts}
-use Rattle.history_core.specs.Kept.{Stands, IsCoreReached, cells_of}
+use Rattle.history_core.specs.Kept.{PartsStand, IsCoreReached, cells_of}
 use Rattle.history_core.specs.Releasing.{if_finished}
 use Rattle.history_core.specs.Steps.{CanDo, Does}
 use Rattle.history_core.proofs.Stepping.{can-is}
@@ -32,7 +32,7 @@ use Rattle.history_core.proofs.Reached.{rests, unwritten}
 use Rattle.history_core.proofs.Locking.{put-cells}
 
 -- what is given is what the unit wrote
-given-is : (p : Parts) (w : CoreState) (u : UnitNo) (g : GrainId) → Stands p w → IsCoreReached w → holds_lock u (w.cells.holds g) ≡ true →
+given-is : (p : Parts) (w : CoreState) (u : UnitNo) (g : GrainId) → PartsStand p w → IsCoreReached w → holds_lock u (w.cells.holds g) ≡ true →
     if_finished (phase_in p.units u) (handed_in p.handed u g) ≡ state_written g (w.manager.writes u)
 given-is p w u g s r h = ap (λ ph. if_finished ph (handed_in p.handed u g)) (λ i. (sym s.units i).phase u) ∙ go (w.units.phase u) refl
   where
@@ -57,7 +57,7 @@ is-finished Finished kept h = refl
 is-finished Refused kept h = cc
 is-finished Ended kept h = cc
 
-released-held : (p : Parts) (w : CoreState) (u : UnitNo) (g : GrainId) → Stands p w → is_over (w.units.phase u) && holds_lock u (w.cells.holds g) ≡ true → holds_lock u (w.cells.holds g) ≡ true
+released-held : (p : Parts) (w : CoreState) (u : UnitNo) (g : GrainId) → PartsStand p w → is_over (w.units.phase u) && holds_lock u (w.cells.holds g) ≡ true → holds_lock u (w.cells.holds g) ≡ true
 released-held p w u g s e = (and_parts (is_over (w.units.phase u)) (holds_lock u (w.cells.holds g)) e).1
 
 -- the unit has the lock
@@ -89,7 +89,7 @@ held-then holds u x h =
     any-member (is_hold_of x) holds t.0 (dropped-member u holds t.0 t.1).0 t.2
 
 pub does-release : (p : Parts) (u : UnitNo) (g : GrainId) (new : CellTable) (handed : HandedStates) → PutsHanded p.handed handed u g None →
-    cell_in new ≡ put_grain (cell_in p.cells) g (cells.released (cell_in p.cells g) u (if_finished (phase_in p.units u) (handed_in p.handed u g))) →
+    cell_in new ≡ put_grain (cell_in p.cells) g (cells.cell_released (cell_in p.cells g) u (if_finished (phase_in p.units u) (handed_in p.handed u g))) →
     Does p (Release u g) reply.Done (record p { cells = new; handed = handed })
 does-release p u g new handed puts is = λ w s r a. (
   (let held : holds_lock u (w.cells.holds g) ≡ true = released-held p w u g s (can-is w (Release u g) a) in
@@ -102,8 +102,9 @@ does-release p u g new handed puts is = λ w s r a. (
               holds = put_grain (s.cells i).holds g (dropped ((s.cells i).holds g) u);
               readings = put_grain (s.cells i).readings g (without_reading ((s.cells i).readings g) u);
             })
-            ∙ put-cells (cell_in p.cells) w.cells.learnt g (cells.released (cell_in p.cells g) u (if_finished (phase_in p.units u) (handed_in p.handed u g)))
+            ∙ put-cells (cell_in p.cells) w.cells.learnt g (cells.cell_released (cell_in p.cells g) u (if_finished (phase_in p.units u) (handed_in p.handed u g)))
             ∙ ap (λ (C : GrainId → Cell). cells_of C w.cells.learnt) (sym is);
+        numbers = s.numbers;
         verdict = s.verdict;
         result = s.result;
         effects = s.effects;
@@ -125,7 +126,7 @@ does-release p u g new handed puts is = λ w s r a. (
     before w x k h = grain-from w.cells.holds g (dropped (w.cells.holds g) u) (λ hs. holds_lock x hs ≡ true) (holds_lock x (w.cells.holds k) ≡ true) k
         (λ q t. ap (λ j. holds_lock x (w.cells.holds j)) q ∙ held-then (w.cells.holds g) u x t) (λ q t. t) h
 
-    still : (w : CoreState) → Stands p w → (x : UnitNo) (k : GrainId) → w.units.phase x ≡ Finished → holds_lock x (put_grain w.cells.holds g (dropped (w.cells.holds g) u) k) ≡ true →
+    still : (w : CoreState) → PartsStand p w → (x : UnitNo) (k : GrainId) → w.units.phase x ≡ Finished → holds_lock x (put_grain w.cells.holds g (dropped (w.cells.holds g) u) k) ≡ true →
         ((x ≡ u) ⊎ (x ≡ u → ⊥)) → ((k ≡ g) ⊎ (k ≡ g → ⊥)) → handed_in handed x k ≡ state_written k (w.manager.writes x)
     still w s x k f h (inl e) (inl q) =
         (let none : holds_lock x (dropped (w.cells.holds g) u) ≡ false = ap (λ y. holds_lock y (dropped (w.cells.holds g) u)) e ∙ dropped-none u (w.cells.holds g) in

@@ -31,7 +31,7 @@ use Rattle.history_core.specs.Closing.{ArePlaced}
 use Rattle.history_core.specs.Batches.{is_judged_in}
 use Rattle.history_core.specs.Closes.{Closes, Ready, IsReadyToClose, decisions_in}
 use Rattle.history_core.specs.Fronts.{ends_as, told_as, writes_after, AreOver, PlacedAfter}
-use Rattle.history_core.specs.Kept.{Stands, IsCoreReached, ShowsOpen, ShowsTakenBatch, AllPlaced, EachPlaced, owed_in, writes_in, members_in}
+use Rattle.history_core.specs.Kept.{PartsStand, IsCoreReached, ShowsOpen, ShowsTakenBatch, AllPlaced, EachPlaced, owed_in, writes_in, members_in}
 use Rattle.history_core.specs.Steps.{CanDo, Does}
 use Rattle.history_core.proofs.Shows.{to-cases, from-cases, each-placed, placed-each}
 use Rattle.history_core.proofs.Stepping.{can-is, allowed-is, allowed-answer}
@@ -42,7 +42,7 @@ use Rattle.history_core.proofs.Reached.{rests, waits, closes-final, late-not-fin
 -- ---- what is open
 
 -- what is kept of the batch shows the open one
-pub shown : (p : Parts) (w : CoreState) (b : Batch) → Stands p w → w.manager.batch ≡ Some b →
+pub shown : (p : Parts) (w : CoreState) (b : Batch) → PartsStand p w → w.manager.batch ≡ Some b →
     (x : TakenBatch) × (p.batch ≡ Some x) × (x.size ≡ b.size) × (x.decisions ≡ b.decisions)
 shown p w b s q = go p.batch refl (subst (ShowsOpen p.batch p.waiting.items) q (to-cases p.batch p.waiting.items w.manager.batch s.batch))
   where
@@ -77,7 +77,7 @@ front-placed placed [] ms h = tt
 front-placed placed (d ∷ ds) [] h = tt
 front-placed placed (d ∷ ds) (m ∷ ms) h = (h.0, front-placed placed ds ms h.1)
 
-pub is-ready : (p : Parts) (w : CoreState) (ds : List Decision) → Stands p w → ((u : UnitNo) → Member u (waiting w) → w.units.phase u ≡ Finished) → length ds ≡ owed_in p.batch → Ready p ds
+pub is-ready : (p : Parts) (w : CoreState) (ds : List Decision) → PartsStand p w → ((u : UnitNo) → Member u (waiting w) → w.units.phase u ≡ Finished) → length ds ≡ owed_in p.batch → Ready p ds
 is-ready p w ds s finished e = record {
   within = (let t = owed-within p.batch p.waiting.items w.manager.batch (to-cases p.batch p.waiting.items w.manager.batch s.batch) in omega (arith, e, t));
   over = subst (AreOver (λ u. is_over (phase_in p.units u)) ds) (sym s.effects)
@@ -124,7 +124,7 @@ no-doubt w e a x y = none-true w.manager.doubt (sym (allowed-answer w e x y) ∙
 
 -- ---- the three answers
 
-pub ready-judged : (p : Parts) (w : CoreState) (b : Batch) (ds : List Decision) → Stands p w → IsCoreReached w → w.manager.doubt ≡ None → w.manager.batch ≡ Some b → b.decisions ≡ Some ds → IsReadyToClose p
+pub ready-judged : (p : Parts) (w : CoreState) (b : Batch) (ds : List Decision) → PartsStand p w → IsCoreReached w → w.manager.doubt ≡ None → w.manager.batch ≡ Some b → b.decisions ≡ Some ds → IsReadyToClose p
 ready-judged p w b ds s r none q d =
     let t = shown p w b s q in
     let c = can-close w b ds r none q d in
@@ -166,14 +166,14 @@ doubt-ready p n c = (let t = doubt-parts c.0 n c.3 in ready-judged p c.0 t.1.0 t
 on-decided : (w : CoreState) (f : Batch → List Decision → CoreState) (b : Batch) (ds : List Decision) → w.manager.batch ≡ Some b → b.decisions ≡ Some ds → on_decided w f w.manager.batch ≡ f b ds
 on-decided w f b ds q d = ap (on_decided w f) q ∙ ap (on_decisions w (f b)) d
 
-decided-here : (p : Parts) (w : CoreState) (b : Batch) (ds : List Decision) → Stands p w → w.manager.batch ≡ Some b → b.decisions ≡ Some ds → decisions_in p.batch ≡ Some ds
+decided-here : (p : Parts) (w : CoreState) (b : Batch) (ds : List Decision) → PartsStand p w → w.manager.batch ≡ Some b → b.decisions ≡ Some ds → decisions_in p.batch ≡ Some ds
 decided-here p w b ds s q d = (let t = shown p w b s q in ap decisions_in t.1 ∙ t.3 ∙ d)
 
 pub does-seal : (p q : Parts) (n : ℕ) → ((ds : List Decision) → decisions_in p.batch ≡ Some ds → Closes how.Sealed ds p q) → q.doubt ≡ p.doubt → Does p (Sealed n) reply.Done q
 does-seal p q n k doubt = λ w s r a. (
   (let t = seal-parts w n a in
       let b = t.1.0 in let ds = t.1.1 in
-      subst (Stands q) (sym (on-decided w (sealed w) b ds t.1.2 t.1.3))
+      subst (PartsStand q) (sym (on-decided w (sealed w) b ds t.1.2 t.1.3))
       (stands-closed how.Sealed p q w b ds s (can-close w b ds r t.0 t.1.2 t.1.3) (k ds (decided-here p w b ds s t.1.2 t.1.3)) doubt)),
   refl,
 )
@@ -182,15 +182,16 @@ pub does-spoil : (p q : Parts) (n : ℕ) → ((ds : List Decision) → decisions
 does-spoil p q n k doubt = λ w s r a. (
   (let t = spoil-parts w n a in
       let b = t.1.0 in let ds = t.1.1 in
-      subst (Stands q) (sym (on-decided w (spoiled w) b ds t.1.2 t.1.3))
+      subst (PartsStand q) (sym (on-decided w (spoiled w) b ds t.1.2 t.1.3))
       (stands-closed how.NotSealed p q w b ds s (can-close w b ds r t.0 t.1.2 t.1.3) (k ds (decided-here p w b ds s t.1.2 t.1.3)) doubt)),
   refl,
 )
 
 -- a state in which a batch is in doubt
-stands-doubted : (p : Parts) (w : CoreState) (at : ℕ) → Stands p w → Stands (record p { doubt = true }) (record w { manager = record w.manager { doubt = Some at } })
+stands-doubted : (p : Parts) (w : CoreState) (at : ℕ) → PartsStand p w → PartsStand (record p { doubt = true }) (record w { manager = record w.manager { doubt = Some at } })
 stands-doubted p w at s = record {
   units = s.units;
+  numbers = s.numbers;
   cells = s.cells;
   verdict = s.verdict;
   result = s.result;
@@ -211,7 +212,7 @@ pub does-doubt : (p q : Parts) (n : ℕ) → ((ds : List Decision) → decisions
 does-doubt p q n k doubt = λ w s r a. (
   (let t = doubt-parts w n a in
       let b = t.1.0 in let ds = t.1.1 in
-      subst (Stands (record q { doubt = true })) (sym (on-decided w (in_doubt w) b ds t.1.2 t.1.3))
+      subst (PartsStand (record q { doubt = true })) (sym (on-decided w (in_doubt w) b ds t.1.2 t.1.3))
       (stands-doubted q (closed w leave (λ u. settled.InDoubt) b ds) w.manager.closed
       (stands-closed how.Doubt p q w b ds s (can-close w b ds r t.0 t.1.2 t.1.3) (k ds (decided-here p w b ds s t.1.2 t.1.3)) doubt))),
   refl,

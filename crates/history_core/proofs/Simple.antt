@@ -11,7 +11,7 @@ use Rattle.unit_table.specs.Parts.{units_bad_line, units_halted, units_wanting}
 use Rattle.unit_table.specs.Table.{units_of, verdict_in, result_in}
 use Rattle.unit_table.specs.declared.table.UnitTable.{UnitTable}
 use Rattle.history_core.specs.declared.parts.Parts.{Parts}
-use Rattle.history_core.specs.Kept.{Stands, owed_in}
+use Rattle.history_core.specs.Kept.{PartsStand, owed_in}
 use Rattle.history_core.specs.Steps.{CanDo, Does}
 use Rattle.history_core.proofs.Stepping.{can-is}
 
@@ -23,6 +23,7 @@ pub does-bad : (p : Parts) (line : ℕ) (why : BadRequest) (units : UnitTable) (
 does-bad p line why units entries u v o es em room = λ w s r a. (
   record {
     units = ap units_bad_line s.units ∙ sym (u w.units.seen_at);
+    numbers = s.numbers;
     cells = s.cells;
     verdict = s.verdict ∙ sym v;
     result = s.result ∙ sym o;
@@ -55,6 +56,7 @@ pub does-halt : (p : Parts) (units : UnitTable) →
 does-halt p units u v o = λ w s r a. (
   record {
     units = ap units_halted s.units ∙ sym (u w.units.seen_at);
+    numbers = s.numbers;
     cells = s.cells;
     verdict = s.verdict ∙ sym v;
     result = s.result ∙ sym o;
@@ -80,6 +82,7 @@ pub does-want : (p : Parts) (unit : UnitNo) (grain : GrainId) (units : UnitTable
 does-want p unit grain units u v o = λ w s r a. (
   record {
     units = ap (λ us. units_wanting us unit grain) s.units ∙ sym (u w.units.seen_at);
+    numbers = s.numbers;
     cells = s.cells;
     verdict = s.verdict ∙ sym v;
     result = s.result ∙ sym o;
@@ -104,6 +107,7 @@ pub does-emit : (p : Parts) (entries : EntriesInRoom) → entries.entries ≡ p.
 does-emit p entries es em room = λ w s r a. (
   record {
     units = s.units;
+    numbers = s.numbers;
     cells = s.cells;
     verdict = s.verdict;
     result = s.result;

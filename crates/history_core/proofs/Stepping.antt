@@ -10,7 +10,7 @@ use Rattle.core_model.specs.declared.events.CoreReply.{CoreReply}
 use Rattle.core_model.specs.Legal.{Run, ends}
 use Rattle.cell_table.specs.Table.{opens_with}
 use Rattle.history_core.specs.declared.parts.Parts.{Parts}
-use Rattle.history_core.specs.Kept.{Stands, IsCoreReached, StandsForReached}
+use Rattle.history_core.specs.Kept.{PartsStand, IsCoreReached, StandsForReached}
 use Rattle.history_core.specs.Steps.{KeepsMeaning, Tells, Does, Takes, is_going}
 use Rattle.history_core.specs.Histories.{run_with}
 
@@ -22,12 +22,12 @@ run-last w (x ∷ es) e = run-last (step w x) es e
 swept-none : (w : CoreState) → w.cells.capacity ≡ None → swept w ≡ w
 swept-none w e = ap (swept_by w) e
 
-applied : (p : Parts) (w : CoreState) (e : CoreEvent) → applies w e ≡ true → Stands p (does w e) → Stands p (step w e)
+applied : (p : Parts) (w : CoreState) (e : CoreEvent) → applies w e ≡ true → PartsStand p (does w e) → PartsStand p (step w e)
 applied p w e a s =
-    subst (Stands p) (sym (cond-true (applies w e) (swept (does w e)) w a ∙ swept-none (does w e) (ap (λ (c : Cells). c.capacity) s.cells))) s
+    subst (PartsStand p) (sym (cond-true (applies w e) (swept (does w e)) w a ∙ swept-none (does w e) (ap (λ (c : Cells). c.capacity) s.cells))) s
 
-unapplied : (p : Parts) (w : CoreState) (e : CoreEvent) → applies w e ≡ false → Stands p w → Stands p (step w e)
-unapplied p w e a s = subst (Stands p) (sym (cond-false (applies w e) (swept (does w e)) w a)) s
+unapplied : (p : Parts) (w : CoreState) (e : CoreEvent) → applies w e ≡ false → PartsStand p w → PartsStand p (step w e)
+unapplied p w e a s = subst (PartsStand p) (sym (cond-false (applies w e) (swept (does w e)) w a)) s
 
 -- an event that applies
 pub takes-done : (p q : Parts) (e : CoreEvent) (told : Bool) (reply : CoreReply) → Tells p e told → told ≡ true → Does p e reply q → Takes p e reply q
@@ -36,19 +36,19 @@ takes-done p q e told reply t here d = λ w s r. (let a = sym (t w s r) ∙ here
 
 -- one that doesn't
 pub takes-not : (p : Parts) (e : CoreEvent) (told : Bool) (reply : CoreReply) → Tells p e told → told ≡ false →
-    ((w : CoreState) → Stands p w → IsCoreReached w → applies w e ≡ false → reply ≡ reply_without w e) → Takes p e reply p
+    ((w : CoreState) → PartsStand p w → IsCoreReached w → applies w e ≡ false → reply ≡ reply_without w e) → Takes p e reply p
 takes-not p e told reply t gone d = λ w s r. (let a = sym (t w s r) ∙ gone in
     (unapplied p w e a s, d w s r a ∙ sym (cond-false (applies w e) (reply_with w e) (reply_without w e) a)))
 
 -- what stands for the state after one event more stands for that of the longer run
 pub stands-after : (p p' : Parts) (base kinds : ℕ) (es es' : List CoreEvent) (e : CoreEvent) → opens_with p'.cells ≡ opens_with p.cells → es' ≡ es ++ e ∷ [] →
-    Stands p' (step (ends (run_with base kinds p.cells es)) e) → Stands p' (ends (run_with base kinds p'.cells es'))
+    PartsStand p' (step (ends (run_with base kinds p.cells es)) e) → PartsStand p' (ends (run_with base kinds p'.cells es'))
 stands-after p p' base kinds es es' e o h s =
-    subst (Stands p') (sym ((λ i. run (start base kinds None (o i)) (h i)) ∙ run-last (start base kinds None (opens_with p.cells)) es e)) s
+    subst (PartsStand p') (sym ((λ i. run (start base kinds None (o i)) (h i)) ∙ run-last (start base kinds None (opens_with p.cells)) es e)) s
 
 pub stands-before : (p p' : Parts) (base kinds : ℕ) (es : List CoreEvent) → opens_with p'.cells ≡ opens_with p.cells →
-    Stands p' (ends (run_with base kinds p.cells es)) → Stands p' (ends (run_with base kinds p'.cells es))
-stands-before p p' base kinds es o s = subst (Stands p') (sym (λ i. run (start base kinds None (o i)) es)) s
+    PartsStand p' (ends (run_with base kinds p.cells es)) → PartsStand p' (ends (run_with base kinds p'.cells es))
+stands-before p p' base kinds es o s = subst (PartsStand p') (sym (λ i. run (start base kinds None (o i)) es)) s
 
 pub reached-core : (p : Parts) (base kinds : ℕ) (es : List CoreEvent) → 0 < base → IsCoreReached (ends (run_with base kinds p.cells es))
 reached-core p base kinds es above = (run_with base kinds p.cells es, above, refl, refl)
@@ -88,15 +88,15 @@ allowed-always w e x y = allowed-by w e true true x y ∙ (λ i. or-true (is_non
 
 -- the test of an event, by the stop and by what it needs
 pub tells-going : (p : Parts) (e : CoreEvent) (going here : Bool) → is_after_doubt e ≡ false → is_after_halt e ≡ false →
-    ((w : CoreState) → Stands p w → going ≡ is_going w) → ((w : CoreState) → Stands p w → IsCoreReached w → here ≡ can w e) → Tells p e (going && here)
+    ((w : CoreState) → PartsStand p w → going ≡ is_going w) → ((w : CoreState) → PartsStand p w → IsCoreReached w → here ≡ can w e) → Tells p e (going && here)
 tells-going p e going here x y g h = λ w s r. (let one : going ≡ is_allowed w e = g w s ∙ sym (allowed-going w e x y) in let two = h w s r in λ i. one i && two i)
 
 pub tells-answer : (p : Parts) (e : CoreEvent) (free here : Bool) → is_after_doubt e ≡ false → is_after_halt e ≡ true →
-    ((w : CoreState) → Stands p w → free ≡ is_none w.manager.doubt) → ((w : CoreState) → Stands p w → IsCoreReached w → here ≡ can w e) → Tells p e (free && here)
+    ((w : CoreState) → PartsStand p w → free ≡ is_none w.manager.doubt) → ((w : CoreState) → PartsStand p w → IsCoreReached w → here ≡ can w e) → Tells p e (free && here)
 tells-answer p e free here x y g h = λ w s r. (let one : free ≡ is_allowed w e = g w s ∙ sym (allowed-answer w e x y) in let two = h w s r in λ i. one i && two i)
 
 pub tells-always : (p : Parts) (e : CoreEvent) (here : Bool) → is_after_doubt e ≡ true → is_after_halt e ≡ true →
-    ((w : CoreState) → Stands p w → IsCoreReached w → here ≡ can w e) → Tells p e here
+    ((w : CoreState) → PartsStand p w → IsCoreReached w → here ≡ can w e) → Tells p e here
 tells-always p e here x y h = λ w s r. h w s r ∙ (λ i. sym (allowed-always w e x y) i && can w e)
 
 -- what an event that applies needs

@@ -27,23 +27,23 @@ use Rattle.open_batch.specs.Shown.{AreUnits, ShowsBatch}
 use Rattle.open_batch.proofs.Linked.{units-taken}
 use Rattle.open_batch.proofs.Stages.{shows-taken}
 use Rattle.history_core.specs.declared.parts.Parts.{Parts}
-use Rattle.history_core.specs.Kept.{Stands, IsCoreReached, ShowsOpen, ShowsTakenBatch, HasRoom, AllPlaced, EachPlaced, owed_in, members_in, writes_in}
+use Rattle.history_core.specs.Kept.{PartsStand, IsCoreReached, ShowsOpen, ShowsTakenBatch, HasRoom, AllPlaced, EachPlaced, owed_in, members_in, writes_in}
 use Rattle.history_core.specs.Taking.{is_free_by, front_by}
 use Rattle.history_core.specs.Steps.{CanDo, KeepsMeaning, Does}
 use Rattle.history_core.proofs.Shows.{to-cases, from-cases, each-placed, placed-each}
 use Rattle.history_core.proofs.Stepping.{can-is}
 
-pub are-units : (p : Parts) (w : CoreState) → Stands p w → AreUnits p.waiting.items w (waiting w)
+pub are-units : (p : Parts) (w : CoreState) → PartsStand p w → AreUnits p.waiting.items w (waiting w)
 are-units p w s = record { effects = s.effects; sources = s.sources }
 
-free-is : (p : Parts) (w : CoreState) → Stands p w → (u : UnitNo) → is_free_by p (effect_of w u) ≡ is_free w u
+free-is : (p : Parts) (w : CoreState) → PartsStand p w → (u : UnitNo) → is_free_by p (effect_of w u) ≡ is_free w u
 free-is p w s u = λ i. all (λ (r : Read). not (holds_lock u ((sym s.cells i).holds r.grain))) (w.units.reads u)
 
-front-prefix : (p : Parts) (w : CoreState) → Stands p w → (us : List UnitNo) → front_by p (map (effect_of w) us) ≡ free_prefix w us
+front-prefix : (p : Parts) (w : CoreState) → PartsStand p w → (us : List UnitNo) → front_by p (map (effect_of w) us) ≡ free_prefix w us
 front-prefix p w s [] = refl
 front-prefix p w s (u ∷ us) = (let one = free-is p w s u in let rest = front-prefix p w s us in λ i. if one i then rest i + 1 else 0)
 
-pub size-is : (p : Parts) (w : CoreState) → Stands p w → front_by p (map effect_in (take 64 p.waiting.items)) ≡ batch_size w
+pub size-is : (p : Parts) (w : CoreState) → PartsStand p w → front_by p (map effect_in (take 64 p.waiting.items)) ≡ batch_size w
 size-is p w s =
     ap (front_by p) (sym (take-map effect_in 64 p.waiting.items) ∙ ap (take 64) s.effects ∙ take-map (effect_of w) 64 (waiting w))
     ∙ front-prefix p w s (take 64 (waiting w))
@@ -54,6 +54,7 @@ pub keeps-room : (p : Parts) (entries : EntriesInRoom) (learn : PairsInRoom) (la
     KeepsMeaning p (record p { entries = entries; learn = learn; last = last })
 keeps-room p entries learn last none es em pairs same = λ w s. record {
   units = s.units;
+  numbers = s.numbers;
   cells = s.cells;
   verdict = s.verdict;
   result = s.result;
@@ -85,13 +86,14 @@ none-open p c = go p.batch c.0.manager.batch refl (to-cases p.batch p.waiting.it
         by_shows : ShowsOpen (Some x) p.waiting.items b → b ≡ None → ⊥
         by_shows t q = subst (λ z. ShowsOpen (Some x) p.waiting.items z) q t
 
-pub takes-at : (p : Parts) (size number : ℕ) (x : TakenBatch) (w : CoreState) → Stands p w → size ≡ batch_size w → size ≤ length p.waiting.items → number ≡ p.batches + 1 →
+pub takes-at : (p : Parts) (size number : ℕ) (x : TakenBatch) (w : CoreState) → PartsStand p w → size ≡ batch_size w → size ≤ length p.waiting.items → number ≡ p.batches + 1 →
     x ≡ first_batch number (λ u. is_bad (verdict_in p.units u)) (take size p.waiting.items) →
     size ≤ p.entries.spare → writes_in (take size p.waiting.items) ≤ p.learn.spare → AllPlaced (has_place p.last) (take size p.waiting.items) →
-    Stands (record p { batches = number; batch = Some x }) (does w Take) × (reply.Taken number ≡ reply_with w Take)
+    PartsStand (record p { batches = number; batch = Some x }) (does w Take) × (reply.Taken number ≡ reply_with w Take)
 takes-at p size number x w s is within n made entries learn places = (
   record {
     units = s.units;
+    numbers = s.numbers;
     cells = s.cells;
     verdict = s.verdict;
     result = s.result;

@@ -17,7 +17,7 @@ use Rattle.open_batch.specs.Shown.{ShowsBatch}
 use Rattle.open_batch.proofs.Stages.{shows-vote, may_vote-link}
 use Rattle.history_core.specs.declared.parts.Parts.{Parts}
 use Rattle.history_core.specs.Batches.{may_vote_in}
-use Rattle.history_core.specs.Kept.{Stands, IsCoreReached, ShowsOpen, ShowsTakenBatch, AllPlaced, EachPlaced, owed_in, writes_in}
+use Rattle.history_core.specs.Kept.{PartsStand, IsCoreReached, ShowsOpen, ShowsTakenBatch, AllPlaced, EachPlaced, owed_in, writes_in}
 use Rattle.history_core.specs.Steps.{CanDo, Does}
 use Rattle.history_core.proofs.Shows.{to-cases, from-cases, each-placed, placed-each}
 use Rattle.history_core.proofs.Stepping.{can-is}
@@ -35,11 +35,12 @@ may-vote p n g kept c = may-vote-is p.batch p.waiting.items c.0.manager.batch n 
 pub stands-voted : (p : Parts) (x : TakenBatch) (n : ℕ) (g : GrainId) (kept : Bool) → p.batch ≡ Some x → Does p (Vote n g kept) reply.Done (record p { batch = Some (with_vote x g kept) })
 stands-voted p x n g kept e = λ w s r a. (go w s w.manager.batch refl (subst (λ o. ShowsOpen o p.waiting.items w.manager.batch) e (to-cases p.batch p.waiting.items w.manager.batch s.batch)), refl)
   where
-    go : (w : CoreState) → Stands p w → (b : Option Batch) → w.manager.batch ≡ b → ShowsOpen (Some x) p.waiting.items w.manager.batch → Stands (record p { batch = Some (with_vote x g kept) }) (does w (Vote n g kept))
+    go : (w : CoreState) → PartsStand p w → (b : Option Batch) → w.manager.batch ≡ b → ShowsOpen (Some x) p.waiting.items w.manager.batch → PartsStand (record p { batch = Some (with_vote x g kept) }) (does w (Vote n g kept))
     go w s None q t = absurd (subst (λ b. ShowsOpen (Some x) p.waiting.items b) q t)
-    go w s (Some b) q t = subst (Stands (record p { batch = Some (with_vote x g kept) })) (sym (ap (on_batch w (λ c. voted w c g kept)) q))
+    go w s (Some b) q t = subst (PartsStand (record p { batch = Some (with_vote x g kept) })) (sym (ap (on_batch w (λ c. voted w c g kept)) q))
         (record {
           units = s.units;
+          numbers = s.numbers;
           cells = s.cells;
           verdict = s.verdict;
           result = s.result;

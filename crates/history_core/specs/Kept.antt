@@ -1,5 +1,5 @@
 -- What is kept, and which states of the model it stands for.
-use Rattle.std.specs.Prelude.{◌≡◌, ◌<◌, ◌≤◌, ◌+◌, ℕ, List, [], ◌∷◌, Bool, true, Option, Some, None, is_some, length, map, take, ⊤}
+use Rattle.std.specs.Prelude.{◌≡◌, ◌<◌, ◌≤◌, ◌+◌, ◌^◌, ℕ, List, [], ◌∷◌, Bool, true, Option, Some, None, is_some, length, map, take, ⊤}
 use Rattle.cell_model.specs.Units.{Member}
 use Rattle.cell_model.specs.Cells.{Cell}
 use Rattle.cell_model.specs.Locks.{holds_lock}
@@ -72,11 +72,13 @@ pub record HasRoom (p : Parts) : Type 0 where
   pub learn : writes_in (members_in p) ≤ p.learn.spare
   pub places : EachPlaced (has_place p.last) (members_in p)
 
--- What is kept stands for the state: units, cells, verdicts, results and entries as they are; the finished units that wait
--- with their effects and their dependencies; the open batch; of what the grains have learnt what they still have to learn;
--- of what was written what a finished unit has still to release, and the last committed state of each grain.
-pub record Stands (p : Parts) (w : CoreState) : Type 0 where
+-- What is kept stands for the state: units, cells, verdicts, results and entries as they are, with numbers below 2^63 for the
+-- units so far; the finished units that wait with their effects and their dependencies; the open batch; of what the grains have
+-- learnt what they still have to learn; of what was written what a finished unit has still to release, and the last committed
+-- state of each grain.
+pub record PartsStand (p : Parts) (w : CoreState) : Type 0 where
   pub units : w.units ≡ units_of p.units w.units.seen_at
+  pub numbers : w.units.next ≤ 2 ^ 63
   pub cells : w.cells ≡ cells_of (cell_in p.cells) w.cells.learnt
   pub verdict : w.manager.verdict ≡ verdict_in p.units
   pub result : w.manager.result ≡ result_in p.units
@@ -98,4 +100,4 @@ IsCoreReached w = (r : Run) × (0 < r.base) × (r.capacity ≡ None) × (ends r 
 
 -- what is kept stands for such a state
 abbrev pub StandsForReached : Parts → Type 0
-StandsForReached p = (w : CoreState) × Stands p w × IsCoreReached w
+StandsForReached p = (w : CoreState) × PartsStand p w × IsCoreReached w

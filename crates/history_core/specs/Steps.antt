@@ -9,7 +9,7 @@ use Rattle.core_model.specs.Events.{applies, does, step, reply_to, reply_with, r
 use Rattle.core_model.specs.declared.events.CoreEvent.{CoreEvent}
 use Rattle.core_model.specs.declared.events.CoreReply.{CoreReply}
 use Rattle.history_core.specs.declared.parts.Parts.{Parts}
-use Rattle.history_core.specs.Kept.{Stands, IsCoreReached}
+use Rattle.history_core.specs.Kept.{PartsStand, IsCoreReached}
 
 -- no stop stands: no batch is in doubt, and the run isn't to stop
 abbrev pub is_going : CoreState → Bool
@@ -17,27 +17,27 @@ is_going w = is_none w.manager.doubt && not w.units.halt
 
 -- what is kept stands for a state in which the event applies
 abbrev pub CanDo : Parts → CoreEvent → Type 0
-CanDo p e = (w : CoreState) × Stands p w × IsCoreReached w × (applies w e ≡ true)
+CanDo p e = (w : CoreState) × PartsStand p w × IsCoreReached w × (applies w e ≡ true)
 
 -- whatever state is stood for, it still is
 abbrev pub KeepsMeaning : Parts → Parts → Type 0
-KeepsMeaning p q = (w : CoreState) → Stands p w → Stands q w
+KeepsMeaning p q = (w : CoreState) → PartsStand p w → PartsStand q w
 
 -- whatever state is stood for, the test tells whether the event applies there
 abbrev pub Tells : Parts → CoreEvent → Bool → Type 0
-Tells p e told = (w : CoreState) → Stands p w → IsCoreReached w → told ≡ applies w e
+Tells p e told = (w : CoreState) → PartsStand p w → IsCoreReached w → told ≡ applies w e
 
 -- whatever state is stood for, where the event applies the state after it is stood for, and the reply is that of the event
 abbrev pub Does : Parts → CoreEvent → CoreReply → Parts → Type 0
-Does p e reply q = (w : CoreState) → Stands p w → IsCoreReached w → applies w e ≡ true → Stands q (does w e) × (reply ≡ reply_with w e)
+Does p e reply q = (w : CoreState) → PartsStand p w → IsCoreReached w → applies w e ≡ true → PartsStand q (does w e) × (reply ≡ reply_with w e)
 
 -- whatever state is stood for, its step is stood for, and the reply is its reply
 abbrev pub Takes : Parts → CoreEvent → CoreReply → Parts → Type 0
-Takes p e reply q = (w : CoreState) → Stands p w → IsCoreReached w → Stands q (step w e) × (reply ≡ reply_to w e)
+Takes p e reply q = (w : CoreState) → PartsStand p w → IsCoreReached w → PartsStand q (step w e) × (reply ≡ reply_to w e)
 
 -- whatever state is stood for, where the event doesn't apply the reply is the one to that
 abbrev pub Refuses : Parts → CoreEvent → CoreReply → Type 0
-Refuses p e reply = (w : CoreState) → Stands p w → applies w e ≡ false → reply ≡ reply_without w e
+Refuses p e reply = (w : CoreState) → PartsStand p w → applies w e ≡ false → reply ≡ reply_without w e
 
 -- the event may want memory: no earlier one made its room
 abbrev pub takes_memory : CoreEvent → Bool

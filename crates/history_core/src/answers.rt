@@ -4,7 +4,7 @@ ghost use Rattle.std.specs.Option.{option_copied};
 ghost use Rattle.core_access.specs.Spared.{is_plain};
 ghost use Rattle.core_model.specs.Answers.{answer_to};
 ghost use Rattle.core_model.specs.Legal.{ends};
-ghost use Rattle.core_model.specs.Tests.{ask, is_decided};
+ghost use Rattle.core_model.specs.Tests.{ask_answer, is_decided};
 ghost use Rattle.core_model.specs.Events.{applies};
 ghost use Rattle.core_model.specs.declared.events.CoreEvent.TheVariants.{Take};
 ghost use Rattle.history_core.specs.Cores.{run_of};
@@ -27,7 +27,7 @@ impl Core {
 
     /// What a unit is answered that asks for the grain's lock.
     pub fn ask_lock(&self, unit: UnitNo, grain: GrainId, mode: Mode) -> AskAnswer
-        ensures { result ≡ ask (ends (run_of self.now)) unit grain mode }
+        ensures { result ≡ ask_answer (ends (run_of self.now)) unit grain mode }
     {
         self.parts.ask(unit, grain, mode)
     }

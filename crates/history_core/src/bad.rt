@@ -4,7 +4,7 @@ ghost use Rattle.base_types.specs.declared.entries.BadRequest.{BadRequest};
 ghost use Rattle.core_model.specs.CoreState.{CoreState};
 ghost use Rattle.core_model.specs.declared.events.CoreEvent.TheVariants.{Bad};
 ghost use Rattle.cell_table.specs.Table.{opens_with};
-ghost use Rattle.history_core.specs.Kept.{Stands};
+ghost use Rattle.history_core.specs.Kept.{PartsStand};
 ghost use Rattle.history_core.specs.Steps.{CanDo, KeepsMeaning, Tells, Does};
 
 use crate::parts::Parts;
@@ -22,7 +22,7 @@ impl Parts {
 
     // Whether the line is the next one.
     pub(crate) fn is_next_line(&self, line: u32) -> bool
-        ensures { (w : CoreState) → Stands self.now w → result ≡ (line == w.units.lines + 1) }
+        ensures { (w : CoreState) → PartsStand self.now w → result ≡ (line == w.units.lines + 1) }
     {
         line != 0 && u64::from(line) - 1 == self.units.lines()
     }

@@ -7,7 +7,7 @@ ghost use Rattle.core_model.specs.Events.{can_begin};
 ghost use Rattle.core_model.specs.declared.events.CoreEvent.TheVariants.{Begin};
 ghost use Rattle.cell_table.specs.Table.{opens_with};
 ghost use Rattle.history_core.specs.Asked.{is_decided_in, is_next_child_in};
-ghost use Rattle.history_core.specs.Kept.{Stands};
+ghost use Rattle.history_core.specs.Kept.{PartsStand};
 ghost use Rattle.history_core.specs.Steps.{CanDo, KeepsMeaning, Tells, Does};
 
 use crate::parts::Parts;
@@ -26,7 +26,7 @@ impl Parts {
 
     // Whether it is the next line, or the next child of a running unit whose children are decided.
     fn is_next(&self, origin: &Origin) -> bool
-        ensures { (w : CoreState) → Stands self.now w → result ≡ can_begin w origin.now }
+        ensures { (w : CoreState) → PartsStand self.now w → result ≡ can_begin w origin.now }
     {
         match *origin {
             Origin::Line(line) => self.is_next_line(line),

@@ -2,14 +2,14 @@
 ghost use Rattle.std.specs.Prelude.{◌≡◌, ◌<◌, ◌≤◌, ℕ, List as AList, Option as AnOption, true, IfOk, IfErr, OnOk, OnErr};
 ghost use Rattle.base_types.specs.declared.calls.Outcome.{Outcome as AnOutcome};
 ghost use Rattle.core_model.specs.CoreState.{CoreState};
-ghost use Rattle.core_model.specs.Changes.{ended};
+ghost use Rattle.core_model.specs.Changes.{after_end};
 ghost use Rattle.core_model.specs.declared.events.CoreEvent.TheVariants.{EndPlain};
 ghost use Rattle.core_model.specs.Tests.{is_running};
 ghost use Rattle.unit_table.specs.Known.{known_running};
 ghost use Rattle.history_core.specs.Effects.{ends_as_plain};
 ghost use Rattle.cell_table.specs.Table.{opens_with};
 ghost use Rattle.unit_table.specs.Table.{known_in, phase_in};
-ghost use Rattle.history_core.specs.Kept.{Stands, IsCoreReached, owed_in};
+ghost use Rattle.history_core.specs.Kept.{PartsStand, IsCoreReached, owed_in};
 ghost use Rattle.history_core.specs.Steps.{CanDo, KeepsMeaning, Tells, Does};
 
 use crate::parts::Parts;
@@ -86,7 +86,7 @@ impl Parts {
         requires runs { is_running (phase_in self.old.units unit) ≡ true }
         requires room { owed_in self.old.batch < self.old.entries.spare }
         requires same { kept ≡ told }
-        ensures ended { (w : CoreState) → Stands self.old w → IsCoreReached w → (answers : AList AnOutcome) (at : AnOption ℕ) → Stands self.new (ended w unit answers told at) }
+        ensures ended { (w : CoreState) → PartsStand self.old w → IsCoreReached w → (answers : AList AnOutcome) (at : AnOption ℕ) → PartsStand self.new (after_end w unit answers told at) }
         ensures opens { opens_with self.new.cells ≡ opens_with self.old.cells }
     {
         let origin = self.origin(unit);

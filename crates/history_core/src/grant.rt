@@ -3,7 +3,7 @@ ghost use Rattle.std.specs.Prelude.{◌≡◌, ◌<◌, true, not, find, map, If
 ghost use Rattle.base_types.specs.declared.stores.Version.{Version as AVersion};
 ghost use Rattle.cell_model.specs.declared.locks.Ask.TheVariants.{Free};
 ghost use Rattle.cell_model.specs.Locks.{ask};
-ghost use Rattle.cell_model.specs.Cells.{granted};
+ghost use Rattle.cell_model.specs.Cells.{cell_granted};
 ghost use Rattle.core_model.specs.CoreState.{put_grain};
 ghost use Rattle.core_model.specs.Tests.{is_aborted};
 ghost use Rattle.core_model.specs.Events as events;
@@ -125,7 +125,7 @@ fn lock_over(
     requires cell { has_cell cells.old grain ≡ true }
     requires free { ask (cell_in cells.old grain).holds unit mode ≡ Free }
     requires room { 0 < spare_in cells.old grain }
-    ensures locks { cell_in cells.new ≡ put_grain (cell_in cells.old) grain (granted (cell_without (cell_in cells.old grain) aborted) unit mode) }
+    ensures locks { cell_in cells.new ≡ put_grain (cell_in cells.old) grain (cell_granted (cell_without (cell_in cells.old grain) aborted) unit mode) }
     ensures opens { opens_with cells.new ≡ opens_with cells.old }
 {
     match aborted {

@@ -1,7 +1,7 @@
 // A grain learns the decision of a unit that wrote it.
 ghost use Rattle.std.specs.Prelude.{◌≡◌, ◌≤◌};
 ghost use Rattle.cell_model.specs.Units.{nobody};
-ghost use Rattle.cell_model.specs.Cells.{learned};
+ghost use Rattle.cell_model.specs.Cells.{cell_learned};
 ghost use Rattle.core_model.specs.CoreState.{put_grain};
 ghost use Rattle.core_model.specs.Tests.{is_committed};
 ghost use Rattle.core_model.specs.declared.events.CoreEvent.TheVariants.{Learn};
@@ -39,7 +39,7 @@ impl Parts {
 // The grain learns the unit's decision: one without a cell has no version of it.
 fn learn_in(cells: &mut CellTable, unit: UnitNo, grain: GrainId, committed: bool)
     requires { unit ≡ nobody → ⊥ }
-    ensures learns { cell_in cells.new ≡ put_grain (cell_in cells.old) grain (learned (cell_in cells.old grain) unit committed) }
+    ensures learns { cell_in cells.new ≡ put_grain (cell_in cells.old) grain (cell_learned (cell_in cells.old grain) unit committed) }
     ensures opens { opens_with cells.new ≡ opens_with cells.old }
 {
     if cells.has_cell(grain) {

@@ -1,6 +1,6 @@
 //! The core in code: each of its steps is a step of the model, on what is kept of the model's state.
 //!
-//! `Parts` is what is kept, and `Stands` says for which states it stands. Each event has a file of its own: whether it
+//! `Parts` is what is kept, and `PartsStand` says for which states it stands. Each event has a file of its own: whether it
 //! applies, and what it does. `Core` has the history of its events, for contracts alone; it answers questions, is an object
 //! that a turn cell can share, and an access for one who has it alone.
 #![tactic(auto)]

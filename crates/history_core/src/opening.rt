@@ -21,9 +21,10 @@ pub struct Opening {
 }
 
 impl Core {
-    /// A core without events. Units are numbered from 1 or later. Takes no memory.
+    /// A core without events. Units are numbered from 1 or later, and up to 2^63. Takes no memory.
     pub fn new(alloc: Global, opened: Opening) -> Core
         requires above { 0 < opened.next_unit.0 }
+        requires few { opened.next_unit.0 ≤ 2 ^ 63 }
         ensures { run_of result ≡ record { base = opened.next_unit.0; kinds = length opened.shape.types; capacity = None; opening = opening_state opened.shape opened.store; events = [] } }
     {
         let base = opened.next_unit;

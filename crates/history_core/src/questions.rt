@@ -4,7 +4,7 @@ ghost use Rattle.core_model.specs.CoreState.{CoreState};
 ghost use Rattle.core_model.specs.Answers.{known, view};
 ghost use Rattle.core_access.specs.Spared.{is_plain};
 ghost use Rattle.unit_table.specs.Table.{lines_in};
-ghost use Rattle.history_core.specs.Kept.{Stands, StandsForReached, members_in};
+ghost use Rattle.history_core.specs.Kept.{PartsStand, StandsForReached, members_in};
 ghost use Rattle.history_core.specs.Questions.{AnswersQuestion};
 
 use crate::parts::Parts;
@@ -55,7 +55,7 @@ impl Parts {
     // All that is shown of the open batch, where there is one.
     fn batch_view(&self) -> Result<Option<BatchView>, AllocError>
         requires { StandsForReached self.now }
-        ensures { IfOk result (λ shown. (w : CoreState) → Stands self.now w → shown ≡ option_map (view w) w.manager.batch) }
+        ensures { IfOk result (λ shown. (w : CoreState) → PartsStand self.now w → shown ≡ option_map (view w) w.manager.batch) }
     {
         match &self.batch {
             None => Ok(None),
@@ -90,7 +90,7 @@ impl Parts {
 
     // Whether the run is to stop, or a batch is in doubt.
     pub(crate) fn is_stopped(&self) -> bool
-        ensures { (w : CoreState) → Stands self.now w → result ≡ (w.units.halt || is_some w.manager.doubt) }
+        ensures { (w : CoreState) → PartsStand self.now w → result ≡ (w.units.halt || is_some w.manager.doubt) }
     {
         self.units.is_halted() || self.doubt
     }

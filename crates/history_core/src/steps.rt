@@ -5,7 +5,7 @@ ghost use Rattle.core_model.specs.Laws.{extended};
 ghost use Rattle.core_model.specs.Events.{reply_to};
 ghost use Rattle.history_core.specs.Asked.{FitsLine, FitsEvent};
 ghost use Rattle.history_core.specs.Steps.{takes_memory};
-ghost use Rattle.history_core.specs.Cores.{run_of};
+ghost use Rattle.history_core.specs.Cores.{run_of, HasFewNumbers};
 
 use crate::whole::Core;
 use base_types::Origin;
@@ -20,9 +20,12 @@ impl Core {
     /// Where there is no memory the event comes back and nothing has changed. That is never so of an event whose room
     /// earlier ones made: a release, a vote, a decision, the three answers of a seal, what a grain learns, a written entry,
     /// and a halt.
+    ///
+    /// No unit has a number of 2^63 or more: where the next unit's would be that, memory is wanting.
     pub fn step(&mut self, event: CoreEvent) -> Result<CoreReply, (AllocError, CoreEvent)>
         ensures taken { IfOk result (λ reply. (run_of self.new ≡ extended (run_of self.old) (event ∷ [])) × (reply ≡ reply_to (ends (run_of self.old)) event)) }
         ensures refused { IfErr result (λ e. (run_of self.new ≡ run_of self.old) × (e.1 ≡ event) × (takes_memory event ≡ true)) }
+        ensures few { HasFewNumbers (ends (run_of self.new)) }
     {
         fits_event(&event);
         let after = History::with(&self.history, &event);

@@ -6,7 +6,7 @@ ghost use Rattle.core_model.specs.Events.{batch_size};
 ghost use Rattle.cell_table.specs.Table.{opens_with};
 ghost use Rattle.core_lists.specs.States.{last_in, has_place, KeepsPlaces};
 ghost use Rattle.open_batch.specs.Members.{effect_in};
-ghost use Rattle.history_core.specs.Kept.{Stands, writes_in, AllPlaced};
+ghost use Rattle.history_core.specs.Kept.{PartsStand, writes_in, AllPlaced};
 ghost use Rattle.history_core.specs.Closing.{ArePlaced};
 ghost use Rattle.history_core.specs.Taking.{is_free_by, front_by};
 ghost use Rattle.history_core.specs.Steps.{CanDo, KeepsMeaning, Tells, Does};
@@ -30,7 +30,7 @@ impl Parts {
     // How many units a batch would have: the longest prefix, of at most 64, of the finished units that no batch has
     // yet and that hold no lock.
     pub(crate) fn batch_size(&self) -> usize
-        ensures size { (w : CoreState) → Stands self.now w → result ≡ batch_size w }
+        ensures size { (w : CoreState) → PartsStand self.now w → result ≡ batch_size w }
         ensures most { result ≤ 64 }
         ensures within { result ≤ length self.now.waiting.items }
     {

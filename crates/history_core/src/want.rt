@@ -7,7 +7,7 @@ ghost use Rattle.core_model.specs.Events.{can_want};
 ghost use Rattle.core_model.specs.declared.events.CoreEvent.TheVariants.{Want};
 ghost use Rattle.cell_table.specs.Table.{opens_with};
 ghost use Rattle.unit_table.specs.Table.{wants_in};
-ghost use Rattle.history_core.specs.Kept.{Stands};
+ghost use Rattle.history_core.specs.Kept.{PartsStand};
 ghost use Rattle.history_core.specs.Steps.{CanDo, KeepsMeaning, Tells, Does};
 
 use crate::parts::Parts;
@@ -25,7 +25,7 @@ impl Parts {
 
     // Whether the unit runs, has no lock of the grain and doesn't wait for it yet.
     fn may_want(&self, unit: UnitNo, grain: GrainId) -> bool
-        ensures { (w : CoreState) → Stands self.now w → result ≡ can_want w unit grain }
+        ensures { (w : CoreState) → PartsStand self.now w → result ≡ can_want w unit grain }
     {
         self.is_active(unit, grain)
             && !self.cells.is_held_by(unit, grain)

@@ -1,3 +1,7 @@
+// The core, whole.
+ghost use Rattle.core_model.specs.Legal.{ends};
+ghost use Rattle.history_core.specs.Cores.{run_of, HasFewNumbers};
+
 use crate::parts::Parts;
 use event_history::History;
 use std::marker::Model;
@@ -9,6 +13,16 @@ pub struct Core {
     pub(crate) base: u64,
     pub(crate) kinds: u64,
     pub(crate) history: History,
+}
+
+impl Core {
+    /// In whatever state a core is, its units have numbers below 2^63 and its lines numbers of 32 bits. Does nothing: a caller
+    /// who needs that writes the call where it needs it.
+    pub fn show_few(&self)
+        ensures { HasFewNumbers (ends (run_of self.now)) }
+    {
+        let _parts = &self.parts;
+    }
 }
 
 impl Model for Core {

@@ -5,6 +5,10 @@ pub use Rattle.base_types.specs.Grains.{same_grain}
 use Rattle.host_trait.specs.declared.channels.FileId.{FileId}
 use Rattle.host_trait.specs.declared.channels.FileId.TheVariants.{Program, Manager, Grain}
 
+-- the file of the log, in every command
+abbrev pub manager : FileId
+manager = Manager 0
+
 -- whether two names are one file's
 abbrev pub same_file : FileId → FileId → Bool
 same_file (Program a) (Program b) = a == b

@@ -13,7 +13,7 @@ use Rattle.base_types.specs.declared.calls.GrainId.{GrainId}
 use Rattle.base_types.specs.Stores.{grain_cmp}
 use Rattle.commit_log.specs.declared.records.Named.{Named}
 use Rattle.host_trait.specs.Files.{same_grain}
-use Rattle.log_reading.specs.Versions.{is_before, with_grain, ascending, by_grain}
+use Rattle.log_reading.specs.Versions.{is_before, ascending_with, ascending, named_by_grain}
 
 -- ---- grains
 
@@ -170,19 +170,19 @@ abbrev Strict : List GrainId → Type 0
 Strict [] = Unit {0}
 Strict (g ∷ gs) = AllByRecursion (λ h. Before g h) gs × Strict gs
 
-all_with : (P : GrainId → Type 0) (g : GrainId) (hs : List GrainId) → P g → AllByRecursion P hs → AllByRecursion P (with_grain g hs)
+all_with : (P : GrainId → Type 0) (g : GrainId) (hs : List GrainId) → P g → AllByRecursion P hs → AllByRecursion P (ascending_with g hs)
 all_with P g [] one all = (one, tt)
 all_with P g (h ∷ hs) one all =
     let more = all_with P g hs one all.1 in
-    cond_both (same_grain g h) (h ∷ hs) (if is_before g h then g ∷ h ∷ hs else h ∷ with_grain g hs) (AllByRecursion P) (λ e. all)
-    (λ e. cond_both (is_before g h) (g ∷ h ∷ hs) (h ∷ with_grain g hs) (AllByRecursion P) (λ t. (one, all)) (λ f. (all.0, more)))
+    cond_both (same_grain g h) (h ∷ hs) (if is_before g h then g ∷ h ∷ hs else h ∷ ascending_with g hs) (AllByRecursion P) (λ e. all)
+    (λ e. cond_both (is_before g h) (g ∷ h ∷ hs) (h ∷ ascending_with g hs) (AllByRecursion P) (λ t. (one, all)) (λ f. (all.0, more)))
 
-strict_with : (g : GrainId) (hs : List GrainId) → Strict hs → Strict (with_grain g hs)
+strict_with : (g : GrainId) (hs : List GrainId) → Strict hs → Strict (ascending_with g hs)
 strict_with g [] up = (tt, tt)
 strict_with g (h ∷ hs) up =
     let more = strict_with g hs up.1 in
-    cond_both (same_grain g h) (h ∷ hs) (if is_before g h then g ∷ h ∷ hs else h ∷ with_grain g hs) Strict (λ e. up)
-    (λ e. cond_both (is_before g h) (g ∷ h ∷ hs) (h ∷ with_grain g hs) Strict
+    cond_both (same_grain g h) (h ∷ hs) (if is_before g h then g ∷ h ∷ hs else h ∷ ascending_with g hs) Strict (λ e. up)
+    (λ e. cond_both (is_before g h) (g ∷ h ∷ hs) (h ∷ ascending_with g hs) Strict
     (λ t. ((to_before g h t, all_on (Before h) (Before g) (λ k later. chain g h k (to_before g h t) later) hs up.0), up))
     (λ f. (all_with (Before h) g hs (other_before g h f e) up.0, more)))
 
@@ -190,12 +190,12 @@ ascending_strict : (gs : List GrainId) → Strict (ascending gs)
 ascending_strict [] = tt
 ascending_strict (g ∷ gs) = strict_with g (ascending gs) (ascending_strict gs)
 
-in_with : (g x : GrainId) (hs : List GrainId) → Member x (g ∷ hs) → Member x (with_grain g hs)
+in_with : (g x : GrainId) (hs : List GrainId) → Member x (g ∷ hs) → Member x (ascending_with g hs)
 in_with g x [] m = m
 in_with g x (h ∷ hs) m =
-    cond_both (same_grain g h) (h ∷ hs) (if is_before g h then g ∷ h ∷ hs else h ∷ with_grain g hs) (Member x)
+    cond_both (same_grain g h) (h ∷ hs) (if is_before g h then g ∷ h ∷ hs else h ∷ ascending_with g hs) (Member x)
     (λ e. elim m [ inl here ↦ inl (here ∙ same_is g h e) | inr there ↦ there ])
-    (λ e. cond_both (is_before g h) (g ∷ h ∷ hs) (h ∷ with_grain g hs) (Member x) (λ t. m)
+    (λ e. cond_both (is_before g h) (g ∷ h ∷ hs) (h ∷ ascending_with g hs) (Member x) (λ t. m)
     (λ f. elim m [ inl here ↦ inr (in_with g x hs (inl here)) | inr (inl at_h) ↦ inl at_h | inr (inr there) ↦ inr (in_with g x hs (inr there)) ]))
 
 in_ascending : (x : GrainId) (gs : List GrainId) → Member x gs → Member x (ascending gs)
@@ -310,7 +310,7 @@ module _ (xs ys : List Named) (sorted : IsSortedByKey of_named grain_cmp ys) (st
       in_ascending (of_named n) (map of_named xs) (in_map of_named n xs over)
 
   -- the sorted list is that by grains
-  pub sorted_is_by_grain : ys ≡ by_grain xs
+  pub sorted_is_by_grain : ys ≡ named_by_grain xs
   sorted_is_by_grain =
       let gs : List GrainId = ascending (map of_named xs) in
       grouped gs (ascending_strict (map of_named xs)) ys rises (all_members (λ n. Member (of_named n) gs) ys named_once)
@@ -386,7 +386,7 @@ empty_or g (x ∷ xs) = elim (cases_Bool (at g x)) [
 ]
 
 -- by grains, those of one grain are as they were
-pub by_grain_at : (g : GrainId) (xs : List Named) → filter (λ (n : Named). same_grain n.written.grain g) (by_grain xs) ≡ filter (λ (n : Named). same_grain n.written.grain g) xs
+pub by_grain_at : (g : GrainId) (xs : List Named) → filter (λ (n : Named). same_grain n.written.grain g) (named_by_grain xs) ≡ filter (λ (n : Named). same_grain n.written.grain g) xs
 by_grain_at g xs = elim (empty_or g xs) [
   | inl none ↦ none_of g xs (ascending (map of_named xs)) none ∙ sym none
   | inr there ↦ by_groups g xs (ascending (map of_named xs)) (ascending_strict (map of_named xs)) (in_ascending g (map of_named xs) there)
@@ -427,7 +427,7 @@ groups_climb xs (g ∷ gs) strict =
     climbs_append (filter (at g) xs) (flat_map (λ h. filter (at h) xs) gs) (same_climbs g (filter (at g) xs) (all_same g xs)) (groups_climb xs gs strict.1)
     (all_on _ (λ n. AllByRecursion (λ m. is_before (of_named m) (of_named n) ≡ false) (flat_map (λ h. filter (at h) xs) gs)) (λ n same. all_on _ (λ m. is_before (of_named m) (of_named n) ≡ false) (λ m low. not_before (of_named m) (of_named n) (λ less. never_both (of_named n) (of_named m) (subst (λ (k : GrainId). Before k (of_named m)) (sym same) low) less)) (flat_map (λ h. filter (at h) xs) gs) later) (filter (at g) xs) (all_same g xs))
 
-pub by_grain_climbs : (xs : List Named) → Climbs (by_grain xs)
+pub by_grain_climbs : (xs : List Named) → Climbs (named_by_grain xs)
 by_grain_climbs xs = groups_climb xs (ascending (map of_named xs)) (ascending_strict (map of_named xs))
 
 pub climbs_behind : (front back : List Named) → Climbs (front ++ back) → Climbs back

@@ -16,7 +16,7 @@ use Rattle.commit_log.specs.declared.records.CommitRecord.{CommitRecord}
 use Rattle.commit_log.specs.declared.records.Written.{Written}
 use Rattle.commit_log.specs.declared.records.Named.{Named}
 use Rattle.host_trait.specs.Files.{same_grain}
-use Rattle.log_reading.specs.Versions.{is_before, named_by, by_grain, version_named, state_of, missing_or, first_missing}
+use Rattle.log_reading.specs.Versions.{is_before, named_by, named_by_grain, version_named, state_of, missing_or, first_missing}
 use Rattle.log_reading.specs.Sums.{state_after, StopsAt}
 use Rattle.log_reading.proofs.Orders.{by_grain_at, Climbs, by_grain_climbs, climbs_behind, irreflexive}
 use Rattle.log_reading.proofs.Naming.{none_missing}
@@ -37,8 +37,8 @@ module _ (shape : Shape) (image : Image) where
         ∙ ap (λ (l : List Named). state_after shape image s l g) (sym (cond-false (same_grain n.written.grain g) (n ∷ filter (λ (m : Named). same_grain m.written.grain g) ns) (filter (λ (m : Named). same_grain m.written.grain g) ns) e))
   ]
 
-  pub in_any_order : (s : State) (ns : List Named) (g : GrainId) → state_after shape image s (by_grain ns) g ≡ state_after shape image s ns g
-  in_any_order s ns g = own_count (by_grain ns) s g ∙ ap (λ (l : List Named). state_after shape image s l g) (by_grain_at g ns) ∙ sym (own_count ns s g)
+  pub in_any_order : (s : State) (ns : List Named) (g : GrainId) → state_after shape image s (named_by_grain ns) g ≡ state_after shape image s ns g
+  in_any_order s ns g = own_count (named_by_grain ns) s g ∙ ap (λ (l : List Named). state_after shape image s l g) (by_grain_at g ns) ∙ sym (own_count ns s g)
 
   -- ---- where reading stops
 
@@ -55,7 +55,7 @@ module _ (shape : Shape) (image : Image) where
   missing_in n [] P one all last place e = miss_by n.written.grain (version_named live_slot shape image n) None P last place one (λ f. absurd cc) e
   missing_in n (m ∷ ms) P one all last place e = miss_by n.written.grain (version_named live_slot shape image n) (first_missing live_slot shape image (m ∷ ms)) P last place one (λ f. missing_in m ms P all.0 all.1 last place f) e
 
-  pub in_order : (named : List Named) (file : FileId) (s : StopsAt shape image (by_grain named) file) (last : GrainId) (place : ℕ) → first_missing live_slot shape image (by_grain named) ≡ Some (Grain 0 last, place) → is_before last s.here.written.grain ≡ false
+  pub in_order : (named : List Named) (file : FileId) (s : StopsAt shape image (named_by_grain named) file) (last : GrainId) (place : ℕ) → first_missing live_slot shape image (named_by_grain named) ≡ Some (Grain 0 last, place) → is_before last s.here.written.grain ≡ false
   in_order named file s last place is =
       let up : Climbs (s.here ∷ s.back) = climbs_behind s.front (s.here ∷ s.back) (subst Climbs s.are (by_grain_climbs named)) in
       let at : first_missing live_slot shape image (s.here ∷ s.back) ≡ Some (Grain 0 last, place) = sym (none_missing shape image s.front (s.here ∷ s.back) s.whole) ∙ ap (first_missing live_slot shape image) (sym s.are) ∙ is in

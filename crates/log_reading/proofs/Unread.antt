@@ -6,7 +6,7 @@ use Rattle.host_trait.specs.World.{Image}
 use Rattle.commit_log.specs.declared.records.CommitRecord.{CommitRecord}
 use Rattle.log_reading.specs.declared.faults.FolderFault.{FolderFault}
 use Rattle.log_reading.specs.Blocks.{records_in_file}
-use Rattle.log_reading.specs.Versions.{named_by, by_grain, first_missing}
+use Rattle.log_reading.specs.Versions.{named_by, named_by_grain, first_missing}
 use Rattle.log_reading.specs.Sums.{StopsAt}
 use Rattle.log_reading.specs.Steps.{manager, live_slot}
 use Rattle.log_reading.specs.Contents.{IsUnread}
@@ -22,8 +22,8 @@ read_refused shape image FolderFault.Memory damaged stopped = tt
 
 -- what a fault of reading the versions says
 pub versions_refused : {A : Type 0} (shape : Shape) (image : Image) (records : List CommitRecord) → records_in_file shape (image manager) ≡ Ok records → (fault : FolderFault)
-    → ((file : FileId) (place : ℕ) → failed {A = A} fault ≡ failed (FolderFault.Damaged file place) → first_missing live_slot shape image (by_grain (named_by records)) ≡ Some (file, place))
-    → ((file : FileId) → failed {A = A} fault ≡ failed (FolderFault.Failed file) → StopsAt shape image (by_grain (named_by records)) file) → IsUnread shape image fault
+    → ((file : FileId) (place : ℕ) → failed {A = A} fault ≡ failed (FolderFault.Damaged file place) → first_missing live_slot shape image (named_by_grain (named_by records)) ≡ Some (file, place))
+    → ((file : FileId) → failed {A = A} fault ≡ failed (FolderFault.Failed file) → StopsAt shape image (named_by_grain (named_by records)) file) → IsUnread shape image fault
 versions_refused shape image records read (FolderFault.Damaged file place) damaged stopped = inr (records, read, damaged file place refl)
 versions_refused shape image records read (FolderFault.Failed file) damaged stopped = inr (records, read, stopped file refl)
 versions_refused shape image records read FolderFault.Memory damaged stopped = tt

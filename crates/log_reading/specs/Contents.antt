@@ -10,7 +10,7 @@ use Rattle.commit_log.specs.declared.records.CommitRecord.{CommitRecord}
 use Rattle.log_reading.specs.declared.contents.Contents.{Contents}
 use Rattle.log_reading.specs.declared.faults.FolderFault.{FolderFault}
 use Rattle.log_reading.specs.Blocks.{records_in_file}
-use Rattle.log_reading.specs.Versions.{named_by, by_grain, first_missing}
+use Rattle.log_reading.specs.Versions.{named_by, named_by_grain, first_missing}
 use Rattle.log_reading.specs.Sums.{next_after, state_after, end_after, StopsAt}
 use Rattle.log_reading.specs.Steps.{manager, live_slot}
 
@@ -19,22 +19,22 @@ use Rattle.log_reading.specs.Steps.{manager, live_slot}
 pub record HasContents (shape : Shape) (image : Image) (kept : Contents) : Type 0 where
   pub records : List CommitRecord
   pub read : records_in_file shape (image manager) ≡ Ok records
-  pub whole : first_missing live_slot shape image (by_grain (named_by records)) ≡ None
+  pub whole : first_missing live_slot shape image (named_by_grain (named_by records)) ≡ None
   pub count : kept.count ≡ length records
   pub next : kept.next_unit.0 ≡ next_after 1 records
-  pub states : (grain : GrainId) → state_in kept.store grain ≡ state_after shape image None (by_grain (named_by records)) grain
-  pub ends : (grain : GrainId) → end_in kept.ends grain ≡ end_after None (by_grain (named_by records)) grain
+  pub states : (grain : GrainId) → state_in kept.store grain ≡ state_after shape image None (named_by_grain (named_by records)) grain
+  pub ends : (grain : GrainId) → end_in kept.ends grain ≡ end_after None (named_by_grain (named_by records)) grain
   pub gate : gate_of (image manager) ≡ kept.gate_at
 
 -- The manager file is damaged there first; or it has records, and the first version that isn't there is there.
 abbrev pub IsDamagedAt : Shape → Image → FileId → ℕ → Type 0
 IsDamagedAt shape image file place = ((file ≡ manager) × (records_in_file shape (image manager) ≡ Err place))
-    ⊎ ((records : List CommitRecord) × (records_in_file shape (image manager) ≡ Ok records) × (first_missing live_slot shape image (by_grain (named_by records)) ≡ Some (file, place)))
+    ⊎ ((records : List CommitRecord) × (records_in_file shape (image manager) ≡ Ok records) × (first_missing live_slot shape image (named_by_grain (named_by records)) ≡ Some (file, place)))
 
 -- It is the manager file; or that of a grain, and all versions before the one that was read are there.
 abbrev pub IsStoppedAt : Shape → Image → FileId → Type 0
 IsStoppedAt shape image file = (file ≡ manager)
-    ⊎ ((records : List CommitRecord) × (records_in_file shape (image manager) ≡ Ok records) × StopsAt shape image (by_grain (named_by records)) file)
+    ⊎ ((records : List CommitRecord) × (records_in_file shape (image manager) ≡ Ok records) × StopsAt shape image (named_by_grain (named_by records)) file)
 
 -- what a fault says of the folder, under the program's shape
 abbrev pub IsUnread : Shape → Image → FolderFault → Type 0

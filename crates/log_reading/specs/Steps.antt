@@ -1,8 +1,7 @@
 -- What is read behind a gate, and what is left of a log there.
 use Rattle.std.specs.Prelude.{◌≡◌, ℕ, ◌+◌, List, [], ◌∷◌, ◌++◌, length, Option, Some, None, Result, Ok, Err}
 use Rattle.base_types.specs.declared.shapes.Shape.{Shape}
-use Rattle.host_trait.specs.declared.channels.FileId.{FileId}
-use Rattle.host_trait.specs.declared.channels.FileId.TheVariants.{Manager}
+pub use Rattle.host_trait.specs.Files.{manager}
 use Rattle.host_trait.specs.World.{Disk, Image}
 use Rattle.field_codec.specs.declared.faults.CodecFault.{CodecFault}
 use Rattle.field_codec.specs.declared.units.Numbers.TheVariants.{Logged}
@@ -16,10 +15,6 @@ use Rattle.log_reading.specs.Blocks.{no_more, records_behind}
 -- the slot of the live files, in every command
 abbrev pub live_slot : ℕ
 live_slot = 0
-
--- the file of the log
-abbrev pub manager : FileId
-manager = Manager 0
 
 -- the files as they read
 abbrev pub seen_in : Disk → Image

@@ -1,5 +1,5 @@
 -- The versions that the records of a log name, and the first that isn't there.
-use Rattle.std.specs.Prelude.{ℕ, Bool, ◌&&◌, ◌||◌, ◌==◌, nat_lt, if◌then◌else◌, List, [], ◌∷◌, map, filter, slice_get, Option, Some, None, Result, Ok, Err}
+use Rattle.std.specs.Prelude.{ℕ, if◌then◌else◌, List, [], ◌∷◌, map, filter, slice_get, Option, Some, None, Result, Ok, Err}
 use Rattle.std.specs.List.{flat_map}
 use Rattle.base_types.specs.declared.calls.GrainId.{GrainId}
 use Rattle.base_types.specs.declared.calls.Value.{Value}
@@ -8,6 +8,7 @@ use Rattle.base_types.specs.declared.stores.Version.{Version}
 use Rattle.host_trait.specs.declared.channels.FileId.{FileId}
 use Rattle.host_trait.specs.declared.channels.FileId.TheVariants.{Grain}
 use Rattle.host_trait.specs.Files.{same_grain}
+pub use Rattle.base_types.specs.Grains.{is_before}
 use Rattle.host_trait.specs.World.{Image}
 use Rattle.grain_log.specs.Reads.{fields_of, owned_version}
 use Rattle.commit_log.specs.declared.records.CommitRecord.{CommitRecord}
@@ -17,23 +18,19 @@ use Rattle.commit_log.specs.declared.records.Named.{Named}
 abbrev pub named_by : List CommitRecord → List Named
 named_by records = flat_map (λ r. map (λ w. record { unit = r.unit; written = w }) r.writes) records
 
--- one grain is before the other: by type, and then by key
-abbrev pub is_before : GrainId → GrainId → Bool
-is_before a b = nat_lt a.kind b.kind || ((a.kind == b.kind) && nat_lt a.key b.key)
-
 -- one more grain in an ascending list, each once
-abbrev pub with_grain : GrainId → List GrainId → List GrainId
-with_grain g [] = g ∷ []
-with_grain g (h ∷ hs) = if same_grain g h then h ∷ hs else (if is_before g h then g ∷ h ∷ hs else h ∷ with_grain g hs)
+abbrev pub ascending_with : GrainId → List GrainId → List GrainId
+ascending_with g [] = g ∷ []
+ascending_with g (h ∷ hs) = if same_grain g h then h ∷ hs else (if is_before g h then g ∷ h ∷ hs else h ∷ ascending_with g hs)
 
 -- these grains in ascending order, each once
 abbrev pub ascending : List GrainId → List GrainId
 ascending [] = []
-ascending (g ∷ gs) = with_grain g (ascending gs)
+ascending (g ∷ gs) = ascending_with g (ascending gs)
 
 -- named versions by grains in ascending order, those of one grain in the log's order
-abbrev pub by_grain : List Named → List Named
-by_grain named =
+abbrev pub named_by_grain : List Named → List Named
+named_by_grain named =
     flat_map (λ g. filter (λ (n : Named). same_grain n.written.grain g) named) (ascending (map (λ n. n.written.grain) named))
 
 -- the version that is named, or where its file is damaged: it is the unit's, and has its type's fields

@@ -6,11 +6,11 @@ ghost use Rattle.host_trait.specs.World.{Image};
 ghost use Rattle.host_trait.specs.declared.channels.FileId.{FileId};
 ghost use Rattle.host_trait.specs.declared.channels.FileId.TheVariants.{Grain};
 ghost use Rattle.commit_log.specs.declared.records.Named.{Named};
-ghost use Rattle.log_reading.specs.Versions.{by_grain, is_before, first_missing};
+ghost use Rattle.log_reading.specs.Versions.{named_by_grain, is_before, first_missing};
 ghost use Rattle.log_reading.specs.Sums.{StopsAt};
 
 /// Where reading stopped for a fault of a grain's file, the first version that is missing is of no grain before it.
 pub fn faults_in_order()
-    ensures { (shape : Shape) (image : Image) (named : List Named) (file : FileId) → (s : StopsAt shape image (by_grain named) file)
-        → (last : GrainId) (place : ℕ) → first_missing live_slot shape image (by_grain named) ≡ Some (Grain 0 last, place) → is_before last s.here.written.grain ≡ false }
+    ensures { (shape : Shape) (image : Image) (named : List Named) (file : FileId) → (s : StopsAt shape image (named_by_grain named) file)
+        → (last : GrainId) (place : ℕ) → first_missing live_slot shape image (named_by_grain named) ≡ Some (Grain 0 last, place) → is_before last s.here.written.grain ≡ false }
 {}

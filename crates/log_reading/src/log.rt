@@ -10,7 +10,7 @@ ghost use Rattle.log_reading.specs.declared.faults.FolderFault.{FolderFault};
 ghost use Rattle.log_reading.specs.Counts.{ReadFaulted};
 ghost use Rattle.log_reading.specs.Steps.{manager};
 ghost use Rattle.log_reading.specs.Blocks.{records_in_file};
-ghost use Rattle.log_reading.specs.Versions.{named_by, by_grain};
+ghost use Rattle.log_reading.specs.Versions.{named_by, named_by_grain};
 ghost use Rattle.log_reading.specs.Sums.{next_after, IsReadAs};
 
 use crate::blocks::next_block;
@@ -109,7 +109,7 @@ pub fn read_log<H: Host>(alloc: Global, host: &mut H, shape: &Shape) -> Result<R
 
 /// Sorts named versions by their grains, those of one grain in the order that they had.
 pub fn sort_by_grain(named: &mut Vec<Named>) -> Result<(), AllocError>
-    ensures { OnOk result (named.new.items ≡ by_grain named.old.items) }
+    ensures { OnOk result (named.new.items ≡ named_by_grain named.old.items) }
 {
     named.sort_by_key(|n| n.written.grain)?;
     Ok(())

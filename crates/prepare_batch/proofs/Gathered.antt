@@ -11,7 +11,7 @@ use Rattle.prepare_batch.specs.declared.works.FileWork.{FileWork}
 use Rattle.prepare_batch.specs.Work.{reads_from, untouched, grains_written, versions_on, work_of}
 use Rattle.prepare_batch.proofs.Orders.{strict_grains, strict_ascends}
 use Rattle.core_model.specs.Steps.{AreAscending}
-use Rattle.prepare_batch.specs.Pieces.{pieces_in, pieces_by, pieces_of, with_pieces, by_grain}
+use Rattle.prepare_batch.specs.Pieces.{pieces_in, pieces_by, pieces_of, with_pieces, pieces_by_grain}
 use Rattle.prepare_batch.proofs.Joined.{is_on, version_in, work_with, joined_grains}
 
 -- what one unit wrote, as a piece
@@ -63,7 +63,7 @@ batch_versions g units (e ∷ es) =
     by_test more false = λ i. unit_versions g e.unit e.writes i ++ more i
 
 -- gathered, by grains, and put together: the work of the batch
-pub gathered : (at : GrainId → ℕ) (units : List UnitNo) (es : List Effect) → with_pieces at [] (by_grain (pieces_of units es)) ≡ work_of at (untouched units es)
+pub gathered : (at : GrainId → ℕ) (units : List UnitNo) (es : List Effect) → with_pieces at [] (pieces_by_grain (pieces_of units es)) ≡ work_of at (untouched units es)
 gathered at units es =
     joined_grains at (pieces_of units es)
     ∙ (λ i. map (λ g. work_with at g (batch_versions g units es i)) (grains_of (batch_grains units es i)))

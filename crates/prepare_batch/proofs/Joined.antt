@@ -9,7 +9,7 @@ use Rattle.core_model.specs.Tests.{grains_of}
 use Rattle.core_model.proofs.Plans.{grains-only}
 use Rattle.prepare_batch.specs.declared.pieces.Piece.{Piece}
 use Rattle.prepare_batch.specs.declared.works.FileWork.{FileWork}
-use Rattle.prepare_batch.specs.Pieces.{first_work, more_work, with_piece, with_pieces, by_grain}
+use Rattle.prepare_batch.specs.Pieces.{first_work, more_work, with_piece, with_pieces, pieces_by_grain}
 use Rattle.prepare_batch.proofs.Orders.{Before, Strict, strict_grains, same_is, is_same, irref}
 
 -- the pieces of a grain
@@ -130,7 +130,7 @@ has_piece ps g m =
     go (q ∷ qs) e p m = (q, qs, e)
 
 -- by grains, and put together
-pub joined_grains : (at : GrainId → ℕ) (ps : List Piece) → with_pieces at [] (by_grain ps) ≡ map (λ g. work_with at g (map version_in (filter (is_on g) ps))) (grains_of (map (λ (p : Piece). p.grain) ps))
+pub joined_grains : (at : GrainId → ℕ) (ps : List Piece) → with_pieces at [] (pieces_by_grain ps) ≡ map (λ g. work_with at g (map version_in (filter (is_on g) ps))) (grains_of (map (λ (p : Piece). p.grain) ps))
 joined_grains at ps =
     let gs = grains_of (map (λ (p : Piece). p.grain) ps) in
     all_grains at ps gs [] (strict_grains (map (λ (p : Piece). p.grain) ps))

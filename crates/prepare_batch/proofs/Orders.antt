@@ -16,7 +16,7 @@ use Rattle.cell_model.specs.Units.{same_grain, Member}
 use Rattle.core_model.specs.Tests.{is_before, with_grain, grains_of}
 use Rattle.core_model.specs.Steps.{AreAscending}
 use Rattle.core_model.proofs.Plans.{grains-in}
-use Rattle.prepare_batch.specs.Pieces.{by_grain}
+use Rattle.prepare_batch.specs.Pieces.{pieces_by_grain}
 
 -- ---- grains
 
@@ -305,7 +305,7 @@ module _ (xs ys : List Piece) (sorted : IsSortedByKey grain_of grain_cmp ys) (st
       grains-in (map grain_of xs) (grain_of n) (in_map grain_of n xs over)
 
   -- the sorted list is that by grains
-  pub sorted_is_by_grain : ys ≡ by_grain xs
+  pub sorted_is_by_grain : ys ≡ pieces_by_grain xs
   sorted_is_by_grain =
       let gs : List GrainId = grains_of (map grain_of xs) in
       grouped gs (strict_grains (map grain_of xs)) ys rises (all_members (λ n. Member (grain_of n) gs) ys named_once)

@@ -21,8 +21,8 @@ abbrev pub pieces_of : List UnitNo → List Effect → List Piece
 pieces_of units effects = flat_map (pieces_by units) effects
 
 -- the pieces by grains, ascending, those of one grain in the order that they had
-abbrev pub by_grain : List Piece → List Piece
-by_grain pieces = flat_map (λ g. filter (λ (p : Piece). same_grain p.grain g) pieces) (grains_of (map (λ (p : Piece). p.grain) pieces))
+abbrev pub pieces_by_grain : List Piece → List Piece
+pieces_by_grain pieces = flat_map (λ g. filter (λ (p : Piece). same_grain p.grain g) pieces) (grains_of (map (λ (p : Piece). p.grain) pieces))
 
 -- the work of a grain that has one version
 abbrev pub first_work : (GrainId → ℕ) → Piece → FileWork

@@ -1,7 +1,7 @@
 ghost use Rattle.std.specs.Prelude.{◌≡◌, ◌++◌, IfOk, OnOk};
 ghost use Rattle.cell_model.specs.Sources.{is_among};
 ghost use Rattle.prepare_batch.specs.Work.{reads_from};
-ghost use Rattle.prepare_batch.specs.Pieces.{pieces_in, pieces_by, pieces_of, by_grain};
+ghost use Rattle.prepare_batch.specs.Pieces.{pieces_in, pieces_by, pieces_of, pieces_by_grain};
 
 use base_types::{GrainId, UnitNo, Version};
 use core_model::Effect;
@@ -77,7 +77,7 @@ fn is_among(units: &[UnitNo], unit: UnitNo) -> bool
 
 /// Sorts the pieces by their grains, those of one grain in the order that they had.
 pub fn sort_by_grain(pieces: &mut Vec<Piece>) -> Result<(), AllocError>
-    ensures { OnOk result (pieces.new.items ≡ by_grain pieces.old.items) }
+    ensures { OnOk result (pieces.new.items ≡ pieces_by_grain pieces.old.items) }
 {
     pieces.sort_by_key(|piece| piece.grain)?;
     Ok(())

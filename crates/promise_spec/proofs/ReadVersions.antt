@@ -31,15 +31,15 @@ use Rattle.core_model.specs.Tests.{is_before}
 use Rattle.cell_model.specs.Units as cell
 use Rattle.cell_model.proofs.Units.{same_grain-true, same_grain-is, filter-stays}
 use Rattle.script_holding.specs.Holding.{same_grain}
-use Rattle.promise_spec.specs.Records.{Commit, with_grain, ascending}
+use Rattle.promise_spec.specs.Records.{Commit, ascending_with, ascending}
 use Rattle.promise_spec.specs.Logs.{WriteStands, WritesStand, IsKept, live_slot}
-use Rattle.promise_spec.specs.Openings.{Named, named_by, by_grain, is_owned, version_named, missing_or, first_missing, state_of, commit_of}
+use Rattle.promise_spec.specs.Openings.{Named, named_by, named_by_grain, is_owned, version_named, missing_or, first_missing, state_of, commit_of}
 use Rattle.promise_spec.proofs.Lists.{parts_of, both_parts, each_of, all_of, in_flat, all_flat}
 
 -- ---- grains in ascending order
 
-with_by : (g x : GrainId) (h : GrainId) (hs : List GrainId) (same before : Bool) → same_grain g h ≡ same → (Member x (g ∷ hs) → Member x (with_grain g hs)) → Member x (g ∷ h ∷ hs)
-    → Member x (if same then h ∷ hs else (if before then g ∷ h ∷ hs else h ∷ with_grain g hs))
+with_by : (g x : GrainId) (h : GrainId) (hs : List GrainId) (same before : Bool) → same_grain g h ≡ same → (Member x (g ∷ hs) → Member x (ascending_with g hs)) → Member x (g ∷ h ∷ hs)
+    → Member x (if same then h ∷ hs else (if before then g ∷ h ∷ hs else h ∷ ascending_with g hs))
 with_by g x h hs true before is on (inl here) = inl (here ∙ same_grain-true g h is)
 with_by g x h hs true before is on (inr there) = there
 with_by g x h hs false true is on there = there
@@ -48,7 +48,7 @@ with_by g x h hs false false is on (inr (inl here)) = inl here
 with_by g x h hs false false is on (inr (inr there)) = inr (on (inr there))
 
 -- one more grain leaves out none
-in_with : (g x : GrainId) (hs : List GrainId) → Member x (g ∷ hs) → Member x (with_grain g hs)
+in_with : (g x : GrainId) (hs : List GrainId) → Member x (g ∷ hs) → Member x (ascending_with g hs)
 in_with g x [] there = there
 in_with g x (h ∷ hs) there = with_by g x h hs (same_grain g h) (is_before g h) refl (λ m. in_with g x hs m) there
 
@@ -69,19 +69,19 @@ all_kept P test [] all = tt
 all_kept P test (x ∷ xs) all = let more = all_kept P test xs all.1 in cond_both (test x) (x ∷ filter test xs) (filter test xs) (AllByRecursion P) (λ is. (all.0, more)) (λ other. more)
 
 -- by grains there are the same versions
-in_order : (n : Named) (named : List Named) → Member n named → Member n (by_grain named)
+in_order : (n : Named) (named : List Named) → Member n named → Member n (named_by_grain named)
 in_order n named there =
     let grain : Member n.written.grain (ascending (map (λ (m : Named). m.written.grain) named)) = in_ascending n.written.grain (map (λ (m : Named). m.written.grain) named) (in_map (λ (m : Named). m.written.grain) n named there) in
     let kept : Member n (filter (λ (m : Named). cell.same_grain m.written.grain n.written.grain) named) =
     filter-stays (λ (m : Named). cell.same_grain m.written.grain n.written.grain) named n there (same_grain-is n.written.grain n.written.grain refl) in
     in_flat (λ (g : GrainId). filter (λ (m : Named). cell.same_grain m.written.grain g) named) n.written.grain n (ascending (map (λ (m : Named). m.written.grain) named)) grain kept
 
-pub all_in_order : (P : Named → Type 0) (named : List Named) → AllByRecursion P named → AllByRecursion P (by_grain named)
+pub all_in_order : (P : Named → Type 0) (named : List Named) → AllByRecursion P named → AllByRecursion P (named_by_grain named)
 all_in_order P named all =
     all_flat P (λ (g : GrainId). filter (λ (m : Named). cell.same_grain m.written.grain g) named) (ascending (map (λ (m : Named). m.written.grain) named)) (λ g. all_kept P (λ (m : Named). cell.same_grain m.written.grain g) named all)
 
-pub all_of_order : (P : Named → Type 0) (named : List Named) → AllByRecursion P (by_grain named) → AllByRecursion P named
-all_of_order P named all = all_of P named (λ n there. each_of P (by_grain named) n all (in_order n named there))
+pub all_of_order : (P : Named → Type 0) (named : List Named) → AllByRecursion P (named_by_grain named) → AllByRecursion P named
+all_of_order P named all = all_of P named (λ n there. each_of P (named_by_grain named) n all (in_order n named there))
 
 -- ---- one version
 

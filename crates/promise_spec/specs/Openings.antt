@@ -15,7 +15,7 @@ pub use Rattle.log_reading.specs.Blocks.{and_records, no_more, records_behind, r
 -- the versions that they name
 pub use Rattle.commit_log.specs.declared.records.Named.{Named}
 pub use Rattle.grain_log.specs.Reads.{is_owned}
-pub use Rattle.log_reading.specs.Versions.{named_by, by_grain, version_named, missing_or, first_missing, state_of}
+pub use Rattle.log_reading.specs.Versions.{named_by, named_by_grain, version_named, missing_or, first_missing, state_of}
 
 -- what a folder reads as
 pub data Reading : Type 0 where
@@ -43,7 +43,7 @@ with_versions live p image records None = Reads p (map (commit_of live (shape_in
 with_versions live p image records (Some missing) = DamagedAt missing.0 missing.1
 
 abbrev pub with_log : ℕ → Program → Image → Result (List CommitRecord) ℕ → Reading
-with_log live p image (Ok records) = with_versions live p image records (first_missing live (shape_in p) image (by_grain (named_by records)))
+with_log live p image (Ok records) = with_versions live p image records (first_missing live (shape_in p) image (named_by_grain (named_by records)))
 with_log live p image (Err place) = DamagedAt (Manager live) place
 
 abbrev pub with_program : ℕ → Image → Result Program ℕ → Reading

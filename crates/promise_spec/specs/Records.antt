@@ -8,7 +8,7 @@ use Rattle.script_holding.specs.Holding.{same_grain}
 use Rattle.script_tree.specs.Programs.{ProgramTree}
 use Rattle.script_meaning.specs.Play.{initial_of}
 -- grains in ascending order
-pub use Rattle.log_reading.specs.Versions.{with_grain, ascending}
+pub use Rattle.log_reading.specs.Versions.{ascending_with, ascending}
 
 -- a record of the log, and the states that stand at the places which it names, in their order
 pub record Commit : Type 0 where

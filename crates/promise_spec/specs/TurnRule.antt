@@ -7,7 +7,7 @@ use Rattle.base_types.specs.declared.calls.Mode.TheVariants.{Update}
 use Rattle.core_model.specs.declared.questions.AskAnswer.{AskAnswer}
 use Rattle.core_model.specs.declared.questions.AskAnswer.TheVariants as answer
 use Rattle.core_model.specs.CoreState.{UnitNo, same_unit, CoreState}
-use Rattle.core_model.specs.Tests.{is_running, is_over, is_free, ask}
+use Rattle.core_model.specs.Tests.{is_running, is_over, is_free, ask_answer}
 pub use Rattle.core_model.specs.Settler.{MakesEvent, batch_step, has_step, later_step, settler_step}
 use Rattle.core_model.specs.declared.events.CoreEvent.{CoreEvent}
 use Rattle.core_model.specs.declared.events.CoreEvent.TheVariants.{Bad, Begin, Grant, Refuse, Finish, EndPlain, EndSnapshot, Release, Take, Vote, Decide, Sealed, NotSealed, Doubt, Learn, Emitted, Halt, Want, Load}
@@ -47,8 +47,8 @@ is_wait answer.Free = false
 -- a unit that asks so can move now
 abbrev pub is_unhindered : CoreState → UnitNo → Option script.Want → Bool
 is_unhindered w u None = false
-is_unhindered w u (Some (script.WantLock g mode)) = not (is_wait (ask w u g mode))
-is_unhindered w u (Some (script.WantRaise g)) = not (is_wait (ask w u g Update))
+is_unhindered w u (Some (script.WantLock g mode)) = not (is_wait (ask_answer w u g mode))
+is_unhindered w u (Some (script.WantRaise g)) = not (is_wait (ask_answer w u g Update))
 is_unhindered w u (Some (script.WantUnit call depth)) = true
 is_unhindered w u (Some (script.Over outcome)) = true
 

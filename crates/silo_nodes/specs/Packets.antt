@@ -1,8 +1,8 @@
 -- Transactions, shifts and packets.
-use Rattle.std.specs.Prelude.{List, [], ◌∷◌, Bool, true, ◌&&◌, not, ◌||◌, ◌==◌, nat_lt, if◌then◌else◌, ◌≡◌, ◌⊎◌, ℤ, pos, ◌+ℤ◌, ⊤}
+use Rattle.std.specs.Prelude.{List, [], ◌∷◌, Bool, true, ◌&&◌, not, ◌==◌, if◌then◌else◌, ◌≡◌, ◌⊎◌, ℤ, pos, ◌+ℤ◌, ⊤}
 pub use Rattle.std.specs.List.{list_any as any, list_all as all}
 pub use Rattle.base_types.specs.declared.calls.GrainId.{GrainId}
-pub use Rattle.base_types.specs.Grains.{same_grain}
+pub use Rattle.base_types.specs.Grains.{same_grain, is_before}
 pub use Rattle.silo_nodes.specs.declared.packets.TxnId.{TxnId}
 pub use Rattle.silo_nodes.specs.declared.packets.Shift.{Shift}
 pub use Rattle.silo_nodes.specs.declared.packets.Packet.{Packet}
@@ -37,10 +37,6 @@ delta g (x ∷ xs) = if same_grain x.grain g then x.delta +ℤ delta g xs else d
 abbrev pub is_apart : List Shift → Bool
 is_apart [] = true
 is_apart (x ∷ xs) = not (touches x.grain xs) && is_apart xs
-
--- the first grain comes before the second: by type, then key
-abbrev pub is_before : GrainId → GrainId → Bool
-is_before a b = nat_lt a.kind b.kind || ((a.kind == b.kind) && nat_lt a.key b.key)
 
 -- the grains of the shifts ascend
 abbrev pub is_ascending : List Shift → Bool

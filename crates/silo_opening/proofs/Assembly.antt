@@ -14,7 +14,7 @@ use Rattle.commit_log.specs.declared.records.CommitRecord.{CommitRecord}
 use Rattle.commit_log.specs.declared.records.Named.{Named}
 use Rattle.core_model.specs.CoreState.{Member}
 use Rattle.log_reading.specs.Blocks.{records_in_file}
-use Rattle.log_reading.specs.Versions.{is_before, ascending, named_by, by_grain, version_named, missing_or, first_missing}
+use Rattle.log_reading.specs.Versions.{is_before, ascending, named_by, named_by_grain, version_named, missing_or, first_missing}
 use Rattle.log_reading.specs.Sums.{StopsAt}
 use Rattle.log_reading.specs.Contents.{IsUnread}
 use Rattle.log_reading.specs.declared.faults.FolderFault.{FolderFault}
@@ -107,7 +107,7 @@ module _ (image : Image) where
 
   log_by : (p : Program) (r : Result (List CommitRecord) ℕ) → MustBeRead image (with_log live_slot p image r) program_file
   log_by p (Err place) = inr refl
-  log_by p (Ok records) = versions_by p records (first_missing live_slot (shape_in p) image (by_grain (named_by records)))
+  log_by p (Ok records) = versions_by p records (first_missing live_slot (shape_in p) image (named_by_grain (named_by records)))
 
   program_by : (r : Result Program ℕ) → MustBeRead image (with_program live_slot image r) program_file
   program_by (Err place) = inr refl
@@ -123,16 +123,16 @@ module _ (image : Image) where
     then_log : reading ≡ with_log live_slot p image (records_in_file (shape_in p) (image manager))
     then_log = opened_then is ∙ ap (with_program live_slot image) program
 
-    named_in : (records : List CommitRecord) → records_in_file (shape_in p) (image manager) ≡ Ok records → (file : FileId) → (s : StopsAt (shape_in p) image (by_grain (named_by records)) file)
+    named_in : (records : List CommitRecord) → records_in_file (shape_in p) (image manager) ≡ Ok records → (file : FileId) → (s : StopsAt (shape_in p) image (named_by_grain (named_by records)) file)
         → IsNamedIn image s.here.written.grain
     named_in records read file s = record { program = p; records = records; first = program; then_log = read; named = in_map s.here (named_by records) (in_groups s.here (named_by records) (ascending (map (λ n. n.written.grain) (named_by records))) (subst (Member s.here) (sym s.are) (in_seam s.front s.here s.back))) }
 
-    grain_by : (records : List CommitRecord) → records_in_file (shape_in p) (image manager) ≡ Ok records → (file : FileId) → (s : StopsAt (shape_in p) image (by_grain (named_by records)) file)
-        → (m : Option (FileId × ℕ)) → first_missing live_slot (shape_in p) image (by_grain (named_by records)) ≡ m → MustBeRead image (with_versions live_slot p image records m) file
+    grain_by : (records : List CommitRecord) → records_in_file (shape_in p) (image manager) ≡ Ok records → (file : FileId) → (s : StopsAt (shape_in p) image (named_by_grain (named_by records)) file)
+        → (m : Option (FileId × ℕ)) → first_missing live_slot (shape_in p) image (named_by_grain (named_by records)) ≡ m → MustBeRead image (with_versions live_slot p image records m) file
     grain_by records read file s None e = inr (s.here.written.grain, s.is, named_in records read file s)
     grain_by records read file s (Some x) e =
-        let t = missing_grain (shape_in p) image (by_grain (named_by records)) x.0 x.1 e in
-        let at : first_missing live_slot (shape_in p) image (by_grain (named_by records)) ≡ Some (Grain 0 t.0, x.1) = e ∙ ap (λ (f : FileId). Some (f, x.1)) t.1 in
+        let t = missing_grain (shape_in p) image (named_by_grain (named_by records)) x.0 x.1 e in
+        let at : first_missing live_slot (shape_in p) image (named_by_grain (named_by records)) ≡ Some (Grain 0 t.0, x.1) = e ∙ ap (λ (f : FileId). Some (f, x.1)) t.1 in
         let order : is_before t.0 s.here.written.grain ≡ false = in_order (shape_in p) image (named_by records) file s t.0 x.1 at in
         subst (λ (f : FileId). IsReadBefore image f file) (sym t.1) (inr (s.here.written.grain, s.is, named_in records read file s, order))
 
@@ -141,9 +141,9 @@ module _ (image : Image) where
     log_refused (FolderFault.Damaged file place) (inr t) = then_log ∙ ap (with_log live_slot p image) t.1 ∙ ap (with_versions live_slot p image t.0) t.2
     log_refused (FolderFault.Failed file) (inl at) = subst (λ (f : FileId). MustBeRead image reading f) (sym at) (manager_by reading)
     log_refused (FolderFault.Failed file) (inr t) =
-        subst (λ (r : Reading). MustBeRead image r file) (sym (then_log ∙ ap (with_log live_slot p image) t.1)) (grain_by t.0 t.1 file t.2 (first_missing live_slot (shape_in p) image (by_grain (named_by t.0))) refl)
+        subst (λ (r : Reading). MustBeRead image r file) (sym (then_log ∙ ap (with_log live_slot p image) t.1)) (grain_by t.0 t.1 file t.2 (first_missing live_slot (shape_in p) image (named_by_grain (named_by t.0))) refl)
     log_refused FolderFault.Memory any = tt
 
-    pub reads_log : (records : List CommitRecord) → records_in_file (shape_in p) (image manager) ≡ Ok records → first_missing live_slot (shape_in p) image (by_grain (named_by records)) ≡ None
+    pub reads_log : (records : List CommitRecord) → records_in_file (shape_in p) (image manager) ≡ Ok records → first_missing live_slot (shape_in p) image (named_by_grain (named_by records)) ≡ None
         → opened_as live_slot image ≡ Reads p (map (commit_of live_slot (shape_in p) image) records)
     reads_log records read whole = then_log ∙ ap (with_log live_slot p image) read ∙ ap (with_versions live_slot p image records) whole

@@ -14,7 +14,7 @@ use Rattle.host_trait.proofs.Names.{cases_file}
 use Rattle.host_trait.proofs.Runs.{asked_then, none_asked, once_asked}
 use Rattle.commit_log.specs.declared.records.CommitRecord.{CommitRecord}
 use Rattle.log_reading.specs.declared.contents.Contents.{Contents}
-use Rattle.log_reading.specs.Versions.{named_by, by_grain}
+use Rattle.log_reading.specs.Versions.{named_by, named_by_grain}
 use Rattle.log_reading.specs.Sums.{end_after, state_after}
 use Rattle.log_reading.specs.Steps.{seen_in}
 use Rattle.log_reading.specs.Contents.{HasContents}
@@ -66,7 +66,7 @@ is_opened image text o silo program h =
       count = h.count ∙ sym (count_is shape image base h.records ∙ none_more (length h.records));
       next = h.next ∙ sym (next_is shape image base h.records);
       states = λ grain. ap (λ (s : Option (List Value)). unwrap_or s (base.states grain)) (h.states grain) ∙ counts shape image base.states h.records grain ∙ sym (λ i. states_are shape image base h.records i grain);
-      ends = λ grain. h.ends grain ∙ ap (λ (rs : List CommitRecord). end_after None (by_grain (named_by rs)) grain) logged;
-      within = λ grain end is. end_lies (length (image (Grain 0 grain))) end _ (end_in o.ends grain) (h.ends grain) (ends_lie shape image (by_grain (named_by h.records)) h.whole grain None tt) is;
+      ends = λ grain. h.ends grain ∙ ap (λ (rs : List CommitRecord). end_after None (named_by_grain (named_by rs)) grain) logged;
+      within = λ grain end is. end_lies (length (image (Grain 0 grain))) end _ (end_in o.ends grain) (h.ends grain) (ends_lie shape image (named_by_grain (named_by h.records)) h.whole grain None tt) is;
       gate = h.gate;
     }

@@ -12,7 +12,7 @@ use Rattle.host_trait.specs.World.{Image}
 use Rattle.commit_log.specs.declared.records.CommitRecord.{CommitRecord}
 use Rattle.commit_log.specs.declared.records.Written.{Written}
 use Rattle.commit_log.specs.declared.records.Named.{Named}
-use Rattle.log_reading.specs.Versions.{named_by, by_grain, version_named, state_of}
+use Rattle.log_reading.specs.Versions.{named_by, named_by_grain, version_named, state_of}
 use Rattle.log_reading.specs.Sums.{next_after, state_after}
 use Rattle.log_reading.proofs.Standing.{in_any_order}
 use Rattle.promise_spec.specs.Records.{Commit, States, Standing, put_state, after_writes, after_record, after_records}
@@ -53,7 +53,7 @@ module _ (shape : Shape) (image : Image) where
       let t = over_writes r.unit r.writes (named_by rs) s states g d e in
       ap (λ (x : State). unwrap_or x d) t.1 ∙ over_records rs t.0 (after_writes states (commit_of live_slot shape image r)) g d t.2
 
-  pub counts : (states : States) (records : List CommitRecord) (g : GrainId) → unwrap_or (state_after shape image None (by_grain (named_by records)) g) (states g) ≡ after_log states records g
+  pub counts : (states : States) (records : List CommitRecord) (g : GrainId) → unwrap_or (state_after shape image None (named_by_grain (named_by records)) g) (states g) ≡ after_log states records g
   counts states records g = ap (λ (x : State). unwrap_or x (states g)) (in_any_order shape image None (named_by records) g) ∙ over_records records None states g (states g) refl
 
   -- ---- a standing is three folds

@@ -6,7 +6,7 @@ use Rattle.host_trait.specs.declared.channels.FileId.TheVariants.{Grain}
 use Rattle.host_trait.specs.World.{Image}
 use Rattle.gate_block.specs.Log.{gate_of}
 use Rattle.log_reading.specs.declared.faults.FolderFault.{FolderFault}
-use Rattle.log_reading.specs.Versions.{named_by, by_grain}
+use Rattle.log_reading.specs.Versions.{named_by, named_by_grain}
 use Rattle.log_reading.specs.Sums.{end_after}
 use Rattle.program_file.specs.declared.faults.ProgramFileFault.{ProgramFileFault}
 use Rattle.script_tree.specs.Programs.{program_tree}
@@ -36,7 +36,7 @@ pub record IsOpenedFrom (image : Image) (o : Opened) : Type 0 where
   pub count : o.count ≡ (standing_of (program_tree o.checked) log).count
   pub next : o.next_unit.0 ≡ (standing_of (program_tree o.checked) log).next
   pub states : (grain : GrainId) → unwrap_or (state_in o.store grain) ((new_silo (program_tree o.checked)).states grain) ≡ (standing_of (program_tree o.checked) log).states grain
-  pub ends : (grain : GrainId) → end_in o.ends grain ≡ end_after None (by_grain (named_by (map (λ c. c.logged) log))) grain
+  pub ends : (grain : GrainId) → end_in o.ends grain ≡ end_after None (named_by_grain (named_by (map (λ c. c.logged) log))) grain
   pub within : (grain : GrainId) (end : ℕ) → end_in o.ends grain ≡ Some end → end ≤ length (image (Grain 0 grain))
   pub gate : gate_of (image manager) ≡ o.gate_at
 

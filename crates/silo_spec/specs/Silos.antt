@@ -2,14 +2,12 @@
 use Rattle.std.specs.Prelude.{◌≡◌, ℕ, ◌+◌, ◌≤◌, List, [], ◌∷◌, ◌++◌, length, take, drop, slice_index, codes}
 use Rattle.std.specs.Int.{w32, to_le_bytes}
 use Rattle.host_trait.specs.declared.channels.FileId.{FileId}
-use Rattle.host_trait.specs.declared.channels.FileId.TheVariants.{Manager, Program}
+use Rattle.host_trait.specs.declared.channels.FileId.TheVariants.{Program}
+pub use Rattle.host_trait.specs.Files.{manager}
 use Rattle.host_trait.specs.World.{Image}
 use Rattle.gate_block.specs.Log.{bodies_of, IsWhole}
 
--- the file of the log, and that of the program
-abbrev pub manager : FileId
-manager = Manager 0
-
+-- the file of the program
 abbrev pub program_file : FileId
 program_file = Program 0
 

@@ -8,7 +8,7 @@ use Rattle.cell_model.specs.declared.locks.Ask.TheVariants.{Free, Held, MustWait
 use Rattle.cell_model.specs.Laws.{AnswersExactly}
 use Rattle.cell_model.proofs.Asking.{ask-exact}
 use Rattle.core_model.specs.CoreState.{UnitNo, GrainId, Hold, Mode, Outcome, Member, CoreState}
-use Rattle.core_model.specs.Tests.{ask, ask_lock, ask_doom, doomed_by, is_active, outcome_of}
+use Rattle.core_model.specs.Tests.{ask_answer, ask_lock, ask_doom, doomed_by, is_active, outcome_of}
 use Rattle.script_tree.specs.Programs.{ProgramTree}
 use Rattle.script_meaning.specs.Trails.{Given, GivenLock, GivenRaise, GivenOutcome, locks_of, answers_of}
 use Rattle.promise_spec.specs.Serial.{depth_of}
@@ -21,7 +21,7 @@ use Rattle.script_meaning.specs.Play as script
 -- ---- who waits
 
 -- a unit that waits for a lock waits for a younger holder
-wait-holder : (w : CoreState) (u : UnitNo) (g : GrainId) (mode : Mode) → is_wait (ask w u g mode) ≡ true → (h : Hold) × Member h (w.cells.holds g) × (u.0 < h.unit.0)
+wait-holder : (w : CoreState) (u : UnitNo) (g : GrainId) (mode : Mode) → is_wait (ask_answer w u g mode) ≡ true → (h : Hold) × Member h (w.cells.holds g) × (u.0 < h.unit.0)
 wait-holder w u g mode e = by_active (is_active w u g) e
   where
     Found : Type 0
@@ -75,8 +75,8 @@ pub waiting-cases : (types : ProgramTree) (w : CoreState) (u : UnitNo) (got : Li
     ((h : Hold) × (g : GrainId) × Member h (w.cells.holds g) × (u.0 < h.unit.0)) ⊎ ((c : UnitNo) × Member c (kids_got got) × (outcome_of w c ≡ None))
 waiting-cases types w u got e = by (wanted_by types w u got) refl e
   where
-    lock : (g : GrainId) (mode : Mode) → not (is_wait (ask w u g mode)) ≡ false → (h : Hold) × (g : GrainId) × Member h (w.cells.holds g) × (u.0 < h.unit.0)
-    lock g mode h = (let t = wait-holder w u g mode (not-false (is_wait (ask w u g mode)) h) in (t.0, g, t.1, t.2))
+    lock : (g : GrainId) (mode : Mode) → not (is_wait (ask_answer w u g mode)) ≡ false → (h : Hold) × (g : GrainId) × Member h (w.cells.holds g) × (u.0 < h.unit.0)
+    lock g mode h = (let t = wait-holder w u g mode (not-false (is_wait (ask_answer w u g mode)) h) in (t.0, g, t.1, t.2))
 
     by : (o : Option script.Want) → wanted_by types w u got ≡ o → is_unhindered w u o ≡ false →
         ((h : Hold) × (g : GrainId) × Member h (w.cells.holds g) × (u.0 < h.unit.0)) ⊎ ((c : UnitNo) × Member c (kids_got got) × (outcome_of w c ≡ None))

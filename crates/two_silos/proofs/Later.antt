@@ -12,7 +12,7 @@ use Rattle.silo_nodes.specs.Coordinators.{Coordination, parts_from, begun, find,
 use Rattle.silo_nodes.proofs.Lists.{Member-append}
 use Rattle.two_silos.specs.World.{World, WorldEvent, Start, Deliver, NudgeCoordinator, Nudge, RestartCoordinator, Restart, node_at, log_at, can_start, next_txn, started, handed, send, delivered, does, is_within, step, run, begin, parts_in}
 use Rattle.two_silos.specs.Promise.{IsOpening}
-use Rattle.two_silos.specs.Later.{IsFront, IsLater, given_by, given_in, IsKept}
+use Rattle.two_silos.specs.Later.{IsFront, IsLater, given_by, given_in, KeepsPart}
 use Rattle.two_silos.proofs.Invariant.{Issued, Inv, set-at, unissued}
 use Rattle.two_silos.proofs.Small.{opening_of}
 use Rattle.two_silos.proofs.Kept.{kept}
@@ -173,16 +173,16 @@ given-once (e ∷ es) w = distinct-on (given_by w e) (given_in (step w e) es) (g
 -- ---- what keeps a grain
 
 pub kept-by : (openings : List (List (GrainId × ℤ))) (es : List WorldEvent) → IsOpening openings → (n : ℕ) (g : GrainId) → is_busy (log_at (run (begin openings) es).nodes n) g ≡ true →
-    IsKept (parts_in openings es) (run (begin openings) es) n g
+    KeepsPart (parts_in openings es) (run (begin openings) es) n g
 kept-by openings es o n g e = go (run (begin openings) es) (kept openings es o) e
   where
-    go : (w : World) → Inv (opening_of openings) (parts_in openings es) w → is_busy (log_at w.nodes n) g ≡ true → IsKept (parts_in openings es) w n g
+    go : (w : World) → Inv (opening_of openings) (parts_in openings es) w → is_busy (log_at w.nodes n) g ≡ true → KeepsPart (parts_in openings es) w n g
     go w i e =
         let b = busy-by (log_at w.nodes n) g e in
         record { txn = b.0; shifts = b.1; prepared = b.2; waits = b.3; moves = b.4; part = i.logged_part n b.0 b.1 b.2 }
 
 pub kept-alone : (openings : List (List (GrainId × ℤ))) (es : List WorldEvent) → IsOpening openings → (n : ℕ) (g : GrainId) →
-    (a b : IsKept (parts_in openings es) (run (begin openings) es) n g) → a.txn ≡ b.txn
+    (a b : KeepsPart (parts_in openings es) (run (begin openings) es) n g) → a.txn ≡ b.txn
 kept-alone openings es o n g a b =
     let i = kept openings es o in
     (i.sound n).alone a.txn b.txn a.shifts b.shifts g a.prepared b.prepared a.waits b.waits a.moves b.moves

@@ -29,7 +29,7 @@ given_in w [] = []
 given_in w (e ∷ es) = given_by w e ++ given_in (step w e) es
 
 -- A grain of a participant is kept by a transaction that was prepared there, with the shifts of its start, and isn't done.
-pub record IsKept (parts : TxnId → List Part) (w : World) (n : ℕ) (g : GrainId) : Type 0 where
+pub record KeepsPart (parts : TxnId → List Part) (w : World) (n : ℕ) (g : GrainId) : Type 0 where
   pub txn : TxnId
   pub shifts : List Shift
   pub prepared : Member (Prepared txn shifts) (log_at w.nodes n)

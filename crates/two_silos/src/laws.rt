@@ -6,7 +6,7 @@ ghost use Rattle.silo_nodes.specs.Cached.{opening_in};
 ghost use Rattle.silo_nodes.specs.Coordinators.{parts_from};
 ghost use Rattle.two_silos.specs.World.{World, WorldEvent, Start, log_at, opening_at, begin, run, can_start, is_within, does, next_txn, parts_after, parts_in};
 ghost use Rattle.two_silos.specs.Promise.{IsOpening, DecisionsAreKept, CommitsArePrepared, BalanceFollows, NoIsExact, NumberIsNew, QuietIsWhole, OrderAgrees};
-ghost use Rattle.two_silos.specs.Later.{IsLater, IsKept, given_in};
+ghost use Rattle.two_silos.specs.Later.{IsLater, KeepsPart, given_in};
 ghost use Rattle.two_silos.specs.Money.{AreOnce, ArePayments, IsStill, all_opened, held_from, txns_amount};
 
 /// What is done as committed is a commit of the coordinator's. What is done as aborted is none, then or later. A
@@ -70,8 +70,8 @@ pub fn numbers_are_given_once()
 /// A participant keeps a grain busy only for a transaction that it has prepared, with the shifts that it was started with, and
 /// that isn't done there; and for one at most.
 pub fn grains_are_kept_by_prepared()
-    ensures kept { (openings : List (List (GrainId × ℤ))) (es : List WorldEvent) → IsOpening openings → (n : ℕ) (g : GrainId) → is_busy (log_at (run (begin openings) es).nodes n) g ≡ true → IsKept (parts_in openings es) (run (begin openings) es) n g }
-    ensures one { (openings : List (List (GrainId × ℤ))) (es : List WorldEvent) → IsOpening openings → (n : ℕ) (g : GrainId) → (a b : IsKept (parts_in openings es) (run (begin openings) es) n g) → a.txn ≡ b.txn }
+    ensures kept { (openings : List (List (GrainId × ℤ))) (es : List WorldEvent) → IsOpening openings → (n : ℕ) (g : GrainId) → is_busy (log_at (run (begin openings) es).nodes n) g ≡ true → KeepsPart (parts_in openings es) (run (begin openings) es) n g }
+    ensures one { (openings : List (List (GrainId × ℤ))) (es : List WorldEvent) → IsOpening openings → (n : ℕ) (g : GrainId) → (a b : KeepsPart (parts_in openings es) (run (begin openings) es) n g) → a.txn ≡ b.txn }
 {}
 
 /// Money, over all grains of all participants: where none of them waits for a decision, the balances together are the opening

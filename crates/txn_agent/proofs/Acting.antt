@@ -14,7 +14,7 @@ use Rattle.core_model.specs.declared.events.CoreReply.TheVariants as reply
 use Rattle.core_model.specs.declared.questions.AskAnswer.TheVariants as answer
 use Rattle.core_model.specs.Changes.{refusal}
 use Rattle.core_model.specs.Events.{applies, can, is_after_doubt, is_after_halt, is_allowed, is_free_answer}
-use Rattle.core_model.specs.Tests.{ask}
+use Rattle.core_model.specs.Tests.{ask_answer}
 use Rattle.core_model.specs.Legal.{Run, ends}
 use Rattle.script_tree.specs.Programs.{ProgramTree}
 use Rattle.script_holding.specs.Limits.{unit_limit}
@@ -138,7 +138,7 @@ module _ (may : CoreEvent → Bool) (types : ProgramTree) (s t : Sight) (c : Car
     pub grant_stays : Tells may s (Grant c.unit g mode) y t → is_granted y ≡ false → KnowsPaused types t c work (NeedGrain g mode)
     grant_stays l f = paused-missed (NeedGrain g mode) (Grant c.unit g mode) y l refl (grant_missed l f) k
 
-    pub grant_moves : Tells may s (Grant c.unit g mode) y t → is_granted y ≡ false → ask (ends (run_seen s)) c.unit g mode ≡ answer.Free → (kids : ℕ) → AnswerSays may types c.unit kids s t came.Moved
+    pub grant_moves : Tells may s (Grant c.unit g mode) y t → is_granted y ≡ false → ask_answer (ends (run_seen s)) c.unit g mode ≡ answer.Free → (kids : ℕ) → AnswerSays may types c.unit kids s t came.Moved
     grant_moves l f free kids = inr (inl record {
       seen = s;
       before = looks-none may s;
@@ -169,7 +169,7 @@ module _ (may : CoreEvent → Bool) (types : ProgramTree) (s t : Sight) (c : Car
     pub refuse_stays : Tells may s (Refuse c.unit g mode) y t → is_done y ≡ false → KnowsPaused types t c work (NeedGrain g mode)
     refuse_stays l f = paused-missed (NeedGrain g mode) (Refuse c.unit g mode) y l refl (refuse_missed l f) k
 
-    pub refuse_moves : Tells may s (Refuse c.unit g mode) y t → is_done y ≡ false → is_some (refusal g (ask (ends (run_seen s)) c.unit g mode)) ≡ true → (kids : ℕ) → AnswerSays may types c.unit kids s t came.Moved
+    pub refuse_moves : Tells may s (Refuse c.unit g mode) y t → is_done y ≡ false → is_some (refusal g (ask_answer (ends (run_seen s)) c.unit g mode)) ≡ true → (kids : ℕ) → AnswerSays may types c.unit kids s t came.Moved
     refuse_moves l f barred kids = inr (inl record {
       seen = s;
       before = looks-none may s;

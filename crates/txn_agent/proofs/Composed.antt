@@ -12,7 +12,7 @@ use Rattle.core_model.specs.declared.events.CoreReply.{CoreReply}
 use Rattle.core_model.specs.declared.questions.AskAnswer.{AskAnswer}
 use Rattle.core_model.specs.declared.questions.AskAnswer.TheVariants as answer
 use Rattle.core_model.specs.Asked.{AskExactly}
-use Rattle.core_model.specs.Tests.{any, ask, outcome_of}
+use Rattle.core_model.specs.Tests.{any, ask_answer, outcome_of}
 use Rattle.core_model.specs.Legal.{ends}
 use Rattle.core_model.proofs.Asked.{ask-ends}
 use Rattle.script_tree.specs.Programs.{ProgramTree}
@@ -114,7 +114,7 @@ module _ (may : CoreEvent → Bool) (types : ProgramTree) (s t : Sight) (c : Car
   there = paused-looks types s c work counts may t (NeedGrain g mode) l k
 
   -- that the unit waits
-  pub waits_happened : (holder : UnitNo) (a : AskAnswer) → a ≡ answer.MustWait holder → a ≡ ask (ends (run_seen t)) c.unit g mode → AnswerSays may types c.unit kids s t (Waits holder)
+  pub waits_happened : (holder : UnitNo) (a : AskAnswer) → a ≡ answer.MustWait holder → a ≡ ask_answer (ends (run_seen t)) c.unit g mode → AnswerSays may types c.unit kids s t (Waits holder)
   waits_happened holder a is asked = record {
     looked = l;
     grain = g;
@@ -134,7 +134,7 @@ module _ (may : CoreEvent → Bool) (types : ProgramTree) (s t : Sight) (c : Car
           ∙ as_lock (asks (rest types work.machine)) k.ready.asks_for
 
   -- what the core answers to a unit that may go on
-  never : (said : AskAnswer) → ask (ends (run_seen t)) c.unit g mode ≡ said → IsPaused types (run_seen t) c work k.trail → AskExactly (ends (run_seen t)) c.unit g mode said
+  never : (said : AskAnswer) → ask_answer (ends (run_seen t)) c.unit g mode ≡ said → IsPaused types (run_seen t) c work k.trail → AskExactly (ends (run_seen t)) c.unit g mode said
   never said q p = subst (AskExactly (ends (run_seen t)) c.unit g mode) q (ask-ends (λ e. true) (run_seen t) p.linked.sound c.unit g mode)
 
   -- the grain's type is one of the program's
@@ -178,20 +178,20 @@ module _ (may : CoreEvent → Bool) (types : ProgramTree) (s t : Sight) (c : Car
           or-false false f = f
 
   -- so these answers don't come where one is alone
-  pub inactive_happened : (a : AskAnswer) → a ≡ answer.NotActive → a ≡ ask (ends (run_seen t)) c.unit g mode → AnswerSays may types c.unit kids s t Moved
+  pub inactive_happened : (a : AskAnswer) → a ≡ answer.NotActive → a ≡ ask_answer (ends (run_seen t)) c.unit g mode → AnswerSays may types c.unit kids s t Moved
   inactive_happened a is asked = inr (inr record {
     looked = l;
     never = λ alone kinds here. (let p = there.linked alone in
         never answer.NotActive (sym asked ∙ is) p (p.given.running, (let n = of-types in let q : (ends (run_seen t)).units.kinds ≡ length types = kinds-ends (run_seen t) ∙ kinds in omega (arith, n, q))));
   })
 
-  pub held_happened : (a : AskAnswer) → a ≡ answer.Held → a ≡ ask (ends (run_seen t)) c.unit g mode → AnswerSays may types c.unit kids s t Moved
+  pub held_happened : (a : AskAnswer) → a ≡ answer.Held → a ≡ ask_answer (ends (run_seen t)) c.unit g mode → AnswerSays may types c.unit kids s t Moved
   held_happened a is asked = inr (inr record {
     looked = l;
     never = λ alone kinds here. (let p = there.linked alone in uncovered p (never answer.Held (sym asked ∙ is) p).lock);
   })
 
-  pub absent_happened : (a : AskAnswer) → a ≡ answer.Absent → a ≡ ask (ends (run_seen t)) c.unit g mode → AnswerSays may types c.unit kids s t Moved
+  pub absent_happened : (a : AskAnswer) → a ≡ answer.Absent → a ≡ ask_answer (ends (run_seen t)) c.unit g mode → AnswerSays may types c.unit kids s t Moved
   absent_happened a is asked = inr (inr record {
     looked = l;
     never = λ alone kinds here. (let p = there.linked alone in true≢false (sym (here-ends (run_seen t) here g) ∙ (never answer.Absent (sym asked ∙ is) p).1));

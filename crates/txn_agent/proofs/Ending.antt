@@ -19,8 +19,8 @@ use Rattle.core_model.specs.declared.events.CoreReply.{CoreReply}
 use Rattle.core_model.specs.declared.events.CoreReply.TheVariants as reply
 use Rattle.core_model.specs.declared.questions.AskAnswer.{AskAnswer}
 use Rattle.core_model.specs.declared.questions.AskAnswer.TheVariants as answer
-use Rattle.core_model.specs.Tests.{all, any, ask, ask_doom, ask_lock, doomed_by, is_over, is_running}
-use Rattle.core_model.specs.Changes.{refusal, refused_by, released, swept, swept_by}
+use Rattle.core_model.specs.Tests.{all, any, ask_answer, ask_doom, ask_lock, doomed_by, is_over, is_running}
+use Rattle.core_model.specs.Changes.{refusal, refused_by, after_release, swept, swept_by}
 use Rattle.core_model.specs.Asked.{IsGoing}
 use Rattle.core_model.specs.Events.{applies, can, does, is_after_doubt, is_after_halt, is_allowed, is_free_answer, reply_with, reply_without, reply_to}
 use Rattle.core_model.specs.Legal.{Run, ends}
@@ -105,7 +105,7 @@ module _ (types : ProgramTree) (r : Run) (c : Carried) (work : Work) (trail : Li
   pub over-refused : (g : GrainId) (mode : Mode) → reply.Done ≡ reply_to (ends r) (Refuse c.unit g mode) → IsOver (with_event r (Refuse c.unit g mode)) c held
   over-refused g mode q =
       let a = done-applied (ends r) (Refuse c.unit g mode) refl q in
-      over-behind (Refuse c.unit g mode) refl a (refused-ending (ends r) c.unit (refusal g (ask (ends r) c.unit g mode)) (and_parts (is_allowed (ends r) (Refuse c.unit g mode)) (can (ends r) (Refuse c.unit g mode)) a).1)
+      over-behind (Refuse c.unit g mode) refl a (refused-ending (ends r) c.unit (refusal g (ask_answer (ends r) c.unit g mode)) (and_parts (is_allowed (ends r) (Refuse c.unit g mode)) (can (ends r) (Refuse c.unit g mode)) a).1)
 
   -- a transaction's end
   pub over-finished : (effect : Effect) → reply.Done ≡ reply_to (ends r) (Finish c.unit effect) → IsOver (with_event r (Finish c.unit effect)) c held
@@ -164,7 +164,7 @@ pub over-released : (r : Run) (c : Carried) (g : GrainId) (held : List GrainId) 
 over-released r c g held a o =
     let i : IsReleased (ends r) c.unit g (ends (with_event r (Release c.unit g))) =
     subst (IsReleased (ends r) c.unit g) (sym (ends-more r (Release c.unit g) ∙ cond-true (applies (ends r) (Release c.unit g)) (swept (does (ends r) (Release c.unit g))) (ends r) a))
-    (released-swept (ends r) c.unit g (released (ends r) c.unit g) record { phase = refl; holds = refl }) in
+    (released-swept (ends r) c.unit g (after_release (ends r) c.unit g) record { phase = refl; holds = refl }) in
     record {
       sound = sound-event r (Release c.unit g) refl o.sound;
       over = ap (λ (f : UnitNo → Phase). is_over (f c.unit)) i.phase ∙ o.over;
@@ -198,7 +198,7 @@ idle-can : (w : CoreState) (u v : UnitNo) → is_running (w.units.phase u) ≡ f
 idle-can w u v idle q = ap (λ (x : UnitNo). is_running (w.units.phase x)) (same_unit-true v u q) ∙ idle
 
 -- who doesn't run isn't active
-pub idle-asks : (w : CoreState) (v : UnitNo) (g : GrainId) (mode : Mode) → is_running (w.units.phase v) ≡ false → ask w v g mode ≡ answer.NotActive
+pub idle-asks : (w : CoreState) (v : UnitNo) (g : GrainId) (mode : Mode) → is_running (w.units.phase v) ≡ false → ask_answer w v g mode ≡ answer.NotActive
 idle-asks w v g mode idle = ap (λ (b : Bool). if b then ask_doom (doomed_by w v) (ask_lock (w.cells.here g) (locks.ask (w.cells.holds g) v mode)) else answer.NotActive) (and-not (is_running (w.units.phase v)) _ idle)
 
 -- so no event of a unit that is over and holds nothing applies

@@ -17,8 +17,8 @@ use Rattle.core_model.specs.declared.questions.AskAnswer.{AskAnswer}
 use Rattle.core_model.specs.declared.questions.AskAnswer.TheVariants as answer
 use Rattle.core_model.specs.declared.events.CoreEvent.TheVariants.{Grant}
 use Rattle.core_model.specs.declared.events.CoreReply.TheVariants as reply
-use Rattle.core_model.specs.Tests.{any, ask}
-use Rattle.core_model.specs.Changes.{granted, locked, raised, restacked, cleaned, read_of, swept, swept_by}
+use Rattle.core_model.specs.Tests.{any, ask_answer}
+use Rattle.core_model.specs.Changes.{after_grant, after_lock, after_raise, restacked, cleaned, read_of, swept, swept_by}
 use Rattle.core_model.specs.Events.{applies, does, holds_alone, is_allowed, not_granted, reply_with, reply_without, reply_to}
 use Rattle.core_model.specs.Legal.{Run, ends}
 use Rattle.core_model.proofs.Puts.{grain-at, grain-same, put-same}
@@ -52,8 +52,8 @@ granted-reply w u g mode s x e = by (applies w (Grant u g mode)) refl e
     no_reply answer.Absent q = absurd cc
     no_reply answer.Free q = absurd cc
 
-    without : (b : Bool) → reply.Granted s x ≡ (if b then not_granted (ask w u g mode) else reply.Unapplied) → ⊥
-    without true q = no_reply (ask w u g mode) q
+    without : (b : Bool) → reply.Granted s x ≡ (if b then not_granted (ask_answer w u g mode) else reply.Unapplied) → ⊥
+    without true q = no_reply (ask_answer w u g mode) q
     without false q = absurd cc
 
     by : (b : Bool) → applies w (Grant u g mode) ≡ b → reply.Granted s x ≡ (if b then reply_with w (Grant u g mode) else reply_without w (Grant u g mode)) →
@@ -72,15 +72,15 @@ record IsGranted (w : CoreState) (u : UnitNo) (g : GrainId) (mode : Mode) (w' : 
   holds : w'.cells.holds ≡ put_grain w.cells.holds g (granted_locks (w.cells.holds g) u mode)
 
 -- it does
-granted-is : (w : CoreState) (u : UnitNo) (g : GrainId) (mode : Mode) → IsGranted w u g mode (granted w u g mode)
-granted-is w u g mode = cond_both (holds_lock u (w.cells.holds g)) (raised (restacked w g (cleaned w g)) u g mode) (locked (restacked w g (cleaned w g)) u g mode) (IsGranted w u g mode)
+granted-is : (w : CoreState) (u : UnitNo) (g : GrainId) (mode : Mode) → IsGranted w u g mode (after_grant w u g mode)
+granted-is w u g mode = cond_both (holds_lock u (w.cells.holds g)) (after_raise (restacked w g (cleaned w g)) u g mode) (after_lock (restacked w g (cleaned w g)) u g mode) (IsGranted w u g mode)
     (λ e. record { phase = refl; call = refl; origin = refl; plain = refl; holds = refl })
     (λ e. record { phase = refl; call = refl; origin = refl; plain = refl; holds = refl })
 
 -- a fact of a state that grains leaving memory leave, in the run
 module _ (r : Run) (u : UnitNo) (g : GrainId) (mode : Mode) (a : applies (ends r) (Grant u g mode) ≡ true) where
   -- the last state, behind the grant
-  behind : ends (with_event r (Grant u g mode)) ≡ swept (granted (ends r) u g mode)
+  behind : ends (with_event r (Grant u g mode)) ≡ swept (after_grant (ends r) u g mode)
   behind = ends-more r (Grant u g mode) ∙ cond-true (applies (ends r) (Grant u g mode)) (swept (does (ends r) (Grant u g mode))) (ends r) a
 
   swept-is : (w : CoreState) → IsGranted (ends r) u g mode w → IsGranted (ends r) u g mode (swept w)
@@ -98,21 +98,21 @@ module _ (r : Run) (u : UnitNo) (g : GrainId) (mode : Mode) (a : applies (ends r
       go (Some m) = refl
 
   granted-step : IsGranted (ends r) u g mode (ends (with_event r (Grant u g mode)))
-  granted-step = subst (IsGranted (ends r) u g mode) (sym behind) (swept-is (granted (ends r) u g mode) (granted-is (ends r) u g mode))
+  granted-step = subst (IsGranted (ends r) u g mode) (sym behind) (swept-is (after_grant (ends r) u g mode) (granted-is (ends r) u g mode))
 
   -- a first lock reads the version on top
   reads-first : holds_lock u ((ends r).cells.holds g) ≡ false → (ends (with_event r (Grant u g mode))).units.reads u ≡ (ends r).units.reads u ++ (read_of g (top (cleaned (ends r) g)) ∷ [])
   reads-first free =
-      ap (λ (w : CoreState). w.units.reads u) behind ∙ ap (λ (f : UnitNo → List Read). f u) (swept-reads (granted (ends r) u g mode))
-      ∙ ap (λ (w : CoreState). w.units.reads u) (cond-false (holds_lock u ((ends r).cells.holds g)) (raised (restacked (ends r) g (cleaned (ends r) g)) u g mode) (locked (restacked (ends r) g (cleaned (ends r) g)) u g mode) free)
+      ap (λ (w : CoreState). w.units.reads u) behind ∙ ap (λ (f : UnitNo → List Read). f u) (swept-reads (after_grant (ends r) u g mode))
+      ∙ ap (λ (w : CoreState). w.units.reads u) (cond-false (holds_lock u ((ends r).cells.holds g)) (after_raise (restacked (ends r) g (cleaned (ends r) g)) u g mode) (after_lock (restacked (ends r) g (cleaned (ends r) g)) u g mode) free)
       ∙ put-same (ends r).units.reads u _
       ∙ ap (λ (l : List Version). (ends r).units.reads u ++ (read_of g (top l) ∷ [])) (grain-same (ends r).cells.stack g (cleaned (ends r) g))
 
   -- an exclusive lock in place of a shared one reads nothing
   reads-again : holds_lock u ((ends r).cells.holds g) ≡ true → (ends (with_event r (Grant u g mode))).units.reads u ≡ (ends r).units.reads u
   reads-again held =
-      ap (λ (w : CoreState). w.units.reads u) behind ∙ ap (λ (f : UnitNo → List Read). f u) (swept-reads (granted (ends r) u g mode))
-      ∙ ap (λ (w : CoreState). w.units.reads u) (cond-true (holds_lock u ((ends r).cells.holds g)) (raised (restacked (ends r) g (cleaned (ends r) g)) u g mode) (locked (restacked (ends r) g (cleaned (ends r) g)) u g mode) held)
+      ap (λ (w : CoreState). w.units.reads u) behind ∙ ap (λ (f : UnitNo → List Read). f u) (swept-reads (after_grant (ends r) u g mode))
+      ∙ ap (λ (w : CoreState). w.units.reads u) (cond-true (holds_lock u ((ends r).cells.holds g)) (after_raise (restacked (ends r) g (cleaned (ends r) g)) u g mode) (after_lock (restacked (ends r) g (cleaned (ends r) g)) u g mode) held)
 
   -- the unit holds that grain
   own-lock : (hs : List Hold) → holds_lock u (granted_locks hs u mode) ≡ true

@@ -10,7 +10,7 @@ use Rattle.core_model.specs.CoreState.{UnitNo, GrainId, Call, same_grain, CoreSt
 use Rattle.core_model.specs.declared.phases.Phase.{Phase}
 use Rattle.core_model.specs.declared.phases.Phase.TheVariants.{Unborn, Running, Finished, Refused, Ended}
 use Rattle.core_model.specs.declared.questions.AskAnswer.{AskAnswer}
-use Rattle.core_model.specs.Tests.{any, ask, is_decided, is_free, is_over, is_running, outcome_of}
+use Rattle.core_model.specs.Tests.{any, ask_answer, is_decided, is_free, is_over, is_running, outcome_of}
 use Rattle.core_model.specs.Legal.{Run, ends}
 use Rattle.core_model.specs.declared.events.CoreEvent.{CoreEvent}
 use Rattle.core_model.proofs.Batching.{free-holds, unfree-holds}
@@ -48,10 +48,10 @@ module _ (types : ProgramTree) (r : Run) (c : Carried) (work : Work) where
         ∙ ap (is_unhindered (ends r) c.unit) (wants types r c.unit trail p.given ∙ ap Some (next-is types r c work trail kids m p))
 
     -- for a grain
-    grain-moves : (g : GrainId) (mode : Mode) → NeedGrain g mode ≡ pause_for (asks (rest types work.machine)) → not (is_wait (ask (ends r) c.unit g mode)) ≡ moves types r c
+    grain-moves : (g : GrainId) (mode : Mode) → NeedGrain g mode ≡ pause_for (asks (rest types work.machine)) → not (is_wait (ask_answer (ends r) c.unit g mode)) ≡ moves types r c
     grain-moves g mode e = elim (grain-wants (asks (rest types work.machine)) g mode e) [
       | inl l ↦ sym (paused-moves ∙ ap (λ (w : Want). is_unhindered (ends r) c.unit (Some w)) l)
-      | inr l ↦ ap (λ (x : Mode). not (is_wait (ask (ends r) c.unit g x))) l.1 ∙ sym (paused-moves ∙ ap (λ (w : Want). is_unhindered (ends r) c.unit (Some w)) l.0)
+      | inr l ↦ ap (λ (x : Mode). not (is_wait (ask_answer (ends r) c.unit g x))) l.1 ∙ sym (paused-moves ∙ ap (λ (w : Want). is_unhindered (ends r) c.unit (Some w)) l.0)
     ]
 
 -- the pause is for a grain
@@ -123,7 +123,7 @@ module _ (may : CoreEvent → Bool) (types : ProgramTree) (s t : Sight) (c : Car
   as-shown two b e p = subst (λ (x : Doing). IfOwn c t (λ r. ShowsMove types r c x b)) (sym e) p
 
   -- it asks for a grain
-  pub grain_all : (work : Work) (pause : Pause) (g : GrainId) (mode : Mode) (answer : AskAnswer) (waits : Bool) → doing ≡ Asks work pause → pause ≡ NeedGrain g mode → answer ≡ ask (ends (run_seen t)) c.unit g mode → waits ≡ is_wait answer →
+  pub grain_all : (work : Work) (pause : Pause) (g : GrainId) (mode : Mode) (answer : AskAnswer) (waits : Bool) → doing ≡ Asks work pause → pause ≡ NeedGrain g mode → answer ≡ ask_answer (ends (run_seen t)) c.unit g mode → waits ≡ is_wait answer →
       IfOwn c t (λ r. ShowsMove types r c doing (not waits))
   grain_all work pause g mode answer waits d p a w =
       let whole : doing ≡ Asks work (NeedGrain g mode) = d ∙ ap (Asks work) p in

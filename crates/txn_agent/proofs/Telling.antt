@@ -16,7 +16,7 @@ use Rattle.core_model.specs.declared.questions.AskAnswer.TheVariants as answer
 use Rattle.core_model.specs.Asked.{IsGoing}
 use Rattle.core_model.specs.Changes.{refusal}
 use Rattle.core_model.specs.Events.{applies, can, is_allowed, is_free_answer}
-use Rattle.core_model.specs.Tests.{ask, is_free, is_over, is_running}
+use Rattle.core_model.specs.Tests.{ask_answer, is_free, is_over, is_running}
 use Rattle.core_model.specs.Legal.{Run, ends}
 use Rattle.core_model.proofs.Batching.{free-holds}
 use Rattle.script_tree.specs.Programs.{ProgramTree}
@@ -44,15 +44,15 @@ pair-is : (x y : GrainId × Mode) → Some x ≡ Some y → (x.0 ≡ y.0) × (x.
 pair-is x y e = (let q = some_is x y e in (ap (λ (z : GrainId × Mode). z.0) q, ap (λ (z : GrainId × Mode). z.1) q))
 
 -- a unit that asks for a lock moves unless it must wait
-lock-moves : (w : CoreState) (u : UnitNo) (o : Option Want) (g : GrainId) (mode : Mode) → wanted_lock o ≡ Some (g, mode) → is_unhindered w u o ≡ not (is_wait (ask w u g mode))
+lock-moves : (w : CoreState) (u : UnitNo) (o : Option Want) (g : GrainId) (mode : Mode) → wanted_lock o ≡ Some (g, mode) → is_unhindered w u o ≡ not (is_wait (ask_answer w u g mode))
 lock-moves w u None g mode e = absurd cc
-lock-moves w u (Some (WantLock h m)) g mode e = (let q = pair-is (h, m) (g, mode) e in λ i. not (is_wait (ask w u (q.0 i) (q.1 i))))
-lock-moves w u (Some (WantRaise h)) g mode e = (let q = pair-is (h, Update) (g, mode) e in λ i. not (is_wait (ask w u (q.0 i) (q.1 i))))
+lock-moves w u (Some (WantLock h m)) g mode e = (let q = pair-is (h, m) (g, mode) e in λ i. not (is_wait (ask_answer w u (q.0 i) (q.1 i))))
+lock-moves w u (Some (WantRaise h)) g mode e = (let q = pair-is (h, Update) (g, mode) e in λ i. not (is_wait (ask_answer w u (q.0 i) (q.1 i))))
 lock-moves w u (Some (WantUnit call depth)) g mode e = absurd cc
 lock-moves w u (Some (Over outcome)) g mode e = absurd cc
 
 -- who is answered otherwise than that it isn't active, runs
-asks-running : (w : CoreState) (u : UnitNo) (g : GrainId) (mode : Mode) → (ask w u g mode ≡ answer.NotActive → ⊥) → is_running (w.units.phase u) ≡ true
+asks-running : (w : CoreState) (u : UnitNo) (g : GrainId) (mode : Mode) → (ask_answer w u g mode ≡ answer.NotActive → ⊥) → is_running (w.units.phase u) ≡ true
 asks-running w u g mode n = elim (cases_Bool (is_running (w.units.phase u))) [ inl e ↦ e | inr e ↦ absurd (n (idle-asks w u g mode e)) ]
 
 -- a free lock is nothing to wait for, nor is one that must be refused
@@ -80,7 +80,7 @@ moves-by types w got u e = ap (λ (b : Bool). if b then is_unhindered w u (wante
 
 -- what is due and applies, moves
 module _ (b : Basis) (r : Run) (sound : IsLegalRun r) where
-  lock-due : (v : UnitNo) (g : GrainId) (mode : Mode) → wanted_lock (wanted_by b.types (ends r) v (got_in r v)) ≡ Some (g, mode) → (is_wait (ask (ends r) v g mode) ≡ false) × (ask (ends r) v g mode ≡ answer.NotActive → ⊥) → can_move b.types (ends r) (got_in r) v ≡ true
+  lock-due : (v : UnitNo) (g : GrainId) (mode : Mode) → wanted_lock (wanted_by b.types (ends r) v (got_in r v)) ≡ Some (g, mode) → (is_wait (ask_answer (ends r) v g mode) ≡ false) × (ask_answer (ends r) v g mode ≡ answer.NotActive → ⊥) → can_move b.types (ends r) (got_in r) v ≡ true
   lock-due v g mode due free =
       moves-by b.types (ends r) (got_in r) v (asks-running (ends r) v g mode free.1)
       ∙ lock-moves (ends r) v (wanted_by b.types (ends r) v (got_in r v)) g mode due ∙ ap not free.0
@@ -104,8 +104,8 @@ module _ (b : Basis) (r : Run) (sound : IsLegalRun r) where
   due-moves u (Bad n why) q a due = line-not u q
   due-moves u (Begin (Line n) call plain) q a due = line-not u q
   due-moves u (Begin (Child p i d) call plain) q a due = at-own u p q (asks-due p (WantUnit call d) (and_parts (is_running ((ends r).units.phase p)) _ a).0 due.0 refl)
-  due-moves u (Grant v g mode) q a due = at-own u v q (lock-due v g mode due (free-waits (ask (ends r) v g mode) a))
-  due-moves u (Refuse v g mode) q a due = at-own u v q (lock-due v g mode due (barred-waits g (ask (ends r) v g mode) a))
+  due-moves u (Grant v g mode) q a due = at-own u v q (lock-due v g mode due (free-waits (ask_answer (ends r) v g mode) a))
+  due-moves u (Refuse v g mode) q a due = at-own u v q (lock-due v g mode due (barred-waits g (ask_answer (ends r) v g mode) a))
   due-moves u (Finish v x) q a due = at-own u v q (asks-due v (Over x.result) (and_parts (is_running ((ends r).units.phase v)) _ (and_parts _ _ a).0).0 due.0 refl)
   due-moves u (EndPlain v x) q a due = at-own u v q (asks-due v (Over x.result) (and_parts (is_running ((ends r).units.phase v)) _ (and_parts _ _ a).0).0 due.0 refl)
   due-moves u (EndSnapshot v at outcome) q a due = absurd due
@@ -136,7 +136,7 @@ module _ (b : Basis) (u : UnitNo) (s t : Sight) (alone : IsAlone (leaves_unit u)
   waits-moves : (holder : UnitNo) → WaitsBehind none_comes b.types u s holder t → false ≡ can_move b.types (ends (run_seen s)) (got_in (run_seen s)) u
   waits-moves holder h =
       let same : t ≡ s = looks-alone s t h.looked in
-      let asked : ask (ends (run_seen s)) u h.grain h.mode ≡ answer.MustWait holder = subst (λ (x : Sight). ask (ends (run_seen x)) u h.grain h.mode ≡ answer.MustWait holder) same h.asked in
+      let asked : ask_answer (ends (run_seen s)) u h.grain h.mode ≡ answer.MustWait holder = subst (λ (x : Sight). ask_answer (ends (run_seen x)) u h.grain h.mode ≡ answer.MustWait holder) same h.asked in
       let wants = subst (λ (x : Sight). IfAlone (leaves_unit u) x (λ r. wanted_lock (wanted_by b.types (ends r) u (got_in r u)) ≡ Some (h.grain, h.mode))) same h.wants alone in
       sym (moves-by b.types (ends (run_seen s)) (got_in (run_seen s)) u (asks-running (ends (run_seen s)) u h.grain h.mode (λ q. waiting-active holder (sym asked ∙ q)))
       ∙ lock-moves (ends (run_seen s)) u (wanted_by b.types (ends (run_seen s)) u (got_in (run_seen s) u)) h.grain h.mode wants ∙ ap (λ (a : AskAnswer). not (is_wait a)) asked)

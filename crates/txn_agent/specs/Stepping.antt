@@ -10,7 +10,7 @@ use Rattle.core_model.specs.declared.events.CoreReply.TheVariants as reply
 use Rattle.core_model.specs.declared.questions.AskAnswer.TheVariants.{MustWait}
 use Rattle.core_model.specs.Events.{applies, can}
 use Rattle.core_model.specs.Asked.{IsGoing}
-use Rattle.core_model.specs.Tests.{ask, is_free, is_over, outcome_of}
+use Rattle.core_model.specs.Tests.{ask_answer, is_free, is_over, outcome_of}
 use Rattle.core_model.specs.Legal.{Run, ends}
 use Rattle.core_access.specs.Sights.{Sight, run_seen, saw, Looks, Tells, IfAlone}
 use Rattle.script_tree.specs.Programs.{ProgramTree}
@@ -52,7 +52,7 @@ module _ (may_come : CoreEvent → Bool) (types : ProgramTree) (u : UnitNo) (s :
     pub grain : GrainId
     pub mode : Mode
     pub wants : IfAlone (leaves_unit u) t (λ r. wanted_lock (wanted_by types (ends r) u (got_in r u)) ≡ Some (grain, mode))
-    pub asked : ask (ends (run_seen t)) u grain mode ≡ MustWait holder
+    pub asked : ask_answer (ends (run_seen t)) u grain mode ≡ MustWait holder
 
   -- The script waits for the unit's last child, and the core showed that it isn't decided.
   pub record WaitsForChild (child : UnitNo) (t : Sight) : Type 0 where

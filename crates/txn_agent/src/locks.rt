@@ -1,7 +1,7 @@
 ghost use Rattle.std.specs.Prelude.{◌≡◌, IfOk, is_some, true};
 ghost use Rattle.core_model.specs.Changes.{refusal};
 ghost use Rattle.core_model.specs.Legal.{ends};
-ghost use Rattle.core_model.specs.Tests.{ask};
+ghost use Rattle.core_model.specs.Tests.{ask_answer};
 ghost use Rattle.core_access.specs.Sights.{run_seen, Counts};
 ghost use Rattle.script_tree.specs.Programs.{program_tree};
 ghost use Rattle.script_machine.specs.declared.machine.Pause.TheVariants.{NeedGrain};
@@ -31,7 +31,7 @@ fn refuse<A: Access>(
     requires fit { A.is_fit access.old }
     requires counts { Counts (A.sight access.old) }
     requires paused { KnowsPaused (program_tree checked.now) (A.sight access.old) carried work (NeedGrain grain mode) }
-    requires barred { is_some (refusal grain (ask (ends (run_seen (A.sight access.old))) carried.unit grain mode)) ≡ true }
+    requires barred { is_some (refusal grain (ask_answer (ends (run_seen (A.sight access.old))) carried.unit grain mode)) ≡ true }
     ensures fit { A.is_fit access.new }
     ensures aside { A.aside access.new ≡ A.aside access.old }
     ensures acts { Acts A.may_come (program_tree checked.now) carried.unit (A.sight access.old) (A.sight access.new) }

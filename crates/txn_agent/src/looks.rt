@@ -1,7 +1,7 @@
 ghost use Rattle.std.specs.Prelude.{◌≡◌, IfOk, IsOk};
 ghost use Rattle.core_model.specs.Answers.{known};
 ghost use Rattle.core_model.specs.Legal.{ends};
-ghost use Rattle.core_model.specs.Tests.{ask, is_decided as decided, outcome_of};
+ghost use Rattle.core_model.specs.Tests.{ask_answer, is_decided as decided, outcome_of};
 ghost use Rattle.core_access.specs.Sights.{run_seen, Looks};
 
 use base_types::{GrainId, Mode, UnitNo};
@@ -21,7 +21,7 @@ pub fn ask_for<A: Access>(
     ensures aside { A.aside access.new ≡ A.aside access.old }
     ensures looked { Looks A.may_come (A.sight access.old) (A.sight access.new) }
     ensures sure { IsOk result }
-    ensures answer { IfOk result (λ answer. answer ≡ ask (ends (run_seen (A.sight access.new))) unit grain mode) }
+    ensures answer { IfOk result (λ answer. answer ≡ ask_answer (ends (run_seen (A.sight access.new))) unit grain mode) }
 {
     match access.see(&CoreQuestion::Ask { unit, grain, mode })? {
         CoreAnswer::Ask(answer) => Ok(answer),

@@ -5,7 +5,7 @@ use Rattle.cell_model.specs.Sources.{with_source}
 use Rattle.core_model.specs.CoreState.{UnitNo, GrainId, Mode, Origin, Call, Outcome, Settled, top, put, CoreState}
 use Rattle.core_model.specs.declared.effects.Effect.{Effect}
 use Rattle.core_model.specs.declared.phases.Phase.TheVariants.{Finished, Refused, Ended}
-use Rattle.core_model.specs.Changes.{spoiled_line, new_unit, begun, read_of, is_sure, without_want, locked, raised, refused, finished, ended}
+use Rattle.core_model.specs.Changes.{spoiled_line, new_unit, begun, read_of, is_sure, without_want, after_lock, after_raise, after_refusal, finished, after_end}
 use Rattle.core_model.specs.declared.events.CoreEvent.TheVariants.{Halt, Want}
 use Rattle.core_model.specs.Events.{does}
 use Rattle.unit_table.specs.declared.table.UnitTable.{UnitTable}
@@ -30,7 +30,7 @@ turned false deps source = refl
 
 -- a unit that gets its first lock of a grain: it depends on the source where that isn't sure
 pub locked-units : (w : CoreState) (u : UnitNo) (g : GrainId) (mode : Mode) →
-    (locked w u g mode).units ≡ units_read w.units u (read_of g (top (w.cells.stack g))) (not (is_sure w (top (w.cells.stack g)).unit))
+    (after_lock w u g mode).units ≡ units_read w.units u (read_of g (top (w.cells.stack g))) (not (is_sure w (top (w.cells.stack g)).unit))
 locked-units w u g mode =
     let read = read_of g (top (w.cells.stack g)) in
     ap
@@ -38,11 +38,11 @@ locked-units w u g mode =
     (turned (is_sure w read.source) (w.units.deps u) read.source)
 
 -- a unit whose lock is raised
-pub raised-units : (w : CoreState) (u : UnitNo) (g : GrainId) (mode : Mode) → (raised w u g mode).units ≡ w.units
+pub raised-units : (w : CoreState) (u : UnitNo) (g : GrainId) (mode : Mode) → (after_raise w u g mode).units ≡ w.units
 raised-units w u g mode = refl
 
 -- a unit that is refused
-pub refused-units : (w : CoreState) (u : UnitNo) (why : Settled) → (refused w u why).units ≡ units_over w.units u Refused
+pub refused-units : (w : CoreState) (u : UnitNo) (why : Settled) → (after_refusal w u why).units ≡ units_over w.units u Refused
 refused-units w u why = refl
 
 -- a transaction that has finished
@@ -51,7 +51,7 @@ finished-units w u effect = refl
 
 -- a plain run that has ended
 pub ended-units : (w : CoreState) (u : UnitNo) (answers : List Outcome) (result : Outcome) (at : Option ℕ) →
-    (ended w u answers result at).units ≡ units_seen (units_over w.units u Ended) (put w.units.seen_at u at)
+    (after_end w u answers result at).units ≡ units_seen (units_over w.units u Ended) (put w.units.seen_at u at)
 ended-units w u answers result at = refl
 
 -- a unit that waits for a grain

@@ -11,7 +11,7 @@ use Rattle.core_model.specs.declared.events.CoreReply.TheVariants as reply
 use Rattle.core_model.specs.declared.events.CoreEvent.{CoreEvent}
 use Rattle.core_model.specs.declared.events.CoreEvent.TheVariants.{Bad, Begin, Grant, Refuse, Finish, EndPlain, EndSnapshot, Release, Take, Vote, Decide, Sealed, NotSealed, Doubt, Learn, Emitted, Halt, Want, Load}
 use Rattle.core_model.specs.Events.{applies, is_allowed, can, does, step, reply_to, reply_with, reply_without, not_granted, decided_reply}
-use Rattle.core_model.specs.Tests.{ask}
+use Rattle.core_model.specs.Tests.{ask_answer}
 use Rattle.core_model.specs.Legal.{Run, ends}
 use Rattle.core_model.proofs.Decoded.{Change, bad, begin, lock, raise, refuse, finish, end_plain, end_snapshot, release, take_batch, vote, decide_some, decide_none, seal_batch, spoil_batch, doubt_batch, learn, emit, halt_run, want, load, decode}
 use Rattle.turn_cell.specs.History.{In}
@@ -88,7 +88,7 @@ decided-names w (Some b) = refl
 
 -- nor an event that doesn't apply
 without-names : (w : CoreState) (e : CoreEvent) → names (reply_without w e) ≡ false
-without-names w (Grant u g mode) = cond_both (is_allowed w (Grant u g mode)) (not_granted (ask w u g mode)) reply.Unapplied (λ r. names r ≡ false) (λ a. not_granted-names (ask w u g mode)) (λ a. refl)
+without-names w (Grant u g mode) = cond_both (is_allowed w (Grant u g mode)) (not_granted (ask_answer w u g mode)) reply.Unapplied (λ r. names r ≡ false) (λ a. not_granted-names (ask_answer w u g mode)) (λ a. refl)
 without-names w (Bad line why) = refl
 without-names w (Begin origin call plain) = refl
 without-names w (Refuse u g mode) = refl

@@ -1,7 +1,7 @@
 use Rattle.std.proofs.Common.{◌∙◌, ap, [], List}
 use Rattle.prepare_batch.specs.declared.pieces.Piece.{Piece}
 use Rattle.prepare_batch.specs.Work.{ends_by}
-use Rattle.prepare_batch.specs.Pieces.{with_pieces, by_grain, pieces_of}
+use Rattle.prepare_batch.specs.Pieces.{with_pieces, pieces_by_grain, pieces_of}
 use Rattle.prepare_batch.proofs.Gathered.{gathered}
 use Rattle.prepare_batch.proofs.works.plan.Goals as goal
 
@@ -11,6 +11,6 @@ returns c =
     c.from_vec.ensures
     ∙ c.in_ok-works.ensures
     ∙ ap (λ (ps : List Piece). with_pieces at [] ps) c.in_ok-sort_by_grain.ensures
-    ∙ ap (λ (ps : List Piece). with_pieces at [] (by_grain ps)) c.in_ok-pieces.ensures
-    ∙ (λ i. with_pieces at [] (by_grain (pieces_of (c.as_slice-2.ensures i) (c.as_slice.ensures i))))
+    ∙ ap (λ (ps : List Piece). with_pieces at [] (pieces_by_grain ps)) c.in_ok-pieces.ensures
+    ∙ (λ i. with_pieces at [] (pieces_by_grain (pieces_of (c.as_slice-2.ensures i) (c.as_slice.ensures i))))
     ∙ gathered at c.args.aborted.now c.args.batch.now

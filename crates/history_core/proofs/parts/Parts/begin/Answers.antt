@@ -1,7 +1,8 @@
-use Rattle.std.proofs.Common.{ap, None}
+use Rattle.std.proofs.Common.{ap, None, rules}
 use Rattle.core_model.specs.CoreState.{Units}
 use Rattle.core_model.specs.declared.events.CoreEvent.TheVariants.{Begin}
 use Rattle.core_model.specs.declared.events.CoreReply.TheVariants as reply
+use Rattle.unit_table.specs.Rooms.{RoomToBegin}
 use Rattle.history_core.specs.declared.parts.Parts.{Parts}
 use Rattle.history_core.proofs.Alike.{keeps-units, keeps-does}
 use Rattle.history_core.proofs.Begun.{does-begin, line-counts}
@@ -19,5 +20,6 @@ returns-clause-ok c =
     let old = c.args.self.now in
     let mid : Parts = record old { units = c.reserve_begin.new.self } in
     let new : Parts = record old { units = c.begin-unit.new.self } in
+    let room : RoomToBegin c.reserve_begin.new.self c.args.origin = search rules in
     keeps-does old mid (keeps-units old c.reserve_begin.new.self c.reserve_begin.ensures.same) (Begin c.args.origin c.args.call c.args.plain) (reply.Began c.begin-unit.result) new
-    (does-begin mid c.args.origin c.args.call c.args.plain c.begin-unit.result c.begin-unit.new.self c.begin-unit.ensures.units c.begin-unit.ensures.verdict c.begin-unit.ensures.result c.begin-unit.ensures.number)
+    (does-begin mid c.args.origin c.args.call c.args.plain c.begin-unit.result c.begin-unit.new.self c.begin-unit.ensures.units c.begin-unit.ensures.verdict c.begin-unit.ensures.result c.begin-unit.ensures.number room.number)

@@ -1,5 +1,5 @@
 use Rattle.std.proofs.Common.{◌≡◌, ◌∙◌, sym, ap, refl}
-use Rattle.cell_model.specs.Cells.{learned}
+use Rattle.cell_model.specs.Cells.{cell_learned}
 use Rattle.core_model.specs.CoreState.{put_grain}
 use Rattle.core_model.specs.Tests.{is_committed}
 use Rattle.cell_table.specs.Table.{cell_in}
@@ -13,5 +13,5 @@ pub returns-clause-ok : goal.returns-clause-ok
 returns-clause-ok c =
     let old = c.args.self.now in
     does-learn old c.args.unit c.args.grain c.learn_in.new.cells c.forget.new.learn
-    (c.learn_in.ensures.learns ∙ ap (λ b. put_grain (cell_in old.cells) c.args.grain (learned (cell_in old.cells c.args.grain) c.args.unit b)) (c.is_committed-committed.ensures ∙ ap is_committed c.verdict.ensures))
+    (c.learn_in.ensures.learns ∙ ap (λ b. put_grain (cell_in old.cells) c.args.grain (cell_learned (cell_in old.cells c.args.grain) c.args.unit b)) (c.is_committed-committed.ensures ∙ ap is_committed c.verdict.ensures))
     c.forget.ensures.pairs c.forget.ensures.spare

@@ -1,5 +1,5 @@
 use Rattle.std.proofs.Common.{◌≡◌, ◌∙◌, sym, ap, refl, subst, Option, IsSome}
-use Rattle.cell_model.specs.Cells.{released}
+use Rattle.cell_model.specs.Cells.{cell_released}
 use Rattle.core_model.specs.CoreState.{put_grain, Value}
 use Rattle.cell_table.specs.Table.{cell_in}
 use Rattle.core_lists.specs.States.{handed_in}
@@ -17,4 +17,4 @@ pub returns-clause-ok : goal.returns-clause-ok
 returns-clause-ok c =
     let old = c.args.self.now in
     does-release old c.args.unit c.args.grain c.release.new.self c.take-kept.new.self c.take-kept.ensures.gone
-    (c.release.ensures.releases ∙ ap (λ new. put_grain (cell_in old.cells) c.args.grain (released (cell_in old.cells c.args.grain) c.args.unit new)) (c.if_finished-new.ensures ∙ (λ i. if_finished (c.phase.ensures i) (c.take-kept.ensures.state i))))
+    (c.release.ensures.releases ∙ ap (λ new. put_grain (cell_in old.cells) c.args.grain (cell_released (cell_in old.cells c.args.grain) c.args.unit new)) (c.if_finished-new.ensures ∙ (λ i. if_finished (c.phase.ensures i) (c.take-kept.ensures.state i))))

@@ -1,5 +1,5 @@
 use Rattle.std.proofs.Common.{◌∙◌, ap}
-use Rattle.core_model.specs.Tests.{ask}
+use Rattle.core_model.specs.Tests.{ask_answer}
 use Rattle.core_model.specs.Legal.{ends}
 use Rattle.history_core.specs.Cores.{CoreData, run_of}
 use Rattle.history_core.specs.Histories.{run_with}
@@ -11,4 +11,4 @@ returns c =
     let old = c.self.inside in
     c.ask.ensures
     ∙ (ask-is old.parts (ends (run_with old.base old.kinds old.parts.cells old.history.events)) c.args.unit c.args.grain c.args.mode c.self.invariant.stands
-    ∙ ap (λ (d : CoreData). ask (ends (run_of d)) c.args.unit c.args.grain c.args.mode) c.self.view_is)
+    ∙ ap (λ (d : CoreData). ask_answer (ends (run_of d)) c.args.unit c.args.grain c.args.mode) c.self.view_is)

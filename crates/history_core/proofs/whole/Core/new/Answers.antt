@@ -5,7 +5,7 @@ use Rattle.core_model.specs.declared.events.CoreEvent.{CoreEvent}
 use Rattle.core_model.specs.Events.{run, start}
 use Rattle.cell_table.specs.Table.{cell_in, opens_with}
 use Rattle.history_core.specs.declared.parts.Parts.{Parts}
-use Rattle.history_core.specs.Kept.{Stands}
+use Rattle.history_core.specs.Kept.{PartsStand}
 use Rattle.history_core.proofs.Counted.{few-new}
 use Rattle.history_core.proofs.Opens.{stands-new}
 use Rattle.history_core.proofs.whole.Core.new.Goals as goal
@@ -27,8 +27,8 @@ invariant_of-result c =
     let cells : cell_in p.cells ≡ (λ (g : GrainId). opened (opens_with p.cells g)) = c.new-2.ensures.cells ∙ (λ i g. opened (sym c.new-2.ensures.opens i g)) in
     record {
       above = c.requires.above;
-      stands = subst (λ (es : List CoreEvent). Stands p (run (start c.args.opened.next_unit.0 c.len-kinds.result None (opens_with p.cells)) es)) (sym c.new-history.ensures)
-          (stands-new p c.args.opened.next_unit.0 c.len-kinds.result c.new.ensures.units c.new.ensures.verdict c.new.ensures.result cells c.new-3.ensures.items refl refl refl c.new-4.ensures.entries c.new-4.ensures.emitted c.new-5.ensures c.new-6.ensures);
+      stands = subst (λ (es : List CoreEvent). PartsStand p (run (start c.args.opened.next_unit.0 c.len-kinds.result None (opens_with p.cells)) es)) (sym c.new-history.ensures)
+          (stands-new p c.args.opened.next_unit.0 c.len-kinds.result c.new.ensures.units c.new.ensures.verdict c.new.ensures.result cells c.new-3.ensures.items refl refl refl c.new-4.ensures.entries c.new-4.ensures.emitted c.new-5.ensures c.new-6.ensures c.requires.few);
       few = few-new p c.args.opened.next_unit.0 c.len-kinds.result c.new-history.result.events c.new-history.ensures;
     }
 

@@ -6,8 +6,8 @@ use Rattle.core_model.specs.Legal.{Run, ends}
 use Rattle.cell_table.specs.Table.{opens_with}
 use Rattle.history_core.specs.Cores.{CoreData, run_of}
 use Rattle.history_core.specs.Histories.{run_with}
-use Rattle.history_core.proofs.Counted.{few-after}
-use Rattle.history_core.proofs.Stepping.{stands-after, reached-core}
+use Rattle.history_core.proofs.Counted.{few-after, few-before}
+use Rattle.history_core.proofs.Stepping.{stands-after, stands-before, reached-core}
 use Rattle.history_core.proofs.whole.Core.step.Goals as goal
 
 pub step-requires : goal.step-requires
@@ -46,3 +46,23 @@ returns-in-Err-clause-refused c =
       c.in-Err.ensures.err.0,
       c.in-Err.ensures.err.1.1,
     )
+
+pub returns-in-Ok-clause-few : goal.returns-in-Ok-clause-few
+returns-in-Ok-clause-few c =
+    let old = c.self.inside in
+    let w : CoreState = ends (run_with old.base old.kinds old.parts.cells old.history.events) in
+    let stands = stands-after old.parts c.step.new.self old.base old.kinds old.history.events c.with-after.result.events c.args.event c.step.ensures.opens c.with-after.ensures
+    (c.in-Ok.ensures.ok w c.self.invariant.stands (reached-core old.parts old.base old.kinds old.history.events c.self.invariant.above)).0 in
+    record {
+      units = stands.numbers;
+      lines = few-after old.parts c.step.new.self old.base old.kinds old.history.events c.with-after.result.events c.args.event c.step.ensures.opens c.with-after.ensures c.fits_event.ensures c.self.invariant.few;
+    }
+
+pub returns-in-Err-clause-few : goal.returns-in-Err-clause-few
+returns-in-Err-clause-few c =
+    let old = c.self.inside in
+    let w : CoreState = ends (run_with old.base old.kinds old.parts.cells old.history.events) in
+    record {
+      units = (stands-before old.parts c.step.new.self old.base old.kinds old.history.events c.step.ensures.opens (c.in-Err.ensures.err.1.0 w c.self.invariant.stands)).numbers;
+      lines = few-before old.parts c.step.new.self old.base old.kinds old.history.events c.step.ensures.opens c.self.invariant.few;
+    }
