@@ -57,6 +57,12 @@ and_with at (Ok records) more (Ok after) e = let same : records ≡ more = cc in
 and_with at (Ok records) more (Err place) e = refl
 and_with at (Err fault) more later e = absurd cc
 
+-- where there are no records more, no block counts
+pub none_shut : (shape : Shape) (gate : ℕ) (found : BehindGate) → next_of shape gate found ≡ Ok None → found ≡ shut
+none_shut shape gate shut e = refl
+none_shut shape gate bad e = absurd cc
+none_shut shape gate (whole body) e = gate_none gate (length body) (body_in Logged shape body) e
+
 -- ---- one step
 
 module _ (shape : Shape) (file : List ℕ) where

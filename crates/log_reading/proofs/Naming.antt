@@ -1,6 +1,7 @@
 -- Named versions, one after the other.
 use Rattle.log_reading.specs.Steps.{live_slot}
 use Rattle.std.proofs.Common.{◌≡◌, inl, inr, ℕ, ◌+◌, ◌-◌, ◌^◌, ◌<◌, ◌≤◌, min, Bool, true, false, if◌then◌else◌, Option, Some, None, List, [], ◌∷◌, ◌++◌, length, take, drop, Result, Ok, Err, refl, sym, ◌∙◌, ap, subst, arith, append_assoc, length-append, length-take, length-drop, slice_get}
+use Rattle.std.specs.Prelude.{unwrap_or}
 use Rattle.std.proofs.lemmas.Bool.{cases_Bool, true≢false, false≢true, false_from_ne_true}
 use Rattle.std.proofs.lemmas.List.{take-take, take_at}
 use Rattle.std.proofs.lemmas.Slice.Eq.{bytes_eq-Decides}
@@ -84,6 +85,17 @@ module _ (shape : Shape) (image : Image) where
 pub end_more : (x : Named) (rest items : List Named) (g : GrainId) (old new all : Option ℕ) → items ≡ x ∷ rest
     → new ≡ (if same_grain x.written.grain g then later_end old (x.written.place.offset + x.written.place.len) else old) → end_after old items g ≡ all → end_after new rest g ≡ all
 end_more x rest items g old new all are is so_far = ap (λ (s : Option ℕ). end_after s rest g) is ∙ ap (λ (l : List Named). end_after old l g) (sym are) ∙ so_far
+
+-- an end that is kept lies below 2^63, where the place's end does and that of before
+near_if : (b : Bool) (old : Option ℕ) (end : ℕ) → end < 2 ^ 63 → unwrap_or old 0 < 2 ^ 63 → unwrap_or (if b then later_end old end else old) 0 < 2 ^ 63
+near_if true None end near was = near
+near_if true (Some last) end near was = omega (arith, near, was)
+near_if false old end near was = was
+
+pub near_more : (x : Named) (g : GrainId) (old new : Option ℕ) → x.written.place.offset + x.written.place.len < 2 ^ 63
+    → new ≡ (if same_grain x.written.grain g then later_end old (x.written.place.offset + x.written.place.len) else old) → unwrap_or old 0 < 2 ^ 63 → unwrap_or new 0 < 2 ^ 63
+near_more x g old new near is was =
+    subst (λ (s : Option ℕ). unwrap_or s 0 < 2 ^ 63) (sym is) (near_if (same_grain x.written.grain g) old (x.written.place.offset + x.written.place.len) near was)
 
 pub end_all : (items : List Named) (g : GrainId) (old all : Option ℕ) → items ≡ [] → end_after old items g ≡ all → old ≡ all
 end_all items g old all are so_far = ap (λ (l : List Named). end_after old l g) (sym are) ∙ so_far

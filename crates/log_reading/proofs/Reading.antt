@@ -3,6 +3,7 @@ use Rattle.std.proofs.Common.{◌≡◌, ℕ, ◌+◌, Bool, IsTrue, List, [], �
 use Rattle.std.specs.List.{AllByRecursion}
 use Rattle.base_types.specs.declared.shapes.Shape.{Shape}
 use Rattle.field_codec.specs.declared.units.Numbers.TheVariants.{Logged}
+use Rattle.gate_block.specs.Blocks.{found_at}
 use Rattle.gate_block.specs.Log.{first_gate}
 use Rattle.commit_log.specs.declared.records.CommitRecord.{CommitRecord}
 use Rattle.commit_log.specs.Bodies.{IsRecordIn}
@@ -12,7 +13,7 @@ use Rattle.log_reading.specs.Blocks.{records_in_file}
 use Rattle.log_reading.specs.Versions.{named_by}
 use Rattle.log_reading.specs.Steps.{next_in}
 use Rattle.log_reading.specs.Sums.{next_after, IsReadAs}
-use Rattle.log_reading.proofs.Following.{Follows, follows_begins, follows_on, follows_ends, follows_breaks}
+use Rattle.log_reading.proofs.Following.{Follows, none_shut, follows_begins, follows_on, follows_ends, follows_breaks}
 use Rattle.log_reading.proofs.Summing.{named_by-append, next_after-append, both_parts}
 
 pub record HasRead (tells : Bool) (shape : Shape) (file : List ℕ) (count next gate : ℕ) (named : List Named) : Type 0 where
@@ -48,6 +49,7 @@ module _ (tells : Bool) (shape : Shape) (file : List ℕ) where
     fit = h.fit;
     read = λ told. (follows_ends shape file h.records l.gate_at (h.follows told) (step told)).0;
     gate = λ told. (follows_ends shape file h.records l.gate_at (h.follows told) (step told)).1;
+    closed = λ told. none_shut shape l.gate_at (found_at l.gate_at file) (step told);
   }
 
   pub has_broken : (count next gate : ℕ) (named : List Named) → HasRead tells shape file count next gate named → IsTrue tells → (place : ℕ) → next_in shape gate file ≡ Err place → records_in_file shape file ≡ Err place

@@ -5,6 +5,7 @@ use Rattle.base_types.specs.declared.shapes.Shape.{Shape}
 use Rattle.base_types.specs.Stores.{state_in, end_in}
 use Rattle.host_trait.specs.declared.channels.FileId.{FileId}
 use Rattle.host_trait.specs.World.{Image}
+use Rattle.gate_block.specs.Blocks.{shut, found_at}
 use Rattle.gate_block.specs.Log.{gate_of}
 use Rattle.commit_log.specs.declared.records.CommitRecord.{CommitRecord}
 use Rattle.log_reading.specs.declared.contents.Contents.{Contents}
@@ -15,7 +16,8 @@ use Rattle.log_reading.specs.Sums.{next_after, state_after, end_after, StopsAt}
 use Rattle.log_reading.specs.Steps.{manager, live_slot}
 
 -- The manager file has these records, and each version that they name is there. Of them is kept how many they are, the number of
--- the next unit, the state of each grain that they wrote, the greatest end in its file, and the gate at which the log ends.
+-- the next unit, the state of each grain that they wrote, the greatest end in its file, and the gate at which the log
+-- ends, behind which no block counts.
 pub record HasContents (shape : Shape) (image : Image) (kept : Contents) : Type 0 where
   pub records : List CommitRecord
   pub read : records_in_file shape (image manager) ≡ Ok records
@@ -25,6 +27,7 @@ pub record HasContents (shape : Shape) (image : Image) (kept : Contents) : Type 
   pub states : (grain : GrainId) → state_in kept.store grain ≡ state_after shape image None (named_by_grain (named_by records)) grain
   pub ends : (grain : GrainId) → end_in kept.ends grain ≡ end_after None (named_by_grain (named_by records)) grain
   pub gate : gate_of (image manager) ≡ kept.gate_at
+  pub closed : found_at kept.gate_at (image manager) ≡ shut
 
 -- The manager file is damaged there first; or it has records, and the first version that isn't there is there.
 abbrev pub IsDamagedAt : Shape → Image → FileId → ℕ → Type 0

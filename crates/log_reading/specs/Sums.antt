@@ -1,14 +1,17 @@
 -- What is kept of the records and versions that are read.
 use Rattle.log_reading.specs.Steps.{live_slot}
-use Rattle.std.specs.Prelude.{◌≡◌, ℕ, ◌+◌, ◌<◌, ◌^◌, max, Bool, IsTrue, if◌then◌else◌, List, [], ◌∷◌, ◌++◌, length, fold, Option, Some, None, Ok}
+use Rattle.std.specs.Prelude.{◌≡◌, ℕ, ◌+◌, ◌<◌, ◌^◌, max, Bool, IsTrue, if◌then◌else◌, List, [], ◌∷◌, ◌++◌, length, fold, Option, Some, None, unwrap_or, Ok}
 use Rattle.std.specs.List.{AllByRecursion}
 use Rattle.base_types.specs.declared.calls.GrainId.{GrainId}
 use Rattle.base_types.specs.declared.calls.Value.{Value}
 use Rattle.base_types.specs.declared.shapes.Shape.{Shape}
+use Rattle.base_types.specs.declared.stores.Ends.{Ends}
+use Rattle.base_types.specs.Stores.{end_in}
 use Rattle.host_trait.specs.World.{Image}
 use Rattle.host_trait.specs.declared.channels.FileId.{FileId}
 use Rattle.host_trait.specs.declared.channels.FileId.TheVariants.{Grain}
 use Rattle.field_codec.specs.declared.units.Numbers.TheVariants.{Logged}
+use Rattle.gate_block.specs.Blocks.{shut, found_at}
 use Rattle.gate_block.specs.Log.{gate_of}
 use Rattle.commit_log.specs.declared.records.CommitRecord.{CommitRecord}
 use Rattle.commit_log.specs.Bodies.{IsRecordIn}
@@ -23,7 +26,7 @@ abbrev pub next_after : ℕ → List CommitRecord → ℕ
 next_after next records = fold (λ n r. max n (r.unit.0 + 1)) next records
 
 -- What is kept of a log is that of records within the program, and where the file is told they are the file's and end at
--- the log's gate.
+-- the log's gate, behind which no block counts.
 pub record IsReadAs (tells : Bool) (shape : Shape) (file : List ℕ) (l : ReadLog) : Type 0 where
   pub records : List CommitRecord
   pub count : l.count ≡ length records
@@ -32,6 +35,7 @@ pub record IsReadAs (tells : Bool) (shape : Shape) (file : List ℕ) (l : ReadLo
   pub fit : AllByRecursion (IsRecordIn Logged shape) records
   pub read : IsTrue tells → records_in_file shape file ≡ Ok records
   pub gate : IsTrue tells → gate_of file ≡ l.gate_at
+  pub closed : IsTrue tells → found_at l.gate_at file ≡ shut
 
 -- a grain's state after these versions, from one of before
 abbrev pub state_after : Shape → Image → Option (List Value) → List Named → GrainId → Option (List Value)
@@ -49,6 +53,10 @@ abbrev pub end_after : Option ℕ → List Named → GrainId → Option ℕ
 end_after end [] grain = end
 end_after end (n ∷ named) grain =
     end_after (if same_grain n.written.grain grain then later_end end (n.written.place.offset + n.written.place.len) else end) named grain
+
+-- in each grain's file the places end below 2^63
+abbrev pub AreNear : Ends → Type 0
+AreNear ends = (grain : GrainId) → unwrap_or (end_in ends grain) 0 < 2 ^ 63
 
 -- A version couldn't be read for a fault of its grain's file, and all before it are there.
 pub record StopsAt (shape : Shape) (image : Image) (named : List Named) (file : FileId) : Type 0 where

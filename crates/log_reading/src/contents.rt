@@ -5,6 +5,7 @@ ghost use Rattle.host_trait.specs.Runs.{OnlyAsked};
 ghost use Rattle.log_reading.specs.Counts.{ReadFaulted};
 ghost use Rattle.log_reading.specs.Steps.{seen_in};
 ghost use Rattle.log_reading.specs.Contents.{HasContents, IsUnread};
+ghost use Rattle.log_reading.specs.Sums.{AreNear};
 
 use crate::faults::FolderFault;
 use crate::log::{read_log, sort_by_grain};
@@ -33,6 +34,7 @@ pub fn read_contents<H: Host>(
 ) -> Result<Contents, FolderFault>
     ensures opened { IfOk result (λ o. IsTrue H.tells → HasContents shape.now (seen_in (H.world host.old).disk) o) }
     ensures bound { IfOk result (λ o. (o.gate_at < 2 ^ 63) × ((0 < o.next_unit.0) × (o.next_unit.0 ≤ 2 ^ 63))) }
+    ensures near { IfOk result (λ o. AreNear o.ends) }
     ensures refused { IfErr result (λ e. IsTrue H.tells → IsUnread shape.now (seen_in (H.world host.old).disk) e) }
     ensures asked { IsTrue H.tells → OnlyAsked (H.world host.old) (H.world host.new) }
     ensures calm { OnOk result (NoneFailed (H.faults host.old) (H.faults host.new)) }

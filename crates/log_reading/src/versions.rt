@@ -14,7 +14,7 @@ ghost use Rattle.log_reading.specs.Steps.{seen_in, live_slot};
 ghost use Rattle.host_trait.specs.Files.{same_grain};
 ghost use Rattle.log_reading.specs.Pieces.{IsPieceOf};
 ghost use Rattle.log_reading.specs.Versions.{version_named, first_missing};
-ghost use Rattle.log_reading.specs.Sums.{state_after, end_after, later_end, StopsAt};
+ghost use Rattle.log_reading.specs.Sums.{state_after, end_after, later_end, AreNear, StopsAt};
 
 use crate::faults::FolderFault;
 use crate::pieces::{Piece, no_piece, refill, text_in, version_of};
@@ -110,7 +110,7 @@ fn keep(
 }
 
 /// Reads these versions one by one, in pieces of their grains' files, and keeps the last state of each grain and the greatest end
-/// in its file. `Damaged` names the first that isn't there.
+/// in its file, which lies below 2^63. `Damaged` names the first that isn't there.
 pub fn read_versions<H: Host>(
     alloc: Global,
     host: &mut H,
@@ -122,6 +122,7 @@ pub fn read_versions<H: Host>(
     ensures found { OnOk result (IsTrue H.tells → first_missing live_slot shape.now (seen_in (H.world host.old).disk) named.now ≡ None) }
     ensures states { OnOk result (IsTrue H.tells → (grain : GrainId) → state_in store.new grain ≡ state_after shape.now (seen_in (H.world host.old).disk) (state_in store.old grain) named.now grain) }
     ensures ends { OnOk result ((grain : GrainId) → end_in ends.new grain ≡ end_after (end_in ends.old grain) named.now grain) }
+    ensures near { OnOk result (AreNear ends.old → AreNear ends.new) }
     ensures damaged { (file : FileId) (place : ℕ) → IsErrOf result (FolderFault.Damaged file place) → IsTrue H.tells
         → first_missing live_slot shape.now (seen_in (H.world host.old).disk) named.now ≡ Some (file, place) }
     ensures failed { (file : FileId) → IsErrOf result (FolderFault.Failed file) → IsTrue H.tells

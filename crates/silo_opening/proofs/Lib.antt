@@ -7,6 +7,7 @@ pub mod Runs
 pub mod Standing
 pub mod Assembly
 pub mod Within
+pub mod Gates
 pub mod Opening
 pub mod Refused
 pub mod Behind

@@ -29,6 +29,7 @@ use Rattle.silo_opening.specs.Opened.{Stays, IsOpenedFrom}
 use Rattle.silo_opening.proofs.Standing.{counts, count_is, next_is, states_are, logged_of}
 use Rattle.silo_opening.proofs.Assembly.{reads_log}
 use Rattle.silo_opening.proofs.Within.{ends_lie, end_lies}
+use Rattle.silo_opening.proofs.Gates.{closed_at}
 
 -- a run on the manager file that leaves its bytes leaves what every file reads
 pub seen_same : (old new : World) → RunsOnFile manager Stays 1 old new → seen_in new.disk ≡ seen_in old.disk
@@ -69,4 +70,5 @@ is_opened image text o silo program h =
       ends = λ grain. h.ends grain ∙ ap (λ (rs : List CommitRecord). end_after None (named_by_grain (named_by rs)) grain) logged;
       within = λ grain end is. end_lies (length (image (Grain 0 grain))) end _ (end_in o.ends grain) (h.ends grain) (ends_lie shape image (named_by_grain (named_by h.records)) h.whole grain None tt) is;
       gate = h.gate;
+      closed = closed_at (image manager) o.gate_at silo h.gate h.closed;
     }

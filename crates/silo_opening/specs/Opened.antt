@@ -4,6 +4,7 @@ use Rattle.base_types.specs.declared.calls.GrainId.{GrainId}
 use Rattle.base_types.specs.Stores.{state_in, end_in}
 use Rattle.host_trait.specs.declared.channels.FileId.TheVariants.{Grain}
 use Rattle.host_trait.specs.World.{Image}
+use Rattle.gate_block.specs.Gates.{IsClosedAt}
 use Rattle.gate_block.specs.Log.{gate_of}
 use Rattle.log_reading.specs.declared.faults.FolderFault.{FolderFault}
 use Rattle.log_reading.specs.Versions.{named_by, named_by_grain}
@@ -28,7 +29,7 @@ is_header file = (slice_index file 0 == 1) && bytes_eq (take 8 (drop 1 file)) ma
 
 -- The folder reads as a silo with this program and a log. The log's standing is kept: how many records there are, the number of
 -- the next unit, and each grain's state, which is its type's initial fields where it isn't kept. The ends are the greatest of
--- the places that the log names in each grain's file, and lie in the file. The gate is that at which the log ends.
+-- the places that the log names in each grain's file, and lie in the file. The gate is that at which the log ends, and closed.
 pub record IsOpenedFrom (image : Image) (o : Opened) : Type 0 where
   pub text : List ℕ
   pub log : List Commit
@@ -39,6 +40,7 @@ pub record IsOpenedFrom (image : Image) (o : Opened) : Type 0 where
   pub ends : (grain : GrainId) → end_in o.ends grain ≡ end_after None (named_by_grain (named_by (map (λ c. c.logged) log))) grain
   pub within : (grain : GrainId) (end : ℕ) → end_in o.ends grain ≡ Some end → end ≤ length (image (Grain 0 grain))
   pub gate : gate_of (image manager) ≡ o.gate_at
+  pub closed : IsClosedAt o.gate_at (image manager)
 
 -- the fault of a program file that gave no program
 abbrev pub in_program_file : ProgramFileFault → OpenFault

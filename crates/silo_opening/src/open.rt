@@ -7,6 +7,7 @@ ghost use Rattle.host_trait.specs.Runs.{RunsOnFile, OnlyAsked};
 ghost use Rattle.host_trait.specs.declared.channels.Channel.TheVariants.{File};
 ghost use Rattle.silo_spec.specs.Silos.{manager};
 ghost use Rattle.log_reading.specs.Steps.{seen_in};
+ghost use Rattle.log_reading.specs.Sums.{AreNear};
 ghost use Rattle.promise_spec.specs.Openings.{is_silo, opened_as};
 ghost use Rattle.promise_spec.specs.Refusals.{IsRefusedBy};
 ghost use Rattle.silo_opening.specs.Steps.{SyncsOnce};
@@ -137,6 +138,7 @@ pub fn open_silo<H: Host>(alloc: Global, host: &mut H) -> Result<Opened, OpenFau
     ensures settled { OnOk result (IsTrue H.tells
         → (H.world host.new).disk manager ≡ settled ((H.world host.old).disk manager).seen) }
     ensures bound { IfOk result (λ o. (o.gate_at < 2 ^ 63) × ((0 < o.next_unit.0) × (o.next_unit.0 ≤ 2 ^ 63))) }
+    ensures near { IfOk result (λ o. AreNear o.ends) }
 
     // The manager file was synced once, and beside that there was nothing but asking.
     ensures once { OnOk result (IsTrue H.tells → SyncsOnce (H.world host.old) (H.world host.new)) }

@@ -1,4 +1,5 @@
-use Rattle.std.proofs.Common.{rules, ◌≡◌, ℕ, List, Option, Some, None, Ok, Err, sym, ◌∙◌, ap, subst}
+use Rattle.std.specs.Prelude.{unwrap_or}
+use Rattle.std.proofs.Common.{rules, arith, ◌≡◌, ◌<◌, ◌^◌, ℕ, List, Option, Some, None, Ok, Err, sym, ◌∙◌, ap, subst}
 use Rattle.host_trait.specs.declared.channels.FileId.{FileId}
 use Rattle.host_trait.specs.World.{Image}
 use Rattle.host_trait.proofs.Runs.{asked_then}
@@ -28,7 +29,12 @@ returns-in-Ok-read_versions-clause-opened g c told =
       states = λ grain. v.states told grain ∙ (λ i. state_after shape (same i) (c.new-store.ensures grain i) (order i) grain);
       ends = λ grain. v.ends grain ∙ (λ i. end_after (c.new-ends.ensures grain i) (order i) grain);
       gate = l.gate told;
+      closed = l.closed told;
     }
+
+pub returns-in-Ok-read_versions-clause-near : goal.returns-in-Ok-read_versions-clause-near
+returns-in-Ok-read_versions-clause-near g c =
+    c.in-Ok-read_versions.ensures.near (λ grain. subst (λ (end : Option ℕ). unwrap_or end 0 < 2 ^ 63) (sym (c.new-ends.ensures grain)) (omega arith))
 
 pub returns-in-Ok-read_versions-clause-asked : goal.returns-in-Ok-read_versions-clause-asked
 returns-in-Ok-read_versions-clause-asked g c told = asked_then _ _ _ (c.read_log.ensures.asked told) (c.read_versions.ensures.asked told)

@@ -17,7 +17,7 @@ use Rattle.log_reading.specs.Sums.{later_end}
 use Rattle.log_reading.proofs.Errors.{other_value}
 use Rattle.log_reading.proofs.Cutting.{still_piece}
 use Rattle.log_reading.proofs.Summing.{next_default, no_item}
-use Rattle.log_reading.proofs.Naming.{passed_none, passed_more, passed_all, passed_here, stops_here, state_more, state_all, end_more, end_all}
+use Rattle.log_reading.proofs.Naming.{passed_none, passed_more, passed_all, passed_here, stops_here, state_more, state_all, end_more, end_all, near_more}
 use Rattle.log_reading.proofs.versions.read_versions.Goals as goal
 
 abbrev no_name : Named
@@ -30,6 +30,7 @@ loop-one-init g c = record {
   passed = λ told. passed_none _ _ c.args.named.now;
   states = λ told grain. refl;
   ends = λ grain. refl;
+  near = λ was. was;
   asked = search rules;
   calm = λ channel. refl;
   ready = λ file was. was;
@@ -116,6 +117,7 @@ loop-one-preserved g c =
       passed = λ told. passed_more shape image xs (drop i xs) (inv.passed told) x (drop (i + 1) xs) next v (found told);
       states = λ told grain. state_more shape image x (drop (i + 1) xs) (drop i xs) grain v _ _ _ next (found told) (c.in_ok-keep.ensures.states grain) (inv.states told grain);
       ends = λ grain. end_more x (drop (i + 1) xs) (drop i xs) grain _ _ _ next (c.in_ok-keep.ensures.ends grain) (inv.ends grain);
+      near = λ was grain. near_more x grain _ _ (c.in_ok-version.ensures.near) (c.in_ok-keep.ensures.ends grain) (inv.near was grain);
       asked = λ told. asked_then _ _ _ (asked_then _ _ _ (inv.asked told) (c.refill.ensures.asked told)) (c.next_version.ensures.asked told);
       calm = none_then _ _ _ (none_then _ _ _ inv.calm c.in_ok-refill.ensures.calm) c.in_ok-version.ensures.calm;
       ready = λ file was. c.next_version.ensures.ready file (c.refill.ensures.ready file (inv.ready file was));
