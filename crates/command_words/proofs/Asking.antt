@@ -1,18 +1,17 @@
 -- From options to the parts that spell them.
-use Rattle.std.proofs.Common.{◌≡◌, ◌≢◌, ◌∙◌, ℕ, zero, suc, ◌+◌, ◌<◌, ◌≤◌, ◌^◌, Bool, true, false, cond, List, [], ◌∷◌, ◌++◌, length, Option, Some, None, refl, sym, ap, subst, true≢false, codes, inl, inr, arith, append_assoc, get_or, decimal}
-use Rattle.std.specs.Prelude.{◌==◌, ◌||◌, ⊤, ◌⊎◌, IfSome, is_some}
-use Rattle.std.specs.List.{AllByRecursion, list_any, flat_map}
+use Rattle.std.proofs.Common.{◌≡◌, ◌≢◌, ◌∙◌, ℕ, ◌<◌, ◌≤◌, ◌^◌, Bool, true, false, cond, List, [], ◌∷◌, ◌++◌, length, Option, Some, None, refl, sym, ap, subst, true≢false, inl, inr, arith, append_assoc, decimal}
+use Rattle.std.specs.Prelude.{◌==◌, ◌||◌, ◌⊎◌, IfSome, is_some}
+use Rattle.std.specs.List.{AllByRecursion, list_any}
 use Rattle.std.specs.Str.Parse.{AllDigits}
 use Rattle.std.proofs.lemmas.List.{append-nil}
 use Rattle.std.proofs.lemmas.Bool.Decides.{eqb_tells}
 use Rattle.std.proofs.lemmas.Fmt.{decimal_is_IsNumeral}
 use Rattle.std.proofs.lemmas.Str.Parse.{digit_from_value}
-use Rattle.clap.specs.Lexer.{long_of}
 use Rattle.promise_spec.proofs.Lists.{parts_of}
-use Rattle.promise_spec.specs.Words.{Choice, Width, Turns, Workers, Form, Apart, Joined, GivenOption, Manner, choice_name, value_text, list_text, words_in, words_of, words_of_all, IsWithin, DifferInName, is_workers, AreOptions, SpellsRun, SpellsLoad}
-use Rattle.command_words.specs.Parts.{OptionName, WidthName, TurnsName, WorkersName, dashed_name, WordPart, OptionPart, NumberPart, part_words, parts_words, is_same_name, is_stray, option_values, number_words}
+use Rattle.promise_spec.specs.Words.{Choice, Width, Turns, Workers, Form, Apart, Joined, GivenOption, choice_name, value_text, list_text, words_in, words_of, words_of_all, IsWithin, DifferInName, is_workers, AreOptions}
+use Rattle.command_words.specs.Parts.{OptionName, WidthName, TurnsName, WorkersName, dashed_name, WordPart, OptionPart, NumberPart, parts_words, is_same_name, is_stray, option_values, number_words}
 use Rattle.command_words.specs.CutParts.{HaveParts, AreFew}
-use Rattle.command_words.specs.Options.{Chosen, number_text, picks_text, AreSpelled, MayStand}
+use Rattle.command_words.specs.Options.{Chosen, number_text, picks_text, AreSpelled, MayStand, Ask}
 use Rattle.command_words.proofs.Spelled.{IsPlainWord, IsPlainPart, ArePlainParts, have_parts}
 
 abbrev Texts : Type 0
@@ -203,14 +202,17 @@ may_stand takes options are =
 
 -- ---- the words of a run and of a load
 
--- words with parts that spell options which may stand together, and with these numbers
-pub record Ask (words : Texts) (c : Chosen) (numbers : Texts) : Type 0 where
-  pub parts : List WordPart
-  pub have : HaveParts words parts
-  pub few : (length numbers ≡ 0) ⊎ (length numbers ≡ 2) → AreFew parts
-  pub spelled : AreSpelled parts c
-  pub may : MayStand c
-  pub numbers_are : number_words parts ≡ numbers
+texts_spelled : (parts : List WordPart) (c : Chosen) → AreSpelled parts c → (name : OptionName) → option_values name parts ≡ texts_at name c
+texts_spelled parts c s WidthName = s.width
+texts_spelled parts c s TurnsName = s.turns
+texts_spelled parts c s WorkersName = s.workers
+
+-- words that ask for something have few parts
+pub few_asked : (words : Texts) (c : Chosen) (numbers : Texts) (a : Ask words c numbers) → (length numbers ≡ 0) ⊎ (length numbers ≡ 2) → AreFew a.parts
+few_asked words c numbers a two = record {
+  once = λ name. subst (λ (l : Texts). length l ≤ 1) (sym (texts_spelled a.parts c a.spelled name)) (few_texts name c);
+  paired = subst (λ (l : Texts). (length l ≡ 0) ⊎ (length l ≡ 2)) (sym a.numbers_are) two;
+}
 
 ask : (takes : GivenOption → Bool) (options : List GivenOption) (parts : List WordPart) (words numbers : Texts) → AreOptions takes options → words ≡ parts_words parts → ArePlainParts parts
     → ((name : OptionName) → option_values name parts ≡ option_values name (option_parts options)) → number_words parts ≡ numbers → Ask words (chosen_in options) numbers
@@ -219,10 +221,6 @@ ask takes options parts words numbers are e plain values n =
     record {
       parts = parts;
       have = subst (λ (w : Texts). HaveParts w parts) (sym e) (have_parts parts plain);
-      few = λ two. record {
-        once = λ name. subst (λ (l : Texts). length l ≤ 1) (sym (spelled name)) (few_texts name (chosen_in options));
-        paired = subst (λ (l : Texts). (length l ≡ 0) ⊎ (length l ≡ 2)) (sym n) two;
-      };
       spelled = record { width = spelled WidthName; turns = spelled TurnsName; workers = spelled WorkersName };
       may = may_stand takes options are;
       numbers_are = n;

@@ -1,14 +1,11 @@
 -- From parts and the values that they spell to options, and back.
-use Rattle.std.proofs.Common.{◌≡◌, ◌≢◌, ◌∙◌, ℕ, zero, suc, ◌+◌, ◌<◌, ◌≤◌, ◌^◌, Bool, true, false, cond, List, [], ◌∷◌, ◌++◌, length, Option, Some, None, refl, sym, ap, subst, true≢false, codes, inl, inr, arith, append_assoc, get_or, decimal}
-use Rattle.std.specs.Prelude.{◌==◌, ◌||◌, ◌&&◌, ⊤, IfSome, is_some, unwrap_or}
-use Rattle.std.specs.List.{AllByRecursion, list_any, list_all, flat_map}
-use Rattle.std.specs.Option.{option_map_or}
+use Rattle.std.proofs.Common.{◌≡◌, ◌≢◌, ◌∙◌, ℕ, suc, ◌+◌, ◌≤◌, Bool, true, false, cond, List, [], ◌∷◌, ◌++◌, length, Option, Some, None, refl, sym, ap, subst, true≢false, inl, inr, arith, append_assoc, get_or, decimal}
+use Rattle.std.specs.Prelude.{◌==◌, IfSome, is_some, unwrap_or}
+use Rattle.std.specs.List.{AllByRecursion, list_any, list_all}
 use Rattle.std.proofs.lemmas.Bool.Decides.{eqb_tells}
-use Rattle.promise_spec.specs.Words.{Choice, Width, Turns, Workers, Form, Apart, Joined, GivenOption, Manner, choice_name, value_text, list_text, words_in, words_of, words_of_all, IsWithin, DifferInName, plain_manner, with_choice, manner_of, is_workers, AreOptions, IsNoTurns}
-use Rattle.command_words.specs.Parts.{OptionName, WidthName, TurnsName, WorkersName, dashed_name, WordPart, OptionPart, NumberPart, part_words, parts_words, is_same_name, option_values, number_words}
-use Rattle.command_words.specs.CutParts.{one_value, two_values, AreCutInto, AreFew, HaveParts}
+use Rattle.promise_spec.specs.Words.{Choice, Width, Turns, Workers, Form, GivenOption, Manner, choice_name, value_text, list_text, words_in, words_of, words_of_all, IsWithin, DifferInName, with_choice, manner_of, is_workers, AreOptions}
+use Rattle.command_words.specs.Parts.{OptionName, WidthName, TurnsName, WorkersName, dashed_name, WordPart, OptionPart, NumberPart, parts_words, is_same_name, option_values, number_words}
 use Rattle.command_words.specs.Options.{Chosen, number_text, picks_text, AreSpelled, MayStand, chosen_manner, is_choice_asked}
-use Rattle.command_words.specs.declared.cutting.CutWords.{CutWords}
 
 -- ---- the options of parts
 
@@ -54,7 +51,7 @@ abbrev Texts : Type 0
 Texts = List (List ℕ)
 
 -- parts without numbers are options
-no_number : (c : Chosen) (parts : List WordPart) → Agree c parts → number_words parts ≡ [] → parts_words parts ≡ words_of_all (options_of c parts)
+pub no_number : (c : Chosen) (parts : List WordPart) → Agree c parts → number_words parts ≡ [] → parts_words parts ≡ words_of_all (options_of c parts)
 no_number c [] agree none = refl
 no_number c (NumberPart word ∷ parts) agree none = absurd (cc none)
 no_number c (OptionPart name form value ∷ parts) agree none =

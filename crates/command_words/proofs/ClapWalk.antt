@@ -1,21 +1,18 @@
 -- Clap's walk over words is the cutting of the words into parts.
-use Rattle.std.proofs.Common.{◌≡◌, ◌∙◌, ℕ, Bool, true, false, cond, List, [], ◌∷◌, ◌++◌, Option, Some, None, refl, sym, ap, subst, true≢false, append-nil, append_assoc, drop, codes}
-use Rattle.std.specs.Prelude.{unwrap_or, find, fold, is_some, option_map, ◌&&◌, ◌||◌, not, ◌==◌}
-use Rattle.std.specs.List.{AllByRecursion, list_any}
+use Rattle.std.proofs.Common.{◌≡◌, ◌∙◌, Bool, true, false, cond, List, [], ◌∷◌, ◌++◌, Option, Some, None, refl, sym, ap, true≢false, append-nil, append_assoc, drop, codes}
+use Rattle.std.specs.Prelude.{fold, is_some, option_map, ◌||◌}
+use Rattle.std.specs.List.{AllByRecursion}
 use Rattle.std.specs.Str.{bytes_eq}
 use Rattle.std.proofs.lemmas.Bool.Decides.{eqb_tells}
-use Rattle.std.proofs.Common.{inl, inr, arith}
+use Rattle.std.proofs.Common.{inl, inr}
 use Rattle.clap.specs.Lexer.{long_of, short_of}
-use Rattle.clap.specs.Walk.{Row, Rule, Text, Held, Walk, Waiting, idle, option, positional, all_of, arg_by_long, has_row, rows_after, walk, walked, walk_from, nothing_held, settled, settled_rows, finished, with_default}
-use Rattle.clap.specs.Simple.{App, Shape, new_rule, built, is_simple, matches_of, argument_words, entered, names_of}
-use Rattle.clap.specs.Faults.{fault_of, is_simple_and_free, level_fault, entered_fault, walk_fault, turn_fault, settle_fault, defaults_fault, default_fault, check_fault}
+use Rattle.clap.specs.Walk.{Row, Rule, Text, Held, Walk, Waiting, idle, option, positional, arg_by_long, has_row, walk, walked, nothing_held, settled, settled_rows, finished, with_default}
+use Rattle.clap.specs.Simple.{Shape, built, is_simple, matches_of, entered}
+use Rattle.clap.specs.Faults.{fault_of, is_simple_and_free, level_fault, entered_fault, walk_fault, turn_fault, settle_fault, defaults_fault, default_fault}
 use Rattle.clap.specs.Kinds.{Kinds, or_else}
-use Rattle.clap.specs.declared.error.kind.ErrorKind.{ErrorKind}
-use Rattle.clap.specs.declared.error.kind.ErrorKind.TheVariants as kind
-use Rattle.clap.specs.declared.builder.action.ArgAction.TheVariants.{Append}
 use Rattle.clap.specs.declared.builder.value_parser.ValueParser.TheVariants as parser
 use Rattle.promise_spec.specs.Words.{Form, Apart, Joined}
-use Rattle.command_words.specs.Parts.{OptionName, WidthName, TurnsName, WorkersName, bare_name, option_of_name, WordPart, OptionPart, NumberPart, is_stray, onto_parts, cut_value, cut_option, cut_word, is_long, word_parts_from, is_same_name, option_values, number_words}
+use Rattle.command_words.specs.Parts.{OptionName, WidthName, TurnsName, WorkersName, bare_name, option_of_name, WordPart, OptionPart, NumberPart, is_stray, onto_parts, cut_value, cut_option, cut_word, is_long, word_parts_from, option_values, number_words}
 use Rattle.command_words.specs.Clap.{option_rule, number_rule, silo_app}
 use Rattle.command_words.proofs.Rows.{values_at, with_value, value_at_own, value_at_other}
 

@@ -5,3 +5,4 @@ pub mod Picks
 pub mod Spelled
 pub mod Choosing
 pub mod Asking
+pub mod Commands

@@ -1,14 +1,14 @@
 -- Words and their parts: parts are cut from their own words, and words that are cut are those of their parts.
-use Rattle.std.proofs.Common.{◌≡◌, ◌∙◌, ℕ, zero, suc, ◌+◌, Bool, true, false, cond, List, [], ◌∷◌, ◌++◌, length, take, drop, Option, Some, None, refl, sym, ap, subst, true≢false, codes, inl, inr, arith, append_assoc}
-use Rattle.std.specs.Prelude.{◌==◌, not, ⊤}
-use Rattle.std.specs.List.{AllByRecursion, list_any, before_first, after_first, flat_map, position_or_len}
+use Rattle.std.proofs.Common.{◌≡◌, ◌∙◌, ℕ, suc, ◌+◌, Bool, true, false, List, [], ◌∷◌, ◌++◌, take, drop, Option, Some, None, refl, sym, ap, subst, true≢false, codes, inl, inr, arith}
+use Rattle.std.specs.Prelude.{◌==◌, ⊤}
+use Rattle.std.specs.List.{AllByRecursion, before_first, after_first, position_or_len}
 use Rattle.std.specs.Str.{bytes_eq}
 use Rattle.std.proofs.lemmas.Bool.Decides.{eqb_tells}
 use Rattle.std.proofs.lemmas.Slice.Eq.{bytes_eq-Decides}
 use Rattle.clap.specs.Lexer.{long_of, has_byte, name_and_value}
-use Rattle.promise_spec.specs.Words.{Form, Apart, Joined, words_in}
+use Rattle.promise_spec.specs.Words.{Apart, Joined}
 use Rattle.command_words.specs.Parts.{OptionName, WidthName, TurnsName, WorkersName, bare_name, dashed_name, option_of_name, WordPart, OptionPart, NumberPart, part_words, parts_words, is_stray, onto_parts, cut_value, cut_option, cut_word, is_long, word_parts_from}
-use Rattle.command_words.specs.CutParts.{AreUsual, HaveParts}
+use Rattle.command_words.specs.CutParts.{HaveParts}
 
 -- ---- a word with two dashes
 

@@ -1,11 +1,11 @@
 -- The command that `clap` reads, and what its matches say.
-use Rattle.std.specs.Prelude.{◌≡◌, ℕ, true, List, [], ◌∷◌, Option, Some, None, codes, unwrap_or, option_map}
-use Rattle.clap.specs.Walk.{Rule, Text}
+use Rattle.std.specs.Prelude.{◌≡◌, ℕ, true, List, [], Some, codes, unwrap_or, option_map}
+use Rattle.clap.specs.Walk.{Rule}
 use Rattle.clap.specs.Simple.{App, Shape, new_rule, new_app, on_top, with_rule}
 use Rattle.clap.specs.Matches.{matched_of, raw_values}
 use Rattle.clap.specs.declared.parser.matches.Found.{Found}
 use Rattle.clap.specs.declared.builder.action.ArgAction.TheVariants.{Append}
-use Rattle.command_words.specs.Parts.{OptionName, WidthName, TurnsName, WorkersName, bare_name, WordPart, option_values, number_words}
+use Rattle.command_words.specs.Parts.{OptionName, bare_name, WordPart, option_values, number_words}
 
 -- an option, and the words that are none
 abbrev pub option_rule : List ℕ → Rule

@@ -1,6 +1,7 @@
 -- What the options say, and which command the words say.
-use Rattle.std.specs.Prelude.{◌≡◌, ℕ, ◌≤◌, ◌==◌, Bool, true, false, List, [], ◌∷◌, Option, Some, None, IfSome, is_some, unwrap_or, option_map, Vec}
+use Rattle.std.specs.Prelude.{◌≡◌, ℕ, ◌≤◌, ◌<◌, ◌^◌, ◌==◌, Bool, true, false, List, [], ◌∷◌, Option, Some, None, IfSome, is_some, unwrap_or, option_map, Vec}
 use Rattle.std.specs.Option.{option_map_or}
+use Rattle.std.specs.Str.{bytes_eq}
 use Rattle.std.specs.Fmt.{decimal}
 use Rattle.std.specs.declared.alloc.Global.{Global}
 use Rattle.promise_spec.specs.Words.{Choice, Width, Turns, Workers, GivenOption, Manner, IsWithin, list_text, Command, Init, Run, Show, History, Audit, Load}
@@ -9,8 +10,8 @@ use Rattle.command_words.specs.declared.words.RunOptions.{RunOptions}
 use Rattle.command_words.specs.declared.words.LoadOptions.{LoadOptions}
 use Rattle.command_words.specs.declared.words.Words.{Words}
 use Rattle.command_words.specs.declared.words.Words.TheVariants as words
-use Rattle.command_words.specs.Parts.{WidthName, TurnsName, WorkersName, WordPart, option_values}
-use Rattle.command_words.specs.CutParts.{one_value, two_values}
+use Rattle.command_words.specs.Parts.{WidthName, TurnsName, WorkersName, WordPart, option_values, number_words}
+use Rattle.command_words.specs.CutParts.{HaveParts, one_value}
 
 -- the values of the options that are given
 pub record Chosen : Type 0 where
@@ -45,6 +46,23 @@ pub record MayStand (chosen : Chosen) : Type 0 where
   pub turns : IfSome chosen.turns (λ picks. IsWithin (Turns picks))
   pub workers : IfSome chosen.workers (λ n. IsWithin (Workers n))
   pub alone : is_some chosen.workers ≡ true → (chosen.width ≡ None) × (chosen.turns ≡ None)
+
+-- the words have parts that spell values which may stand together, and these words that are no option
+pub record Ask (words : List (List ℕ)) (chosen : Chosen) (numbers : List (List ℕ)) : Type 0 where
+  pub parts : List WordPart
+  pub have : HaveParts words parts
+  pub spelled : AreSpelled parts chosen
+  pub may : MayStand chosen
+  pub numbers_are : number_words parts ≡ numbers
+
+-- the numbers of a load: 1 to 100,000 transfers, and a seed below 2 to the 64
+abbrev pub AreLoadNumbers : ℕ → ℕ → Type 0
+AreLoadNumbers transfers seed = (1 ≤ transfers) × (transfers ≤ 100000) × (seed < 2 ^ 64)
+
+-- the first word is this one
+abbrev pub is_first : List ℕ → List (List ℕ) → Bool
+is_first name [] = false
+is_first name (word ∷ words) = bytes_eq word name
 
 -- the manner that they choose: width 1, no picks and no workers where they say nothing
 abbrev pub chosen_manner : Chosen → Manner

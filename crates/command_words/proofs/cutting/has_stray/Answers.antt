@@ -1,4 +1,4 @@
-use Rattle.std.proofs.Common.{◌≡◌, ◌∙◌}
+use Rattle.std.proofs.Common.{◌∙◌}
 use Rattle.command_words.proofs.Usual.{stray_behind}
 use Rattle.command_words.proofs.cutting.has_stray.Goals as goal
 

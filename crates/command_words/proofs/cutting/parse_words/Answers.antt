@@ -1,10 +1,9 @@
-use Rattle.std.proofs.Common.{rules, ◌≡◌, ◌∙◌, sym, ap, subst, true≢false, [], drop}
+use Rattle.std.proofs.Common.{◌≡◌, ◌∙◌, sym, ap, subst, true≢false, [], drop}
 use Rattle.clap.specs.Simple.{App, app_of, is_simple, matches_of}
 use Rattle.clap.specs.Walk.{rows_of}
 use Rattle.clap.specs.Faults.{fault_of, is_simple_and_free}
 use Rattle.clap.specs.Kinds.{HasKind}
 use Rattle.clap.specs.Matches.{found_of}
-use Rattle.command_words.specs.Parts.{is_stray}
 use Rattle.command_words.specs.CutParts.{texts_of}
 use Rattle.command_words.proofs.ClapWalk.{app_is_simple, app_is_free}
 use Rattle.command_words.proofs.Usual.{some_stray, taken, refused}

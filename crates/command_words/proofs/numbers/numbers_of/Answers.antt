@@ -1,4 +1,4 @@
-use Rattle.std.proofs.Common.{rules, ◌≡◌, ◌∙◌, sym, arith, subst, List, ℕ, length, ◌<◌, ◌^◌, Fits, w32, take, ◌+◌}
+use Rattle.std.proofs.Common.{rules, sym, arith, subst, List, ℕ, take, ◌+◌}
 use Rattle.command_words.specs.Numbers.{AreNumbers}
 use Rattle.command_words.proofs.Picks.{now_all, next_number, no_number, all_numbers}
 use Rattle.command_words.proofs.numbers.numbers_of.Goals as goal

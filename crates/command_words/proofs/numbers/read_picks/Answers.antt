@@ -1,4 +1,4 @@
-use Rattle.std.proofs.Common.{◌≡◌, ◌∙◌, sym, arith, rules, Vec, ℕ, List}
+use Rattle.std.proofs.Common.{arith, rules, Vec, ℕ}
 use Rattle.std.specs.declared.alloc.Global.{Global}
 use Rattle.command_words.proofs.Picks.{too_many, picks_in, now_all, now_length}
 use Rattle.command_words.proofs.numbers.read_picks.Goals as goal
