@@ -153,6 +153,9 @@ impl Agent {
         ensures children { IfOk result (λ _. children_of self.new.doing ≡ children_of self.old.doing) }
         ensures knows { IfOk result (λ _. Knows (program_tree checked.now) (A.sight access.new) self.new) }
     {
+        if !matches!(self.doing, Doing::Awaits { .. }) {
+            return Ok(());
+        }
         let doing = mem::replace(&mut self.doing, Doing::Stopped);
         self.doing = hear_child(alloc, checked, access, self.carried, doing)?;
         Ok(())

@@ -1,0 +1,252 @@
+-- A turn of a unit that was picked.
+use Rattle.std.proofs.Common.{◌≡◌, ◌⊎◌, ℕ, zero, suc, ◌+◌, ◌^◌, ◌≤◌, ◌<◌, ◌%◌, Option, Some, None, List, [], ◌∷◌, ◌++◌, length, Bool, true, false, true≢false, inl, inr, refl, sym, ap, ◌∙◌, subst, map}
+use Rattle.std.specs.Prelude.{if◌then◌else◌, is_some, slice_get, filter, drop}
+use Rattle.base_types.specs.declared.calls.Origin.TheVariants.{Child}
+use Rattle.request_wire.specs.declared.requests.Line.{Line}
+use Rattle.core_model.specs.CoreState.{UnitNo, Call, CoreState}
+use Rattle.core_model.specs.Asked.{IsGoing}
+use Rattle.core_model.specs.declared.events.CoreEvent.{CoreEvent}
+use Rattle.core_model.specs.declared.events.CoreEvent.TheVariants as event
+use Rattle.core_model.specs.declared.events.CoreReply.{CoreReply}
+use Rattle.core_model.specs.declared.events.CoreReply.TheVariants as reply
+use Rattle.core_model.specs.Changes.{new_unit}
+use Rattle.core_model.specs.Events.{applies, reply_to}
+use Rattle.core_model.specs.Legal.{Run, ends}
+use Rattle.core_access.specs.OneHolder.{none_comes, own_sight}
+use Rattle.core_access.specs.Sights.{Sight, run_seen, saw, IsAlone}
+use Rattle.core_access.proofs.OneHolder.{own-run, own-alone}
+use Rattle.core_access.proofs.Sights.{reply-alone, run-alone}
+use Rattle.worker_rules.specs.Sharing.{leaves_unit}
+use Rattle.promise_spec.specs.UnitRule.{KeepsUnitRule}
+use Rattle.promise_spec.specs.TurnRule.{OfUnit, OfSettler, mover_of, can_move, picked}
+use Rattle.turn_rules.specs.Going.{with_event, is_begin, MayCome}
+use Rattle.turn_rules.specs.Carried.{movers_of}
+use Rattle.turn_rules.specs.Turning.{IsTurning, IsPicked, turned, with_new}
+use Rattle.turn_rules.proofs.Growth.{ends-more}
+use Rattle.turn_rules.proofs.Lawful.{legal-run}
+use Rattle.turn_rules.proofs.Turns.{turn-unit, turn-child}
+use Rattle.txn_agent.specs.declared.agent.Advanced.{Advanced}
+use Rattle.txn_agent.specs.declared.agent.Advanced.TheVariants as advanced
+use Rattle.txn_agent.specs.Linked.{IsLegalRun}
+use Rattle.txn_agent.specs.Stepping.{Puts, AnswerSays, is_move}
+use Rattle.txn_agent.proofs.Going.{puts-applied, missed-not}
+use Rattle.txn_agent.proofs.Telling.{alone-tells}
+use Rattle.unit_carrier.specs.Carrying.{StepsOn, units_carried, with_child, went_by}
+use Rattle.unit_carrier.specs.declared.agents.Went.{Went}
+use Rattle.interleaver.specs.Beginnings.{Outset, GoUpFrom, basis_of}
+use Rattle.interleaver.specs.Books.{Books}
+use Rattle.interleaver.specs.Flights.{loop_at}
+use Rattle.interleaver.specs.Settling.{AreEven}
+use Rattle.interleaver.specs.UnderWay.{TurnStage, IsUnderWay, WentOn}
+use Rattle.interleaver.proofs.Frames.{lines-stay, unit-others, unit-no-halt, unit-no-line, done-begins-none, began-is-new}
+use Rattle.interleaver.proofs.BooksStated.{OthersKeep}
+use Rattle.core_access.proofs.Sights.{looks-alone}
+use Rattle.core_model.specs.Settler.{has_step, settler_step}
+use Rattle.host_trait.specs.World.{World}
+use Rattle.host_trait.specs.declared.channels.Channel.{Channel}
+use Rattle.settle_loop.specs.declared.settler.Settler.{Settler}
+use Rattle.script_tree.specs.Programs.{ProgramTree}
+use Rattle.promise_spec.specs.Gotten.{got_in}
+use Rattle.promise_spec.specs.Lines.{ReadsLineAs}
+use Rattle.promise_spec.specs.TurnRule.{Mover}
+use Rattle.turn_rules.specs.Turning.{TurnLoop}
+use Rattle.interleaver.specs.Images.{LastsSo}
+use Rattle.interleaver.specs.Records.{KeepsBooks}
+
+-- the event of a unit by which the run went on, and the units that are carried then
+pub record GoesByUnit (o : Outset) (u : UnitNo) (r r' : Run) (units units' : List UnitNo) : Type 0 where
+  pub e : CoreEvent
+  pub own : mover_of e ≡ OfUnit u
+  pub applied : applies (ends r) e ≡ true
+  pub due : MayCome (basis_of o) r e
+  pub run : r' ≡ with_event r e
+  pub carries : ((is_begin e ≡ false) × (units' ≡ units)) ⊎ ((index : ℕ) × (depth : ℕ) × (call : Call) × (e ≡ event.Begin (Child u index depth) call false) × (units' ≡ units ++ (new_unit (ends r) ∷ [])))
+
+module _ (o : Outset) (r r' : Run) (u : UnitNo) (units units' : List UnitNo) (going : IsGoing (ends r)) (kinds : r.kinds ≡ length o.program.types) (here : r.capacity ≡ None) where
+  abbrev s : Sight
+  s = own_sight r
+
+  abbrev t : Sight
+  t = own_sight r'
+
+  alone : IsAlone (leaves_unit u) s
+  alone = own-alone (leaves_unit u) r
+
+  at : run_seen s ≡ r
+  at = own-run r
+
+  goes-seen : IsGoing (ends (run_seen s))
+  goes-seen = subst (λ (x : Run). IsGoing (ends x)) (sym at) going
+
+  -- a put of the unit's event that applies
+  by-put : (e : CoreEvent) (y : CoreReply) (p : Puts none_comes o.program.types u s e y t) → applies (ends (run_seen s)) e ≡ true
+      → (((is_begin e ≡ false) × (units' ≡ units)) ⊎ ((index : ℕ) × (depth : ℕ) × (call : Call) × (e ≡ event.Begin (Child u index depth) call false) × (units' ≡ units ++ (new_unit (ends r) ∷ []))))
+      → GoesByUnit o u r r' units units'
+  by-put e y p a which = record {
+    e = e;
+    own = p.own;
+    applied = subst (λ (x : Run). applies (ends x) e ≡ true) at a;
+    due = subst (λ (x : Run). MayCome (basis_of o) x e) (ap run_seen (saw-same p) ∙ at) (p.due (subst (IsAlone (leaves_unit u)) (sym (saw-same p)) alone) (basis_of o) refl);
+    run = sym (own-run r') ∙ run-alone s t e y p.told ∙ ap (λ (x : Run). with_event x e) at;
+    carries = which;
+  }
+    where
+      saw-same : (p : Puts none_comes o.program.types u s e y t) → saw s p.told.rest ≡ s
+      saw-same p = looks-alone s (saw s p.told.rest) (record { rest = p.told.rest; others = p.told.others; sight = refl })
+
+  put-reply : (e : CoreEvent) (y : CoreReply) → Puts none_comes o.program.types u s e y t → y ≡ reply_to (ends r) e
+  put-reply e y p = reply-alone s t e y p.told ∙ ap (λ (x : Run). reply_to (ends x) e) at
+
+  -- a step that moved
+  by-answer : (kids : ℕ) (a : Advanced) → AnswerSays none_comes o.program.types u kids s t a → is_move a ≡ true → units' ≡ with_child units a
+      → GoesByUnit o u r r' units units'
+  by-answer kids (advanced.Granted grain source) says m us =
+      by-put (event.Grant u grain says.0) (reply.Granted says.1.0 source) says.1.1 (puts-applied o.program.types u s t (event.Grant u grain says.0) (reply.Granted says.1.0 source) refl says.1.1) (inl (refl, us))
+  by-answer kids (advanced.Began child call depth) says m us =
+      let a : applies (ends (run_seen s)) (event.Begin (Child u kids depth) call false) ≡ true = puts-applied o.program.types u s t (event.Begin (Child u kids depth) call false) (reply.Began child) refl says in
+      let new : child ≡ new_unit (ends r) =
+      began-is-new (ends r) (Child u kids depth) call false child (subst (λ (x : Run). applies (ends x) (event.Begin (Child u kids depth) call false) ≡ true) at a)
+      (put-reply (event.Begin (Child u kids depth) call false) (reply.Began child) says) in
+      by-put (event.Begin (Child u kids depth) call false) (reply.Began child) says a
+      (inr (
+        kids,
+        depth,
+        call,
+        refl,
+        us ∙ ap (λ (x : UnitNo). units ++ (x ∷ [])) new,
+      ))
+  by-answer kids (advanced.Waits holder) says m us = absurd (true≢false (sym m))
+  by-answer kids (advanced.WaitsFor child) says m us = absurd (true≢false (sym m))
+  by-answer kids advanced.Ended says m us = absurd (true≢false (sym m))
+  by-answer kids advanced.Moved (inl (e, p)) m us =
+      let a : applies (ends (run_seen s)) e ≡ true = puts-applied o.program.types u s t e reply.Done refl p in
+      by-put e reply.Done p a (inl (done-begins-none (ends r) e (subst (λ (x : Run). applies (ends x) e ≡ true) at a) (put-reply e reply.Done p), us))
+  by-answer kids advanced.Moved (inr (inl miss)) m us = absurd (missed-not o.program.types u s t miss alone goes-seen)
+  by-answer kids advanced.Moved (inr (inr stray)) m us =
+      let same : t ≡ s = looks-alone s t stray.looked in
+      absurd (stray.never (subst (IsAlone (leaves_unit u)) (sym same) alone) (ap (λ (x : Run). x.kinds) (ap run_seen same ∙ at) ∙ kinds) (ap (λ (x : Run). x.capacity) (ap run_seen same ∙ at) ∙ here))
+
+  -- the step of a unit that can move
+  pub by-step : (first : 0 < r.base) (rule : KeepsUnitRule (basis_of o) r) (w : Went) → StepsOn none_comes o.program.types u s t units units' w → can_move o.program.types (ends r) (got_in r) u ≡ true
+      → GoesByUnit o u r r' units units'
+  by-step first rule w st moves =
+      let legal : IsLegalRun (run_seen s) = subst IsLegalRun (sym at) (legal-run (basis_of o) r first rule) in
+      let move : is_move st.answer ≡ true =
+      alone-tells (basis_of o) u st.kids s t st.answer st.says alone (ap (λ (x : Run). x.kinds) at ∙ kinds) (ap (λ (x : Run). x.capacity) at ∙ here) goes-seen legal
+      ∙ ap (λ (x : Run). can_move o.program.types (ends x) (got_in x) u) at ∙ moves in
+      by-answer st.kids st.answer st.says move st.units
+
+-- ---- who was picked
+
+-- an element of a list at some place
+in-filter : (p : UnitNo → Bool) (us : List UnitNo) (tail : List Mover) (i : ℕ) (u : UnitNo) → ((j : ℕ) → slice_get tail j ≡ Some (OfUnit u) → ⊥) → slice_get (map OfUnit (filter p us) ++ tail) i ≡ Some (OfUnit u) → p u ≡ true
+in-filter p [] tail i u none q = absurd (none i q)
+in-filter p (v ∷ us) tail i u none q = by (p v) refl q (λ j x. in-filter p us tail j u none x)
+  where
+    same : (a b : UnitNo) → Some (OfUnit a) ≡ Some (OfUnit b) → a ≡ b
+    same a b e = cc
+
+    at : (i : ℕ) → p v ≡ true → slice_get (OfUnit v ∷ (map OfUnit (filter p us) ++ tail)) i ≡ Some (OfUnit u) → ((j : ℕ) → slice_get (map OfUnit (filter p us) ++ tail) j ≡ Some (OfUnit u) → p u ≡ true) → p u ≡ true
+    at zero e x more = subst (λ (z : UnitNo). p z ≡ true) (same v u x) e
+    at (suc i) e x more = more i x
+
+    by : (b : Bool) → p v ≡ b → slice_get (map OfUnit (if b then v ∷ filter p us else filter p us) ++ tail) i ≡ Some (OfUnit u)
+        → ((j : ℕ) → slice_get (map OfUnit (filter p us) ++ tail) j ≡ Some (OfUnit u) → p u ≡ true) → p u ≡ true
+    by true e x more = at i e x more
+    by false e x more = more i x
+
+in-picked : (ms : List Mover) (pick : ℕ) (m : Mover) → picked ms pick ≡ Some m → (i : ℕ) × (slice_get ms i ≡ Some m)
+in-picked [] pick m q = absurd cc
+in-picked (x ∷ ms) pick m q = (pick % length (x ∷ ms), q)
+
+tail-none : (b : Bool) (u : UnitNo) (j : ℕ) → slice_get (if b then OfSettler ∷ [] else []) j ≡ Some (OfUnit u) → ⊥
+tail-none true u zero q = absurd cc
+tail-none true u (suc j) q = absurd cc
+tail-none false u j q = absurd cc
+
+-- a unit that was picked can move, and nothing is in doubt
+pub picked-moves : (types : ProgramTree) (r : Run) (units : List UnitNo) (pick : ℕ) (u : UnitNo) → picked (movers_of types r units) pick ≡ Some (OfUnit u)
+    → (can_move types (ends r) (got_in r) u ≡ true) × ((ends r).manager.doubt ≡ None)
+picked-moves types r units pick u q = by (ends r).manager.doubt refl
+  where
+    steps : Bool
+    steps = has_step (settler_step (ends r))
+
+    found : (i : ℕ) × (slice_get (movers_of types r units) i ≡ Some (OfUnit u))
+    found = in-picked (movers_of types r units) pick (OfUnit u) q
+
+    by : (d : Option ℕ) → (ends r).manager.doubt ≡ d → (can_move types (ends r) (got_in r) u ≡ true) × ((ends r).manager.doubt ≡ None)
+    by None e = (
+      in-filter (can_move types (ends r) (got_in r)) units (if steps then OfSettler ∷ [] else []) found.0 u (tail-none steps u)
+          (subst (λ (d : Option ℕ). slice_get ((if is_some d then [] else map OfUnit (filter (can_move types (ends r) (got_in r)) units)) ++ (if steps then OfSettler ∷ [] else [])) found.0 ≡ Some (OfUnit u)) e found.1),
+      e,
+    )
+    by (Some d) e =
+        absurd (tail-none steps u found.0
+        (subst (λ (d : Option ℕ). slice_get ((if is_some d then [] else map OfUnit (filter (can_move types (ends r) (got_in r)) units)) ++ (if steps then OfSettler ∷ [] else [])) found.0 ≡ Some (OfUnit u)) e found.1))
+
+-- ---- the loop
+
+module _ (keeps : OthersKeep) (tells : Bool) (o : Outset) (lines : List Line) (b : Books) (s s' : TurnStage) (here : s.run.capacity ≡ None)
+    (way : IsUnderWay tells o o.program.types lines o.width o.picks b s) where
+  abbrev l : TurnLoop
+  l = loop_at o s.run s.agents s.used
+
+  -- the rules go on by the unit's event
+  pub unit-turning : (u : UnitNo) → IsPicked l (OfUnit u) → GoesByUnit o u s.run s'.run (units_carried s.agents) (units_carried s'.agents) → s'.used ≡ s.used + 1
+      → IsTurning (loop_at o s'.run s'.agents s'.used)
+  unit-turning u pick g used = by g.carries
+    where
+      into : (us : List UnitNo) → units_carried s'.agents ≡ us → IsTurning (turned l g.e us (s.used + 1)) → IsTurning (loop_at o s'.run s'.agents s'.used)
+      into us q t =
+          subst (λ (x : Run). IsTurning (record { basis = basis_of o; width = o.width; picks = o.picks; run = x; units = units_carried s'.agents; used = s'.used })) (sym g.run)
+          (subst (λ (v : List UnitNo). IsTurning (record { basis = basis_of o; width = o.width; picks = o.picks; run = with_event s.run g.e; units = v; used = s'.used })) (sym q)
+          (subst (λ (n : ℕ). IsTurning (record { basis = basis_of o; width = o.width; picks = o.picks; run = with_event s.run g.e; units = us; used = n })) (sym used) t))
+
+      by : ((is_begin g.e ≡ false) × (units_carried s'.agents ≡ units_carried s.agents)) ⊎ ((index : ℕ) × (depth : ℕ) × (call : Call) × (g.e ≡ event.Begin (Child u index depth) call false) × (units_carried s'.agents ≡ units_carried s.agents ++ (new_unit (ends s.run) ∷ [])))
+          → IsTurning (loop_at o s'.run s'.agents s'.used)
+      by (inl x) = into (units_carried s.agents) x.1 (turn-unit l way.turning u g.e pick g.own x.0 g.due g.applied)
+      by (inr (index, depth, call, is, us)) =
+          into (units_carried s.agents ++ (new_unit (ends s.run) ∷ [])) us
+          (subst (λ (e : CoreEvent). IsTurning (turned l e (with_new l) (s.used + 1))) (sym is)
+          (turn-child l way.turning u index depth call pick (subst (MayCome (basis_of o) s.run) is g.due) (subst (λ (e : CoreEvent). applies (ends s.run) e ≡ true) is g.applied)))
+
+  -- and so does all
+  pub unit-went : (u : UnitNo) → IsPicked l (OfUnit u) → GoesByUnit o u s.run s'.run (units_carried s.agents) (units_carried s'.agents) → s'.used ≡ s.used + 1 → s'.begun ≡ s.begun
+      → s'.settler ≡ s.settler → s'.counts ≡ s.counts → s'.world ≡ s.world → s.settler.doubted ≡ false → (ends s'.run).units.next ≤ 2 ^ 63
+      → WentOn tells o o.program.types lines o.width o.picks b s s'
+  unit-went u pick g used begun settler counts world sure few =
+      let turning : IsTurning (loop_at o s'.run s'.agents s'.used) = unit-turning u pick g used in
+      let rule : KeepsUnitRule (basis_of o) (with_event s.run g.e) = subst (KeepsUnitRule (basis_of o)) g.run turning.unit_rule in
+      let on = keeps tells o b s.run g.e s.settler s.counts s.world way.turning.first way.turning.unit_rule rule (unit-others u g.e g.own) (unit-no-halt u g.e g.own) way.even way.books in
+      let same : (ends s'.run).units.lines ≡ (ends s.run).units.lines =
+      ap (λ (x : Run). (ends x).units.lines) g.run ∙ ap (λ (x : CoreState). x.units.lines) (ends-more s.run g.e) ∙ lines-stay (ends s.run) g.e (unit-no-line u g.e g.own) in
+      record {
+        books = on.0.books;
+        under_way = record {
+          outset = record {
+            types_are = refl;
+            kinds = ap (λ (x : Run). x.kinds) g.run ∙ way.outset.kinds;
+            width_is = refl;
+            wide = way.outset.wide;
+            picks_are = refl;
+            all = way.outset.all ∙ ap (λ (n : ℕ). n + length (drop s.begun lines)) (sym same) ∙ ap (λ (n : ℕ). (ends s'.run).units.lines + length (drop n lines)) (sym begun);
+            reads = subst (λ (n : ℕ). (at : ℕ) (line : Line) → slice_get (drop n lines) at ≡ Some line → ReadsLineAs o.program.types o.asked ((ends s'.run).units.lines + at + 1) line.what) (sym begun)
+                (subst (λ (k : ℕ). (at : ℕ) (line : Line) → slice_get (drop s.begun lines) at ≡ Some line → ReadsLineAs o.program.types o.asked (k + at + 1) line.what) (sym same) way.outset.reads);
+          };
+          numbers = subst (λ (n : ℕ). GoUpFrom (ends s'.run).units.lines (drop n lines)) (sym begun) (subst (λ (k : ℕ). GoUpFrom k (drop s.begun lines)) (sym same) way.numbers);
+          accepted = way.accepted;
+          few = few;
+          room = subst (λ (k : ℕ). k < 2 ^ 32) (sym same) way.room;
+          turning = turning;
+          books = subst (λ (x : World). KeepsBooks tells o on.0.books s'.run s'.settler s'.counts x) (sym world)
+              (subst (λ (x : Channel → ℕ). KeepsBooks tells o on.0.books s'.run s'.settler x s.world) (sym counts)
+              (subst (λ (x : Settler). KeepsBooks tells o on.0.books s'.run x s.counts s.world) (sym settler)
+              (subst (λ (x : Run). KeepsBooks tells o on.0.books x s.settler s.counts s.world) (sym g.run) on.0.kept)));
+          even = subst (λ (x : Settler). AreEven x.quiet on.0.books (ends s'.run)) (sym settler) (subst (λ (x : Run). AreEven s.settler.quiet on.0.books (ends x)) (sym g.run) on.1);
+          left = λ d. absurd (true≢false (sym d ∙ ap (λ (x : Settler). x.doubted) settler ∙ sure));
+        };
+        lasts = λ t head was. subst (λ (x : World). LastsSo o head on.0.books s'.run s'.settler.writer x) (sym world)
+            (subst (λ (x : Settler). LastsSo o head on.0.books s'.run x.writer s.world) (sym settler)
+            (subst (λ (x : Run). LastsSo o head on.0.books x s.settler.writer s.world) (sym g.run) (on.0.lasts t head was)));
+      }

@@ -1,0 +1,29 @@
+ghost use Rattle.std.specs.Prelude.{◌≡◌, ℕ, Bool, true, false, List as AList, Result as AResult, take};
+ghost use Rattle.log_reading.specs.Steps.{live_slot, manager};
+ghost use Rattle.core_model.specs.Legal.{Run};
+ghost use Rattle.promise_spec.specs.Courses.{Observed, Course, seen_at_entry};
+ghost use Rattle.promise_spec.specs.Explained.{AreSettled};
+ghost use Rattle.explained_runs.specs.Closings.{IsBehind, ReadsMayStay};
+ghost use Rattle.explained_runs.specs.Obligations.{ExplainsEvents, Opens, Lasts};
+ghost use Rattle.settle_loop.specs.declared.settler.Settler.{Settler as ASettler};
+ghost use Rattle.interleaver.specs.declared.faults.RunFault.{RunFault as AFault};
+ghost use Rattle.interleaver.specs.Beginnings.{Outset};
+ghost use Rattle.interleaver.specs.Books.{Books};
+ghost use Rattle.interleaver.specs.Images.{LastsSo};
+ghost use Rattle.interleaver.specs.Records.{KeepsRecord, EndsAs};
+ghost use Rattle.interleaver.specs.Closing.{IsCourseOf, ending_of};
+
+/// What the record of the turns says, however they ended, is what a whole run has to show over any folder: that the core's events
+/// explain what it did, and that what it wrote is what is settled; and, where the images keep the books, what has to last.
+pub fn records_show<T>()
+    ensures explains { (tells : Bool) (o : Outset) (b : Books) (r : Run) (settler : ASettler) (seen : Observed) (c : Course) (result : AResult T AFault)
+        → KeepsRecord tells o b r settler seen.faults_after seen.new → EndsAs o b r settler seen.faults_after result → seen.ending ≡ ending_of result
+        → IsCourseOf o b r seen c → ExplainsEvents o.program seen c }
+    ensures settled { (tells : Bool) (o : Outset) (b : Books) (r : Run) (settler : ASettler) (seen : Observed) (c : Course) (result : AResult T AFault)
+        → settler.quiet ≡ false → KeepsRecord tells o b r settler seen.faults_after seen.new → EndsAs o b r settler seen.faults_after result
+        → seen.ending ≡ ending_of result → IsCourseOf o b r seen c → AreSettled o.program seen c }
+    ensures lasts { (tells : Bool) (o : Outset) (head : AList ℕ) (b : Books) (r : Run) (settler : ASettler) (seen : Observed) (c : Course)
+        → tells ≡ true → KeepsRecord tells o b r settler seen.faults_after seen.new → LastsSo o head b r settler.writer seen.new → IsCourseOf o b r seen c
+        → head ≡ take 15 (seen_at_entry seen manager) → IsBehind live_slot o.program seen c o.world → Opens o.program seen c → ReadsMayStay seen.new
+        → Lasts o.program seen c }
+{}

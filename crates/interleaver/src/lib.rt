@@ -1,0 +1,28 @@
+//! Runs on one thread: begins lines as the width lets it, and has one mover after another move, by a list of picks: the units
+//! that are carried, and the settler.
+//!
+//! [`run_turns`] is the whole of it. It keeps a record of the run, which holds where it begins and again where it ends, however it
+//! ends: `Records`. What each image of a crash keeps of that is `Images`.
+//!
+//! # Whether a run goes on
+//!
+//! What is proved of each run of turns:
+//!
+//! - Nobody waits for ever. `Ok` is answered where no line may begin and nobody can move; then each line has its entry, all that
+//!   is settled is written, each unit that began is settled and holds no lock, and nothing is or was in doubt (`HasCarriedAll`).
+//! - Nobody turns in place. Each turn that goes on begins one line or uses one pick. As many lines have begun as the core was told
+//!   of, and as many picks are used as events that applied were put by units and the settler (`IsUnderWay`). So with each such
+//!   turn one event more applies.
+//! - The turns end: there are at most 2 to the 64 less one, and the last that goes on is answered by `Memory`. By then as many
+//!   events have applied. No bound on the events of a run is proved, and so not that no run comes to that end.
+#![tactic(auto)]
+
+mod faults;
+mod flights;
+mod laws;
+mod movers;
+mod turns;
+
+pub use faults::RunFault;
+pub use laws::records_show;
+pub use turns::run_turns;

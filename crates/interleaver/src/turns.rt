@@ -1,0 +1,319 @@
+ghost use Rattle.std.specs.Prelude.{◌≡◌, ◌+◌, ◌-◌, ◌<◌, ◌≤◌, ◌^◌, ◌⊎◌, ℕ, List as AList, true, false, IsTrue, IfOk, IfErr, OnErr, length};
+ghost use Rattle.std.specs.Option.{option_copied};
+ghost use Rattle.request_wire.specs.declared.requests.Line.{Line as ALine};
+ghost use Rattle.host_trait.specs.Files.{StaysReady};
+ghost use Rattle.core_model.specs.Legal.{ends};
+ghost use Rattle.core_model.specs.Settler.{has_step, settler_step};
+ghost use Rattle.core_model.specs.declared.events.CoreReply.{CoreReply as AReply};
+ghost use Rattle.core_access.specs.OneHolder.{none_comes, own_sight};
+ghost use Rattle.core_access.specs.Sights.{Looks};
+ghost use Rattle.history_core.specs.Cores.{run_of};
+ghost use Rattle.script_tree.specs.Programs.{program_tree};
+ghost use Rattle.script_check.specs.Shapes.{type_shapes};
+ghost use Rattle.turn_rules.specs.Turning.{has_room};
+ghost use Rattle.txn_agent.specs.Linked.{IsLegalRun};
+ghost use Rattle.txn_agent.specs.Stepping.{Acts};
+ghost use Rattle.worker_rules.specs.Stories.{NoneLoads};
+ghost use Rattle.batch_disk.specs.Writers.{IsInBounds, FitsDisk};
+ghost use Rattle.unit_carrier.specs.Carrying.{AreCarried, unit_at};
+ghost use Rattle.unit_carrier.specs.Lines.{PutsLine};
+ghost use Rattle.settle_loop.specs.Turning.{has_unwritten};
+ghost use Rattle.interleaver.specs.declared.faults.RunFault.TheVariants.{Memory};
+ghost use Rattle.interleaver.specs.Beginnings.{Outset, CanTurn, IsOutset};
+ghost use Rattle.interleaver.specs.Beside.{TurnsBeside};
+ghost use Rattle.interleaver.specs.Books.{Books};
+ghost use Rattle.interleaver.specs.Flights.{loop_at, next_line_by};
+ghost use Rattle.interleaver.specs.Records.{KeepsBooks, KeepsRecord, IsFresh, GoesOn};
+ghost use Rattle.interleaver.specs.Settling.{AreEven, CanSettle};
+ghost use Rattle.interleaver.specs.UnderWay.{stage_of, BeganOn, IsUnderWay, MovedOn, SettledOn, SettlesBy, SettlesOne, TurnSays};
+
+use crate::faults::RunFault;
+use crate::flights::{drop_unless_doubted, lines_in};
+use crate::movers::{NextMover, next_mover, pick_at};
+use base_types::{List, Shape, UnitNo};
+use history_core::Core;
+use host_trait::Host;
+use request_wire::Line;
+use script_check::Checked;
+use settle_loop::{Gate, GatePlace, Settler, StopCause, Turned};
+use std::alloc::Global;
+use unit_carrier::{Agents, Went, begin_line};
+
+/// Where a run of turns stands: the units that are carried, how many lines have begun and how many picks were used.
+#[derive(Drop)]
+pub(crate) struct Turns {
+    pub(crate) alloc: Global,
+    pub(crate) shape: Shape,
+    pub(crate) agents: Agents,
+    pub(crate) begun: usize,
+    pub(crate) used: usize,
+}
+
+/// The settler goes on by one step.
+fn settle<H: Host, G: Gate>(
+    shape: &Shape,
+    core: &mut Core,
+    settler: &mut Settler,
+    host: &mut H,
+    gate: &G,
+) -> Result<(), RunFault>
+    requires bounds { IsInBounds settler.old.writer }
+    requires fits { IsTrue H.tells → FitsDisk settler.old.writer (H.world host.old).disk }
+    ensures settles { SettlesBy (run_of core.old) (run_of core.new) }
+    ensures acted { IfOk result (λ _. has_step (settler_step (ends (run_of core.old))) ≡ true → SettlesOne (run_of core.old) (run_of core.new)) }
+    ensures goes { (o : Outset) (b : Books) → CanSettle o shape.now (run_of core.old) → AreEven settler.old.quiet b (ends (run_of core.old))
+        → (settler.old.doubted ≡ true → has_unwritten (ends (run_of core.old)) ≡ true)
+        → KeepsBooks H.tells o b (run_of core.old) settler.old (H.faults host.old) (H.world host.old)
+        → SettledOn H.tells o b (run_of core.old) (run_of core.new) settler.old settler.new (H.faults host.new) (H.world host.old) (H.world host.new) result }
+    ensures beside { TurnsBeside H.tells (run_of core.old) (run_of core.new) settler.old settler.new (H.faults host.old) (H.faults host.new) (H.world host.old) (H.world host.new) result }
+    ensures bounds { IsInBounds settler.new.writer }
+    ensures fits { IsTrue H.tells → FitsDisk settler.new.writer (H.world host.new).disk }
+    ensures ready { StaysReady (H.is_ready host.old) (H.is_ready host.new) }
+{
+    match settler.step(shape, core, host, gate)? {
+        Turned::Stepped => Ok(()),
+        Turned::Nothing => Ok(()),
+        Turned::Stop(StopCause::InDoubt) => Err(RunFault::InDoubt),
+        Turned::Stop(StopCause::WriteFault) => Err(RunFault::WriteFault),
+    }
+}
+
+/// Reaches the place that a line's begin has come to.
+fn reach_begun<G: Gate>(gate: &G, began: Option<UnitNo>) {
+    match began {
+        None => {}
+        Some(unit) => gate.reach(GatePlace::Begun { unit }),
+    }
+}
+
+/// Reaches the places that a unit's step has come to.
+fn reach_step<G: Gate>(gate: &G, unit: UnitNo, went: Went) {
+    match went {
+        Went::Moved => {}
+        Went::Granted { grain, source } => gate.reach(GatePlace::Granted {
+            unit,
+            grain,
+            source,
+        }),
+        Went::Began { child } => gate.reach(GatePlace::Begun { unit: child }),
+        Went::Stayed => {}
+    }
+}
+
+impl Turns {
+    /// The next line, where one may begin: fewer lines than the width are in flight, one is left, and nothing is in doubt.
+    fn next_line<'a>(&self, settler: &Settler, lines: &'a [Line], width: u32) -> Option<&'a Line>
+        ensures { option_copied result ≡ next_line_by settler.now.doubted self.now.agents.list.items width self.now.begun lines.now }
+    {
+        if settler.doubted() || lines_in(&self.agents) >= width as usize {
+            return None;
+        }
+        lines.get(self.begun)
+    }
+
+    /// The next line begins.
+    fn begin<G: Gate>(
+        &mut self,
+        checked: &Checked,
+        core: &mut Core,
+        line: &Line,
+        gate: &G,
+    ) -> Result<(), RunFault>
+        requires carried { AreCarried (program_tree checked.now) none_comes (own_sight (run_of core.old)) self.old.agents.list.items }
+        requires room { self.old.begun < 2 ^ 64 - 1 }
+        ensures put { OnErr result (Looks none_comes (own_sight (run_of core.old)) (own_sight (run_of core.new))
+            ⊎ ((r : AReply) × PutsLine none_comes (program_tree checked.now) line.now.number line.now.what (own_sight (run_of core.old)) (own_sight (run_of core.new)) r)) }
+        ensures memory { IfErr result (λ fault. fault ≡ Memory) }
+        ensures begins { IfOk result (λ _. BeganOn (program_tree checked.now) line.now (run_of core.old) (run_of core.new) self.old.agents.list.items self.new.agents.list.items) }
+        ensures carried { IfOk result (λ _. AreCarried (program_tree checked.now) none_comes (own_sight (run_of core.new)) self.new.agents.list.items) }
+        ensures begun { IfOk result (λ _. self.new.begun ≡ self.old.begun + 1) }
+        ensures used { self.new.used ≡ self.old.used }
+        ensures shape { self.new.shape ≡ self.old.shape }
+    {
+        let number = line.number;
+        prove!(u64::from(number) < 4_294_967_296);
+        let began = begin_line(self.alloc, checked, core, &mut self.agents, line)?;
+        core.show_few();
+        reach_begun(gate, began);
+        self.begun += 1;
+        Ok(())
+    }
+
+    /// The unit at this index goes on by one event.
+    fn move_unit<G: Gate>(
+        &mut self,
+        checked: &Checked,
+        core: &mut Core,
+        gate: &G,
+        index: usize,
+    ) -> Result<(), RunFault>
+        requires within { index < length self.old.agents.list.items }
+        requires carried { AreCarried (program_tree checked.now) none_comes (own_sight (run_of core.old)) self.old.agents.list.items }
+        ensures acts { Acts none_comes (program_tree checked.now) (unit_at self.old.agents.list.items index) (own_sight (run_of core.old)) (own_sight (run_of core.new)) }
+        ensures memory { IfErr result (λ fault. fault ≡ Memory) }
+        ensures moves { IfOk result (λ _. MovedOn (program_tree checked.now) index (run_of core.old) (run_of core.new) self.old.agents.list.items self.new.agents.list.items) }
+        ensures carried { IfOk result (λ _. AreCarried (program_tree checked.now) none_comes (own_sight (run_of core.new)) self.new.agents.list.items) }
+        ensures begun { self.new.begun ≡ self.old.begun }
+        ensures used { self.new.used ≡ self.old.used }
+        ensures shape { self.new.shape ≡ self.old.shape }
+    {
+        let unit = self.agents.list[index].unit();
+        let went = self.agents.advance(self.alloc, checked, core, index)?;
+        core.show_few();
+        reach_step(gate, unit, went);
+        Ok(())
+    }
+
+    /// The mover at the next pick moves. Answers whether there was one.
+    fn move_one<H: Host, G: Gate>(
+        &mut self,
+        checked: &Checked,
+        core: &mut Core,
+        settler: &mut Settler,
+        host: &mut H,
+        gate: &G,
+        picks: &[u32],
+    ) -> Result<bool, RunFault>
+        requires carried { AreCarried (program_tree checked.now) none_comes (own_sight (run_of core.old)) self.old.agents.list.items }
+        requires room { self.old.used < 2 ^ 64 - 1 }
+        requires shape { self.old.shape.types ≡ type_shapes (program_tree checked.now) }
+        requires bounds { IsInBounds settler.old.writer }
+        requires fits { IsTrue H.tells → FitsDisk settler.old.writer (H.world host.old).disk }
+        ensures turns { (o : Outset) (b : Books) (lines : AList ALine) (width : ℕ) → IsUnderWay H.tells o (program_tree checked.now) lines width picks.now b (stage_of (run_of core.old) settler.old (H.faults host.old) (H.world host.old) self.old)
+            → has_room (loop_at o (run_of core.old) self.old.agents.list.items self.old.used) ≡ false
+            → TurnSays H.tells o (program_tree checked.now) lines width picks.now b (stage_of (run_of core.old) settler.old (H.faults host.old) (H.world host.old) self.old) (stage_of (run_of core.new) settler.new (H.faults host.new) (H.world host.new) self.new) result }
+        ensures beside { TurnsBeside H.tells (run_of core.old) (run_of core.new) settler.old settler.new (H.faults host.old) (H.faults host.new) (H.world host.old) (H.world host.new) result }
+        ensures carried { IfOk result (λ _. AreCarried (program_tree checked.now) none_comes (own_sight (run_of core.new)) self.new.agents.list.items) }
+        ensures used { IfOk result (λ _. self.new.used ≤ self.old.used + 1) }
+        ensures goes { IfOk result (λ more. more ≡ true → self.new.begun + self.new.used ≡ self.old.begun + self.old.used + 1) }
+        ensures shape { self.new.shape ≡ self.old.shape }
+        ensures bounds { IsInBounds settler.new.writer }
+        ensures fits { IsTrue H.tells → FitsDisk settler.new.writer (H.world host.new).disk }
+        ensures ready { StaysReady (H.is_ready host.old) (H.is_ready host.new) }
+    {
+        let pick = pick_at(picks, self.used);
+        match next_mover(self.alloc, checked, core, &mut self.agents, settler, pick)? {
+            NextMover::Nobody => return Ok(false),
+            NextMover::Settler => {
+                settle(&self.shape, core, settler, host, gate)?;
+                self.used += 1;
+                return Ok(true);
+            }
+            NextMover::Unit(index) => {
+                self.move_unit(checked, core, gate, index)?;
+                self.used += 1;
+                return Ok(true);
+            }
+        }
+    }
+
+    /// One turn: the next line begins, where one may, or else the mover at the next pick moves. Answers whether anything was
+    /// left to do.
+    fn turn<H: Host, G: Gate>(
+        &mut self,
+        checked: &Checked,
+        core: &mut Core,
+        settler: &mut Settler,
+        lines: &[Line],
+        host: &mut H,
+        gate: &G,
+        width: u32,
+        picks: &[u32],
+    ) -> Result<bool, RunFault>
+        requires carried { AreCarried (program_tree checked.now) none_comes (own_sight (run_of core.old)) self.old.agents.list.items }
+        requires room { self.old.used < 2 ^ 64 - 1 }
+        requires shape { self.old.shape.types ≡ type_shapes (program_tree checked.now) }
+        requires bounds { IsInBounds settler.old.writer }
+        requires fits { IsTrue H.tells → FitsDisk settler.old.writer (H.world host.old).disk }
+        ensures turns { (o : Outset) (b : Books) → IsUnderWay H.tells o (program_tree checked.now) lines.now width picks.now b (stage_of (run_of core.old) settler.old (H.faults host.old) (H.world host.old) self.old)
+            → TurnSays H.tells o (program_tree checked.now) lines.now width picks.now b (stage_of (run_of core.old) settler.old (H.faults host.old) (H.world host.old) self.old) (stage_of (run_of core.new) settler.new (H.faults host.new) (H.world host.new) self.new) result }
+        ensures beside { TurnsBeside H.tells (run_of core.old) (run_of core.new) settler.old settler.new (H.faults host.old) (H.faults host.new) (H.world host.old) (H.world host.new) result }
+        ensures carried { IfOk result (λ _. AreCarried (program_tree checked.now) none_comes (own_sight (run_of core.new)) self.new.agents.list.items) }
+        ensures used { IfOk result (λ _. self.new.used ≤ self.old.used + 1) }
+        ensures goes { IfOk result (λ more. more ≡ true → self.new.begun + self.new.used ≡ self.old.begun + self.old.used + 1) }
+        ensures shape { self.new.shape ≡ self.old.shape }
+        ensures bounds { IsInBounds settler.new.writer }
+        ensures fits { IsTrue H.tells → FitsDisk settler.new.writer (H.world host.new).disk }
+        ensures ready { StaysReady (H.is_ready host.old) (H.is_ready host.new) }
+    {
+        drop_unless_doubted(&mut self.agents, core, settler);
+        match self.next_line(settler, lines, width) {
+            Some(line) => {
+                prove!(self.begun < lines.len());
+                self.begin(checked, core, line, gate)?;
+                return Ok(true);
+            }
+            None => return self.move_one(checked, core, settler, host, gate, picks),
+        }
+    }
+}
+
+/// Carries all lines, and settles what they do, on one thread.
+///
+/// While fewer lines than the width are in flight and one is left, it begins: a bad line is told to the core, any other begins as
+/// a unit. Else the mover at the next pick moves, 0 behind the end of the list: the picks count the movers round and round, which
+/// are the units that can move, in number order, children among them, and after them the settler where it has a step. A unit
+/// makes its next event, the settler its next step. After a doubt the settler alone moves. Without a mover the run has ended.
+///
+/// It answers `Ok` where each line has its entry, all is written and nobody can move.
+///
+/// # Errors
+///
+/// - `InDoubt`: a batch was left in doubt, and all that is settled is written.
+/// - `WriteFault`: the output failed.
+/// - `Memory`: memory ran out. So is told a run that hasn't ended by 2 to the 64 less one turns, in each of which an event applied.
+///   What was put into the core and done to the host by then stands.
+pub fn run_turns<H: Host, G: Gate>(
+    alloc: Global,
+    checked: &Checked,
+    core: &mut Core,
+    settler: &mut Settler,
+    lines: &List<Line>,
+    host: &mut H,
+    gate: &G,
+    width: u32,
+    turns: &List<u32>,
+) -> Result<(), RunFault>
+    requires legal { IsLegalRun (own_sight (run_of core.old)).first }
+    requires loads { NoneLoads (own_sight (run_of core.old)).mine }
+    requires bounds { IsInBounds settler.old.writer }
+    requires fits { IsTrue H.tells → FitsDisk settler.old.writer (H.world host.old).disk }
+
+    // The run's record, however it ends.
+    ensures record_kept { (o : Outset) (b : Books) → IsOutset o (program_tree checked.now) (run_of core.old) lines.now width turns.now
+        → CanTurn (run_of core.old) settler.old lines.now → IsFresh o b (run_of core.old)
+        → KeepsRecord H.tells o b (run_of core.old) settler.old (H.faults host.old) (H.world host.old)
+        → GoesOn H.tells o b (run_of core.old) (run_of core.new) settler.old settler.new (H.faults host.new) (H.world host.old) (H.world host.new) result }
+
+    // And what it leaves beside that.
+    ensures beside { TurnsBeside H.tells (run_of core.old) (run_of core.new) settler.old settler.new (H.faults host.old) (H.faults host.new) (H.world host.old) (H.world host.new) result }
+
+    ensures bounds { IsInBounds settler.new.writer }
+    ensures fits { IsTrue H.tells → FitsDisk settler.new.writer (H.world host.new).disk }
+    ensures ready { StaysReady (H.is_ready host.old) (H.is_ready host.new) }
+{
+    core.show_few();
+    let _program = checked.program();
+    let mut state = Turns {
+        alloc,
+        shape: checked.shape()?,
+        agents: Agents::new(alloc),
+        begun: 0,
+        used: 0,
+    };
+    for _turn in 0..usize::MAX {
+        if !state.turn(
+            checked,
+            core,
+            settler,
+            lines.as_slice(),
+            host,
+            gate,
+            width,
+            turns.as_slice(),
+        )? {
+            return Ok(());
+        }
+    }
+    Err(RunFault::Memory)
+}
