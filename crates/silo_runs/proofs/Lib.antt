@@ -1,0 +1,17 @@
+pub mod Still
+pub mod Making
+pub mod Read
+pub mod Beginning
+pub mod AskedWords
+pub mod Counted
+pub mod Unopened
+pub mod Calling
+pub mod Promised
+pub mod Unbegun
+pub mod Unread
+pub mod Ended
+pub mod OpensWith
+pub mod LastsAtStart
+pub mod AtRest
+pub mod Served
+pub mod Answered

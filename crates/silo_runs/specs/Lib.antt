@@ -1,0 +1,6 @@
+pub mod Statuses
+pub mod Answering
+pub mod Asking
+pub mod Reading
+pub mod Starting
+pub mod Serving
