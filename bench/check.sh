@@ -1,6 +1,6 @@
 #!/usr/bin/env bash
 # Times the check of two silos, with N starts and with 10 N, from one seed:  bench/check.sh [N] [SEED]
-# No command of the program runs it yet. So this makes a program in a folder of its own beside this checkout's crates, and runs it by
+# No command of the program runs it. So this makes a program in a folder of its own beside this checkout's crates, and runs it by
 # rt try, which proves nothing: it wants the kit, and no crate built before. The program carries rt try's checks of each access, so
 # the seconds are those of a slower program than the proved one. They are of the processor's time.
 # The proved program takes 0.038 s for 10,000 starts from the seed 7 and 0.430 s for 100,000, 11 times as long; as rt try builds

@@ -1,82 +1,85 @@
 #!/usr/bin/env bash
-# Kills real runs at random moments, and checks that each reply that was written whole is found again:
-#   bench/kill.sh [ROUNDS] [LINES]
-# A round runs LINES requests that add 1 to one counter, kills that process, and then asks a new run for the total. The units
-# of all whole reply lines have to be in it, and at most one more, whose reply the kill cut off.
+# Kills real runs at random moments, and checks what they leave:
+#   bench/kill.sh [ROUNDS] [LINES] [WIDTH]
+# A round runs LINES transfers over 64 accounts, which have 64,000 together, with WIDTH lines under way at a time, kills that process, and
+# reads the folder by examples/reader, which has nothing of the program's. Then: the log begins with the records that it had before,
+# and goes on with the units of the whole reply lines, in their order and with their results, and maybe with others whose
+# replies the kill cut off; no aborted unit has a record; and the balances make 64,000. The next round goes on over that folder.
 # A killed process leaves what it has written, synced or not; what a lost sync leaves is tested over the host in memory.
 top=$(cd "$(dirname "${BASH_SOURCE[0]}")/.." && pwd)
-rounds=${1:-20}
-lines=${2:-2000}
-work=$(mktemp -d) || exit 1
-trap 'rm -rf "$work"' EXIT
-folder=$work/folder
-requests=$work/requests
-replies=$work/replies
-mkdir "$folder"
+[ -n "${SILO:-}" ] || "$top/silo" </dev/null >/dev/null 2>&1
+exec python3 - "$top" "${SILO:-$top/crates/silo/out/silo}" "${1:-20}" "${2:-2000}" "${3:-8}" <<'END'
+import json, os, random, signal, subprocess, sys, tempfile, time
 
-fail() {
-  echo "kill.sh: $*" >&2
-  exit 1
-}
+top, program, rounds, count, width = sys.argv[1], sys.argv[2], int(sys.argv[3]), int(sys.argv[4]), sys.argv[5]
+reader = os.path.join(top, "examples", "reader", "read.py")
+with open(os.path.join(top, "examples", "bank", "bank.grain"), "rb") as file:
+    bank = file.read()
 
-# Asks for the total by a request that adds 0. Sets total and unit, which is the request's own.
-ask() {
-  local answer
-  answer=$(echo '{"args":[0],"call":"counter/1.add"}' | "$top/silo" "$folder" run) || fail "the folder doesn't open"
-  [[ $answer =~ ^\{\"n\":1,\"reply\":([0-9]+),\"unit\":([0-9]+)\}$ ]] || fail "no total in $answer"
-  total=${BASH_REMATCH[1]}
-  unit=${BASH_REMATCH[2]}
-}
+def fail(text):
+    sys.exit(f"kill.sh: {text}")
 
-# How many reply lines were written whole. Each has to be the one that follows from the total and the unit before the run.
-whole_replies() {
-  local whole
-  whole=$(wc -l <"$replies")
-  head -n "$whole" "$replies" | awk -v total="$total" -v unit="$unit" '
-    $0 != sprintf("{\"n\":%d,\"reply\":%d,\"unit\":%d}", NR, total + NR, unit + NR) { print "line " NR ": " $0; wrong = 1; exit }
-    END { exit wrong }' >&2 || fail "a reply is wrong"
-  echo "$whole"
-}
+def line(call, *args):
+    return json.dumps({"args": args, "call": call}).encode() + b"\n"
 
-seconds() {
-  awk -v a="$1" -v b="$2" 'BEGIN { print b - a }'
-}
+def look(folder):
+    """The records of the log, and the sum of all balances."""
+    said = [json.loads(line) for line in subprocess.run([sys.executable, reader, folder], stdout=subprocess.PIPE, check=True).stdout.splitlines()]
+    return [told for told in said if "unit" in told], sum(told["state"]["balance"] for told in said if "grain" in told)
 
-"$top/silo" "$folder" init </dev/null || fail "no silo was made"
-awk -v n="$lines" 'BEGIN { for (i = 1; i <= n; i++) print "{\"args\":[1],\"call\":\"counter/1.add\"}" }' >"$requests"
+def result_of(reply):
+    return reply["reply"] if "reply" in reply else {"fault": reply["fault"]}
 
-# A run that isn't killed shows how long one takes.
-ask
-start=$(date +%s.%N)
-"$top/silo" "$folder" run <"$requests" >"$replies" || fail "the first run failed"
-length=$(seconds "$start" "$(date +%s.%N)")
-whole=$(whole_replies) || exit 1
-[ "$whole" -eq "$lines" ] || fail "the first run wrote $whole replies"
-before=$total
-ask
-[ "$total" -eq $((before + lines)) ] || fail "the total is $total after the first run"
-
-killed=0
-found=0
-cut=0
-for ((round = 1; round <= rounds; round++)); do
-  "$top/silo" "$folder" run <"$requests" >"$replies" &
-  run=$!
-  sleep "$(awk -v length_of="$length" -v part="$RANDOM" 'BEGIN { print length_of * part / 32768 }')"
-  kill -9 "$run" 2>/dev/null
-  wait "$run" 2>/dev/null
-  if [ $? -eq 137 ]; then
-    killed=$((killed + 1))
-  fi
-  whole=$(whole_replies) || exit 1
-  total_before=$total
-  unit_before=$unit
-  ask
-  kept=$((total - total_before))
-  [ "$kept" -ge "$whole" ] || fail "round $round: $whole replies were written, and $kept units were found"
-  [ "$kept" -le $((whole + 1)) ] || fail "round $round: $whole replies were written, and $kept units were found"
-  [ $((unit - unit_before)) -eq $((kept + 1)) ] || fail "round $round: unit $unit after unit $unit_before and $kept units"
-  found=$((found + whole))
-  cut=$((cut + kept - whole))
-done
-echo "$rounds runs, $killed of them killed: all $found whole replies were found again, and $cut units whose reply was cut off"
+with tempfile.TemporaryDirectory() as room:
+    folder, names = os.path.join(room, "silo"), [os.path.join(room, name) for name in ("requests", "replies")]
+    os.mkdir(folder)
+    subprocess.run([program, folder, "init"], input=bank, check=True)
+    made = subprocess.run([program, folder, "run"], input=b"".join(line(f"account/{key}.deposit", 1000) for key in range(64)), stdout=subprocess.PIPE, check=True)
+    if made.stdout.count(b'"reply"') != 64:
+        fail("the accounts weren't made")
+    records, total = look(folder)
+    killed = found = cut = aborted = 0
+    length = 0.0
+    # The first round isn't killed, and shows how long one takes.
+    for turn in range(rounds + 1):
+        lines = [line("teller/0.transfer", random.randrange(64), random.randrange(64), random.randrange(1, 101)) for _ in range(count)]
+        with open(names[0], "wb") as file:
+            file.write(b"".join(lines))
+        begun = time.monotonic()
+        with open(names[0], "rb") as given, open(names[1], "wb") as replies:
+            running = subprocess.Popen([program, folder, "run", "--width", width], stdin=given, stdout=replies)
+            if turn > 0:
+                time.sleep(length * random.random())
+                running.kill()
+            ended = running.wait()
+        if turn == 0:
+            length = time.monotonic() - begun
+            if ended != 0:
+                fail(f"the first run ended with {ended}")
+        elif ended not in (0, -signal.SIGKILL):
+            fail(f"round {turn} ended with {ended}")
+        killed += ended == -signal.SIGKILL
+        with open(names[1], "rb") as file:
+            said = [json.loads(reply) for reply in file.read().split(b"\n")[:-1]]
+        if ended == 0 and len(said) != count:
+            fail(f"round {turn} ended with 0 and wrote {len(said)} replies")
+        now, total = look(folder)
+        if now[: len(records)] != records:
+            fail(f"round {turn}: the log has lost records")
+        added = now[len(records) :]
+        logged = [reply for reply in said if "aborted" not in reply]
+        for at, reply in enumerate(logged):
+            if at >= len(added) or (added[at]["unit"], added[at]["line"], added[at]["result"]) != (reply["unit"], reply["n"], result_of(reply)):
+                fail(f"round {turn}: {reply} was written, and the log has {added[at : at + 1]}")
+        gone = {reply["unit"] for reply in said if "aborted" in reply}
+        if any(record["unit"] in gone for record in added):
+            fail(f"round {turn}: an aborted unit is in the log")
+        if total != 64000:
+            fail(f"round {turn}: the balances make {total}")
+        found, cut, aborted, records = found + len(logged), cut + len(added) - len(logged), aborted + len(gone), now
+    # The folder opens, and goes on behind its last unit.
+    last = subprocess.run([program, folder, "run"], input=line("account/0.read"), stdout=subprocess.PIPE, check=True)
+    if json.loads(last.stdout)["unit"] <= records[-1]["unit"]:
+        fail(f"a unit's number was given again: {last.stdout}")
+print(f"{rounds} runs at width {width}, {killed} of them killed: all {found} units of whole replies were found again, and {cut} whose reply was cut off; {aborted} aborted; the balances make 64000")
+END

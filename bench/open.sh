@@ -1,6 +1,6 @@
 #!/usr/bin/env bash
 # Times open_silo on folders of so many records on 64 grains, a block each:  bench/open.sh [SIZES..]
-# No command of the program calls it yet. So this makes a program in a folder of its own beside this checkout's crates, and runs it
+# This makes a program in a folder of its own beside this checkout's crates, and runs it
 # by rt try, which proves nothing: it wants the kit, Python and Linux's /proc, and no crate built before. The program carries rt
 # try's checks of each access, so the figures, the memory too, are not those of the proved one. The seconds are of the
 # processor's time, the peak is of all the process's memory up to then, and the reads are system calls.

@@ -4,7 +4,7 @@ import itertools
 import os
 import tempfile
 
-from harness import Ended, Rows, add, reply, run
+from harness import BANK, Ended, Rows, ask, deposit, reply, run
 
 rows = Rows("descriptors")
 
@@ -14,18 +14,23 @@ for closed in itertools.chain.from_iterable(itertools.combinations((0, 1, 2), co
         def text(line):
             return b"" if 2 in closed else line
 
-        rows.row(f"init without {closed}", run(folder, "init", closed=closed), Ended(0, b"", b""))
+        unread = Ended(4, b"", text(b"silo: read fault\n"))
         if 0 in closed:
-            wanted, logged = Ended(4, b"", text(b"silo: read fault\n")), 0
-        elif 1 in closed:
-            wanted, logged = Ended(5, b"", text(b"silo: write fault\n")), 1
+            rows.row(f"init without {closed}", run(folder, "init", closed=closed), unread)
+            rows.row(f"nothing is made without {closed}", os.listdir(folder), [])
+            run(folder, "init", given=BANK)
+            wanted, logged = unread, 0
         else:
-            wanted, logged = Ended(0, reply(1, 5, 1) + reply(2, 11, 2), b""), 2
-        rows.row(f"run without {closed}", run(folder, "run", given=add(5) + add(6), closed=closed), wanted)
+            rows.row(f"init without {closed}", run(folder, "init", given=BANK, closed=closed), Ended(0, b"", b""))
+            if 1 in closed:
+                wanted, logged = Ended(5, b"", text(b"silo: write fault\n")), 1
+            else:
+                wanted, logged = Ended(0, reply(1, 5, 1) + reply(2, 11, 2), b""), 2
+        rows.row(f"run without {closed}", run(folder, "run", given=deposit(5) + deposit(6), closed=closed), wanted)
         total = (0, 5, 11)[logged]
-        rows.row(f"afterwards, without {closed}", run(folder, "run", given=add(0)), Ended(0, reply(1, total, logged + 1), b""))
+        rows.row(f"afterwards, without {closed}", run(folder, "run", given=ask()), Ended(0, reply(1, total, logged + 1), b""))
         names = sorted(os.listdir(folder))
-        rows.row(f"the files, without {closed}", names, ["manager-0.otx", "program-0.otx"])
+        rows.row(f"the files, without {closed}", names, ["grain-0-0-1.otx"] * (logged > 0) + ["manager-0.otx", "program-0.otx"])
         rows.row(f"bad use without {closed}", run(folder, closed=closed), Ended(2, b"", text(b"silo: bad use\n")))
 
 rows.end()

@@ -10,18 +10,27 @@ import tempfile
 TOP = os.path.dirname(os.path.dirname(os.path.abspath(__file__)))
 PROGRAM = os.environ.get("SILO", os.path.join(TOP, "crates", "silo", "out", "silo"))
 
+# The program of the silos here.
+with open(os.path.join(TOP, "examples", "bank", "bank.grain"), "rb") as file:
+    BANK = file.read()
+
 # How a run of the program ended: its number, what it wrote, and what it said on standard error.
 Ended = collections.namedtuple("Ended", "number output errors")
 
 
-def add(amount, grain=1):
-    """A request line that adds to a counter."""
-    return json.dumps({"args": [amount], "call": f"counter/{grain}.add"}).encode() + b"\n"
+def deposit(amount, account=1):
+    """A request line that deposits so much."""
+    return json.dumps({"args": [amount], "call": f"account/{account}.deposit"}).encode() + b"\n"
 
 
-def reply(n, total, unit):
+def ask(account=1):
+    """A request line that asks for a balance."""
+    return json.dumps({"args": [], "call": f"account/{account}.read"}).encode() + b"\n"
+
+
+def reply(n, balance, unit):
     """The reply line that such a request gets."""
-    return b'{"n":%d,"reply":%d,"unit":%d}\n' % (n, total, unit)
+    return b'{"n":%d,"reply":%d,"unit":%d}\n' % (n, balance, unit)
 
 
 def run(*words, given=b"", closed=(), streams=None, memory=None):

@@ -2,9 +2,10 @@
 import os
 import tempfile
 
-from harness import Ended, Rows, add, reply, run
+from harness import BANK, Ended, Rows, ask, deposit, reply, run
 
 INPUT_LIMIT = 16_777_216
+PROGRAM_LIMIT = 262_144
 
 rows = Rows("statuses")
 
@@ -20,7 +21,7 @@ def says(number, text, output=b""):
 with tempfile.TemporaryDirectory() as room:
 
     def folder(name, *commands):
-        """A new folder, with an init and runs of these requests."""
+        """A new folder, with an init of this program and runs of these requests."""
         path = os.path.join(room, name)
         os.mkdir(path)
         for at, given in enumerate(commands):
@@ -28,24 +29,24 @@ with tempfile.TemporaryDirectory() as room:
         return path
 
     def after(path):
-        """What a later run over the folder answers to a request that adds nothing."""
-        return run(path, "run", given=add(0))
+        """What a later run over the folder answers to a request that asks for the balance."""
+        return run(path, "run", given=ask())
 
     # 0: all was done.
     shop = folder("shop")
-    rows.row("init", run(shop, "init"), silent(0))
-    rows.row("run", run(shop, "run", given=add(5) + b"x\n" + add(2)), silent(0, reply(1, 5, 1) + b'{"bad":"early","n":2}\n' + reply(3, 7, 2)))
+    rows.row("init", run(shop, "init", given=BANK), silent(0))
+    rows.row("run", run(shop, "run", given=deposit(5) + b"x\n" + deposit(2)), silent(0, reply(1, 5, 1) + b'{"bad":"json","n":2}\n' + reply(3, 7, 2)))
     rows.row("run without requests", run(shop, "run"), silent(0))
     rows.row("run again", after(shop), silent(0, reply(1, 7, 3)))
 
     # 2: bad use. The folder isn't touched.
     unused = folder("unused")
-    for words in ([], [unused], [unused, "runs"], [unused, "run", "run"], [unused, "init", "x"], [unused, "--help"], [unused, b"\xff"]):
-        rows.row(f"words {words[1:]}", run(*words, given=add(5)), says(2, b"bad use"))
+    for words in ([], [unused], [unused, "runs"], [unused, "run", "run"], [unused, "init", "x"], [unused, "run", "--width", "0"], [unused, "run", "--width"], [unused, "run", "--turns", "1,"], [unused, "run", "--workers", "2"], [unused, "show"], [unused, "--help"], [unused, b"\xff"]):
+        rows.row(f"words {words[1:]}", run(*words, given=deposit(5)), says(2, b"bad use"))
     rows.row("an unused folder", os.listdir(unused), [])
 
     # 3: no memory. Nothing was carried, since the input has more bytes than the program may have at all, though it starts.
-    tight = folder("tight", b"")
+    tight = folder("tight", BANK)
     starts = [megabytes << 20 for megabytes in range(5, 15) if run(tight, "run", memory=megabytes << 20).number == 0]
     if starts:
         rows.row("an input that memory doesn't suffice for", run(tight, "run", given=b" " * INPUT_LIMIT, memory=starts[0]), says(3, b"no memory"))
@@ -54,51 +55,61 @@ with tempfile.TemporaryDirectory() as room:
     rows.row("no memory: afterwards", after(tight), silent(0, reply(1, 0, 1)))
 
     # 4: the input can't be read. Nothing was answered.
-    unread = folder("unread", b"")
+    unread = folder("unread", BANK)
     with open(os.devnull, "wb") as only_written:
         rows.row("an input that can't be read", run(unread, "run", streams={"stdin": only_written}), says(4, b"read fault"))
     rows.row("read fault: afterwards", after(unread), silent(0, reply(1, 0, 1)))
 
     # 5: the output can't be written. The request whose reply was cut is in the log, and no later one.
-    cut = folder("cut", b"")
+    cut = folder("cut", BANK)
     read_end, write_end = os.pipe()
     os.close(read_end)
-    rows.row("an output that nobody reads", run(cut, "run", given=add(5) + add(6), streams={"stdout": write_end}), says(5, b"write fault"))
+    rows.row("an output that nobody reads", run(cut, "run", given=deposit(5) + deposit(6), streams={"stdout": write_end}), says(5, b"write fault"))
     os.close(write_end)
     rows.row("write fault: afterwards", after(cut), silent(0, reply(1, 5, 2)))
     if os.path.exists("/dev/full"):
         with open("/dev/full", "wb") as full:
-            rows.row("an output on a full device", run(cut, "run", given=add(5), streams={"stdout": full}), says(5, b"write fault"))
+            rows.row("an output on a full device", run(cut, "run", given=deposit(5), streams={"stdout": full}), says(5, b"write fault"))
 
     # 6: a call on a file failed.
     missing = os.path.join(room, "missing")
-    rows.row("init of a folder that isn't there", run(missing, "init"), says(6, b"disk fault in manager-0.otx"))
+    rows.row("init of a folder that isn't there", run(missing, "init", given=BANK), says(6, b"disk fault in manager-0.otx"))
     rows.row("the folder that isn't there", os.path.exists(missing), False)
     odd = folder("odd")
     os.mkdir(os.path.join(odd, "manager-0.otx"))
-    rows.row("run over no file", run(odd, "run", given=add(5)), says(6, b"disk fault in manager-0.otx"))
+    rows.row("run over no file", run(odd, "run", given=deposit(5)), says(6, b"disk fault in manager-0.otx"))
     os.mkfifo(os.path.join(room, "pipe"))
     rows.row("run over a pipe", run(os.path.join(room, "pipe"), "run"), says(6, b"disk fault in manager-0.otx"))
 
     # 7: not a silo.
-    rows.row("run over an empty folder", run(folder("empty"), "run", given=add(5)), says(7, b"not a silo"))
-    rows.row("run over a folder that isn't there", run(missing, "run", given=add(5)), says(7, b"not a silo"))
+    rows.row("run over an empty folder", run(folder("empty"), "run", given=deposit(5)), says(7, b"not a silo"))
+    rows.row("run over a folder that isn't there", run(missing, "run", given=deposit(5)), says(7, b"not a silo"))
 
     # 8: already a silo. It stays as it was.
-    rows.row("a second init", run(shop, "init"), says(8, b"already a silo"))
+    rows.row("a second init", run(shop, "init", given=BANK), says(8, b"already a silo"))
     rows.row("a second init: afterwards", after(shop), silent(0, reply(1, 7, 4)))
 
     # 9: damaged, and where.
-    broken = folder("broken", b"", add(5))
+    broken = folder("broken", BANK, deposit(5))
     manager = os.path.join(broken, "manager-0.otx")
     with open(manager, "r+b") as file:
         file.truncate(20)
-    rows.row("a log that was cut", run(broken, "run", given=add(5)), says(9, b"damaged manager-0.otx at 16"))
+    rows.row("a log that was cut", run(broken, "run", given=deposit(5)), says(9, b"damaged manager-0.otx at 16"))
     rows.row("damaged: afterwards", os.path.getsize(manager), 20)
 
+    # 10: no program, and where. Nothing was made.
+    for text, at in ((b"type a { method m() create plain { return x; } }", 42), (b"type a {", 8), (b"type a { method m() create plain { return 1 ~ 2; } }", 44)):
+        bad = folder("bad")
+        rows.row(f"init of {text}", run(bad, "init", given=text), says(10, b"bad program at %d" % at))
+        rows.row("bad program: afterwards", os.listdir(bad), [])
+        os.rmdir(bad)
+
     # 11: too long an input. Nothing was answered.
-    long = folder("long", b"")
+    long = folder("long", BANK)
     rows.row("an input above the limit", run(long, "run", given=b"\n" * (INPUT_LIMIT + 1)), says(11, b"input too long"))
+    wide = folder("wide")
+    rows.row("a program above the limit", run(wide, "init", given=b" " * (PROGRAM_LIMIT + 1)), says(11, b"input too long"))
+    rows.row("program too long: afterwards", os.listdir(wide), [])
     rows.row("input too long: afterwards", after(long), silent(0, reply(1, 0, 1)))
 
 rows.end()

@@ -1,12 +1,12 @@
 #!/usr/bin/env python3
-"""Runs requests on a silo, and gives each its reply:  examples/client/client.py PROGRAM FOLDER"""
+"""Runs requests on a silo of examples/bank, and gives each its reply:  examples/client/client.py PROGRAM FOLDER"""
 import json
 import subprocess
 import sys
 
 
 def run(program, folder, calls):
-    """Runs calls such as ("counter/1.add", [5]). Gives the program's number, its text, and a reply for each call in the order
+    """Runs calls such as ("account/1.deposit", [5]). Gives the program's number, its text, and a reply for each call in the order
     of the calls, None for one that got none: whether that one counts has to be looked up before it is sent again."""
     lines = "".join(json.dumps({"args": args, "call": call}) + "\n" for call, args in calls)
     done = subprocess.run([program, folder, "run"], input=lines.encode(), capture_output=True)
@@ -18,7 +18,7 @@ def run(program, folder, calls):
 
 
 def main(program, folder):
-    number, text, replies = run(program, folder, [("counter/1.add", [5]), ("counter/1.add", ["five"]), ("counter/1.add", [2])])
+    number, text, replies = run(program, folder, [("account/1.deposit", [5]), ("account/1.close", []), ("teller/0.transfer", [1, 2, 3])])
     for reply in replies:
         print(reply)
     if number != 0:

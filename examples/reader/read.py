@@ -1,5 +1,5 @@
 #!/usr/bin/env python3
-"""Reads a silo's folder in the form with records, by docs/FORMATS.md alone:  read.py FOLDER
+"""Reads a silo's folder, by docs/FORMATS.md alone:  examples/reader/read.py FOLDER
 
 Prints each record of the log, then the state of each grain that one wrote, then the next unit's number. Or it says that the
 folder is no silo, or which file is damaged and where. Of the program it takes the types, fields and methods, and checks no more.

@@ -1,0 +1,86 @@
+#!/usr/bin/env bash
+# Times a run of N transfers over 64 accounts, with so many lines under way at a time, in a new silo:
+#   bench/transfers.sh N WIDTH [PLACE]
+# The silo stands in a new folder at PLACE, which is /tmp where it isn't given; one on a memory file system has syncs that cost nothing.
+# Prints the requests a second, the syncs, how long as many bare syncs take, each behind an append of 4 KiB in the same folder, the
+# ratio of the two times, and the peak of the run's memory. The syncs are the opening's and, for each batch of the log, one for each
+# file that it wrote and two of the log.
+# Wanted at width 64: 20,000 transfers in at most 1.25 times the time of the bare syncs; 50,000 a second where syncs cost nothing; at
+# 100,000 at most 1.1 times the time for each that it takes at 2,000.
+# Measured on a machine with other work, of a build with rt try's checks of each access: 43 us of processor time for each at width 64,
+# as at 2,000 (50 us) so at 100,000 (43 us), and 22 us at width 1. So beside syncs that cost nothing the second isn't met there. By a
+# profile a sixth of the time is looking for the mover and a twelfth looking for units to drop, since each turn walks over the units in
+# flight; the rest is spread over the core's events, the allocator and the bytes of versions and records.
+top=$(cd "$(dirname "${BASH_SOURCE[0]}")/.." && pwd)
+[ -n "${SILO:-}" ] || "$top/silo" </dev/null >/dev/null 2>&1
+exec python3 - "$top" "${SILO:-$top/crates/silo/out/silo}" "$@" <<'END'
+import os, resource, struct, subprocess, sys, tempfile, time
+
+top, program, count, width = sys.argv[1], sys.argv[2], int(sys.argv[3]), sys.argv[4]
+place = sys.argv[5] if len(sys.argv) > 5 else "/tmp"
+sys.path.insert(0, os.path.join(top, "examples", "reader"))
+import read
+
+with open(os.path.join(top, "examples", "bank", "bank.grain"), "rb") as file:
+    bank = file.read()
+drawn = 7
+
+def draw():
+    global drawn
+    drawn = (drawn * 6364136223846793005 + 1442695040888963407) % 2**64
+    return drawn // 2147483648 // 4
+
+lines = [b'{"args":[1000],"call":"account/%d.deposit"}\n' % key for key in range(64)]
+for _ in range(count):
+    one, other, amount = draw() % 64, draw() % 64, draw() % 100 + 1
+    lines.append(b'{"args":[%d,%d,%d],"call":"teller/0.transfer"}\n' % (one, other, amount))
+
+with tempfile.TemporaryDirectory(dir=place) as room:
+    folder = os.path.join(room, "silo")
+    os.mkdir(folder)
+    subprocess.run([program, folder, "init"], input=bank, check=True)
+    names = [os.path.join(room, name) for name in ("requests", "replies")]
+    with open(names[0], "wb") as file:
+        file.write(b"".join(lines))
+    with open(names[0], "rb") as given, open(names[1], "wb") as replies:
+        before = resource.getrusage(resource.RUSAGE_CHILDREN)
+        begun = time.monotonic()
+        running = subprocess.Popen([program, folder, "run", "--width", width], stdin=given, stdout=replies)
+        peak = 0
+        while running.poll() is None:
+            with open(f"/proc/{running.pid}/status") as file:
+                peak = max([peak, *(int(line.split()[1]) for line in file if line.startswith("VmHWM"))])
+            time.sleep(0.005)
+        took = time.monotonic() - begun
+    if running.returncode != 0:
+        sys.exit(f"transfers.sh: the run ended with {running.returncode}")
+    after = resource.getrusage(resource.RUSAGE_CHILDREN)
+    user, system = after.ru_utime - before.ru_utime, after.ru_stime - before.ru_stime
+    with open(names[1], "rb") as file:
+        replies = file.read().split(b"\n")[:-1]
+    if len(replies) != len(lines):
+        sys.exit(f"transfers.sh: {len(replies)} replies to {len(lines)} requests")
+    aborted = sum(b'"aborted"' in reply for reply in replies)
+    with open(os.path.join(folder, "manager-0.otx"), "rb") as file:
+        manager = file.read()
+    with open(os.path.join(folder, "program-0.otx"), "rb") as file:
+        types = read.types_of(file.read()[4:].decode())
+    batches, syncs, gate = 0, 1, 15
+    while manager[gate] == 1:
+        [size] = struct.unpack_from("<I", manager, gate + 1)
+        body = read.Bytes("manager-0.otx", manager, gate + 5, gate + 5 + size)
+        grains = set()
+        for _ in range(body.number("I")):
+            grains.update(grain for grain, _, _ in read.record_of(body, types)[2])
+        batches, syncs, gate = batches + 1, syncs + len(grains) + 2, gate + 5 + size
+    appended = os.open(os.path.join(folder, "appended"), os.O_WRONLY | os.O_CREAT | os.O_APPEND)
+    piece = bytes(4096)
+    begun = time.monotonic()
+    for _ in range(syncs):
+        os.write(appended, piece)
+        os.fdatasync(appended)
+    bare = time.monotonic() - begun
+    print(f"{len(lines)} requests at width {width} in {took:.2f} s: {len(lines) / took:.0f} a second, {aborted} aborted; "
+          f"{1e6 * user / len(lines):.1f} us of user time and {1e6 * system / len(lines):.1f} us of the system's each")
+    print(f"{batches} batches, {syncs} syncs; as many bare ones took {bare:.2f} s: ratio {took / bare:.2f}; peak {peak} kB")
+END

@@ -1,9 +1,0 @@
-pub mod Fronts
-pub mod Looking
-pub mod Closing
-pub mod Filling
-pub mod Outcomes
-pub mod Blocks
-pub mod Errors
-pub mod Parts
-pub mod Runs

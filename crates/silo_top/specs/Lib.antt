@@ -1,7 +1,0 @@
-pub mod Statuses
-pub mod Kept
-pub mod Runs
-pub mod Seals
-pub mod Prepared
-pub mod Settled
-pub mod Counts
