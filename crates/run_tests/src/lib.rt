@@ -1,0 +1,13 @@
+//! Tests of the commands over a host in memory: rows worked out by hand from the definitions. There is no code here but tests.
+#![tactic(auto)]
+
+#[cfg(test)]
+mod bank;
+#[cfg(test)]
+mod making;
+#[cfg(test)]
+mod rows;
+#[cfg(test)]
+mod setting;
+#[cfg(test)]
+mod standing;

@@ -1,0 +1,85 @@
+use crate::bank::BANK;
+use crate::setting::{MANAGER, PROGRAM, command, new_silo};
+use host_memory::MemoryHost;
+use program_file::ProgramFault;
+use script_check::CheckFault;
+use silo_runs::Status;
+use std::alloc::Global;
+use std::test::Fail;
+
+// Whether the folder is a silo of the bank program with an empty log.
+fn is_new_silo(host: &MemoryHost) -> bool {
+    let log = Some(b"\x01OTXLOG01\0\0\0\0\0\0\0".as_slice());
+    match host.file(PROGRAM) {
+        Some(bytes) => host.file(MANAGER) == log && bytes.get(4..) == Some(BANK.as_bytes()),
+        None => false,
+    }
+}
+
+fn init_again(alloc: Global, host: &mut MemoryHost) -> Result<Status, Fail> {
+    host.set_input(BANK.as_bytes())?;
+    command(alloc, host, &["init"])
+}
+
+#[test]
+fn a_silo_is_made_once(rt: HostRuntime) -> Result<(), Fail> {
+    let alloc = rt.alloc();
+    let mut host = new_silo(alloc)?;
+    assert!(rt; is_new_silo(&host));
+    assert_eq!(rt; init_again(alloc, &mut host)?, Status::AlreadyASilo);
+    assert!(rt; is_new_silo(&host));
+    assert!(rt; host.output().is_empty());
+    Ok(())
+}
+
+#[test]
+fn a_folder_that_is_no_silo_is_refused(rt: HostRuntime) -> Result<(), Fail> {
+    let alloc = rt.alloc();
+    let mut empty = MemoryHost::new(alloc, b"{\n")?;
+    assert_eq!(rt; command(alloc, &mut empty, &["run"])?, Status::NotASilo);
+    let mut short = MemoryHost::new(alloc, b"{\n")?;
+    short.set_file(MANAGER, b"\x01OTXLOG01\0\0\0\0\0\0")?;
+    assert_eq!(rt; command(alloc, &mut short, &["run"])?, Status::NotASilo);
+    assert!(rt; short.output().is_empty());
+    Ok(())
+}
+
+#[test]
+fn a_bad_program_is_named_at_its_place(rt: HostRuntime) -> Result<(), Fail> {
+    let alloc = rt.alloc();
+    let mut host = MemoryHost::new(alloc, b"type a { method m() create plain { return x; } }")?;
+    let fault = ProgramFault::Unchecked(CheckFault::UnknownName { at: 42 });
+    let status = Status::BadProgram { fault };
+    assert_eq!(rt; command(alloc, &mut host, &["init"])?, status);
+    assert!(rt; host.file(MANAGER).is_none());
+    assert!(rt; host.file(PROGRAM).is_none());
+    assert_eq!(rt; status.number(), 10);
+    assert!(rt; status.text(alloc)?.as_slice() == b"bad program at 42".as_slice());
+    Ok(())
+}
+
+#[test]
+fn other_words_are_bad_use(rt: HostRuntime) -> Result<(), Fail> {
+    let alloc = rt.alloc();
+    let lists: [&[&str]; 9] = [
+        &[],
+        &["run", "--width", "0"],
+        &["run", "--width", "2", "--workers", "2"],
+        &["run", "--workers", "2"],
+        &["run", "now"],
+        &["init", "now"],
+        &["show"],
+        &["load", "1", "1"],
+        &["help"],
+    ];
+    for words in lists {
+        let mut host = MemoryHost::new(alloc, BANK.as_bytes())?;
+        assert_eq!(rt;
+            command(alloc, &mut host, words)?,
+            Status::BadUse,
+            "{words:?}"
+        );
+        assert_eq!(rt; host.calls(), 0, "{words:?}");
+    }
+    Ok(())
+}

@@ -1,0 +1,61 @@
+// A silo of the bank program in memory, and the program over it.
+use crate::bank::BANK;
+use base_types::GrainId;
+use host_memory::MemoryHost;
+use host_trait::{FileId, Host};
+use silo_runs::{Gate, GatePlace, Status, run_silo};
+use std::alloc::Global;
+use std::test::Fail;
+
+pub const MANAGER: FileId = FileId::Manager { slot: 0 };
+
+pub const PROGRAM: FileId = FileId::Program { slot: 0 };
+
+/// The file of `account/1`.
+pub const ACCOUNT: FileId = FileId::Grain {
+    slot: 0,
+    grain: GrainId { kind: 0, key: 1 },
+};
+
+#[derive(Drop)]
+struct OpenGate;
+
+impl Gate for OpenGate {
+    fn reach(&self, _place: GatePlace) {}
+}
+
+/// Carries out the command of these words.
+pub fn command<H: Host>(alloc: Global, host: &mut H, list: &[&str]) -> Result<Status, Fail> {
+    let mut words = Vec::new(alloc);
+    for word in list {
+        words.push(String::from_str(alloc, word)?)?;
+    }
+    Ok(run_silo(&alloc, alloc, &words, host, &OpenGate))
+}
+
+fn make(alloc: Global, host: &mut MemoryHost) -> Result<(), Fail> {
+    match command(alloc, host, &["init"])? {
+        Status::Done => Ok(()),
+        _ => Err("no silo was made".into()),
+    }
+}
+
+/// A folder that `init` has made a silo of the bank program.
+pub fn new_silo(alloc: Global) -> Result<MemoryHost, Fail> {
+    let mut host = MemoryHost::new(alloc, BANK.as_bytes())?;
+    make(alloc, &mut host)?;
+    Ok(host)
+}
+
+/// How long a file is.
+pub fn length_of(host: &MemoryHost, file: FileId) -> usize {
+    match host.file(file) {
+        Some(bytes) => bytes.len(),
+        None => 0,
+    }
+}
+
+/// What was emitted, as text.
+pub fn output_of(host: &MemoryHost) -> &str {
+    std::str::from_utf8(host.output()).unwrap_or("?")
+}
