@@ -1,5 +1,5 @@
 -- The balances that the tests open with may be.
-use Rattle.std.proofs.Common.{◌≡◌, ℕ, zero, suc, List, [], ◌∷◌, ◌++◌, Bool, true, false, refl, subst, get_or, Some, None, ◌<◌}
+use Rattle.std.proofs.Common.{◌≡◌, ℕ, zero, suc, List, [], ◌∷◌, ◌++◌, Bool, true, false, refl, subst, get_or, Some}
 use Rattle.std.specs.Prelude.{if◌then◌else◌, ℤ, pos}
 use Rattle.silo_nodes.specs.Packets.{same_grain}
 use Rattle.silo_nodes.specs.Node.{is_balance}

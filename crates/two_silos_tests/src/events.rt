@@ -1,6 +1,6 @@
-use crate::openings::{account, openings};
-use base_types::List;
-use silo_nodes::{NodeEntry, Shift};
+use crate::openings::{PAYMENT, TWICE, account, openings, parts};
+use crate::plain::Move;
+use silo_nodes::NodeEntry;
 use std::alloc::{AllocError, Global};
 use std::test::Fail;
 use two_silos::{Summary, World, WorldEvent, check};
@@ -20,27 +20,202 @@ enum Step {
 
 use Step::{Deliver, Nudge, NudgeCoordinator, Pay, Restart, RestartCoordinator, Twice};
 
-// The start of a payment: its lists of shifts.
-fn payment(key: u32, alloc: Global) -> Result<WorldEvent, AllocError> {
-    let paying = vec![in alloc; shift(0, -3)]?;
-    let paid = vec![in alloc; shift(key, 0), shift(1, 3)]?;
-    let parts = vec![in alloc; List::from_vec(paying), List::from_vec(paid)]?;
-    Ok(WorldEvent::Start {
-        parts: List::from_vec(parts),
-    })
+// Events of a world of two participants, and what is seen of it then: packets, commits, pending ones, the balances of account
+// 0 of participant 0 and of account 1 of participant 1, and the logs of both in letters: 'p' prepared, 'c' done as committed,
+// 'a' as aborted.
+struct Row {
+    name: &'static str,
+    steps: &'static [Step],
+    packets: u64,
+    commits: usize,
+    pending: u64,
+    paying: i64,
+    paid: i64,
+    first: &'static str,
+    second: &'static str,
 }
 
-fn shift(key: u32, delta: i64) -> Shift {
-    Shift {
-        grain: account(key),
-        delta,
-    }
-}
+const ROWS: [Row; 9] = [
+    Row {
+        name: "a coordinator that restarts before it decides",
+        steps: &[
+            Pay,
+            Deliver(0),
+            Deliver(1),
+            Deliver(2),
+            RestartCoordinator,
+            Deliver(3),
+            Nudge(0),
+            Deliver(5),
+            Deliver(4),
+            Deliver(6),
+            Deliver(0),
+        ],
+        packets: 7,
+        commits: 0,
+        pending: 0,
+        paying: 10,
+        paid: 10,
+        first: "pa",
+        second: "pa",
+    },
+    Row {
+        name: "a payment, with one packet twice",
+        steps: &[
+            Pay,
+            Deliver(0),
+            Deliver(1),
+            Deliver(2),
+            Deliver(3),
+            Deliver(4),
+            Deliver(4),
+            Deliver(5),
+        ],
+        packets: 6,
+        commits: 1,
+        pending: 0,
+        paying: 7,
+        paid: 13,
+        first: "pc",
+        second: "pc",
+    },
+    Row {
+        name: "prepared at one node, restarts, a late vote, a repeated decision",
+        steps: &[
+            Pay,
+            Deliver(0),
+            RestartCoordinator,
+            Restart(0),
+            Deliver(2),
+            Deliver(3),
+            Deliver(3),
+            Deliver(1),
+            Deliver(4),
+            Deliver(5),
+            Deliver(0),
+            Deliver(2),
+        ],
+        packets: 7,
+        commits: 0,
+        pending: 0,
+        paying: 10,
+        paid: 10,
+        first: "pa",
+        second: "pa",
+    },
+    Row {
+        name: "two transactions on one grain",
+        steps: &[
+            Pay,
+            Pay,
+            Deliver(0),
+            Deliver(2),
+            Deliver(5),
+            Deliver(6),
+            Deliver(1),
+            Deliver(4),
+            Deliver(8),
+            Deliver(9),
+            Deliver(10),
+            Deliver(3),
+            Deliver(11),
+            Deliver(12),
+        ],
+        packets: 13,
+        commits: 1,
+        pending: 0,
+        paying: 7,
+        paid: 13,
+        first: "pc",
+        second: "pcpa",
+    },
+    Row {
+        name: "a decision before its request",
+        steps: &[
+            Pay,
+            Pay,
+            Deliver(0),
+            Deliver(2),
+            Deliver(5),
+            Deliver(7),
+            Deliver(3),
+        ],
+        packets: 9,
+        commits: 0,
+        pending: 1,
+        paying: 10,
+        paid: 10,
+        first: "p",
+        second: "p",
+    },
+    Row {
+        name: "a nudge for the votes that are left",
+        steps: &[Pay, Deliver(0), Deliver(2), NudgeCoordinator, Deliver(3)],
+        packets: 5,
+        commits: 0,
+        pending: 1,
+        paying: 10,
+        paid: 10,
+        first: "p",
+        second: "p",
+    },
+    Row {
+        name: "a commit is told after a restart",
+        steps: &[
+            Pay,
+            Deliver(0),
+            Deliver(1),
+            Deliver(2),
+            Deliver(3),
+            RestartCoordinator,
+            Nudge(1),
+            Deliver(6),
+            Deliver(7),
+        ],
+        packets: 8,
+        commits: 1,
+        pending: 0,
+        paying: 10,
+        paid: 13,
+        first: "p",
+        second: "pc",
+    },
+    Row {
+        name: "numbers of nothing that is there",
+        steps: &[
+            Deliver(0),
+            Pay,
+            Deliver(2),
+            Deliver(4294967295),
+            Nudge(2),
+            Nudge(255),
+            Restart(255),
+        ],
+        packets: 2,
+        commits: 0,
+        pending: 1,
+        paying: 10,
+        paid: 10,
+        first: "",
+        second: "",
+    },
+    Row {
+        name: "a grain twice in one list",
+        steps: &[Twice],
+        packets: 0,
+        commits: 0,
+        pending: 0,
+        paying: 10,
+        paid: 10,
+        first: "",
+        second: "",
+    },
+];
 
 fn event(step: Step, alloc: Global) -> Result<WorldEvent, AllocError> {
     match step {
-        Pay => payment(0, alloc),
-        Twice => payment(1, alloc),
+        Pay => start(&PAYMENT, alloc),
+        Twice => start(&TWICE, alloc),
         Deliver(packet) => Ok(WorldEvent::Deliver { packet }),
         NudgeCoordinator => Ok(WorldEvent::NudgeCoordinator),
         Nudge(node) => Ok(WorldEvent::Nudge { node }),
@@ -49,178 +224,79 @@ fn event(step: Step, alloc: Global) -> Result<WorldEvent, AllocError> {
     }
 }
 
-// A log in letters: 'p' prepared, 'c' done as committed, 'a' as aborted; '-' where the participant isn't there.
-fn letters(world: &World, node: u8, alloc: Global) -> Result<String, AllocError> {
-    let mut text = String::new(alloc);
-    let Some(log) = world.log(node) else {
-        text.push('-')?;
-        return Ok(text);
-    };
-    for entry in log {
-        text.push(letter(entry))?;
-    }
-    Ok(text)
+fn start(moves: &[Move], alloc: Global) -> Result<WorldEvent, AllocError> {
+    let parts = parts(moves, 2, alloc)?;
+    Ok(WorldEvent::Start { parts })
 }
 
-fn letter(entry: &NodeEntry) -> char {
+fn happen(world: &mut World, steps: &[Step], alloc: Global) -> Result<(), AllocError> {
+    for step in steps {
+        world.step(event(*step, alloc)?)?;
+    }
+    Ok(())
+}
+
+fn letter(entry: &NodeEntry) -> u8 {
     match entry {
-        NodeEntry::Prepared { .. } => 'p',
-        NodeEntry::Done { commit, .. } => { if *commit { 'c' } else { 'a' } }
+        NodeEntry::Prepared { .. } => b'p',
+        NodeEntry::Done { commit, .. } => { if *commit { b'c' } else { b'a' } }
     }
 }
 
-// What is seen of a world: packets, commits, pending ones, the balances of account 0 of participant 0 and of account 1 of
-// participant 1, and the logs of both.
-fn seen(world: &World, alloc: Global) -> Result<String, AllocError> {
-    let packets = world.packets();
-    let commits = world.commits().len();
-    let pending = world.pending();
-    let paying = world.balance(0, account(0)).unwrap_or(-1);
-    let paid = world.balance(1, account(1)).unwrap_or(-1);
-    let first = letters(world, 0, alloc)?;
-    let second = letters(world, 1, alloc)?;
-    format!(in alloc;
-        "{packets} packets, {commits} commits, {pending} pending, {paying} and {paid}, {first}/{second}"
-    )
+// Whether the participant is there, with a log of these letters.
+fn has_log(world: &World, node: u8, letters: &[u8]) -> bool {
+    let Some(log) = world.log(node) else {
+        return false;
+    };
+    let mut at = 0usize;
+    for entry in log {
+        if letters.get(at).copied() != Some(letter(entry)) {
+            return false;
+        }
+        at = at.wrapping_add(1);
+    }
+    at == letters.len()
+}
+
+fn is_seen(world: &World, row: &Row) -> bool {
+    world.packets() == row.packets
+        && world.commits().len() == row.commits
+        && world.pending() == row.pending
+        && world.balance(0, account(0)) == Some(row.paying)
+        && world.balance(1, account(1)) == Some(row.paid)
+        && has_log(world, 0, row.first.as_bytes())
+        && has_log(world, 1, row.second.as_bytes())
+}
+
+// Whether there is no third participant, and no account 3.
+fn has_no_more(world: &World) -> bool {
+    world.log(2).is_none()
+        && world.balance(2, account(0)).is_none()
+        && world.balance(0, account(3)).is_none()
+}
+
+// Whether the row leads where it should.
+fn leads(row: &Row, alloc: Global) -> Result<bool, AllocError> {
+    let openings = openings(2, alloc)?;
+    let mut world = World::new(openings, alloc)?;
+    happen(&mut world, row.steps, alloc)?;
+    Ok(is_seen(&world, row) && has_no_more(&world))
 }
 
 #[test]
 fn lists_of_events_lead_where_they_should(rt: HostRuntime) -> Result<(), Fail> {
-    let alloc = rt.alloc();
-    let rows: [(&str, &[Step], &str); 9] = [
-        (
-            "a coordinator that restarts before it decides",
-            &[
-                Pay,
-                Deliver(0),
-                Deliver(1),
-                Deliver(2),
-                RestartCoordinator,
-                Deliver(3),
-                Nudge(0),
-                Deliver(5),
-                Deliver(4),
-                Deliver(6),
-                Deliver(0),
-            ],
-            "7 packets, 0 commits, 0 pending, 10 and 10, pa/pa",
-        ),
-        (
-            "a payment, with one packet twice",
-            &[
-                Pay,
-                Deliver(0),
-                Deliver(1),
-                Deliver(2),
-                Deliver(3),
-                Deliver(4),
-                Deliver(4),
-                Deliver(5),
-            ],
-            "6 packets, 1 commits, 0 pending, 7 and 13, pc/pc",
-        ),
-        (
-            "prepared at one node, restarts, a late vote, a repeated decision",
-            &[
-                Pay,
-                Deliver(0),
-                RestartCoordinator,
-                Restart(0),
-                Deliver(2),
-                Deliver(3),
-                Deliver(3),
-                Deliver(1),
-                Deliver(4),
-                Deliver(5),
-                Deliver(0),
-                Deliver(2),
-            ],
-            "7 packets, 0 commits, 0 pending, 10 and 10, pa/pa",
-        ),
-        (
-            "two transactions on one grain",
-            &[
-                Pay,
-                Pay,
-                Deliver(0),
-                Deliver(2),
-                Deliver(5),
-                Deliver(6),
-                Deliver(1),
-                Deliver(4),
-                Deliver(8),
-                Deliver(9),
-                Deliver(10),
-                Deliver(3),
-                Deliver(11),
-                Deliver(12),
-            ],
-            "13 packets, 1 commits, 0 pending, 7 and 13, pc/pcpa",
-        ),
-        (
-            "a decision before its request",
-            &[
-                Pay,
-                Pay,
-                Deliver(0),
-                Deliver(2),
-                Deliver(5),
-                Deliver(7),
-                Deliver(3),
-            ],
-            "9 packets, 0 commits, 1 pending, 10 and 10, p/p",
-        ),
-        (
-            "a nudge for the votes that are left",
-            &[Pay, Deliver(0), Deliver(2), NudgeCoordinator, Deliver(3)],
-            "5 packets, 0 commits, 1 pending, 10 and 10, p/p",
-        ),
-        (
-            "a commit is told after a restart",
-            &[
-                Pay,
-                Deliver(0),
-                Deliver(1),
-                Deliver(2),
-                Deliver(3),
-                RestartCoordinator,
-                Nudge(1),
-                Deliver(6),
-                Deliver(7),
-            ],
-            "8 packets, 1 commits, 0 pending, 10 and 13, p/pc",
-        ),
-        (
-            "numbers of nothing that is there",
-            &[
-                Deliver(0),
-                Pay,
-                Deliver(2),
-                Deliver(4294967295),
-                Nudge(2),
-                Nudge(255),
-                Restart(255),
-            ],
-            "2 packets, 0 commits, 1 pending, 10 and 10, /",
-        ),
-        (
-            "a grain twice in one list",
-            &[Twice],
-            "0 packets, 0 commits, 0 pending, 10 and 10, /",
-        ),
-    ];
-    for (name, steps, expected) in &rows {
-        let mut world = World::new(openings(2, alloc)?, alloc)?;
-        for step in *steps {
-            world.step(event(*step, alloc)?)?;
-        }
-        let text = seen(&world, alloc)?;
-        assert_eq!(rt; text.as_str(), *expected, "{name}");
-        assert!(rt; world.log(2).is_none(), "{name}");
-        assert_eq!(rt; world.balance(2, account(0)), None, "{name}");
-        assert_eq!(rt; world.balance(0, account(3)), None, "{name}");
+    for row in &ROWS {
+        assert!(rt; leads(row, rt.alloc())?, "{}", row.name);
     }
     Ok(())
+}
+
+// Whether each of so many starts is committed or aborted, and the money is all there.
+fn is_whole(summary: &Summary, starts: u64) -> bool {
+    summary.requests == starts
+        && summary.total == 64000
+        && summary.undecided == 0
+        && summary.aborted.checked_add(summary.committed) == Some(starts)
 }
 
 #[test]
@@ -232,10 +308,7 @@ fn checks_sum_up_as_published(rt: HostRuntime) -> Result<(), Fail> {
         "{\"aborted\":0,\"committed\":0,\"requests\":0,\"total\":64000,\"undecided\":0}\n"
     );
     let first = check(1000, 7, alloc)?;
-    assert_eq!(rt; first, check(1000, 7, alloc)?);
-    assert_eq!(rt; first.requests, 1000);
-    assert_eq!(rt; first.total, 64000);
-    assert_eq!(rt; first.undecided, 0);
-    assert_eq!(rt; first.aborted.checked_add(first.committed), Some(1000));
+    assert!(rt; first == check(1000, 7, alloc)?);
+    assert!(rt; is_whole(&first, 1000), "1000 starts");
     Ok(())
 }

@@ -1,68 +1,271 @@
 ghost use Rattle.std.specs.Prelude.{IfOk};
 ghost use Rattle.silo_nodes.specs.Participants.{IsApart};
 
-use crate::openings::{account, participant, request};
+use crate::openings::{PAYMENT, account, participant, parts, request};
 use base_types::{GrainId, List};
-use silo_nodes::{Coordinator, Packet, Shift, TxnId};
+use silo_nodes::{Coordinator, Packet, Participant, TxnId};
 use std::alloc::{AllocError, Global};
 use std::test::Fail;
 
-// The packets in letters, each with its node: 'p' a request, 'y' and 'n' votes, 'c' and 'a' decisions, 'q' a question.
-fn letters(packets: &[Packet], alloc: Global) -> Result<String, AllocError> {
-    let mut text = String::new(alloc);
+fn letter(packet: &Packet) -> (u8, u8) {
+    match packet {
+        Packet::Prepare { to, .. } => (b'p', *to),
+        Packet::Vote { from, yes, .. } => (if *yes { b'y' } else { b'n' }, *from),
+        Packet::Decision { to, commit, .. } => (if *commit { b'c' } else { b'a' }, *to),
+        Packet::Ask { from, .. } => (b'q', *from),
+    }
+}
+
+// Whether the packets are these in letters, each with its node: 'p' a request, 'y' and 'n' votes, 'c' and 'a' decisions, 'q' a
+// question.
+fn are(packets: &[Packet], letters: &[u8]) -> bool {
+    let mut at = 0usize;
     for packet in packets {
         let (letter, node) = letter(packet);
-        text.push(letter)?;
-        text.push(if node == 0 { '0' } else { '1' })?;
+        if letters.get(at).copied() != Some(letter) {
+            return false;
+        }
+        if letters.get(at.wrapping_add(1)).copied() != Some(node.wrapping_add(b'0')) {
+            return false;
+        }
+        at = at.wrapping_add(2);
     }
-    Ok(text)
+    at == letters.len()
 }
 
-fn letter(packet: &Packet) -> (char, u8) {
-    match packet {
-        Packet::Prepare { to, .. } => ('p', *to),
-        Packet::Vote { from, yes, .. } => (if *yes { 'y' } else { 'n' }, *from),
-        Packet::Decision { to, commit, .. } => (if *commit { 'c' } else { 'a' }, *to),
-        Packet::Ask { from, .. } => ('q', *from),
-    }
+// What a coordinator does: `Open` is a new one in its place, `Start` starts a payment at so many of its participants, `Hears`
+// asks for the replies to a vote and hears it then, and the next three receive a packet.
+#[derive(Clone, Copy)]
+enum Act {
+    Open,
+    Start(u8),
+    Hears(TxnId, u8, bool),
+    Vote(TxnId, u8, bool),
+    Question(TxnId, u8),
+    Decision(TxnId, u8, bool),
+    Nudge,
+    Restart,
 }
 
-fn txn(epoch: u64, number: u64) -> TxnId {
-    TxnId { epoch, number }
+use Act::{Decision, Hears, Nudge, Open, Question, Restart, Start, Vote};
+
+// An act of a coordinator, the packets that it sends, and what is seen of it then.
+struct Row {
+    name: &'static str,
+    act: Act,
+    sent: &'static str,
+    commits: usize,
+    pending: u64,
+    epoch: u64,
+    number: u64,
 }
 
-fn vote(txn: TxnId, from: u8, yes: bool) -> Packet {
-    Packet::Vote { txn, from, yes }
-}
+const FIRST: TxnId = TxnId {
+    epoch: 0,
+    number: 1,
+};
 
-fn decision(txn: TxnId, to: u8, commit: bool) -> Packet {
-    Packet::Decision { txn, to, commit }
-}
+const SECOND: TxnId = TxnId {
+    epoch: 0,
+    number: 2,
+};
 
-// One list of one shift for each of two participants.
-fn parts(alloc: Global) -> Result<List<List<Shift>>, AllocError> {
-    let first = vec![in alloc;
-        Shift {
-            grain: account(0),
-            delta: -3
-        },
-    ]?;
-    let second = vec![in alloc;
-        Shift {
-            grain: account(1),
-            delta: 3
-        },
-    ]?;
-    let made = vec![in alloc; List::from_vec(first), List::from_vec(second)]?;
-    Ok(List::from_vec(made))
-}
+const RESTARTED: TxnId = TxnId {
+    epoch: 1,
+    number: 1,
+};
+
+const UNKNOWN: TxnId = TxnId {
+    epoch: 7,
+    number: 7,
+};
+
+const LAST: TxnId = TxnId {
+    epoch: 4294967295,
+    number: 4294967295,
+};
+
+const ROWS: [Row; 19] = [
+    Row {
+        name: "a start",
+        act: Start(2),
+        sent: "p0p1",
+        commits: 0,
+        pending: 1,
+        epoch: 0,
+        number: 1,
+    },
+    Row {
+        name: "the first yes",
+        act: Vote(FIRST, 0, true),
+        sent: "",
+        commits: 0,
+        pending: 1,
+        epoch: 0,
+        number: 1,
+    },
+    Row {
+        name: "a question of a pending one",
+        act: Question(FIRST, 1),
+        sent: "",
+        commits: 0,
+        pending: 1,
+        epoch: 0,
+        number: 1,
+    },
+    Row {
+        name: "the last yes",
+        act: Vote(FIRST, 1, true),
+        sent: "c0c1",
+        commits: 1,
+        pending: 0,
+        epoch: 0,
+        number: 1,
+    },
+    Row {
+        name: "a late yes",
+        act: Vote(FIRST, 1, true),
+        sent: "c1",
+        commits: 1,
+        pending: 0,
+        epoch: 0,
+        number: 1,
+    },
+    Row {
+        name: "a late no",
+        act: Vote(FIRST, 1, false),
+        sent: "",
+        commits: 1,
+        pending: 0,
+        epoch: 0,
+        number: 1,
+    },
+    Row {
+        name: "a question of a commit",
+        act: Question(FIRST, 0),
+        sent: "c0",
+        commits: 1,
+        pending: 0,
+        epoch: 0,
+        number: 1,
+    },
+    Row {
+        name: "a yes of an unknown one",
+        act: Vote(UNKNOWN, 1, true),
+        sent: "a1",
+        commits: 1,
+        pending: 0,
+        epoch: 0,
+        number: 1,
+    },
+    Row {
+        name: "a packet for participants",
+        act: Decision(FIRST, 0, true),
+        sent: "",
+        commits: 1,
+        pending: 0,
+        epoch: 0,
+        number: 1,
+    },
+    Row {
+        name: "nothing to remind of",
+        act: Nudge,
+        sent: "",
+        commits: 1,
+        pending: 0,
+        epoch: 0,
+        number: 1,
+    },
+    Row {
+        name: "another coordinator",
+        act: Open,
+        sent: "",
+        commits: 0,
+        pending: 0,
+        epoch: 0,
+        number: 0,
+    },
+    Row {
+        name: "one without parts commits at once",
+        act: Start(0),
+        sent: "",
+        commits: 1,
+        pending: 0,
+        epoch: 0,
+        number: 1,
+    },
+    Row {
+        name: "a third coordinator",
+        act: Open,
+        sent: "",
+        commits: 0,
+        pending: 0,
+        epoch: 0,
+        number: 0,
+    },
+    Row {
+        name: "its start",
+        act: Start(2),
+        sent: "p0p1",
+        commits: 0,
+        pending: 1,
+        epoch: 0,
+        number: 1,
+    },
+    Row {
+        name: "a yes of participant 1",
+        act: Hears(FIRST, 1, true),
+        sent: "",
+        commits: 0,
+        pending: 1,
+        epoch: 0,
+        number: 1,
+    },
+    Row {
+        name: "the other one is reminded",
+        act: Nudge,
+        sent: "p0",
+        commits: 0,
+        pending: 1,
+        epoch: 0,
+        number: 1,
+    },
+    Row {
+        name: "a restart",
+        act: Restart,
+        sent: "",
+        commits: 0,
+        pending: 0,
+        epoch: 1,
+        number: 0,
+    },
+    Row {
+        name: "a start after it",
+        act: Start(2),
+        sent: "p0p1",
+        commits: 0,
+        pending: 1,
+        epoch: 1,
+        number: 1,
+    },
+    Row {
+        name: "a no ends it",
+        act: Vote(RESTARTED, 0, false),
+        sent: "a0a1",
+        commits: 0,
+        pending: 0,
+        epoch: 1,
+        number: 1,
+    },
+];
 
 // A start, where there is a number for it.
 fn start(
     coordinator: &mut Coordinator,
-    parts: List<List<Shift>>,
+    nodes: u8,
     alloc: Global,
 ) -> Result<List<Packet>, AllocError> {
+    let parts = parts(&PAYMENT, nodes, alloc)?;
     if parts.len() > 8 || coordinator.number() >= 4294967295 {
         return Ok(List::new(alloc));
     }
@@ -76,102 +279,50 @@ fn restart(coordinator: &mut Coordinator) {
     }
 }
 
-#[test]
-fn a_coordinator_decides_by_its_votes(rt: HostRuntime) -> Result<(), Fail> {
-    let alloc = rt.alloc();
-    let mut coordinator = Coordinator::new(alloc);
-    let sent = start(&mut coordinator, parts(alloc)?, alloc)?;
-    assert_eq!(rt; letters(sent.as_slice(), alloc)?.as_str(), "p0p1");
-    let first = txn(0, 1);
-    let rows = [
-        ("the first yes", vote(first, 0, true), "", 0, 1),
-        (
-            "a question of a pending one",
-            Packet::Ask {
-                txn: first,
-                from: 1,
-            },
-            "",
-            0,
-            1,
-        ),
-        ("the last yes", vote(first, 1, true), "c0c1", 1, 0),
-        ("a late yes", vote(first, 1, true), "c1", 1, 0),
-        ("a late no", vote(first, 1, false), "", 1, 0),
-        (
-            "a question of a commit",
-            Packet::Ask {
-                txn: first,
-                from: 0,
-            },
-            "c0",
-            1,
-            0,
-        ),
-        (
-            "a yes of an unknown one",
-            vote(txn(7, 7), 1, true),
-            "a1",
-            1,
-            0,
-        ),
-        (
-            "a packet for participants",
-            decision(first, 0, true),
-            "",
-            1,
-            0,
-        ),
-    ];
-    for (name, packet, expected, commits, pending) in &rows {
-        let sent = coordinator.receive(packet)?;
-        assert_eq!(rt;
-            letters(sent.as_slice(), alloc)?.as_str(),
-            *expected,
-            "{name}"
-        );
-        assert_eq!(rt; coordinator.commits().len(), *commits, "{name}");
-        assert_eq!(rt; coordinator.pending(), *pending, "{name}");
+fn hears(coordinator: &mut Coordinator, vote: &Packet) -> Result<List<Packet>, AllocError> {
+    let sent = coordinator.replies(vote)?;
+    coordinator.hear(vote)?;
+    Ok(sent)
+}
+
+fn acts(
+    coordinator: &mut Coordinator,
+    act: Act,
+    alloc: Global,
+) -> Result<List<Packet>, AllocError> {
+    match act {
+        Open => *coordinator = Coordinator::new(alloc),
+        Restart => restart(coordinator),
+        Start(nodes) => return start(coordinator, nodes, alloc),
+        Nudge => return coordinator.nudge(),
+        Hears(txn, from, yes) => return hears(coordinator, &Packet::Vote { txn, from, yes }),
+        Vote(txn, from, yes) => return coordinator.receive(&Packet::Vote { txn, from, yes }),
+        Question(txn, from) => return coordinator.receive(&Packet::Ask { txn, from }),
+        Decision(txn, to, commit) => {
+            return coordinator.receive(&Packet::Decision { txn, to, commit });
+        }
     }
-    assert_eq!(rt; coordinator.epoch(), 0);
-    assert_eq!(rt; coordinator.number(), 1);
-    assert_eq!(rt;
-        letters(coordinator.nudge()?.as_slice(), alloc)?.as_str(),
-        ""
-    );
-    Ok(())
+    Ok(List::new(alloc))
+}
+
+// Whether the coordinator does as the row says.
+fn does(coordinator: &mut Coordinator, row: &Row, alloc: Global) -> Result<bool, AllocError> {
+    let sent = acts(coordinator, row.act, alloc)?;
+    Ok(
+        are(sent.as_slice(), row.sent.as_bytes())
+            && coordinator.commits().len() == row.commits
+            && coordinator.pending() == row.pending
+            && coordinator.epoch() == row.epoch
+            && coordinator.number() == row.number,
+    )
 }
 
 #[test]
-fn a_coordinator_keeps_its_commits(rt: HostRuntime) -> Result<(), Fail> {
-    let alloc = rt.alloc();
-    let mut coordinator = Coordinator::new(alloc);
-    start(&mut coordinator, List::new(alloc), alloc)?;
-    assert_eq!(rt;
-        coordinator.commits().len(),
-        1,
-        "one without parts commits at once"
-    );
-    let mut coordinator = Coordinator::new(alloc);
-    start(&mut coordinator, parts(alloc)?, alloc)?;
-    let yes = vote(txn(0, 1), 1, true);
-    assert_eq!(rt; coordinator.replies(&yes)?.len(), 0);
-    coordinator.hear(&yes)?;
-    assert_eq!(rt;
-        letters(coordinator.nudge()?.as_slice(), alloc)?.as_str(),
-        "p0"
-    );
-    restart(&mut coordinator);
-    assert_eq!(rt; coordinator.pending(), 0);
-    assert_eq!(rt; coordinator.epoch(), 1);
-    let sent = start(&mut coordinator, parts(alloc)?, alloc)?;
-    assert_eq!(rt; letters(sent.as_slice(), alloc)?.as_str(), "p0p1");
-    let sent = coordinator.receive(&vote(txn(1, 1), 0, false))?;
-    assert_eq!(rt;
-        letters(sent.as_slice(), alloc)?.as_str(),
-        "a0a1",
-        "a no ends it"
-    );
+fn a_coordinator_does_as_the_rows_say(rt: HostRuntime) -> Result<(), Fail> {
+    let mut coordinator = Coordinator::new(rt.alloc());
+    for row in &ROWS {
+        assert!(rt; does(&mut coordinator, row, rt.alloc())?, "{}", row.name);
+    }
     Ok(())
 }
 
@@ -185,6 +336,124 @@ enum Got {
 
 use Got::{Decided, Other, Request};
 
+// What participant 0 gets, the packets that it sends, and what is seen of it then: the lines of its log and the balance of
+// account 0.
+struct Get {
+    name: &'static str,
+    got: Got,
+    sent: &'static str,
+    lines: usize,
+    balance: i64,
+}
+
+const GETS: [Get; 15] = [
+    Get {
+        name: "a request",
+        got: Request(FIRST, 0, -3),
+        sent: "y0",
+        lines: 1,
+        balance: 10,
+    },
+    Get {
+        name: "again",
+        got: Request(FIRST, 0, -3),
+        sent: "y0",
+        lines: 1,
+        balance: 10,
+    },
+    Get {
+        name: "of the same grain",
+        got: Request(SECOND, 0, 1),
+        sent: "n0",
+        lines: 1,
+        balance: 10,
+    },
+    Get {
+        name: "of no grain",
+        got: Request(SECOND, 4294967295, 1),
+        sent: "n0",
+        lines: 1,
+        balance: 10,
+    },
+    Get {
+        name: "below nothing",
+        got: Request(SECOND, 1, -11),
+        sent: "n0",
+        lines: 1,
+        balance: 10,
+    },
+    Get {
+        name: "beyond all",
+        got: Request(SECOND, 1, 9223372036854775807),
+        sent: "n0",
+        lines: 1,
+        balance: 10,
+    },
+    Get {
+        name: "for another one",
+        got: Other(SECOND, 1, 1),
+        sent: "",
+        lines: 1,
+        balance: 10,
+    },
+    Get {
+        name: "of an unknown one",
+        got: Decided(SECOND, true),
+        sent: "",
+        lines: 1,
+        balance: 10,
+    },
+    Get {
+        name: "a commit",
+        got: Decided(FIRST, true),
+        sent: "",
+        lines: 2,
+        balance: 7,
+    },
+    Get {
+        name: "a repeated one",
+        got: Decided(FIRST, false),
+        sent: "",
+        lines: 2,
+        balance: 7,
+    },
+    Get {
+        name: "a late request",
+        got: Request(FIRST, 0, -3),
+        sent: "",
+        lines: 2,
+        balance: 7,
+    },
+    Get {
+        name: "the last numbers",
+        got: Request(LAST, 0, 9223372036854775800),
+        sent: "y0",
+        lines: 3,
+        balance: 7,
+    },
+    Get {
+        name: "and an abort",
+        got: Decided(LAST, false),
+        sent: "",
+        lines: 4,
+        balance: 7,
+    },
+    Get {
+        name: "down to nothing",
+        got: Request(RESTARTED, 0, -7),
+        sent: "y0",
+        lines: 5,
+        balance: 7,
+    },
+    Get {
+        name: "and a commit",
+        got: Decided(RESTARTED, true),
+        sent: "",
+        lines: 6,
+        balance: 0,
+    },
+];
+
 fn packet(got: Got, alloc: Global) -> Result<Packet, AllocError>
     ensures { IfOk result (λ made. IsApart made) }
 {
@@ -195,69 +464,46 @@ fn packet(got: Got, alloc: Global) -> Result<Packet, AllocError>
     }
 }
 
+// Whether the participant does as the row says.
+fn gets(node: &mut Participant, row: &Get, alloc: Global) -> Result<bool, AllocError> {
+    let packet = packet(row.got, alloc)?;
+    let sent = node.receive(&packet)?;
+    Ok(
+        are(sent.as_slice(), row.sent.as_bytes())
+            && node.log().len() == row.lines
+            && node.balance(account(0)) == Some(row.balance),
+    )
+}
+
 #[test]
 fn a_participant_votes_and_logs(rt: HostRuntime) -> Result<(), Fail> {
-    let alloc = rt.alloc();
-    let mut node = participant(0, alloc)?;
-    let first = txn(0, 1);
-    let second = txn(0, 2);
-    let last = txn(4294967295, 4294967295);
-    let rows = [
-        ("a request", Request(first, 0, -3), "y0", 1, 10),
-        ("again", Request(first, 0, -3), "y0", 1, 10),
-        ("of the same grain", Request(second, 0, 1), "n0", 1, 10),
-        ("of no grain", Request(second, 4294967295, 1), "n0", 1, 10),
-        ("below nothing", Request(second, 1, -11), "n0", 1, 10),
-        (
-            "beyond all",
-            Request(second, 1, 9223372036854775807),
-            "n0",
-            1,
-            10,
-        ),
-        ("for another one", Other(second, 1, 1), "", 1, 10),
-        ("of an unknown one", Decided(second, true), "", 1, 10),
-        ("a commit", Decided(first, true), "", 2, 7),
-        ("a repeated one", Decided(first, false), "", 2, 7),
-        ("a late request", Request(first, 0, -3), "", 2, 7),
-        (
-            "the last numbers",
-            Request(last, 0, 9223372036854775800),
-            "y0",
-            3,
-            7,
-        ),
-        ("and an abort", Decided(last, false), "", 4, 7),
-        ("down to nothing", Request(txn(1, 1), 0, -7), "y0", 5, 7),
-        ("and a commit", Decided(txn(1, 1), true), "", 6, 0),
-    ];
-    for (name, got, expected, lines, balance) in &rows {
-        let sent = node.receive(&packet(*got, alloc)?)?;
-        assert_eq!(rt;
-            letters(sent.as_slice(), alloc)?.as_str(),
-            *expected,
-            "{name}"
-        );
-        assert_eq!(rt; node.log().len(), *lines, "{name}");
-        assert_eq!(rt; node.balance(account(0)), Some(*balance), "{name}");
+    let mut node = participant(0, rt.alloc())?;
+    for row in &GETS {
+        assert!(rt; gets(&mut node, row, rt.alloc())?, "{}", row.name);
     }
-    assert_eq!(rt; node.balance(GrainId { kind: 1, key: 0 }), None);
+    assert!(rt; node.balance(GrainId { kind: 1, key: 0 }).is_none());
     Ok(())
+}
+
+// Whether participant 1 answers a request, learns it, and waits for its decision then. A copy of the request stays as it was.
+fn waits(node: &mut Participant, alloc: Global) -> Result<bool, AllocError> {
+    let asked = packet(Other(FIRST, 0, 5), alloc)?;
+    let copy = asked.copy()?;
+    let sent = node.answers(&asked)?;
+    node.learn(&asked)?;
+    let (letter, to) = letter(&copy);
+    Ok(sent.len() == 1 && node.undecided().len() == 1 && letter == b'p' && to == 1)
+}
+
+fn asks(node: &Participant) -> Result<bool, AllocError> {
+    let sent = node.nudge()?;
+    Ok(are(sent.as_slice(), b"q1"))
 }
 
 #[test]
 fn a_participant_asks_for_what_it_waits_for(rt: HostRuntime) -> Result<(), Fail> {
-    let alloc = rt.alloc();
-    let mut node = participant(1, alloc)?;
-    let asked = packet(Other(txn(0, 1), 0, 5), alloc)?;
-    let copy = asked.copy()?;
-    assert_eq!(rt; node.answers(&asked)?.len(), 1);
-    node.learn(&asked)?;
-    assert_eq!(rt; node.undecided().len(), 1);
-    let sent = node.nudge()?;
-    assert_eq!(rt; letters(sent.as_slice(), alloc)?.as_str(), "q1");
-    let (letter, to) = letter(&copy);
-    assert_eq!(rt; letter, 'p');
-    assert_eq!(rt; to, 1);
+    let mut node = participant(1, rt.alloc())?;
+    assert!(rt; waits(&mut node, rt.alloc())?);
+    assert!(rt; asks(&node)?);
     Ok(())
 }

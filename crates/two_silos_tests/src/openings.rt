@@ -3,9 +3,59 @@ ghost use Rattle.two_silos.specs.World.{IsOpening};
 ghost use Rattle.silo_nodes.specs.Participants.{IsApart};
 ghost use Rattle.two_silos_tests.specs.Openings.{three};
 
+use crate::plain::Move;
 use base_types::{GrainId, List};
 use silo_nodes::{Packet, Participant, Shift, TxnId};
 use std::alloc::{AllocError, Global};
+
+const TXN: TxnId = TxnId {
+    epoch: 0,
+    number: 1,
+};
+
+// A payment of 3 from account 0 of participant 0 to account 1 of participant 1, whose account 0 is moved by nothing.
+pub const PAYMENT: [Move; 3] = [
+    Move {
+        txn: TXN,
+        node: 0,
+        key: 0,
+        delta: -3,
+    },
+    Move {
+        txn: TXN,
+        node: 1,
+        key: 0,
+        delta: 0,
+    },
+    Move {
+        txn: TXN,
+        node: 1,
+        key: 1,
+        delta: 3,
+    },
+];
+
+// The same payment, with account 1 of participant 1 twice.
+pub const TWICE: [Move; 3] = [
+    Move {
+        txn: TXN,
+        node: 0,
+        key: 0,
+        delta: -3,
+    },
+    Move {
+        txn: TXN,
+        node: 1,
+        key: 1,
+        delta: 0,
+    },
+    Move {
+        txn: TXN,
+        node: 1,
+        key: 1,
+        delta: 3,
+    },
+];
 
 // The accounts 0 to 2 of 10, at each of so many participants.
 pub fn openings(nodes: u8, alloc: Global) -> Result<List<List<(GrainId, i64)>>, AllocError>
@@ -24,7 +74,10 @@ pub fn openings(nodes: u8, alloc: Global) -> Result<List<List<(GrainId, i64)>>, 
 pub fn accounts(alloc: Global) -> Result<List<(GrainId, i64)>, AllocError>
     ensures { IfOk result (λ made. made ≡ three) }
 {
-    let made = vec![in alloc; (account(0), 10), (account(1), 10), (account(2), 10)]?;
+    let mut made = Vec::new(alloc);
+    made.push((account(0), 10))?;
+    made.push((account(1), 10))?;
+    made.push((account(2), 10))?;
     Ok(List::from_vec(made))
 }
 
@@ -53,10 +106,34 @@ pub fn request(
 ) -> Result<Packet, AllocError>
     ensures { IfOk result (λ made. IsApart made) }
 {
-    let shifts = vec![in alloc; Shift { grain, delta }]?;
+    let mut shifts = Vec::new(alloc);
+    shifts.push(Shift { grain, delta })?;
     Ok(Packet::Prepare {
         txn,
         to,
         shifts: List::from_vec(shifts),
     })
+}
+
+// The shifts of one participant.
+fn shifts(moves: &[Move], node: u8, alloc: Global) -> Result<List<Shift>, AllocError> {
+    let mut made = Vec::new(alloc);
+    for one in moves {
+        if one.node == node {
+            made.push(Shift {
+                grain: account(one.key),
+                delta: one.delta,
+            })?;
+        }
+    }
+    Ok(List::from_vec(made))
+}
+
+// These moves as a list of shifts for each participant.
+pub fn parts(moves: &[Move], nodes: u8, alloc: Global) -> Result<List<List<Shift>>, AllocError> {
+    let mut made = Vec::new(alloc);
+    for node in 0..nodes {
+        made.push(shifts(moves, node, alloc)?)?;
+    }
+    Ok(List::from_vec(made))
 }

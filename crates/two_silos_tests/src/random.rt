@@ -1,9 +1,7 @@
 ghost use Rattle.std.specs.Prelude.{◌<◌, ◌≤◌};
 
-use crate::openings::{account, openings};
+use crate::openings::{account, openings, parts};
 use crate::plain::{Move, Plain};
-use base_types::List;
-use silo_nodes::Shift;
 use std::alloc::{AllocError, Global};
 use std::test::Fail;
 use two_silos::{World, WorldEvent};
@@ -41,65 +39,78 @@ fn moves(
     Ok(made)
 }
 
-// The shifts of one participant.
-fn shifts(moves: &[Move], node: u8, alloc: Global) -> Result<List<Shift>, AllocError> {
-    let mut made = Vec::new(alloc);
-    for one in moves {
-        if one.node == node {
-            made.push(Shift {
-                grain: account(one.key),
-                delta: one.delta,
-            })?;
-        }
-    }
-    Ok(List::from_vec(made))
+// The world and the plain second implementation, with as many participants.
+#[derive(Drop)]
+struct Pair {
+    world: World,
+    plain: Plain,
+    nodes: u8,
+    number: u64,
 }
 
-// The start of these moves.
-fn start(moves: &[Move], nodes: u8, alloc: Global) -> Result<WorldEvent, AllocError> {
-    let mut parts = Vec::new(alloc);
-    for node in 0..nodes {
-        parts.push(shifts(moves, node, alloc)?)?;
-    }
-    Ok(WorldEvent::Start {
-        parts: List::from_vec(parts),
+fn opened(seed: u64, alloc: Global) -> Result<Pair, AllocError> {
+    let nodes = (2 + seed % 7) as u8;
+    let plain = Plain::new(nodes, 10, alloc);
+    let number = seed;
+    let openings = openings(nodes, alloc)?;
+    let world = World::new(openings, alloc)?;
+    Ok(Pair {
+        world,
+        plain,
+        nodes,
+        number,
     })
 }
 
-// An event happens in both.
-fn happen(
-    world: &mut World,
+// The next random event of the world, which has happened in the plain one already.
+fn draw_event(
     plain: &mut Plain,
     nodes: u8,
+    packets: u64,
     number: &mut u64,
     alloc: Global,
-) -> Result<(), AllocError> {
+) -> Result<WorldEvent, AllocError> {
     let pick = draw(number, 40);
     if pick < 6 {
         let moves = moves(plain, nodes, number, alloc)?;
         plain.start(moves.as_slice())?;
-        return world.step(start(moves.as_slice(), nodes, alloc)?);
+        let parts = parts(moves.as_slice(), nodes, alloc)?;
+        return Ok(WorldEvent::Start { parts });
     }
     if pick < 8 {
         plain.nudge_coordinator()?;
-        return world.step(WorldEvent::NudgeCoordinator);
+        return Ok(WorldEvent::NudgeCoordinator);
     }
     if pick < 10 {
         let node = draw(number, 9) as u8;
         plain.nudge(node)?;
-        return world.step(WorldEvent::Nudge { node });
+        return Ok(WorldEvent::Nudge { node });
     }
     if pick == 10 {
         plain.restart_coordinator();
-        return world.step(WorldEvent::RestartCoordinator);
+        return Ok(WorldEvent::RestartCoordinator);
     }
     if pick == 11 {
         let node = draw(number, 9) as u8;
-        return world.step(WorldEvent::Restart { node });
+        return Ok(WorldEvent::Restart { node });
     }
-    let packet = draw(number, 20 + world.packets().min(4294967275)) as u32;
+    let packet = draw(number, 20 + packets.min(4294967275)) as u32;
     plain.deliver(packet as usize)?;
-    world.step(WorldEvent::Deliver { packet })
+    Ok(WorldEvent::Deliver { packet })
+}
+
+// An event happens in both. Whether they tell the same after it.
+fn happen(pair: &mut Pair, alloc: Global) -> Result<bool, AllocError> {
+    let packets = pair.world.packets();
+    let event = draw_event(
+        &mut pair.plain,
+        pair.nodes,
+        packets,
+        &mut pair.number,
+        alloc,
+    )?;
+    pair.world.step(event)?;
+    Ok(agree(&pair.world, &pair.plain, pair.nodes))
 }
 
 // Whether both tell the same of a participant.
@@ -132,15 +143,11 @@ fn random_events_do_as_the_plain_rules_say(rt: HostRuntime) -> Result<(), Fail> 
     let alloc = rt.alloc();
     let mut commits = 0usize;
     for seed in 0..56u64 {
-        let nodes = (2 + seed % 7) as u8;
-        let mut world = World::new(openings(nodes, alloc)?, alloc)?;
-        let mut plain = Plain::new(nodes, 10, alloc);
-        let mut number = seed;
+        let mut pair = opened(seed, alloc)?;
         for event in 0..200u32 {
-            happen(&mut world, &mut plain, nodes, &mut number, alloc)?;
-            assert!(rt; agree(&world, &plain, nodes), "seed {seed}, event {event}");
+            assert!(rt; happen(&mut pair, alloc)?, "seed {seed}, event {event}");
         }
-        commits = commits.wrapping_add(world.commits().len());
+        commits = commits.wrapping_add(pair.world.commits().len());
     }
     assert!(rt; commits > 100, "only {commits} commits");
     Ok(())
