@@ -7,10 +7,10 @@
 # file that it wrote and two of the log.
 # Wanted at width 64: 20,000 transfers in at most 1.25 times the time of the bare syncs; 50,000 a second where syncs cost nothing; at
 # 100,000 at most 1.1 times the time for each that it takes at 2,000.
-# Measured on a machine with other work, of a build with rt try's checks of each access: 43 us of processor time for each at width 64,
-# as at 2,000 (50 us) so at 100,000 (43 us), and 22 us at width 1. So beside syncs that cost nothing the second isn't met there. By a
-# profile a sixth of the time is looking for the mover and a twelfth looking for units to drop, since each turn walks over the units in
-# flight; the rest is spread over the core's events, the allocator and the bytes of versions and records.
+# Measured beside other work on four processors: 36 us of processor time for each transfer at width 64, at 2,000 as at 20,000, and
+# 19,500 a second where syncs cost nothing, so the second isn't met there. By a profile of an earlier build a sixth of the time is
+# looking for the mover and a twelfth looking for units to drop, since each turn walks over the units in flight; the rest is spread
+# over the core's events, the allocator and the bytes of versions and records.
 top=$(cd "$(dirname "${BASH_SOURCE[0]}")/.." && pwd)
 [ -n "${SILO:-}" ] || "$top/silo" </dev/null >/dev/null 2>&1
 exec python3 - "$top" "${SILO:-$top/crates/silo/out/silo}" "$@" <<'END'
