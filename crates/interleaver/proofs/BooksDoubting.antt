@@ -29,7 +29,7 @@ use Rattle.batch_disk.specs.Moments.{LeavesRest}
 use Rattle.batch_disk.specs.declared.writer.BatchWriter.{BatchWriter}
 use Rattle.settle_loop.specs.Journaling.{as_settled}
 use Rattle.interleaver.specs.Beginnings.{Outset, basis_of}
-use Rattle.interleaver.specs.Books.{Books, journal_of, AreBooked}
+use Rattle.interleaver.specs.Books.{Books, booked_journal, AreBooked}
 use Rattle.interleaver.specs.Images.{LeavesAside, HasOpenBlock, LastsSo}
 use Rattle.interleaver.proofs.Showing.{added-by}
 use Rattle.interleaver.proofs.BooksLists.{alone, alone-commits}
@@ -57,7 +57,7 @@ module _ (o : Outset) (head : List ℕ) (b : Books) (r : Run) (e : CoreEvent) (w
   abbrev books : Books
   books = grown b more [] (as_settled batch ∷ [])
 
-  was-whole : journal_of b ≡ front
+  was-whole : booked_journal b ≡ front
   was-whole = ap (λ (d : List Settlement). front ++ d) sure ∙ append-nil front
 
   front-is : books.said ++ books.unsaid ≡ front ++ alone more
@@ -66,7 +66,7 @@ module _ (o : Outset) (head : List ℕ) (b : Books) (r : Run) (e : CoreEvent) (w
   log-is : o.opening ++ commits_of (books.said ++ books.unsaid) ≡ log
   log-is = ap (λ (c : List Commit). o.opening ++ c) (grown-commits b more [] (as_settled batch ∷ []) ∙ append-nil (commits_of front))
 
-  longer-is : o.opening ++ commits_of (journal_of books) ≡ log ++ commits_of (as_settled batch ∷ [])
+  longer-is : o.opening ++ commits_of (booked_journal books) ≡ log ++ commits_of (as_settled batch ∷ [])
   longer-is =
       ap (λ (c : List Commit). o.opening ++ c) (commits_of-append (books.said ++ books.unsaid) (as_settled batch ∷ []))
       ∙ sym (append_assoc o.opening (commits_of (books.said ++ books.unsaid)) (commits_of (as_settled batch ∷ [])))
@@ -90,7 +90,7 @@ module _ (o : Outset) (head : List ℕ) (b : Books) (r : Run) (e : CoreEvent) (w
   no-entry x s fore back split there =
       in_flat (λ (t : Settlement). t.entries) s x (as_settled batch ∷ []) (subst (λ (j : List Settlement). Member s j) (sym split) (in_append s fore (s ∷ back) (inr (inl refl)))) there
 
-  backs : Backs (journal_of books) (commits_of (journal_of books))
+  backs : Backs (booked_journal books) (commits_of (booked_journal books))
   backs =
       let was : Backs front (commits_of front) = subst (λ (j : List Settlement). Backs j (commits_of j)) was-whole l.backs in
       let named : Backs (front ++ alone more) (commits_of (front ++ alone more)) = backs-alone front more was in
@@ -104,7 +104,7 @@ module _ (o : Outset) (head : List ℕ) (b : Books) (r : Run) (e : CoreEvent) (w
 
   second : EndsABatch (ends r') o.opening (log ++ commits_of (as_settled batch ∷ []))
   second = subst (EndsABatch (ends r') o.opening) longer-is
-      (records-end (basis_of o) r' o.opening (commits_of (journal_of books)) above after (added-by (ends r') (books.said ++ books.unsaid) (as_settled batch ∷ []) booked'.commits booked'.doubted))
+      (records-end (basis_of o) r' o.opening (commits_of (booked_journal books)) above after (added-by (ends r') (books.said ++ books.unsaid) (as_settled batch ∷ []) booked'.commits booked'.doubted))
 
   ends-now : AllEnd o.program (ends r') o.opening (moment_of now')
   ends-now =
@@ -112,7 +112,7 @@ module _ (o : Outset) (head : List ℕ) (b : Books) (r : Run) (e : CoreEvent) (w
       (record { output = doubts.output; log = doubts.log }) first second
 
   -- with what stands of its block
-  pub doubt-lasts : HasOpenBlock (o.opening ++ commits_of (journal_of books)) (ends r') now'.disk → writer'.in_doubt ≡ true → LastsSo o head books r' writer' now'
+  pub doubt-lasts : HasOpenBlock (o.opening ++ commits_of (booked_journal books)) (ends r') now'.disk → writer'.in_doubt ≡ true → LastsSo o head books r' writer' now'
   doubt-lasts block unsure = record {
     journal = journal;
     backs = backs;

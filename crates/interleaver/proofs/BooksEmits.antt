@@ -24,7 +24,7 @@ use Rattle.batch_disk.specs.Resting.{SomeImage}
 use Rattle.batch_disk.specs.Writers.{KeepsDisk}
 use Rattle.batch_disk.specs.declared.writer.BatchWriter.{BatchWriter}
 use Rattle.interleaver.specs.Beginnings.{Outset, basis_of}
-use Rattle.interleaver.specs.Books.{Books, journal_of, AreInDoubt, AreBooked}
+use Rattle.interleaver.specs.Books.{Books, booked_journal, AreInDoubt, AreBooked}
 use Rattle.interleaver.specs.Images.{LeavesAside, HasOpenBlock, KeepsFolder, LastsSo}
 use Rattle.interleaver.specs.Settling.{AreEven}
 use Rattle.interleaver.proofs.BooksCounts.{doubt-ends}
@@ -39,7 +39,7 @@ module _ (o : Outset) (head : List ℕ) (b c : Books) (r : Run) (more : List Cor
   abbrev r' : Run
   r' = extended r more
 
-  same : journal_of c ≡ journal_of b
+  same : booked_journal c ≡ booked_journal b
   same = λ i. front i ++ doubted i
 
   ends-now : AllEnd o.program (ends r') o.opening (moment_of now')
@@ -53,12 +53,12 @@ module _ (o : Outset) (head : List ℕ) (b c : Books) (r : Run) (more : List Cor
     header = λ image left. l.alone_now.header image (subst (λ (d : Disk). IsImage d image) disk left);
   }
 
-  block-on : HasDoubt r' → HasOpenBlock (o.opening ++ commits_of (journal_of c)) (ends r') now'.disk
+  block-on : HasDoubt r' → HasOpenBlock (o.opening ++ commits_of (booked_journal c)) (ends r') now'.disk
   block-on d =
       let there = doubt-ends r' d in
       let before : (ends r).manager.doubt ≡ Some there.0 = sym doubt ∙ there.1 in
-      subst (λ (k : Disk). HasOpenBlock (o.opening ++ commits_of (journal_of c)) (ends r') k) (sym disk)
-      (block-kept (o.opening ++ commits_of (journal_of b)) (o.opening ++ commits_of (journal_of c)) (ends r) (ends r') now.disk (ap (λ (j : List Settlement). o.opening ++ commits_of j) same)
+      subst (λ (k : Disk). HasOpenBlock (o.opening ++ commits_of (booked_journal c)) (ends r') k) (sym disk)
+      (block-kept (o.opening ++ commits_of (booked_journal b)) (o.opening ++ commits_of (booked_journal c)) (ends r) (ends r') now.disk (ap (λ (j : List Settlement). o.opening ++ commits_of j) same)
       (doubt-stays r more there.0 before).chosen (l.block (doubt_left r there.0 before)))
 
   folder-on : writer'.in_doubt ≡ false → KeepsFolder o head c r' writer' now'.disk
@@ -80,7 +80,7 @@ module _ (o : Outset) (head : List ℕ) (b c : Books) (r : Run) (more : List Cor
     batches_now = ends-now;
     alone = passes (LeavesAside head o.world) aside-now l.alone;
     alone_now = aside-now;
-    some = λ there. subst (λ (k : Disk). SomeImage (λ image. IsLog live_slot (shape_in o.program) image (o.opening ++ commits_of (journal_of c))) k) (sym disk)
+    some = λ there. subst (λ (k : Disk). SomeImage (λ image. IsLog live_slot (shape_in o.program) image (o.opening ++ commits_of (booked_journal c))) k) (sym disk)
         (subst (λ (j : List Settlement). SomeImage (λ image. IsLog live_slot (shape_in o.program) image (o.opening ++ commits_of j)) now.disk) (sym same) (l.some (λ none. there (doubted ∙ none))));
     block = block-on;
     folder = folder-on;

@@ -34,7 +34,7 @@ use Rattle.batch_disk.specs.Resting.{SomeImage}
 use Rattle.settle_loop.specs.declared.settler.Settler.{Settler}
 use Rattle.log_reading.specs.Steps.{live_slot}
 use Rattle.interleaver.specs.Beginnings.{Outset, basis_of}
-use Rattle.interleaver.specs.Books.{Books, journal_of, AreInDoubt}
+use Rattle.interleaver.specs.Books.{Books, booked_journal, AreInDoubt}
 use Rattle.interleaver.specs.Images.{HasOpenBlock, LastsSo}
 use Rattle.interleaver.specs.Records.{KeepsBooks}
 use Rattle.interleaver.specs.Settling.{AreEven, BooksGoOn}
@@ -153,22 +153,22 @@ module _ (tells : Bool) (o : Outset) (b : Books) (r : Run) (e : CoreEvent) (sett
   unsaid-is : more ≡ [] → (b.unsaid ++ []) ++ alone more ≡ b.unsaid
   unsaid-is none = ap (λ (l : List Entry). (b.unsaid ++ []) ++ alone l) none ∙ append-nil (b.unsaid ++ []) ∙ append-nil b.unsaid
 
-  journal-by : (d : List Settlement) → b.doubted ≡ d → AreInDoubt (ends r) d → journal_of books ≡ journal_of b ++ alone more
+  journal-by : (d : List Settlement) → b.doubted ≡ d → AreInDoubt (ends r) d → booked_journal books ≡ booked_journal b ++ alone more
   journal-by [] q is =
       ap (λ (l : List Settlement). (b.said ++ books.unsaid) ++ l) q ∙ append-nil (b.said ++ books.unsaid) ∙ grown-front b more [] b.doubted
       ∙ ap (λ (l : List Settlement). ((b.said ++ b.unsaid) ++ l) ++ alone more) (sym q)
   journal-by (batch ∷ []) q is =
       let none = none-more batch is in
-      ap (λ (l : List Settlement). (b.said ++ l) ++ b.doubted) (unsaid-is none) ∙ sym (append-nil (journal_of b)) ∙ ap (λ (l : List Entry). journal_of b ++ alone l) (sym none)
+      ap (λ (l : List Settlement). (b.said ++ l) ++ b.doubted) (unsaid-is none) ∙ sym (append-nil (booked_journal b)) ∙ ap (λ (l : List Entry). booked_journal b ++ alone l) (sym none)
   journal-by (batch ∷ (another ∷ rest)) q is = absurd is
 
-  journal-is : journal_of books ≡ journal_of b ++ alone more
+  journal-is : booked_journal books ≡ booked_journal b ++ alone more
   journal-is = journal-by b.doubted refl k.booked.doubted
 
-  commits-are : commits_of (journal_of books) ≡ commits_of (journal_of b)
-  commits-are = ap commits_of journal-is ∙ commits_of-append (journal_of b) (alone more) ∙ ap (λ (l : List Commit). commits_of (journal_of b) ++ l) (alone-commits more) ∙ append-nil (commits_of (journal_of b))
+  commits-are : commits_of (booked_journal books) ≡ commits_of (booked_journal b)
+  commits-are = ap commits_of journal-is ∙ commits_of-append (booked_journal b) (alone more) ∙ ap (λ (l : List Commit). commits_of (booked_journal b) ++ l) (alone-commits more) ∙ append-nil (commits_of (booked_journal b))
 
-  log-is : o.opening ++ commits_of (journal_of books) ≡ o.opening ++ commits_of (journal_of b)
+  log-is : o.opening ++ commits_of (booked_journal books) ≡ o.opening ++ commits_of (booked_journal b)
   log-is = ap (λ (l : List Commit). o.opening ++ l) commits-are
 
   cut-by : (d : List Settlement) → AreInDoubt (ends r) d → CutAt o.program o.opening o.world b.said b.unsaid d b.rest now → CutAt o.program o.opening o.world b.said books.unsaid d b.rest now
@@ -183,17 +183,17 @@ module _ (tells : Bool) (o : Outset) (b : Books) (r : Run) (e : CoreEvent) (sett
   cut-by (batch ∷ []) is c = subst (λ (l : List Settlement). CutAt o.program o.opening o.world b.said l (batch ∷ []) b.rest now) (sym (unsaid-is (none-more batch is))) c
   cut-by (batch ∷ (another ∷ rest)) is c = absurd is
 
-  block-on : (HasDoubt r → HasOpenBlock (o.opening ++ commits_of (journal_of b)) (ends r) now.disk) → HasDoubt r' → HasOpenBlock (o.opening ++ commits_of (journal_of books)) (ends r') now.disk
+  block-on : (HasDoubt r → HasOpenBlock (o.opening ++ commits_of (booked_journal b)) (ends r) now.disk) → HasDoubt r' → HasOpenBlock (o.opening ++ commits_of (booked_journal books)) (ends r') now.disk
   block-on has d =
       let there = doubt-ends r' d in
       let before : (ends r).manager.doubt ≡ Some there.0 = sym leaves.doubt ∙ there.1 in
-      block-kept (o.opening ++ commits_of (journal_of b)) (o.opening ++ commits_of (journal_of books)) (ends r) (ends r') now.disk log-is
+      block-kept (o.opening ++ commits_of (booked_journal b)) (o.opening ++ commits_of (booked_journal books)) (ends r) (ends r') now.disk log-is
       (doubt-stays r (e ∷ []) there.0 before).chosen (has (doubt_left r there.0 before))
 
   lasts : (head : List ℕ) → LastsSo o head b r settler.writer now → LastsSo o head books r' settler.writer now
   lasts head l = record {
     journal = cut-by b.doubted k.booked.doubted l.journal;
-    backs = subst (λ (j : List Settlement). Backs j (commits_of j)) (sym journal-is) (backs-alone (journal_of b) more l.backs);
+    backs = subst (λ (j : List Settlement). Backs j (commits_of j)) (sym journal-is) (backs-alone (booked_journal b) more l.backs);
     batches = moments-stay (basis_of o) o.program r (e ∷ []) o.opening o.world.past now.past above after l.batches;
     batches_now = λ image log left is. batch-stays-run (basis_of o) r (e ∷ []) o.opening log above after (l.batches_now image log left is);
     alone = l.alone;

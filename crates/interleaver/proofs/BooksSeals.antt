@@ -25,7 +25,7 @@ use Rattle.explained_runs.proofs.KeptRuns.{logged_ends, sealing_ends}
 use Rattle.batch_disk.specs.Moments.{LeavesRest}
 use Rattle.batch_disk.specs.declared.writer.BatchWriter.{BatchWriter}
 use Rattle.interleaver.specs.Beginnings.{Outset, basis_of}
-use Rattle.interleaver.specs.Books.{Books, journal_of, AreBooked}
+use Rattle.interleaver.specs.Books.{Books, booked_journal, AreBooked}
 use Rattle.interleaver.specs.Images.{LeavesAside, HasOpenBlock, KeepsFolder, LastsSo}
 use Rattle.interleaver.proofs.BooksLists.{alone, alone-commits}
 use Rattle.interleaver.proofs.BooksGrown.{grown, grown-front, grown-commits}
@@ -54,10 +54,10 @@ module _ (o : Outset) (head : List ℕ) (b : Books) (r : Run) (e : CoreEvent) (w
   abbrev books : Books
   books = grown b more batch []
 
-  was-whole : journal_of b ≡ front
+  was-whole : booked_journal b ≡ front
   was-whole = ap (λ (d : List Settlement). front ++ d) sure ∙ append-nil front
 
-  is-whole : journal_of books ≡ (front ++ batch) ++ alone more
+  is-whole : booked_journal books ≡ (front ++ batch) ++ alone more
   is-whole = append-nil (books.said ++ books.unsaid) ∙ grown-front b more batch []
 
   log-is : o.opening ++ commits_of (books.said ++ books.unsaid) ≡ log ++ commits_of batch
@@ -76,7 +76,7 @@ module _ (o : Outset) (head : List ℕ) (b : Books) (r : Run) (e : CoreEvent) (w
       settles_on o.program o.opening o.world b.said (b.unsaid ++ batch) (alone more) now' (alone-commits more) sealed in
       subst (λ (t : List ℕ). CutAt o.program o.opening o.world b.said books.unsaid [] t now') (sym whole) (whole_cut o.program o.opening o.world b.said books.unsaid now' settled)
 
-  backs : Backs (journal_of books) (commits_of (journal_of books))
+  backs : Backs (booked_journal books) (commits_of (booked_journal books))
   backs =
       let was : Backs front (commits_of front) = subst (λ (j : List Settlement). Backs j (commits_of j)) was-whole l.backs in
       let more_backs : Backs (front ++ batch) (commits_of (front ++ batch)) =
@@ -101,7 +101,7 @@ module _ (o : Outset) (head : List ℕ) (b : Books) (r : Run) (e : CoreEvent) (w
   alone-moments = both (LeavesAside head o.world) l.alone (weaker (LeavesRest head now) (LeavesAside head o.world) (λ m k. aside-later head o.world now m l.alone_now k) rest)
 
   -- with what stands of a doubt's block, and of the folder
-  pub seals-last : (HasDoubt r' → HasOpenBlock (o.opening ++ commits_of (journal_of books)) (ends r') now'.disk) → (writer'.in_doubt ≡ false → KeepsFolder o head books r' writer' now'.disk)
+  pub seals-last : (HasDoubt r' → HasOpenBlock (o.opening ++ commits_of (booked_journal books)) (ends r') now'.disk) → (writer'.in_doubt ≡ false → KeepsFolder o head books r' writer' now'.disk)
       → LastsSo o head books r' writer' now'
   seals-last block folder = record {
     journal = journal;

@@ -24,7 +24,7 @@ use Rattle.unit_carrier.proofs.Places.{units-same}
 use Rattle.interleaver.specs.Beginnings.{Outset, IsOutset, GoUpFrom}
 use Rattle.interleaver.specs.Books.{Books}
 use Rattle.interleaver.specs.Flights.{loop_at, IsNextMover}
-use Rattle.interleaver.specs.Records.{GoesOn, HasCarriedAll, KeepsBooks}
+use Rattle.interleaver.specs.Records.{RecordGoesOn, HasCarriedAll, KeepsBooks}
 use Rattle.interleaver.specs.declared.faults.RunFault.TheVariants.{Memory}
 use Rattle.interleaver.specs.declared.movers.NextMover.TheVariants.{Unit as OfIndex}
 use Rattle.interleaver.specs.UnderWay.{TurnSays, TurnStage, IsUnderWay, WentOn, MovedOn, SettlesBy, SettlesOne, SettledOn}
@@ -95,7 +95,7 @@ module _ (keeps : OthersKeep) (tells : Bool) (o : Outset) (lines : List Line) (b
       used begun settler counts world (way.books.doubt ∙ ap is_some moves.1) m.few
 
   -- or has no memory
-  pub unit-out : (r' : Run) → Acts none_comes o.program.types (unit_at agents1 index) (own_sight r1) (own_sight r') → GoesOn {T = Bool} tells o b s.run r' s.settler s.settler s.counts s.world s.world (Err Memory)
+  pub unit-out : (r' : Run) → Acts none_comes o.program.types (unit_at agents1 index) (own_sight r1) (own_sight r') → RecordGoesOn {T = Bool} tells o b s.run r' s.settler s.settler s.counts s.world s.world (Err Memory)
   unit-out r' acts =
       unit-lacks keeps tells o lines b s r' way is.0 pick
       (subst (λ (x : Run). Acts none_comes o.program.types is.0 (own_sight x) (own_sight r')) run
@@ -124,15 +124,15 @@ picked-steps types r units pick q = by (is_some (ends r).manager.doubt) found.1
 
 -- want of memory is what a turn says of it
 pub says-lack : (tells : Bool) (o : Outset) (types : ProgramTree) (lines : List Line) (width : ℕ) (picks : List ℕ) (b : Books) (s s' : TurnStage) (result : Result Bool RunFault) (f : RunFault) → result ≡ Err f
-    → GoesOn {T = Bool} tells o b s.run s'.run s.settler s'.settler s'.counts s.world s'.world (Err f) → TurnSays tells o types lines width picks b s s' result
+    → RecordGoesOn {T = Bool} tells o b s.run s'.run s.settler s'.settler s'.counts s.world s'.world (Err f) → TurnSays tells o types lines width picks b s s' result
 says-lack tells o types lines width picks b s s' result f q g = subst (TurnSays tells o types lines width picks b s s') (sym q) g
 
 module _ (keeps : OthersKeep) (tells : Bool) (o : Outset) (types : ProgramTree) (lines : List Line) (width : ℕ) (picks : List ℕ) (b : Books) (s : TurnStage) (here : s.run.capacity ≡ None)
     (way : IsUnderWay tells o types lines width picks b s) (full : has_room (loop_at o s.run s.agents s.used) ≡ false) where
   -- nothing was put
-  pub none-out : (r' : Run) → r' ≡ s.run → GoesOn {T = Bool} tells o b s.run r' s.settler s.settler s.counts s.world s.world (Err Memory)
+  pub none-out : (r' : Run) → r' ≡ s.run → RecordGoesOn {T = Bool} tells o b s.run r' s.settler s.settler s.counts s.world s.world (Err Memory)
   none-out r' q =
-      at-outset (λ t n ps. IsUnderWay tells o t lines n ps b s → GoesOn {T = Bool} tells o b s.run r' s.settler s.settler s.counts s.world s.world (Err Memory))
+      at-outset (λ t n ps. IsUnderWay tells o t lines n ps b s → RecordGoesOn {T = Bool} tells o b s.run r' s.settler s.settler s.counts s.world s.world (Err Memory))
       o types s.run (drop s.begun lines) width picks way.outset (λ w. lacks-none keeps tells o lines b s r' w q) way
 
   -- nobody can move
@@ -176,10 +176,10 @@ module _ (keeps : OthersKeep) (tells : Bool) (o : Outset) (types : ProgramTree) 
       (subst (λ (p : ℕ). IsNextMover types s.run (units_carried s.agents) p (OfIndex index)) at is) m
 
   pub unit-out-says : (r' r1 : Run) (agents1 : List Agent) (index : ℕ) (pick : ℕ) → pick ≡ get_or picks s.used 0 → IsNextMover types s.run (units_carried s.agents) pick (OfIndex index) → r1 ≡ s.run → as_carried agents1 ≡ as_carried s.agents
-      → Acts none_comes types (unit_at agents1 index) (own_sight r1) (own_sight r') → GoesOn {T = Bool} tells o b s.run r' s.settler s.settler s.counts s.world s.world (Err Memory)
+      → Acts none_comes types (unit_at agents1 index) (own_sight r1) (own_sight r') → RecordGoesOn {T = Bool} tells o b s.run r' s.settler s.settler s.counts s.world s.world (Err Memory)
   unit-out-says r' r1 agents1 index pick at is run same acts =
       at-outset (λ t n ps. IsUnderWay tells o t lines n ps b s → IsNextMover t s.run (units_carried s.agents) (get_or ps s.used 0) (OfIndex index) → Acts none_comes t (unit_at agents1 index) (own_sight r1) (own_sight r')
-      → GoesOn {T = Bool} tells o b s.run r' s.settler s.settler s.counts s.world s.world (Err Memory))
+      → RecordGoesOn {T = Bool} tells o b s.run r' s.settler s.settler s.counts s.world s.world (Err Memory))
       o types s.run (drop s.begun lines) width picks way.outset
       (λ w i x. unit-out keeps tells o lines b s r1 agents1 here w full index i run same r' x) way
       (subst (λ (p : ℕ). IsNextMover types s.run (units_carried s.agents) p (OfIndex index)) at is) acts
@@ -197,9 +197,9 @@ module _ (keeps : OthersKeep) (tells : Bool) (o : Outset) (types : ProgramTree) 
 
   pub settler-out-says : (s' : TurnStage) (pick : ℕ) → pick ≡ get_or picks s.used 0 → picked (movers_of types s.run (units_carried s.agents)) pick ≡ Some OfSettler
       → SettlesBy s.run s'.run → (f : RunFault) → SettledOn {T = Unit} tells o b s.run s'.run s.settler s'.settler s'.counts s.world s'.world (Err f)
-      → GoesOn {T = Bool} tells o b s.run s'.run s.settler s'.settler s'.counts s.world s'.world (Err f)
+      → RecordGoesOn {T = Bool} tells o b s.run s'.run s.settler s'.settler s'.counts s.world s'.world (Err f)
   settler-out-says s' pick at is by f on =
-      at-outset (λ t n ps. IsUnderWay tells o t lines n ps b s → picked (movers_of t s.run (units_carried s.agents)) (get_or ps s.used 0) ≡ Some OfSettler → GoesOn {T = Bool} tells o b s.run s'.run s.settler s'.settler s'.counts s.world s'.world (Err f))
+      at-outset (λ t n ps. IsUnderWay tells o t lines n ps b s → picked (movers_of t s.run (units_carried s.agents)) (get_or ps s.used 0) ≡ Some OfSettler → RecordGoesOn {T = Bool} tells o b s.run s'.run s.settler s'.settler s'.counts s.world s'.world (Err f))
       o types s.run (drop s.begun lines) width picks way.outset
       (λ w i. settler-ends tells o lines b s s' w (record { none = full; pick = i }) by f on) way
       (subst (λ (p : ℕ). picked (movers_of types s.run (units_carried s.agents)) p ≡ Some OfSettler) at is)

@@ -29,7 +29,7 @@ use Rattle.interleaver.specs.declared.faults.RunFault.TheVariants.{Memory}
 use Rattle.interleaver.specs.Beginnings.{Outset, GoUpFrom, basis_of}
 use Rattle.interleaver.specs.Books.{Books}
 use Rattle.interleaver.specs.Flights.{loop_at}
-use Rattle.interleaver.specs.Records.{GoesOn}
+use Rattle.interleaver.specs.Records.{RecordGoesOn}
 use Rattle.interleaver.specs.UnderWay.{TurnStage, IsUnderWay}
 use Rattle.interleaver.proofs.Alone.{own-same, own-told}
 use Rattle.interleaver.proofs.BooksStated.{OthersKeep}
@@ -41,7 +41,7 @@ module _ (keeps : OthersKeep) (tells : Bool) (o : Outset) (lines : List Line) (b
   l = loop_at o s.run s.agents s.used
 
   abbrev Ends : Run → Type 0
-  Ends x = GoesOn {T = Bool} tells o b s.run x s.settler s.settler s.counts s.world s.world (Err Memory)
+  Ends x = RecordGoesOn {T = Bool} tells o b s.run x s.settler s.settler s.counts s.world s.world (Err Memory)
 
   -- nothing was put
   pub lacks-none : r' ≡ s.run → Ends r'

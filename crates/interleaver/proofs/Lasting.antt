@@ -27,7 +27,7 @@ use Rattle.settle_loop.specs.declared.settler.Settler.{Settler}
 use Rattle.batch_disk.specs.Resting.{SomeImage}
 use Rattle.batch_disk.specs.declared.writer.BatchWriter.{BatchWriter}
 use Rattle.interleaver.specs.Beginnings.{Outset}
-use Rattle.interleaver.specs.Books.{Books, journal_of, AreInDoubt}
+use Rattle.interleaver.specs.Books.{Books, booked_journal, AreInDoubt}
 use Rattle.interleaver.specs.Images.{LeavesAside, HasOpenBlock, LastsSo}
 use Rattle.interleaver.specs.Records.{KeepsRecord}
 use Rattle.interleaver.specs.Closing.{IsCourseOf}
@@ -53,7 +53,7 @@ module _ (o : Outset) (head : List ℕ) (b : Books) (r : Run) (writer : BatchWri
   end : ends r ≡ core_end o.program c
   end = ap ends (sym is.run)
 
-  order-is : o.opening ++ commits_of (journal_of b) ≡ order c
+  order-is : o.opening ++ commits_of (booked_journal b) ≡ order c
   order-is = (λ i. sym is.opening i ++ sym is.added i)
 
   alone-at : (m : Moment) → LeavesAside head o.world m → LeavesAlone live_slot seen m
@@ -65,7 +65,7 @@ module _ (o : Outset) (head : List ℕ) (b : Books) (r : Run) (writer : BatchWri
   end-at : (m : Moment) → AllEnd o.program (ends r) o.opening m → AllEnd o.program (core_end o.program c) c.opening m
   end-at m a = subst (λ (log : List Commit). AllEnd o.program (core_end o.program c) log m) (sym is.opening) (subst (λ (w : CoreState). AllEnd o.program w o.opening m) end a)
 
-  block-of : HasOpenBlock (o.opening ++ commits_of (journal_of b)) (ends r) seen.new.disk → HasDoubtfulBlock live_slot seen c (core_end o.program c)
+  block-of : HasOpenBlock (o.opening ++ commits_of (booked_journal b)) (ends r) seen.new.disk → HasDoubtfulBlock live_slot seen c (core_end o.program c)
   block-of h = record {
     gate = h.gate;
     batch = h.batch;
@@ -77,10 +77,10 @@ module _ (o : Outset) (head : List ℕ) (b : Books) (r : Run) (writer : BatchWri
     differ = h.differ;
   }
 
-  carries : (journal : List Settlement) → journal_of b ≡ journal → Carries o.program seen c o.world journal
+  carries : (journal : List Settlement) → booked_journal b ≡ journal → Carries o.program seen c o.world journal
   carries journal q = record {
     commits = is.added ∙ ap commits_of q;
-    backs = subst (λ (j : List Settlement). Backs j c.added) q (subst (Backs (journal_of b)) (sym is.added) l.backs);
+    backs = subst (λ (j : List Settlement). Backs j c.added) q (subst (Backs (booked_journal b)) (sym is.added) l.backs);
     batches = weaker (AllEnd o.program (ends r) o.opening) (AllEnd o.program (core_end o.program c) c.opening) end-at l.batches;
     batches_now = end-at (moment_of seen.new) l.batches_now;
     alone = weaker (LeavesAside head o.world) (LeavesAlone live_slot seen) alone-at l.alone;
@@ -100,7 +100,7 @@ module _ (o : Outset) (head : List ℕ) (b : Books) (r : Run) (writer : BatchWri
         whole_lasts o.program seen c o.world behind b.said b.unsaid opens stay (cut-of [] q) is.entries proper
         (carries (b.said ++ b.unsaid) (ap (λ (x : List Settlement). (b.said ++ b.unsaid) ++ x) q ∙ append-nil (b.said ++ b.unsaid)))
     lasts-by (batch ∷ []) q d =
-        let some : SomeImage (λ image. IsLog live_slot (shape_in o.program) image (o.opening ++ commits_of (journal_of b))) seen.new.disk = l.some (λ none. is-some batch (sym q ∙ none)) in
+        let some : SomeImage (λ image. IsLog live_slot (shape_in o.program) image (o.opening ++ commits_of (booked_journal b))) seen.new.disk = l.some (λ none. is-some batch (sym q ∙ none)) in
         doubt_lasts o.program seen c o.world behind b.said b.unsaid batch some.image d.0 opens (cut-of (batch ∷ []) q) is.entries proper
         (carries ((b.said ++ b.unsaid) ++ batch ∷ []) (ap (λ (x : List Settlement). (b.said ++ b.unsaid) ++ x) q))
         some.left (subst (IsLog live_slot (shape_in o.program) some.image) order-is some.holds)

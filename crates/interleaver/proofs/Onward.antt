@@ -16,7 +16,7 @@ use Rattle.settle_loop.specs.declared.settler.Settler.{Settler}
 use Rattle.interleaver.specs.Beginnings.{Outset}
 use Rattle.interleaver.specs.Beside.{EmitsAs, TurnsBeside}
 use Rattle.interleaver.specs.Books.{Books}
-use Rattle.interleaver.specs.Records.{KeepsRecord, IsFresh, EndsAs, GoesOn, HasCarriedAll}
+use Rattle.interleaver.specs.Records.{KeepsRecord, IsFreshRecord, TurnsEndAs, RecordGoesOn, HasCarriedAll}
 use Rattle.interleaver.specs.UnderWay.{TurnStage, IsUnderWay, WentOn, TurnSays}
 
 module _ (tells : Bool) (o : Outset) (types : ProgramTree) (lines : List Line) (width : ℕ) (picks : List ℕ) (b : Books) (s t : TurnStage) where
@@ -26,11 +26,11 @@ module _ (tells : Bool) (o : Outset) (types : ProgramTree) (lines : List Line) (
 
   -- a turn that ends the run
   pub ends-then : {T : Type 0} (u : TurnStage) (w : WentOn tells o types lines width picks b s t) (f : RunFault)
-      → GoesOn {T = Bool} tells o w.books t.run u.run t.settler u.settler u.counts t.world u.world (Err f)
-      → GoesOn {T = T} tells o b s.run u.run s.settler u.settler u.counts s.world u.world (Err f)
+      → RecordGoesOn {T = Bool} tells o w.books t.run u.run t.settler u.settler u.counts t.world u.world (Err f)
+      → RecordGoesOn {T = T} tells o b s.run u.run s.settler u.settler u.counts s.world u.world (Err f)
   ends-then {T} u w f g = record { books = g.books; record_kept = g.record_kept; lasts = λ tell head was. g.lasts tell head (w.lasts tell head was); ended = by f g.ended }
     where
-      by : (x : RunFault) → EndsAs o g.books u.run u.settler u.counts {T = Bool} (Err x) → EndsAs o g.books u.run u.settler u.counts {T = T} (Err x)
+      by : (x : RunFault) → TurnsEndAs o g.books u.run u.settler u.counts {T = Bool} (Err x) → TurnsEndAs o g.books u.run u.settler u.counts {T = T} (Err x)
       by InDoubt e = e
       by WriteFault e = e
       by Memory e = e
@@ -42,11 +42,11 @@ module _ (tells : Bool) (o : Outset) (types : ProgramTree) (lines : List Line) (
       turns-of w = w.under_way.turning.turn_rule
 
   -- all is done
-  pub done-then : {T : Type 0} (done : T) (w : WentOn tells o types lines width picks b s t) → HasCarriedAll o t.run t.settler → GoesOn {T = T} tells o b s.run t.run s.settler t.settler t.counts s.world t.world (Ok done)
+  pub done-then : {T : Type 0} (done : T) (w : WentOn tells o types lines width picks b s t) → HasCarriedAll o t.run t.settler → RecordGoesOn {T = T} tells o b s.run t.run s.settler t.settler t.counts s.world t.world (Ok done)
   done-then done w all = record { books = w.books; record_kept = kept-of w; lasts = w.lasts; ended = (all, w.under_way.even.rest) }
 
   -- or memory runs out between turns
-  pub out-then : {T : Type 0} (w : WentOn tells o types lines width picks b s t) → GoesOn {T = T} tells o b s.run t.run s.settler t.settler t.counts s.world t.world (Err Memory)
+  pub out-then : {T : Type 0} (w : WentOn tells o types lines width picks b s t) → RecordGoesOn {T = T} tells o b s.run t.run s.settler t.settler t.counts s.world t.world (Err Memory)
   out-then w = record { books = w.books; record_kept = kept-of w; lasts = w.lasts; ended = w.under_way.even.rest }
 
 -- where a run of turns is under way, it has gone on by no turn
@@ -55,8 +55,8 @@ pub nothing-went : (tells : Bool) (o : Outset) (types : ProgramTree) (lines : Li
 nothing-went tells o types lines width picks b s way = record { books = b; under_way = way; lasts = λ tell head was. was }
 
 -- nothing is done, for want of memory
-pub at-once : {T : Type 0} (tells : Bool) (o : Outset) (b : Books) (r : Run) (settler : Settler) (counts : Channel → ℕ) (now : World) → IsFresh o b r → KeepsRecord tells o b r settler counts now
-    → GoesOn {T = T} tells o b r r settler settler counts now now (Err Memory)
+pub at-once : {T : Type 0} (tells : Bool) (o : Outset) (b : Books) (r : Run) (settler : Settler) (counts : Channel → ℕ) (now : World) → IsFreshRecord o b r → KeepsRecord tells o b r settler counts now
+    → RecordGoesOn {T = T} tells o b r r settler settler counts now now (Err Memory)
 at-once tells o b r settler counts now fresh kept = record { books = b; record_kept = kept; lasts = λ tell head was. was; ended = fresh.rest }
 
 -- a turn over lines and picks that are these
@@ -74,13 +74,13 @@ module _ (tells : Bool) (o : Outset) (types : ProgramTree) (lines lines' : List 
   on-after q = went-then tells o types lines width picks b s t u w (says-of (Ok true) q)
 
   -- or that nothing is left
-  pub done-after : {T : Type 0} (done : T) → result ≡ Ok false → GoesOn {T = T} tells o b s.run u.run s.settler u.settler u.counts s.world u.world (Ok done)
+  pub done-after : {T : Type 0} (done : T) → result ≡ Ok false → RecordGoesOn {T = T} tells o b s.run u.run s.settler u.settler u.counts s.world u.world (Ok done)
   done-after {T} done q =
       let both = says-of (Ok false) q in
       done-then tells o types lines width picks b s u {T = T} done (went-then tells o types lines width picks b s t u w both.0) both.1
 
   -- or how the run has ended
-  pub fault-after : {T : Type 0} (f : RunFault) → result ≡ Err f → GoesOn {T = T} tells o b s.run u.run s.settler u.settler u.counts s.world u.world (Err f)
+  pub fault-after : {T : Type 0} (f : RunFault) → result ≡ Err f → RecordGoesOn {T = T} tells o b s.run u.run s.settler u.settler u.counts s.world u.world (Err f)
   fault-after {T} f q = ends-then tells o types lines width picks b s t {T = T} u w f (says-of (Err f) q)
 
 -- ---- beside the record

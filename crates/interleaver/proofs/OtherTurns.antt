@@ -23,7 +23,7 @@ use Rattle.interleaver.specs.declared.faults.RunFault.TheVariants.{InDoubt, Writ
 use Rattle.interleaver.specs.Beginnings.{Outset, IsOutset, GoUpFrom, basis_of}
 use Rattle.interleaver.specs.Books.{Books}
 use Rattle.interleaver.specs.Flights.{loop_at}
-use Rattle.interleaver.specs.Records.{EndsAs, GoesOn}
+use Rattle.interleaver.specs.Records.{TurnsEndAs, RecordGoesOn}
 use Rattle.interleaver.specs.UnderWay.{TurnStage, IsUnderWay, WentOn, SettlesBy, SettledSays, SettledOn}
 use Rattle.interleaver.proofs.Frames.{lines-stay, settler-no-line}
 use Rattle.interleaver.proofs.Settles.{settles-rule}
@@ -89,7 +89,7 @@ module _ (tells : Bool) (o : Outset) (lines : List Line) (b : Books) (s s' : Tur
   -- and where it ends the run
   pub settler-ends : {T : Type 0} → IsPicked l OfSettler → SettlesBy s.run s'.run → (fault : RunFault)
       → SettledOn {T = T} tells o b s.run s'.run s.settler s'.settler s'.counts s.world s'.world (Err fault)
-      → GoesOn {T = Bool} tells o b s.run s'.run s.settler s'.settler s'.counts s.world s'.world (Err fault)
+      → RecordGoesOn {T = Bool} tells o b s.run s'.run s.settler s'.settler s'.counts s.world s'.world (Err fault)
   settler-ends {T} pick by fault on = record {
     books = on.on.books;
     record_kept = record {
@@ -111,7 +111,7 @@ module _ (tells : Bool) (o : Outset) (lines : List Line) (b : Books) (s s' : Tur
       turns (inr x) =
           subst (KeepsTurnRule o.program.types (length o.asked) o.width o.picks) (sym x.2) (turn-settler l way.turning x.0 pick x.1 (settler-applies x.0 x.1)).turn_rule
 
-      ends-so : (f : RunFault) → SettledSays {T = T} o on.on.books s'.run s'.settler s'.counts (Err f) → EndsAs o on.on.books s'.run s'.settler s'.counts {T = Bool} (Err f)
+      ends-so : (f : RunFault) → SettledSays {T = T} o on.on.books s'.run s'.settler s'.counts (Err f) → TurnsEndAs o on.on.books s'.run s'.settler s'.counts {T = Bool} (Err f)
       ends-so InDoubt x = x
       ends-so WriteFault x = x
       ends-so Memory x = x

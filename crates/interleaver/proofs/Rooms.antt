@@ -24,7 +24,7 @@ use Rattle.interleaver.specs.declared.faults.RunFault.TheVariants.{Memory}
 use Rattle.interleaver.specs.Beginnings.{Outset, basis_of}
 use Rattle.interleaver.specs.Books.{Books}
 use Rattle.interleaver.specs.Flights.{flown_unless, is_flown, lines_carried, loop_at, next_line_by}
-use Rattle.interleaver.specs.Records.{GoesOn}
+use Rattle.interleaver.specs.Records.{RecordGoesOn}
 use Rattle.interleaver.specs.UnderWay.{BeganOn, IsUnderWay, TurnSays, TurnStage, WentOn}
 use Rattle.interleaver.proofs.BooksStated.{OthersKeep}
 use Rattle.interleaver.proofs.Choosing.{at-outset}
@@ -189,10 +189,10 @@ module _ (tells : Bool) (o : Outset) (types : ProgramTree) (lines : List Line) (
   -- or its event has no memory
   pub line-out-says : (keeps : OthersKeep) (line : Line) → Some line ≡ next_line_by s.settler.doubted agents width s.begun lines → (r' : Run)
       → Looks none_comes (own_sight s.run) (own_sight r') ⊎ ((y : CoreReply) × PutsLine none_comes types line.number line.what (own_sight s.run) (own_sight r') y)
-      → GoesOn {T = Bool} tells o b s.run r' s.settler s.settler s.counts s.world s.world (Err Memory)
+      → RecordGoesOn {T = Bool} tells o b s.run r' s.settler s.settler s.counts s.world s.world (Err Memory)
   line-out-says keeps line next r' put =
       let found = room-some line next in
       at-outset (λ t n ps. IsUnderWay tells o t lines n ps b (record s { agents = agents }) → Looks none_comes (own_sight s.run) (own_sight r') ⊎ ((y : CoreReply) × PutsLine none_comes t line.number line.what (own_sight s.run) (own_sight r') y)
-      → GoesOn {T = Bool} tells o b s.run r' s.settler s.settler s.counts s.world s.world (Err Memory))
+      → RecordGoesOn {T = Bool} tells o b s.run r' s.settler s.settler s.counts s.world s.world (Err Memory))
       o types s.run (drop s.begun lines) width picks way.outset
       (λ w x. line-lacks keeps tells o lines b (record s { agents = agents }) r' w line found.0 found.1 x) dropped-way put

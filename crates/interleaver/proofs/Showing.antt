@@ -26,12 +26,12 @@ use Rattle.settle_loop.specs.declared.settler.Settler.{Settler}
 use Rattle.interleaver.specs.declared.faults.RunFault.{RunFault}
 use Rattle.interleaver.specs.declared.faults.RunFault.TheVariants.{InDoubt, WriteFault, Memory}
 use Rattle.interleaver.specs.Beginnings.{Outset, basis_of}
-use Rattle.interleaver.specs.Books.{Books, journal_of, AreInDoubt, IsPutOut}
-use Rattle.interleaver.specs.Records.{KeepsRecord, EndsAs}
+use Rattle.interleaver.specs.Books.{Books, booked_journal, AreInDoubt, IsPutOut}
+use Rattle.interleaver.specs.Records.{KeepsRecord, TurnsEndAs}
 use Rattle.request_wire.specs.Reply.{reply_line}
 use Rattle.core_model.proofs.Lined.{once-ends}
 use Rattle.turn_rules.proofs.Lawful.{legal-run}
-use Rattle.interleaver.specs.Closing.{IsCourseOf, ending_of}
+use Rattle.interleaver.specs.Closing.{IsCourseOf, turns_ending}
 
 -- ---- the records
 
@@ -62,7 +62,7 @@ added-by w front (batch ∷ (other ∷ more)) are d = absurd d
 
 module _ {T : Type 0} (o : Outset) (b : Books) (r : Run) (settler : Settler) (counts : Channel → ℕ) where
   -- a file's fault ends it only with a batch in doubt
-  doubted-by : (result : Result T RunFault) → EndsAs o b r settler counts result → (file : FileId) → ending_of result ≡ DiskFault file → IsDoubtful live_slot r file
+  doubted-by : (result : Result T RunFault) → TurnsEndAs o b r settler counts result → (file : FileId) → turns_ending result ≡ DiskFault file → IsDoubtful live_slot r file
   doubted-by (Ok done) e file q = absurd cc
   doubted-by (Err InDoubt) e file q = (is_file manager file q, e.0.doubt)
     where
@@ -72,14 +72,14 @@ module _ {T : Type 0} (o : Outset) (b : Books) (r : Run) (settler : Settler) (co
   doubted-by (Err Memory) e file q = absurd cc
 
   -- and a doubt ends it
-  ended-by : (result : Result T RunFault) → EndsAs o b r settler counts result → HasDoubt r → MayDoubt (ending_of result)
+  ended-by : (result : Result T RunFault) → TurnsEndAs o b r settler counts result → HasDoubt r → MayDoubt (turns_ending result)
   ended-by (Ok done) e d = absurd (e.0.never d)
   ended-by (Err InDoubt) e d = tt
   ended-by (Err WriteFault) e d = tt
   ended-by (Err Memory) e d = tt
 
   -- all that is settled is written, where it ends so
-  written-by : (result : Result T RunFault) → EndsAs o b r settler counts result → IsAllWritten (ending_of result) ⊎ (IsDiskFault (ending_of result) × HasDoubt r)
+  written-by : (result : Result T RunFault) → TurnsEndAs o b r settler counts result → IsAllWritten (turns_ending result) ⊎ (IsDiskFault (turns_ending result) × HasDoubt r)
       → length (ends r).manager.settled ≤ (ends r).manager.emitted
   written-by (Ok done) e which = e.0.run.quiet.written
   written-by (Err InDoubt) e which = e.0.written
@@ -92,14 +92,14 @@ module _ {T : Type 0} (o : Outset) (b : Books) (r : Run) (settler : Settler) (co
 
 -- what its events explain
 pub explains : {T : Type 0} (tells : Bool) (o : Outset) (b : Books) (r : Run) (settler : Settler) (seen : Observed) (c : Course) (result : Result T RunFault)
-    → KeepsRecord tells o b r settler seen.faults_after seen.new → EndsAs o b r settler seen.faults_after result → seen.ending ≡ ending_of result
+    → KeepsRecord tells o b r settler seen.faults_after seen.new → TurnsEndAs o b r settler seen.faults_after result → seen.ending ≡ turns_ending result
     → IsCourseOf o b r seen c → ExplainsEvents o.program seen c
 explains {T} tells o b r settler seen c result k e q is =
     let run : r ≡ core_run o.program c = sym is.run in
     let same : basis_of o ≡ basis o.program seen c = (λ i. record { types = o.program.types; lines = sym is.asked i; opening = standing_of o.program.types (sym is.opening i) }) in
     record {
       records = subst (AreAdded (core_end o.program c)) (sym is.added)
-          (subst (λ (x : Run). AreAdded (ends x) (commits_of (journal_of b))) run (added-by (ends r) (b.said ++ b.unsaid) b.doubted k.books.booked.commits k.books.booked.doubted));
+          (subst (λ (x : Run). AreAdded (ends x) (commits_of (booked_journal b))) run (added-by (ends r) (b.said ++ b.unsaid) b.doubted k.books.booked.commits k.books.booked.doubted));
       units = subst (λ (s : Basis). KeepsUnitRule s (core_run o.program c)) same (subst (KeepsUnitRule (basis_of o)) run k.units);
       turns = λ one. subst (λ (n : ℕ). KeepsTurnRule o.program.types n seen.manner.width seen.manner.picks (core_run o.program c)) (ap length (sym is.asked))
           (subst (λ (w : ℕ). KeepsTurnRule o.program.types (length o.asked) w seen.manner.picks (core_run o.program c)) (sym is.width)
@@ -145,8 +145,8 @@ put-told b w (inr q) le =
 
 -- what was written of what is settled
 pub settled : {T : Type 0} (tells : Bool) (o : Outset) (b : Books) (r : Run) (settler : Settler) (seen : Observed) (c : Course) (result : Result T RunFault)
-    → settler.quiet ≡ false → KeepsRecord tells o b r settler seen.faults_after seen.new → EndsAs o b r settler seen.faults_after result
-    → seen.ending ≡ ending_of result → IsCourseOf o b r seen c → AreSettled o.program seen c
+    → settler.quiet ≡ false → KeepsRecord tells o b r settler seen.faults_after seen.new → TurnsEndAs o b r settler seen.faults_after result
+    → seen.ending ≡ turns_ending result → IsCourseOf o b r seen c → AreSettled o.program seen c
 settled {T} tells o b r settler seen c result loud k e q is =
     let w : CoreState = ends r in
     let end : core_end o.program c ≡ w = ap ends is.run in
@@ -165,7 +165,7 @@ settled {T} tells o b r settler seen c result loud k e q is =
       cut = cut-by k.books.cut;
     }
   where
-    which-by : EndsWritten o.program seen c → IsAllWritten (ending_of result) ⊎ (IsDiskFault (ending_of result) × HasDoubt r)
+    which-by : EndsWritten o.program seen c → IsAllWritten (turns_ending result) ⊎ (IsDiskFault (turns_ending result) × HasDoubt r)
     which-by (inl x) = inl (subst IsAllWritten q x)
     which-by (inr x) = inr (subst IsDiskFault q x.0, subst HasDoubt is.run x.1)
 

@@ -36,7 +36,7 @@ use Rattle.turn_rules.proofs.Numbers.{units-below}
 use Rattle.settle_loop.specs.declared.settler.Settler.{Settler}
 use Rattle.interleaver.specs.Beginnings.{Outset, IsOutset, CanTurn, basis_of}
 use Rattle.interleaver.specs.Books.{Books, IsPutOut}
-use Rattle.interleaver.specs.Records.{KeepsRecord, IsFresh}
+use Rattle.interleaver.specs.Records.{KeepsRecord, IsFreshRecord}
 use Rattle.interleaver.specs.Settling.{AreEven}
 use Rattle.interleaver.specs.UnderWay.{IsUnderWay}
 use Rattle.interleaver.proofs.Showing.{whole-take, flat-both}
@@ -121,7 +121,7 @@ no-more xs ys q = none-of ys (let e : length xs ≡ length xs + length ys = ap l
 
 module _ (tells : Bool) (o : Outset) (types : ProgramTree) (lines : List Line) (width : ℕ) (picks : List ℕ) (b : Books) (r : Run) (settler : Settler) (counts : Channel → ℕ) (now : World) where
   -- all that holds on the way holds where nobody is carried yet
-  pub start : IsOutset o types r lines width picks → CanTurn r settler lines → IsFresh o b r → KeepsRecord tells o b r settler counts now → IsAcceptedProgram types → HasFewNumbers (ends r)
+  pub start : IsOutset o types r lines width picks → CanTurn r settler lines → IsFreshRecord o b r → KeepsRecord tells o b r settler counts now → IsAcceptedProgram types → HasFewNumbers (ends r)
       → IsUnderWay tells o types lines width picks b (record { run = r; settler = settler; counts = counts; world = now; agents = []; begun = 0; used = 0 })
   start is can fresh k accepted few = record {
     outset = is;

@@ -18,8 +18,8 @@ pub record Books : Type 0 where
   pub rest : List ℕ
 
 -- the whole journal
-abbrev pub journal_of : Books → List Settlement
-journal_of b = (b.said ++ b.unsaid) ++ b.doubted
+abbrev pub booked_journal : Books → List Settlement
+booked_journal b = (b.said ++ b.unsaid) ++ b.doubted
 
 -- What stands last is nothing, or one batch: that of the core's doubt, with the records of its units to commit and no entry.
 abbrev pub AreInDoubt : CoreState → List Settlement → Type 0

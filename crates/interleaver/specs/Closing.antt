@@ -8,19 +8,19 @@ use Rattle.promise_spec.specs.Journals.{commits_of, entries_of}
 use Rattle.interleaver.specs.declared.faults.RunFault.{RunFault}
 use Rattle.interleaver.specs.declared.faults.RunFault.TheVariants.{InDoubt, WriteFault, Memory}
 use Rattle.interleaver.specs.Beginnings.{Outset}
-use Rattle.interleaver.specs.Books.{Books, journal_of}
+use Rattle.interleaver.specs.Books.{Books, booked_journal}
 
 -- the ending of a whole run whose turns were answered so
-abbrev pub ending_of : {T : Type 0} → Result T RunFault → Ending
-ending_of (Ok done) = Done
-ending_of (Err InDoubt) = DiskFault manager
-ending_of (Err WriteFault) = Unwritten
-ending_of (Err Memory) = NoMemory
+abbrev pub turns_ending : {T : Type 0} → Result T RunFault → Ending
+turns_ending (Ok done) = Done
+turns_ending (Err InDoubt) = DiskFault manager
+turns_ending (Err WriteFault) = Unwritten
+turns_ending (Err Memory) = NoMemory
 
 -- What a whole run shows, and its course, are what the turns' outset and books say.
 pub record IsCourseOf (o : Outset) (b : Books) (r : Run) (seen : Observed) (c : Course) : Type 0 where
   pub opening : c.opening ≡ o.opening
-  pub added : c.added ≡ commits_of (journal_of b)
+  pub added : c.added ≡ commits_of (booked_journal b)
   pub entries : c.entries ≡ entries_of b.said
   pub rest : c.rest ≡ b.rest
   pub run : core_run o.program c ≡ r

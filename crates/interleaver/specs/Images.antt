@@ -20,7 +20,7 @@ use Rattle.batch_disk.specs.Writers.{kept_of, KeepsDisk}
 use Rattle.batch_disk.specs.declared.writer.BatchWriter.{BatchWriter}
 use Rattle.settler_rules.specs.Voting.{IsOfVote}
 use Rattle.interleaver.specs.Beginnings.{Outset}
-use Rattle.interleaver.specs.Books.{Books, journal_of}
+use Rattle.interleaver.specs.Books.{Books, booked_journal}
 
 -- the files that a run leaves alone are as they were in this world, and each image has this header
 pub record LeavesAside (head : List ℕ) (old : World) (m : Moment) : Type 0 where
@@ -49,18 +49,18 @@ pub record KeepsFolder (o : Outset) (head : List ℕ) (b : Books) (r : Run) (wri
 
 -- an image has the batch in doubt, where one may have it
 abbrev pub SomeHas : Outset → Books → Disk → Type 0
-SomeHas o b disk = b.doubted ≢ [] → SomeImage (λ image. IsLog live_slot (shape_in o.program) image (o.opening ++ commits_of (journal_of b))) disk
+SomeHas o b disk = b.doubted ≢ [] → SomeImage (λ image. IsLog live_slot (shape_in o.program) image (o.opening ++ commits_of (booked_journal b))) disk
 
 -- The journal since the world behind the opening; whole batches, and other files and the header as they were, at each moment and
 -- now; what entries acknowledge stands beside them or before them; the block of a batch in doubt; and, while none is, what the
 -- settler's writer keeps.
 pub record LastsSo (o : Outset) (head : List ℕ) (b : Books) (r : Run) (writer : BatchWriter) (now : World) : Type 0 where
   pub journal : CutAt o.program o.opening o.world b.said b.unsaid b.doubted b.rest now
-  pub backs : Backs (journal_of b) (commits_of (journal_of b))
+  pub backs : Backs (booked_journal b) (commits_of (booked_journal b))
   pub batches : Passes (AllEnd o.program (ends r) o.opening) o.world.past now.past
   pub batches_now : AllEnd o.program (ends r) o.opening (moment_of now)
   pub alone : Passes (LeavesAside head o.world) o.world.past now.past
   pub alone_now : LeavesAside head o.world (moment_of now)
   pub some : SomeHas o b now.disk
-  pub block : HasDoubt r → HasOpenBlock (o.opening ++ commits_of (journal_of b)) (ends r) now.disk
+  pub block : HasDoubt r → HasOpenBlock (o.opening ++ commits_of (booked_journal b)) (ends r) now.disk
   pub folder : writer.in_doubt ≡ false → KeepsFolder o head b r writer now.disk

@@ -53,7 +53,7 @@ pub record KeepsRecord (tells : Bool) (o : Outset) (b : Books) (r : Run) (settle
   pub books : KeepsBooks tells o b r settler counts now
 
 -- No pick was used yet, all is written, and nothing is in doubt.
-pub record IsFresh (o : Outset) (b : Books) (r : Run) : Type 0 where
+pub record IsFreshRecord (o : Outset) (b : Books) (r : Run) : Type 0 where
   pub picks : picks_used r (length r.events) ≡ 0
   pub doubted : b.doubted ≡ []
   pub rest : b.rest ≡ []
@@ -72,16 +72,16 @@ pub record HasDoubted (o : Outset) (r : Run) (faults : Channel → ℕ) : Type 0
   pub rose : Rose (o.faults (File manager)) (faults (File manager))
 
 -- What the answer says. A line is cut off only where the output failed.
-abbrev pub EndsAs : Outset → Books → Run → Settler → (Channel → ℕ) → {T : Type 0} → Result T RunFault → Type 0
-EndsAs o b r settler faults (Ok done) = HasCarriedAll o r settler × (b.rest ≡ [])
-EndsAs o b r settler faults (Err InDoubt) = HasDoubted o r faults × (b.rest ≡ [])
-EndsAs o b r settler faults (Err WriteFault) = Rose (o.faults Output) (faults Output)
-EndsAs o b r settler faults (Err Memory) = b.rest ≡ []
+abbrev pub TurnsEndAs : Outset → Books → Run → Settler → (Channel → ℕ) → {T : Type 0} → Result T RunFault → Type 0
+TurnsEndAs o b r settler faults (Ok done) = HasCarriedAll o r settler × (b.rest ≡ [])
+TurnsEndAs o b r settler faults (Err InDoubt) = HasDoubted o r faults × (b.rest ≡ [])
+TurnsEndAs o b r settler faults (Err WriteFault) = Rose (o.faults Output) (faults Output)
+TurnsEndAs o b r settler faults (Err Memory) = b.rest ≡ []
 
 -- The record that held where the turns began holds again with more in its books, and so does what the images keep, if they
 -- kept it; and the answer says how it ended.
-pub record GoesOn {T : Type 0} (tells : Bool) (o : Outset) (b : Books) (r r' : Run) (settler settler' : Settler) (faults' : Channel → ℕ) (now now' : World) (result : Result T RunFault) : Type 0 where
+pub record RecordGoesOn {T : Type 0} (tells : Bool) (o : Outset) (b : Books) (r r' : Run) (settler settler' : Settler) (faults' : Channel → ℕ) (now now' : World) (result : Result T RunFault) : Type 0 where
   pub books : Books
   pub record_kept : KeepsRecord tells o books r' settler' faults' now'
   pub lasts : IsTrue tells → (head : List ℕ) → LastsSo o head b r settler.writer now → LastsSo o head books r' settler'.writer now'
-  pub ended : EndsAs o books r' settler' faults' result
+  pub ended : TurnsEndAs o books r' settler' faults' result

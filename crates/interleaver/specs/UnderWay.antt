@@ -27,7 +27,7 @@ use Rattle.interleaver.specs.Beginnings.{Outset, IsOutset, GoUpFrom}
 use Rattle.interleaver.specs.Books.{Books}
 use Rattle.interleaver.specs.Flights.{loop_at}
 use Rattle.interleaver.specs.Images.{LastsSo}
-use Rattle.interleaver.specs.Records.{KeepsBooks, HasCarriedAll, HasDoubted, GoesOn}
+use Rattle.interleaver.specs.Records.{KeepsBooks, HasCarriedAll, HasDoubted, RecordGoesOn}
 use Rattle.interleaver.specs.Settling.{AreEven, BooksGoOn}
 
 -- Where a run of turns stands: the core's run, the settler, the host's counts of faults and its world, the units that are carried,
@@ -68,7 +68,7 @@ pub record WentOn (tells : Bool) (o : Outset) (types : ProgramTree) (lines : Lis
 abbrev pub TurnSays : Bool → Outset → ProgramTree → List Line → ℕ → List ℕ → Books → TurnStage → TurnStage → Result Bool RunFault → Type 0
 TurnSays tells o types lines width picks b s s' (Ok true) = WentOn tells o types lines width picks b s s'
 TurnSays tells o types lines width picks b s s' (Ok false) = WentOn tells o types lines width picks b s s' × HasCarriedAll o s'.run s'.settler
-TurnSays tells o types lines width picks b s s' (Err fault) = GoesOn {T = Bool} tells o b s.run s'.run s.settler s'.settler s'.counts s.world s'.world (Err fault)
+TurnSays tells o types lines width picks b s s' (Err fault) = RecordGoesOn {T = Bool} tells o b s.run s'.run s.settler s'.settler s'.counts s.world s'.world (Err fault)
 
 -- ---- the settler's step
 

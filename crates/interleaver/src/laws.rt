@@ -10,18 +10,18 @@ ghost use Rattle.interleaver.specs.declared.faults.RunFault.{RunFault as AFault}
 ghost use Rattle.interleaver.specs.Beginnings.{Outset};
 ghost use Rattle.interleaver.specs.Books.{Books};
 ghost use Rattle.interleaver.specs.Images.{LastsSo};
-ghost use Rattle.interleaver.specs.Records.{KeepsRecord, EndsAs};
-ghost use Rattle.interleaver.specs.Closing.{IsCourseOf, ending_of};
+ghost use Rattle.interleaver.specs.Records.{KeepsRecord, TurnsEndAs};
+ghost use Rattle.interleaver.specs.Closing.{IsCourseOf, turns_ending};
 
 /// What the record of the turns says, however they ended, is what a whole run has to show over any folder: that the core's events
 /// explain what it did, and that what it wrote is what is settled; and, where the images keep the books, what has to last.
 pub fn records_show<T>()
     ensures explains { (tells : Bool) (o : Outset) (b : Books) (r : Run) (settler : ASettler) (seen : Observed) (c : Course) (result : AResult T AFault)
-        → KeepsRecord tells o b r settler seen.faults_after seen.new → EndsAs o b r settler seen.faults_after result → seen.ending ≡ ending_of result
+        → KeepsRecord tells o b r settler seen.faults_after seen.new → TurnsEndAs o b r settler seen.faults_after result → seen.ending ≡ turns_ending result
         → IsCourseOf o b r seen c → ExplainsEvents o.program seen c }
     ensures settled { (tells : Bool) (o : Outset) (b : Books) (r : Run) (settler : ASettler) (seen : Observed) (c : Course) (result : AResult T AFault)
-        → settler.quiet ≡ false → KeepsRecord tells o b r settler seen.faults_after seen.new → EndsAs o b r settler seen.faults_after result
-        → seen.ending ≡ ending_of result → IsCourseOf o b r seen c → AreSettled o.program seen c }
+        → settler.quiet ≡ false → KeepsRecord tells o b r settler seen.faults_after seen.new → TurnsEndAs o b r settler seen.faults_after result
+        → seen.ending ≡ turns_ending result → IsCourseOf o b r seen c → AreSettled o.program seen c }
     ensures lasts { (tells : Bool) (o : Outset) (head : AList ℕ) (b : Books) (r : Run) (settler : ASettler) (seen : Observed) (c : Course)
         → tells ≡ true → KeepsRecord tells o b r settler seen.faults_after seen.new → LastsSo o head b r settler.writer seen.new → IsCourseOf o b r seen c
         → head ≡ take 15 (seen_at_entry seen manager) → IsBehind live_slot o.program seen c o.world → Opens o.program seen c → ReadsMayStay seen.new

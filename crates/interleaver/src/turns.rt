@@ -23,7 +23,7 @@ ghost use Rattle.interleaver.specs.Beginnings.{Outset, CanTurn, IsOutset};
 ghost use Rattle.interleaver.specs.Beside.{TurnsBeside};
 ghost use Rattle.interleaver.specs.Books.{Books};
 ghost use Rattle.interleaver.specs.Flights.{loop_at, next_line_by};
-ghost use Rattle.interleaver.specs.Records.{KeepsBooks, KeepsRecord, IsFresh, GoesOn};
+ghost use Rattle.interleaver.specs.Records.{KeepsBooks, KeepsRecord, IsFreshRecord, RecordGoesOn};
 ghost use Rattle.interleaver.specs.Settling.{AreEven, CanSettle};
 ghost use Rattle.interleaver.specs.UnderWay.{stage_of, BeganOn, IsUnderWay, MovedOn, SettledOn, SettlesBy, SettlesOne, TurnSays};
 
@@ -281,9 +281,9 @@ pub fn run_turns<H: Host, G: Gate>(
 
     // The run's record, however it ends.
     ensures record_kept { (o : Outset) (b : Books) → IsOutset o (program_tree checked.now) (run_of core.old) lines.now width turns.now
-        → CanTurn (run_of core.old) settler.old lines.now → IsFresh o b (run_of core.old)
+        → CanTurn (run_of core.old) settler.old lines.now → IsFreshRecord o b (run_of core.old)
         → KeepsRecord H.tells o b (run_of core.old) settler.old (H.faults host.old) (H.world host.old)
-        → GoesOn H.tells o b (run_of core.old) (run_of core.new) settler.old settler.new (H.faults host.new) (H.world host.old) (H.world host.new) result }
+        → RecordGoesOn H.tells o b (run_of core.old) (run_of core.new) settler.old settler.new (H.faults host.new) (H.world host.old) (H.world host.new) result }
 
     // And what it leaves beside that.
     ensures beside { TurnsBeside H.tells (run_of core.old) (run_of core.new) settler.old settler.new (H.faults host.old) (H.faults host.new) (H.world host.old) (H.world host.new) result }

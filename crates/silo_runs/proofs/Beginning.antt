@@ -20,7 +20,7 @@ use Rattle.worker_rules.specs.Stories.{NoneLoads}
 use Rattle.settle_loop.specs.declared.settler.Settler.{Settler}
 use Rattle.interleaver.specs.Beginnings.{Outset, CanTurn, IsOutset}
 use Rattle.interleaver.specs.Books.{Books, IsPutOut}
-use Rattle.interleaver.specs.Records.{KeepsRecord, IsFresh}
+use Rattle.interleaver.specs.Records.{KeepsRecord, IsFreshRecord}
 use Rattle.silo_runs.specs.Reading.{AreReadFrom}
 use Rattle.silo_runs.proofs.Read.{as_many, go_up, read_as}
 
@@ -99,7 +99,7 @@ module _ (base kinds : ℕ) (opening : GrainId → List Value) where
     written = written;
   }
 
-  pub starts_fresh : (o : Outset) → IsFresh o no_books r
+  pub starts_fresh : (o : Outset) → IsFreshRecord o no_books r
   starts_fresh o = record { picks = refl; doubted = refl; rest = refl }
 
   -- and what is told from outside is theirs

@@ -28,10 +28,10 @@ use Rattle.settle_loop.specs.declared.settler.Settler.{Settler}
 use Rattle.interleaver.specs.declared.faults.RunFault.{RunFault}
 use Rattle.interleaver.specs.declared.faults.RunFault.TheVariants.{InDoubt, WriteFault, Memory}
 use Rattle.interleaver.specs.Beginnings.{Outset}
-use Rattle.interleaver.specs.Books.{Books, journal_of}
-use Rattle.interleaver.specs.Closing.{IsCourseOf, ending_of}
+use Rattle.interleaver.specs.Books.{Books, booked_journal}
+use Rattle.interleaver.specs.Closing.{IsCourseOf, turns_ending}
 use Rattle.interleaver.specs.Images.{LastsSo}
-use Rattle.interleaver.specs.Records.{EndsAs, GoesOn}
+use Rattle.interleaver.specs.Records.{TurnsEndAs, RecordGoesOn}
 use Rattle.interleaver.proofs.Showing.{explains, settled}
 use Rattle.interleaver.proofs.Lasting.{lasts}
 use Rattle.opening_rules.specs.Behind.{program_of, FollowsOpening}
@@ -39,7 +39,7 @@ use Rattle.opening_rules.proofs.Behind.{behind}
 use Rattle.silo_opening.specs.declared.open.Opened.{Opened}
 use Rattle.silo_runs.specs.declared.status.Status.{Status}
 use Rattle.silo_runs.specs.Statuses.{status_ending}
-use Rattle.silo_runs.specs.Answering.{turns_manner, shown, AnswersRun}
+use Rattle.silo_runs.specs.Answering.{turns_manner, observed_call, AnswersRun}
 use Rattle.silo_runs.specs.Reading.{PulledOnly}
 use Rattle.silo_runs.specs.Serving.{IsBehindOpening}
 use Rattle.interleaver.specs.Beside.{EmitsAs, TurnsBeside}
@@ -49,43 +49,43 @@ use Rattle.silo_runs.proofs.Promised.{behind_promised}
 -- ---- what each answer says
 
 module _ {T : Type 0} (o : Outset) (b : Books) (r : Run) (s : Settler) (after : Channel → ℕ) where
-  risen_by : (result : Result T RunFault) → EndsAs o b r s after result → HasRisen (ending_of result) o.faults after
+  risen_by : (result : Result T RunFault) → TurnsEndAs o b r s after result → HasRisen (turns_ending result) o.faults after
   risen_by (Ok done) e = tt
   risen_by (Err InDoubt) e = e.0.rose
   risen_by (Err WriteFault) e = e
   risen_by (Err Memory) e = tt
 
-  rest_by : (result : Result T RunFault) → EndsAs o b r s after result → ending_of result ≢ Unwritten → b.rest ≡ []
+  rest_by : (result : Result T RunFault) → TurnsEndAs o b r s after result → turns_ending result ≢ Unwritten → b.rest ≡ []
   rest_by (Ok done) e other = e.1
   rest_by (Err InDoubt) e other = e.1
   rest_by (Err WriteFault) e other = absurd (other refl)
   rest_by (Err Memory) e other = e
 
-begun_by : {T : Type 0} (result : Result T RunFault) → IsBegun (ending_of result)
+begun_by : {T : Type 0} (result : Result T RunFault) → IsBegun (turns_ending result)
 begun_by (Ok done) = tt
 begun_by (Err InDoubt) = tt
 begun_by (Err WriteFault) = tt
 begun_by (Err Memory) = tt
 
-carried_by : {T : Type 0} (result : Result T RunFault) → IsCarried (ending_of result)
+carried_by : {T : Type 0} (result : Result T RunFault) → IsCarried (turns_ending result)
 carried_by (Ok done) = tt
 carried_by (Err InDoubt) = tt
 carried_by (Err WriteFault) = tt
 carried_by (Err Memory) = tt
 
-long_by : {T : Type 0} (result : Result T RunFault) (size : ℕ) → size ≤ input_limit → HasLength (ending_of result) size
+long_by : {T : Type 0} (result : Result T RunFault) (size : ℕ) → size ≤ input_limit → HasLength (turns_ending result) size
 long_by (Ok done) size short = short
 long_by (Err InDoubt) size short = short
 long_by (Err WriteFault) size short = short
 long_by (Err Memory) size short = tt
 
-good_by : {T : Type 0} (result : Result T RunFault) → ending_of result ≢ BadUse
+good_by : {T : Type 0} (result : Result T RunFault) → turns_ending result ≢ BadUse
 good_by (Ok done) q = cc q
 good_by (Err InDoubt) q = cc q
 good_by (Err WriteFault) q = cc q
 good_by (Err Memory) q = cc q
 
-output_by : {T : Type 0} (result : Result T RunFault) (old mid new : ℕ) → mid ≡ old → EmitsAs result mid new → new ≢ old → (ending_of result ≡ Unwritten) ⊎ (ending_of result ≡ NoMemory)
+output_by : {T : Type 0} (result : Result T RunFault) (old mid new : ℕ) → mid ≡ old → EmitsAs result mid new → new ≢ old → (turns_ending result ≡ Unwritten) ⊎ (turns_ending result ≡ NoMemory)
 output_by (Ok done) old mid new calm e other = absurd (other (e ∙ calm))
 output_by (Err InDoubt) old mid new calm e other = absurd (other (e ∙ calm))
 output_by (Err WriteFault) old mid new calm e other = inl refl
@@ -93,7 +93,7 @@ output_by (Err Memory) old mid new calm e other = inr refl
 
 -- over every host
 pub turns_answer : {T : Type 0} (tells : Bool) (o : Outset) (b : Books) (r r' : Run) (s s' : Settler) (mid after : Channel → ℕ) (now now' : World) (result : Result T RunFault) → NoneFailed o.faults mid
-    → EndsAs o b r' s' after result → TurnsBeside tells r r' s s' mid after now now' result → AnswersRun (ending_of result) o.faults after
+    → TurnsEndAs o b r' s' after result → TurnsBeside tells r r' s s' mid after now now' result → AnswersRun (turns_ending result) o.faults after
 turns_answer tells o b r r' s s' mid after now now' result calm e beside = record {
   good = good_by result;
   risen = risen_by o b r' s' after result e;
@@ -111,7 +111,7 @@ all_syncs : (new mid old v s : ℕ) → new ≡ mid + (v + 2 * s) → mid ≡ ol
 all_syncs new mid old v s a b = omega (arith, a, b)
 
 module _ {T : Type 0} (width : ℕ) (picks : List ℕ) (x : Opened) (old mid now new : World) (before after : Channel → ℕ) (status : Status) (result : Result T RunFault) (is : IsBehindOpening old mid x) (pulled : PulledOnly mid now)
-    (stay_mid : ReadsMayStay mid) (stay_new : ReadsMayStay new) (end : now.input ≡ []) (short : length old.input ≤ input_limit) (ends_as : status_ending status ≡ ending_of result) where
+    (stay_mid : ReadsMayStay mid) (stay_new : ReadsMayStay new) (end : now.input ≡ []) (short : length old.input ≤ input_limit) (ends_as : status_ending status ≡ turns_ending result) where
   abbrev pub p : Program
   p = program_of is.opened
 
@@ -122,13 +122,13 @@ module _ {T : Type 0} (width : ℕ) (picks : List ℕ) (x : Opened) (old mid now
   out = record { program = p; asked = lines_of old.input; opening = log; width = width; picks = picks; faults = before; world = mid }
 
   abbrev pub seen : Observed
-  seen = shown (turns_manner width picks) old new before after status
+  seen = observed_call (turns_manner width picks) old new before after status
 
   abbrev pub r0 : Run
   r0 = core_from p.types (standing_of p.types log) []
 
   -- the turns went on from the start, and what the images keep held there, where the folder is sound
-  module _ (r' : Run) (s s' : Settler) (mid_faults : Channel → ℕ) (goes : GoesOn true out no_books r0 r' s s' after now new result) (beside : TurnsBeside true r0 r' s s' mid_faults after now new result) (loud : s.quiet ≡ false) where
+  module _ (r' : Run) (s s' : Settler) (mid_faults : Channel → ℕ) (goes : RecordGoesOn true out no_books r0 r' s s' after now new result) (beside : TurnsBeside true r0 r' s s' mid_faults after now new result) (loud : s.quiet ≡ false) where
     abbrev pub b : Books
     b = goes.books
 
@@ -136,7 +136,7 @@ module _ {T : Type 0} (width : ℕ) (picks : List ℕ) (x : Opened) (old mid now
     later = beside.past told
 
     abbrev pub c : Course
-    c = record { opening = log; added = commits_of (journal_of b); early = is.run.clock.more; late = pulled.moments.more ++ later.0; events = r'.events; entries = entries_of b.said; rest = b.rest }
+    c = record { opening = log; added = commits_of (booked_journal b); early = is.run.clock.more; late = pulled.moments.more ++ later.0; events = r'.events; entries = entries_of b.said; rest = b.rest }
 
     run_is : core_run p c ≡ r'
     run_is = ap (λ (es : List CoreEvent). core_from p.types (standing_of p.types log) es) (ap (λ (r : Run). r.events) beside.core) ∙ sym beside.core
@@ -170,7 +170,7 @@ module _ {T : Type 0} (width : ℕ) (picks : List ℕ) (x : Opened) (old mid now
     are_settled : AreSettled p seen c
     are_settled = settled true out b r' s' seen c result (beside.quiet ∙ loud) goes.record_kept goes.ended ends_as course
 
-    is_done : (answer : Result T RunFault) → EndsAs out b r' s' after answer → ending_of answer ≡ Done → (e : c.entries ≡ (ends r').manager.settled) → IsDone seen c
+    is_done : (answer : Result T RunFault) → TurnsEndAs out b r' s' after answer → turns_ending answer ≡ Done → (e : c.entries ≡ (ends r').manager.settled) → IsDone seen c
     is_done (Ok done) e q all = record {
       input = beside.input told ∙ end;
       answered = λ n low high. (let k = e.0.run.answered n low high in (k.0, subst (λ (l : List Entry). Member k.0 l) (sym all) k.1, k.2));

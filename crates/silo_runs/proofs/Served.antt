@@ -20,13 +20,13 @@ use Rattle.settle_loop.specs.declared.settler.Settler.{Settler}
 use Rattle.interleaver.specs.declared.faults.RunFault.{RunFault}
 use Rattle.interleaver.specs.Beginnings.{Outset, IsOutset, CanTurn}
 use Rattle.interleaver.specs.Books.{Books}
-use Rattle.interleaver.specs.Closing.{ending_of}
-use Rattle.interleaver.specs.Records.{KeepsRecord, IsFresh, GoesOn}
+use Rattle.interleaver.specs.Closing.{turns_ending}
+use Rattle.interleaver.specs.Records.{KeepsRecord, IsFreshRecord, RecordGoesOn}
 use Rattle.silo_opening.specs.declared.open.Opened.{Opened}
 use Rattle.silo_runs.specs.declared.status.Status.{Status}
 use Rattle.silo_runs.specs.declared.starting.Started.{Started}
 use Rattle.silo_runs.specs.Statuses.{status_ending}
-use Rattle.silo_runs.specs.Answering.{turns_manner, shown}
+use Rattle.silo_runs.specs.Answering.{turns_manner, observed_call}
 use Rattle.silo_runs.specs.Reading.{PulledOnly, AreReadFrom}
 use Rattle.silo_runs.specs.Starting.{IsStartOf}
 use Rattle.silo_runs.specs.Serving.{IsBehindOpening}
@@ -39,7 +39,7 @@ use Rattle.silo_runs.proofs.Unopened.{asked_untouched}
 use Rattle.silo_runs.proofs.OpensWith.{start_is}
 
 module _ {T : Type 0} (width : ℕ) (picks : List ℕ) (x : Opened) (st : Started) (old mid now new : World) (before between after : Channel → ℕ) (status : Status) (result : Result T RunFault) (is : IsBehindOpening old mid x) (start : IsStartOf x st)
-    (pulled : PulledOnly mid now) (stay_mid : ReadsMayStay mid) (stay_new : ReadsMayStay new) (end : now.input ≡ []) (short : length old.input ≤ input_limit) (ends_as : status_ending status ≡ ending_of result) where
+    (pulled : PulledOnly mid now) (stay_mid : ReadsMayStay mid) (stay_new : ReadsMayStay new) (end : now.input ≡ []) (short : length old.input ≤ input_limit) (ends_as : status_ending status ≡ turns_ending result) where
   abbrev outset : Outset
   outset = out width picks x old mid now new before after status result is pulled stay_mid stay_new end short ends_as
 
@@ -58,19 +58,19 @@ module _ {T : Type 0} (width : ℕ) (picks : List ℕ) (x : Opened) (st : Starte
 
   -- So the run keeps its promise by what `run_turns` ensures, and by what it leaves beside that.
   pub served : (lines : List Line) (r' : Run) (s' : Settler) → 0 < width → 0 < x.next_unit.0 → NoneFailed before between → AreReadFrom (program_tree x.checked) 0 (lines_of old.input) lines
-      → ((o : Outset) (b : Books) → IsOutset o (program_tree x.checked) (run_of st.core) lines width picks → CanTurn (run_of st.core) st.settler lines → IsFresh o b (run_of st.core)
-      → KeepsRecord true o b (run_of st.core) st.settler between now → GoesOn true o b (run_of st.core) r' st.settler s' after now new result)
+      → ((o : Outset) (b : Books) → IsOutset o (program_tree x.checked) (run_of st.core) lines width picks → CanTurn (run_of st.core) st.settler lines → IsFreshRecord o b (run_of st.core)
+      → KeepsRecord true o b (run_of st.core) st.settler between now → RecordGoesOn true o b (run_of st.core) r' st.settler s' after now new result)
       → TurnsBeside true (run_of st.core) r' st.settler s' between after now new result
-      → Promises (turns_manner width picks) (shown (turns_manner width picks) old new before after status)
+      → Promises (turns_manner width picks) (observed_call (turns_manner width picks) old new before after status)
   served lines r' s' wide above calm are turns beside =
       let same : run_of st.core ≡ first = start_is (seen_in old.disk) x st is.opened start in
       let base : 0 < first.base = subst (λ (n : ℕ). 0 < n) is.opened.next above in
-      let goes : GoesOn true outset no_books (run_of st.core) r' st.settler s' after now new result = turns outset no_books
+      let goes : RecordGoesOn true outset no_books (run_of st.core) r' st.settler s' after now new result = turns outset no_books
       (subst (λ (r : Run). IsOutset outset (program_tree x.checked) r lines width picks) (sym same) (starts_outset first.base first.kinds first.opening outset (program_tree x.checked) (lines_of old.input) lines width picks are refl refl refl refl wide refl))
       (subst (λ (r : Run). CanTurn r st.settler lines) (sym same) (starts_quiet first.base first.kinds first.opening (program_tree x.checked) (lines_of old.input) lines st.settler are start.doubted start.written))
-      (subst (λ (r : Run). IsFresh outset no_books r) (sym same) (starts_fresh first.base first.kinds first.opening outset))
+      (subst (λ (r : Run). IsFreshRecord outset no_books r) (sym same) (starts_fresh first.base first.kinds first.opening outset))
       (subst (λ (r : Run). KeepsRecord true outset no_books r st.settler between now) (sym same) (kept above calm)) in
-      let went : GoesOn true outset no_books first r' st.settler s' after now new result = subst (λ (r : Run). GoesOn true outset no_books r r' st.settler s' after now new result) same goes in
+      let went : RecordGoesOn true outset no_books first r' st.settler s' after now new result = subst (λ (r : Run). RecordGoesOn true outset no_books r r' st.settler s' after now new result) same goes in
       let left : TurnsBeside true first r' st.settler s' between after now new result = subst (λ (r : Run). TurnsBeside true r r' st.settler s' between after now new result) same beside in
       let behind = stands width picks x old mid now new before after status result is pulled stay_mid stay_new end short ends_as r' st.settler s' between went left start.loud in
       turns_promised width picks x old mid now new before after status result is pulled stay_mid stay_new end short ends_as r' st.settler s' between went left start.loud

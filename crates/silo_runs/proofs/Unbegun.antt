@@ -31,7 +31,7 @@ use Rattle.opening_rules.proofs.Behind.{behind}
 use Rattle.silo_opening.specs.declared.open.Opened.{Opened}
 use Rattle.silo_runs.specs.declared.status.Status.{Status}
 use Rattle.silo_runs.specs.Statuses.{status_ending}
-use Rattle.silo_runs.specs.Answering.{shown}
+use Rattle.silo_runs.specs.Answering.{observed_call}
 use Rattle.silo_runs.specs.Reading.{PulledOnly}
 use Rattle.silo_runs.specs.Serving.{IsBehindOpening}
 use Rattle.silo_runs.proofs.Beginning.{none_applies, rose_none}
@@ -60,7 +60,7 @@ module _ (m : Manner) (o : Opened) (old mid new : World) (before after : Channel
   p = program_of is.opened
 
   abbrev r : Observed
-  r = shown m old new before after status
+  r = observed_call m old new before after status
 
   abbrev c : Course
   c = record { opening = is.opened.log; added = []; early = is.run.clock.more; late = pulled.moments.more; events = []; entries = []; rest = [] }

@@ -6,7 +6,7 @@ use Rattle.host_trait.specs.Faults.{NoneFailed, FailedOn, Rose}
 use Rattle.promise_spec.specs.Endings as ending
 use Rattle.promise_spec.specs.Endings.{HasFailedAs, input_limit}
 use Rattle.silo_runs.specs.declared.input.InputFault.{InputFault}
-use Rattle.silo_runs.specs.Reading.{InputFaulted, input_ending}
+use Rattle.silo_runs.specs.Reading.{PullFaulted, input_ending}
 use Rattle.silo_runs.proofs.Unbegun.{EndsUnbegun}
 
 -- a failed call let no count fall
@@ -32,7 +32,7 @@ module _ (size : ℕ) (before mid after : Channel → ℕ) (none : NoneFailed be
     later = calm_later calm;
   }
 
-  pub unread_ends : (fault : InputFault) → InputFaulted fault mid after → (fault ≡ InputFault.TooLong → input_limit < size) → EndsUnbegun (input_ending fault) size before after
+  pub unread_ends : (fault : InputFault) → PullFaulted fault mid after → (fault ≡ InputFault.TooLong → input_limit < size) → EndsUnbegun (input_ending fault) size before after
   unread_ends InputFault.Memory f long = starved_ends f
   unread_ends InputFault.Failed f long = record {
     carried = tt;
@@ -52,7 +52,7 @@ module _ (size : ℕ) (before mid after : Channel → ℕ) (none : NoneFailed be
   }
 
 -- what failed is what the ending names
-pub unread_failed : (old new : Channel → ℕ) (fault : InputFault) → InputFaulted fault old new → HasFailedAs (input_ending fault) old new
+pub unread_failed : (old new : Channel → ℕ) (fault : InputFault) → PullFaulted fault old new → HasFailedAs (input_ending fault) old new
 unread_failed old new InputFault.Memory f = f
 unread_failed old new InputFault.Failed f = f
 unread_failed old new InputFault.TooLong f = f

@@ -33,8 +33,8 @@ abbrev pub IsMannerOf : List (List ℕ) → Manner → Type 0
 IsMannerOf words m = (n : Manner) → Understands is_built is_taken words (Run n) → m ≡ n
 
 -- what a call shows that ended with this status
-abbrev pub shown : Manner → World → World → (Channel → ℕ) → (Channel → ℕ) → Status → Observed
-shown m old new before after status = record {
+abbrev pub observed_call : Manner → World → World → (Channel → ℕ) → (Channel → ℕ) → Status → Observed
+observed_call m old new before after status = record {
   manner = m;
   asked = lines_of old.input;
   old = old;

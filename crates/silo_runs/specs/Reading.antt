@@ -19,10 +19,10 @@ pub record PulledOnly (old new : World) : Type 0 where
   pub moments : Passes (λ m. m ≡ moment_of old) old.past new.past
 
 -- a call on the input failed where `Failed` is answered, and none did where another fault is
-abbrev pub InputFaulted : InputFault → (Channel → ℕ) → (Channel → ℕ) → Type 0
-InputFaulted InputFault.Memory old new = NoneFailed old new
-InputFaulted InputFault.Failed old new = FailedOn Input old new
-InputFaulted InputFault.TooLong old new = NoneFailed old new
+abbrev pub PullFaulted : InputFault → (Channel → ℕ) → (Channel → ℕ) → Type 0
+PullFaulted InputFault.Memory old new = NoneFailed old new
+PullFaulted InputFault.Failed old new = FailedOn Input old new
+PullFaulted InputFault.TooLong old new = NoneFailed old new
 
 -- how a run ends whose input wasn't read
 abbrev pub input_ending : InputFault → ending.Ending

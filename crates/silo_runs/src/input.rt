@@ -1,7 +1,7 @@
 ghost use Rattle.std.specs.Prelude.{◌≡◌, ◌≤◌, ◌<◌, [], length, IsTrue, IfOk, OnOk, IfErr, vec_len};
 ghost use Rattle.host_trait.specs.Faults.{NoneFailed};
 ghost use Rattle.host_trait.specs.Files.{StaysReady};
-ghost use Rattle.silo_runs.specs.Reading.{PulledOnly, InputFaulted};
+ghost use Rattle.silo_runs.specs.Reading.{PulledOnly, PullFaulted};
 
 use host_trait::{Failed, Host};
 use std::alloc::{AllocError, Global};
@@ -51,7 +51,7 @@ pub(crate) fn read_input<H: Host>(alloc: Global, host: &mut H) -> Result<Vec<u8>
     ensures too_long { IfErr result (λ e. e ≡ InputFault.TooLong
         → IsTrue H.tells → INPUT_LIMIT < length (H.world host.old).input) }
     ensures calm { OnOk result (NoneFailed (H.faults host.old) (H.faults host.new)) }
-    ensures counts { IfErr result (λ e. InputFaulted e (H.faults host.old) (H.faults host.new)) }
+    ensures counts { IfErr result (λ e. PullFaulted e (H.faults host.old) (H.faults host.new)) }
     ensures only { IsTrue H.tells → PulledOnly (H.world host.old) (H.world host.new) }
     ensures ready { StaysReady (H.is_ready host.old) (H.is_ready host.new) }
 {

@@ -10,7 +10,7 @@ use Rattle.unit_carrier.specs.Carrying.{AreCarried}
 use Rattle.interleaver.specs.Beginnings.{Outset, CanTurn, IsOutset}
 use Rattle.interleaver.specs.Beside.{TurnsBeside}
 use Rattle.interleaver.specs.Books.{Books}
-use Rattle.interleaver.specs.Records.{KeepsRecord, IsFresh}
+use Rattle.interleaver.specs.Records.{KeepsRecord, IsFreshRecord}
 use Rattle.interleaver.specs.UnderWay.{WentOn, stage_of}
 use Rattle.interleaver.proofs.turns.run_turns.Given as goal
 
@@ -24,7 +24,7 @@ invariant-loop-turn g l = record {
   ready : StaysReady (g.H.Host.is_ready l.fn.host) (g.H.Host.is_ready l.host);
   beside : TurnsBeside {T = Bool} g.H.Host.tells (run_of l.fn.core) (run_of l.core) l.fn.settler l.settler (g.H.Host.faults l.fn.host) (g.H.Host.faults l.host) (g.H.Host.world l.fn.host) (g.H.Host.world l.host) (Ok true);
   went : (o : Outset) (b : Books) → IsOutset o (program_tree l.checked) (run_of l.fn.core) l.lines l.width l.turns
-      → CanTurn (run_of l.fn.core) l.fn.settler l.lines → IsFresh o b (run_of l.fn.core)
+      → CanTurn (run_of l.fn.core) l.fn.settler l.lines → IsFreshRecord o b (run_of l.fn.core)
       → KeepsRecord g.H.Host.tells o b (run_of l.fn.core) l.fn.settler (g.H.Host.faults l.fn.host) (g.H.Host.world l.fn.host)
       → WentOn g.H.Host.tells o (program_tree l.checked) l.lines l.width l.turns b
       (record { run = run_of l.fn.core; settler = l.fn.settler; counts = g.H.Host.faults l.fn.host; world = g.H.Host.world l.fn.host; agents = []; begun = 0; used = 0 })

@@ -10,13 +10,13 @@ use Rattle.history_core.specs.Cores.{run_of}
 use Rattle.interleaver.specs.Beginnings.{Outset, IsOutset, CanTurn}
 use Rattle.interleaver.specs.Books.{Books}
 use Rattle.interleaver.specs.Beside.{TurnsBeside}
-use Rattle.interleaver.specs.Records.{IsFresh, KeepsRecord, GoesOn}
+use Rattle.interleaver.specs.Records.{IsFreshRecord, KeepsRecord, RecordGoesOn}
 use Rattle.silo_runs.proofs.Served.{served}
 use Rattle.silo_runs.proofs.Answered.{answered}
 use Rattle.silo_runs.proofs.OpensWith.{fits_at}
 use Rattle.promise_spec.specs.Endings.{Ending, input_limit}
 use Rattle.silo_runs.specs.Reading.{input_ending}
-use Rattle.silo_runs.specs.Answering.{turns_manner, shown, AnswersRun}
+use Rattle.silo_runs.specs.Answering.{turns_manner, observed_call, AnswersRun}
 use Rattle.silo_runs.specs.declared.status.Status.{Status}
 use Rattle.silo_runs.proofs.Unbegun.{unbegun_promised, EndsUnbegun}
 use Rattle.silo_runs.proofs.Unread.{unread_ends, starved_ends}
@@ -25,7 +25,7 @@ use Rattle.silo_runs.proofs.carrying.serve.Goals as goal
 
 pub returns-in-Err-clause-promises : goal.returns-in-Err-clause-promises
 returns-in-Err-clause-promises g c = λ told old before behind none.
-    unopened_promised (turns_manner c.args.width c.args.picks.now) (shown (turns_manner c.args.width c.args.picks.now) old (g.H.Host.world c.args.host.now) before (g.H.Host.faults c.args.host.now) Status.Memory) refl
+    unopened_promised (turns_manner c.args.width c.args.picks.now) (observed_call (turns_manner c.args.width c.args.picks.now) old (g.H.Host.world c.args.host.now) before (g.H.Host.faults c.args.host.now) Status.Memory) refl
     (record { untouched = asked_untouched old (g.H.Host.world c.args.host.now) behind.run; unread = behind.run.input; refused = tt; risen = tt })
 
 pub returns-in-Err-read_input-clause-promises : goal.returns-in-Err-read_input-clause-promises
@@ -62,13 +62,13 @@ returns-clause-promises g c = λ told old before behind none.
     (subst (λ (l : List ℕ). AreReadFrom (program_tree c.args.opened.checked) 0 (lines_of l) c.in-Ok-read_lines.lines) (sym whole)
     (subst (λ (k : ProgramTree). AreReadFrom k 0 (lines_of c.deref.result.now) c.in-Ok-read_lines.lines) (ap program_tree c.in-Ok.ensures.start.checked) c.in-Ok-read_lines.ensures))
     (subst (λ (t : Bool). (o : Outset) (b : Books) → IsOutset o (program_tree c.args.opened.checked) (run_of c.in-Ok.started.core) c.in-Ok-read_lines.lines c.args.width c.args.picks.now
-    → CanTurn (run_of c.in-Ok.started.core) c.in-Ok.started.settler c.in-Ok-read_lines.lines → IsFresh o b (run_of c.in-Ok.started.core)
+    → CanTurn (run_of c.in-Ok.started.core) c.in-Ok.started.settler c.in-Ok-read_lines.lines → IsFreshRecord o b (run_of c.in-Ok.started.core)
     → KeepsRecord t o b (run_of c.in-Ok.started.core) c.in-Ok.started.settler f1 w1
-    → GoesOn t o b (run_of c.in-Ok.started.core) (run_of c.run_turns.new.core) c.in-Ok.started.settler c.run_turns.new.settler f2 w1 w2 c.run_turns.result) told
+    → RecordGoesOn t o b (run_of c.in-Ok.started.core) (run_of c.run_turns.new.core) c.in-Ok.started.settler c.run_turns.new.settler f2 w1 w2 c.run_turns.result) told
     (subst (λ (k : ProgramTree). (o : Outset) (b : Books) → IsOutset o k (run_of c.in-Ok.started.core) c.in-Ok-read_lines.lines c.args.width c.args.picks.now
-    → CanTurn (run_of c.in-Ok.started.core) c.in-Ok.started.settler c.in-Ok-read_lines.lines → IsFresh o b (run_of c.in-Ok.started.core)
+    → CanTurn (run_of c.in-Ok.started.core) c.in-Ok.started.settler c.in-Ok-read_lines.lines → IsFreshRecord o b (run_of c.in-Ok.started.core)
     → KeepsRecord g.H.Host.tells o b (run_of c.in-Ok.started.core) c.in-Ok.started.settler f1 w1
-    → GoesOn g.H.Host.tells o b (run_of c.in-Ok.started.core) (run_of c.run_turns.new.core) c.in-Ok.started.settler c.run_turns.new.settler f2 w1 w2 c.run_turns.result) (ap program_tree c.in-Ok.ensures.start.checked) c.run_turns.ensures.record_kept))
+    → RecordGoesOn g.H.Host.tells o b (run_of c.in-Ok.started.core) (run_of c.run_turns.new.core) c.in-Ok.started.settler c.run_turns.new.settler f2 w1 w2 c.run_turns.result) (ap program_tree c.in-Ok.ensures.start.checked) c.run_turns.ensures.record_kept))
     (subst (λ (t : Bool). TurnsBeside t (run_of c.in-Ok.started.core) (run_of c.run_turns.new.core) c.in-Ok.started.settler c.run_turns.new.settler f1 f2 w1 w2 c.run_turns.result) told c.run_turns.ensures.beside)
 
 pub returns-clause-answers : goal.returns-clause-answers
@@ -83,7 +83,7 @@ returns-clause-answers g c =
     c.in-Ok.ensures.start (λ told. c.read_input.ensures.only told) c.in-Ok-read_input.ensures.calm c.requires.wide c.requires.above
     (subst (λ (k : ProgramTree). AreReadFrom k 0 (lines_of c.deref.result.now) c.in-Ok-read_lines.lines) (ap program_tree c.in-Ok.ensures.start.checked) c.in-Ok-read_lines.ensures)
     (subst (λ (k : ProgramTree). (o : Outset) (b : Books) → IsOutset o k (run_of c.in-Ok.started.core) c.in-Ok-read_lines.lines c.args.width c.args.picks.now
-    → CanTurn (run_of c.in-Ok.started.core) c.in-Ok.started.settler c.in-Ok-read_lines.lines → IsFresh o b (run_of c.in-Ok.started.core)
+    → CanTurn (run_of c.in-Ok.started.core) c.in-Ok.started.settler c.in-Ok-read_lines.lines → IsFreshRecord o b (run_of c.in-Ok.started.core)
     → KeepsRecord g.H.Host.tells o b (run_of c.in-Ok.started.core) c.in-Ok.started.settler f1 w1
-    → GoesOn g.H.Host.tells o b (run_of c.in-Ok.started.core) (run_of c.run_turns.new.core) c.in-Ok.started.settler c.run_turns.new.settler f2 w1 w2 c.run_turns.result) (ap program_tree c.in-Ok.ensures.start.checked) c.run_turns.ensures.record_kept)
+    → RecordGoesOn g.H.Host.tells o b (run_of c.in-Ok.started.core) (run_of c.run_turns.new.core) c.in-Ok.started.settler c.run_turns.new.settler f2 w1 w2 c.run_turns.result) (ap program_tree c.in-Ok.ensures.start.checked) c.run_turns.ensures.record_kept)
     c.run_turns.ensures.beside)
