@@ -17,9 +17,6 @@ pub enum BadRequest {
     Method,
     /// The arguments aren't as many numbers and short texts as the method has parameters.
     Args,
-    /// The line isn't a request of the counter program that adds a number. A program that is read from its text
-    /// refuses no line so.
-    Early,
 }
 
 /// What became of a request line.

@@ -5,7 +5,7 @@ use Rattle.base_types.specs.declared.calls.Outcome.TheVariants as outcome
 use Rattle.base_types.specs.declared.calls.Origin.TheVariants.{Line, Child}
 use Rattle.base_types.specs.declared.calls.Mode.TheVariants.{Read as Shared, Update as Alone}
 use Rattle.base_types.specs.declared.entries.Settled.TheVariants as settled
-use Rattle.base_types.specs.declared.entries.BadRequest.TheVariants.{Early}
+use Rattle.base_types.specs.declared.entries.BadRequest.TheVariants.{Json}
 use Rattle.cell_model.specs.declared.locks.Ask.TheVariants as locks
 use Rattle.core_model.specs.declared.events.CoreReply.{CoreReply}
 use Rattle.core_model.specs.declared.events.CoreReply.TheVariants as reply
@@ -212,7 +212,7 @@ pub record RunsAreComputed : Type 0 where
       Release (unit 1) (account 3) ∷ Take ∷ Vote 1 (account 3) true ∷ Decide 1 ∷ Sealed 1 ∷ [])
       ≡ entry 1 (done 11) ∷ []
   -- a plain run is answered by its child's commit, whose line it isn't; a bad line stands between
-  pub plain_parent : settled_in (Begin (Line 1) (balance 9) true ∷ Begin (Child (unit 1) 0 2) (deposit 1 5) false ∷ Bad 2 Early ∷
+  pub plain_parent : settled_in (Begin (Line 1) (balance 9) true ∷ Begin (Child (unit 1) 0 2) (deposit 1 5) false ∷ Bad 2 Json ∷
       Grant (unit 2) (account 1) Alone ∷
       Finish (unit 2) (record {
         unit = unit 2;
@@ -233,7 +233,7 @@ pub record RunsAreComputed : Type 0 where
         writes = [];
         result = outcome.Value (Int (pos 0));
       }) ∷ [])
-      ≡ record { line = 2; unit = nobody; what = settled.Bad Early } ∷ entry 1 (done 0) ∷ []
+      ≡ record { line = 2; unit = nobody; what = settled.Bad Json } ∷ entry 1 (done 0) ∷ []
   -- two units share a lock; neither gets the account for itself
   pub shared : replies bank (Begin (Line 1) (balance 1) false ∷ Begin (Line 2) (balance 1) false ∷
       Grant (unit 1) (account 1) Shared ∷ Grant (unit 2) (account 1) Shared ∷ Grant (unit 2) (account 1) Shared ∷

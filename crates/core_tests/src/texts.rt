@@ -49,7 +49,6 @@ fn bad_name(why: BadRequest) -> &'static str {
         BadRequest::Grain => "grain",
         BadRequest::Method => "method",
         BadRequest::Args => "args",
-        BadRequest::Early => "early",
     }
 }
 

@@ -217,7 +217,7 @@ module _ (types : ProgramTree) (lines : List (List ℕ)) (shape : Shape) (plays 
     may-say (settled.Dependency on) (inr c) t = dependency-low x.unit on (subst (λ (us : Units). Member on (us.deps x.unit)) (same-decided (ends front) cause.event c.0).1 c.4.source)
     may-say settled.Disk c t = tt
     may-say settled.InDoubt c t = tt
-    may-say (settled.Bad why) c t = subst (IsEventIn shape) c.1 event-in
+    may-say (settled.Bad why) c t = tt
 
     -- and is said of a unit, or of nobody where the line is bad
     has-unit : (s : Settled) → HasLine (ends front) x s → Tells types lines (ends r) x s → HasUnit x.unit s

@@ -1,7 +1,6 @@
 -- What events carry, so that the entries that they settle can be written as lines.
-use Rattle.std.specs.Prelude.{◌≢◌, ⊤}
+use Rattle.std.specs.Prelude.{⊤}
 use Rattle.std.specs.List.{AllByRecursion}
-use Rattle.base_types.specs.declared.entries.BadRequest.TheVariants.{Early}
 use Rattle.base_types.specs.declared.shapes.Shape.{Shape}
 use Rattle.field_codec.specs.Spelling.{ResultFits}
 use Rattle.core_model.specs.CoreState.{Write}
@@ -14,10 +13,9 @@ use Rattle.promise_spec.specs.Outputs.{IsGrainIn}
 abbrev pub IsEffectIn : Shape → Effect → Type 0
 IsEffectIn shape e = ResultFits e.result × AllByRecursion (λ (w : Write). IsGrainIn shape w.0) e.writes
 
--- An event carries results within the limits, and grains of the program where a unit is refused one or writes one; and no line
--- is bad for being early.
+-- An event carries results within the limits, and grains of the program where a unit is refused one or writes one.
 abbrev pub IsEventIn : Shape → CoreEvent → Type 0
-IsEventIn shape (Bad n why) = why ≢ Early
+IsEventIn shape (Bad n why) = ⊤
 IsEventIn shape (Begin origin call plain) = ⊤
 IsEventIn shape (Grant u g mode) = ⊤
 IsEventIn shape (Refuse u g mode) = IsGrainIn shape g

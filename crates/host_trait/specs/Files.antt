@@ -9,6 +9,10 @@ use Rattle.host_trait.specs.declared.channels.FileId.TheVariants.{Program, Manag
 abbrev pub manager : FileId
 manager = Manager 0
 
+-- the file of the program, in every command
+abbrev pub program_file : FileId
+program_file = Program 0
+
 -- whether two names are one file's
 abbrev pub same_file : FileId → FileId → Bool
 same_file (Program a) (Program b) = a == b

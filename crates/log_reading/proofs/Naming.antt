@@ -22,7 +22,7 @@ use Rattle.grain_log.specs.Reads.{fields_of, version_at_place}
 use Rattle.commit_log.specs.declared.records.Named.{Named}
 use Rattle.host_trait.specs.Files.{same_grain}
 use Rattle.log_reading.specs.Versions.{version_named, missing_or, first_missing, state_of}
-use Rattle.log_reading.specs.Sums.{state_after, end_after, later_end, StopsAt}
+use Rattle.log_reading.specs.Sums.{state_after, end_after, greater_end, StopsAt}
 
 -- ---- one after the other
 
@@ -83,17 +83,17 @@ module _ (shape : Shape) (image : Image) where
   state_all items g old all are so_far = ap (λ (l : List Named). state_after shape image old l g) (sym are) ∙ so_far
 
 pub end_more : (x : Named) (rest items : List Named) (g : GrainId) (old new all : Option ℕ) → items ≡ x ∷ rest
-    → new ≡ (if same_grain x.written.grain g then later_end old (x.written.place.offset + x.written.place.len) else old) → end_after old items g ≡ all → end_after new rest g ≡ all
+    → new ≡ (if same_grain x.written.grain g then greater_end old (x.written.place.offset + x.written.place.len) else old) → end_after old items g ≡ all → end_after new rest g ≡ all
 end_more x rest items g old new all are is so_far = ap (λ (s : Option ℕ). end_after s rest g) is ∙ ap (λ (l : List Named). end_after old l g) (sym are) ∙ so_far
 
 -- an end that is kept lies below 2^63, where the place's end does and that of before
-near_if : (b : Bool) (old : Option ℕ) (end : ℕ) → end < 2 ^ 63 → unwrap_or old 0 < 2 ^ 63 → unwrap_or (if b then later_end old end else old) 0 < 2 ^ 63
+near_if : (b : Bool) (old : Option ℕ) (end : ℕ) → end < 2 ^ 63 → unwrap_or old 0 < 2 ^ 63 → unwrap_or (if b then greater_end old end else old) 0 < 2 ^ 63
 near_if true None end near was = near
 near_if true (Some last) end near was = omega (arith, near, was)
 near_if false old end near was = was
 
 pub near_more : (x : Named) (g : GrainId) (old new : Option ℕ) → x.written.place.offset + x.written.place.len < 2 ^ 63
-    → new ≡ (if same_grain x.written.grain g then later_end old (x.written.place.offset + x.written.place.len) else old) → unwrap_or old 0 < 2 ^ 63 → unwrap_or new 0 < 2 ^ 63
+    → new ≡ (if same_grain x.written.grain g then greater_end old (x.written.place.offset + x.written.place.len) else old) → unwrap_or old 0 < 2 ^ 63 → unwrap_or new 0 < 2 ^ 63
 near_more x g old new near is was =
     subst (λ (s : Option ℕ). unwrap_or s 0 < 2 ^ 63) (sym is) (near_if (same_grain x.written.grain g) old (x.written.place.offset + x.written.place.len) near was)
 

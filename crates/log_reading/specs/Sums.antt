@@ -44,15 +44,15 @@ state_after shape image state (n ∷ named) grain =
     state_after shape image (if same_grain n.written.grain grain then Some (state_of (version_named live_slot shape image n)) else state) named grain
 
 -- the greater of an end and one that may be missing
-abbrev pub later_end : Option ℕ → ℕ → Option ℕ
-later_end None end = Some end
-later_end (Some last) end = Some (max last end)
+abbrev pub greater_end : Option ℕ → ℕ → Option ℕ
+greater_end None end = Some end
+greater_end (Some last) end = Some (max last end)
 
 -- the greatest end among the places that are named in a grain's file, from one of before
 abbrev pub end_after : Option ℕ → List Named → GrainId → Option ℕ
 end_after end [] grain = end
 end_after end (n ∷ named) grain =
-    end_after (if same_grain n.written.grain grain then later_end end (n.written.place.offset + n.written.place.len) else end) named grain
+    end_after (if same_grain n.written.grain grain then greater_end end (n.written.place.offset + n.written.place.len) else end) named grain
 
 -- in each grain's file the places end below 2^63
 abbrev pub AreNear : Ends → Type 0

@@ -14,7 +14,7 @@ ghost use Rattle.log_reading.specs.Steps.{seen_in, live_slot};
 ghost use Rattle.host_trait.specs.Files.{same_grain};
 ghost use Rattle.log_reading.specs.Pieces.{IsPieceOf};
 ghost use Rattle.log_reading.specs.Versions.{version_named, first_missing};
-ghost use Rattle.log_reading.specs.Sums.{state_after, end_after, later_end, AreNear, StopsAt};
+ghost use Rattle.log_reading.specs.Sums.{state_after, end_after, greater_end, AreNear, StopsAt};
 
 use crate::faults::FolderFault;
 use crate::pieces::{Piece, no_piece, refill, text_in, version_of};
@@ -80,8 +80,8 @@ fn next_version<H: Host>(
 }
 
 // The greater of an end and one that may be missing.
-fn later_end(last: Option<u64>, end: u64) -> u64
-    ensures { later_end last end ≡ Some result }
+fn greater_end(last: Option<u64>, end: u64) -> u64
+    ensures { greater_end last end ≡ Some result }
 {
     match last {
         Some(last) => { if last < end { end } else { last } }
@@ -98,13 +98,13 @@ fn keep(
 ) -> Result<(), FolderFault>
     requires { named.written.place.offset + named.written.place.len < 2 ^ 63 }
     ensures states { OnOk result ((grain : GrainId) → state_in store.new grain ≡ (if same_grain named.written.grain grain then Some version.state else state_in store.old grain)) }
-    ensures ends { OnOk result ((grain : GrainId) → end_in ends.new grain ≡ (if same_grain named.written.grain grain then later_end (end_in ends.old grain) (named.written.place.offset + named.written.place.len) else end_in ends.old grain)) }
+    ensures ends { OnOk result ((grain : GrainId) → end_in ends.new grain ≡ (if same_grain named.written.grain grain then greater_end (end_in ends.old grain) (named.written.place.offset + named.written.place.len) else end_in ends.old grain)) }
     ensures memory { IfErr result (λ e. e ≡ FolderFault.Memory) }
 {
     let grain = named.written.grain;
     let place = named.written.place;
     store.put(grain, version.state)?;
-    let end = later_end(ends.get(grain), place.offset + place.len as u64);
+    let end = greater_end(ends.get(grain), place.offset + place.len as u64);
     ends.put(grain, end)?;
     Ok(())
 }

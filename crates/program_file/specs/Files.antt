@@ -1,15 +1,10 @@
 -- The program of a program file, or where the file is damaged.
 use Rattle.std.specs.Prelude.{ℕ, ◌+◌, nat_lt, if◌then◌else◌, List, length, take, drop, Result, Ok, Err}
 use Rattle.std.specs.Int.{w32, from_le_bytes}
-use Rattle.host_trait.specs.declared.channels.FileId.{FileId}
-use Rattle.host_trait.specs.declared.channels.FileId.TheVariants as file
+pub use Rattle.host_trait.specs.Files.{program_file}
 use Rattle.script_tree.specs.Programs.{ProgramTree}
 use Rattle.program_file.specs.declared.faults.ProgramFault.{ProgramFault}
 use Rattle.program_file.specs.Programs.{Program, text_limit, program_in, fault_place}
-
--- the file of the program
-abbrev pub program_file : FileId
-program_file = file.Program 0
 
 -- Its text, or where the file is damaged: at its length where it is too short for the length field or for the text, and
 -- at 0 where the text would be too long.

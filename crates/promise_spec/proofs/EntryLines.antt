@@ -12,7 +12,7 @@ use Rattle.base_types.specs.declared.calls.UnitNo.{UnitNo}
 use Rattle.base_types.specs.declared.calls.Value.{Value}
 use Rattle.base_types.specs.declared.calls.Value.TheVariants.{Int, Text}
 use Rattle.base_types.specs.declared.entries.BadRequest.{BadRequest}
-use Rattle.base_types.specs.declared.entries.BadRequest.TheVariants.{Json, Shape as ShapeTest, Grain, Method, Args, Early}
+use Rattle.base_types.specs.declared.entries.BadRequest.TheVariants.{Json, Shape as ShapeTest, Grain, Method, Args}
 use Rattle.base_types.specs.declared.entries.Entry.{Entry}
 use Rattle.base_types.specs.declared.entries.Settled.{Settled}
 use Rattle.base_types.specs.declared.entries.Settled.TheVariants.{Done, Lock, Vote, Dependency, Disk, InDoubt, Bad}
@@ -224,7 +224,6 @@ module _ (shape : Shape) (plain : HavePlainNames shape.types) where
   settled_back n u (Bad Grain) may = refl
   settled_back n u (Bad Method) may = refl
   settled_back n u (Bad Args) may = refl
-  settled_back n u (Bad Early) may = absurd (may refl)
 
   line_back : (n u : ℕ) (what : Settled) → n < 2 ^ 64 → count_at (codes "n") (members_in (outline (settled_data shape n u what))) ≡ n
   line_back n u (Done (outcome.Value v)) h = count_back n h

@@ -3,7 +3,6 @@ use Rattle.std.specs.Prelude.{◌≡◌, ◌≢◌, ℕ, ◌<◌, ◌^◌, List,
 use Rattle.std.specs.List.{flat_map, AllByRecursion}
 use Rattle.base_types.specs.declared.calls.GrainId.{GrainId}
 use Rattle.base_types.specs.declared.calls.UnitNo.{UnitNo}
-use Rattle.base_types.specs.declared.entries.BadRequest.TheVariants.{Early}
 use Rattle.base_types.specs.declared.entries.Entry.{Entry}
 use Rattle.base_types.specs.declared.entries.Settled.{Settled}
 use Rattle.base_types.specs.declared.entries.Settled.TheVariants.{Done, Lock, Vote, Dependency, Disk, InDoubt, Bad}
@@ -35,7 +34,7 @@ MaySay shape (Vote grain) = IsGrainIn shape grain
 MaySay shape (Dependency on) = on.0 < 2 ^ 64
 MaySay shape Disk = ⊤
 MaySay shape InDoubt = ⊤
-MaySay shape (Bad why) = why ≢ Early
+MaySay shape (Bad why) = ⊤
 
 -- an entry of those that a core settles
 pub record IsProper (shape : Shape) (e : Entry) : Type 0 where

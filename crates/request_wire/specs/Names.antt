@@ -1,5 +1,5 @@
 -- What a program names, as far as a request line speaks of it.
-use Rattle.std.specs.Prelude.{ℕ, ◌+◌, List, [], ◌∷◌, codes, bytes_eq, if◌then◌else◌, length, map, Option, Some, None}
+use Rattle.std.specs.Prelude.{ℕ, ◌+◌, List, [], ◌∷◌, bytes_eq, if◌then◌else◌, length, map, Option, Some, None}
 use Rattle.script_tree.specs.Programs.{MethodTree, TypeTree, ProgramTree}
 
 -- a type: its name, and its methods in order, each by its name and number of parameters
@@ -17,10 +17,6 @@ type_names of_type = record { name = of_type.name.text; methods = map method_nam
 -- what a program names
 abbrev pub names_in : ProgramTree → List TypeNames
 names_in types = map type_names types
-
--- the counter program has one type, `counter`, with the methods `add` of one parameter and `read` of none
-abbrev pub counter_types : List TypeNames
-counter_types = record { name = codes "counter"; methods = (codes "add", 1) ∷ (codes "read", 0) ∷ [] } ∷ []
 
 -- the first item with this name, and its number where the list is counted from `start`
 abbrev pub named : {A : Type 0} → (A → List ℕ) → ℕ → List A → List ℕ → Option (ℕ × A)

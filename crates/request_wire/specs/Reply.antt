@@ -7,7 +7,7 @@ use Rattle.base_types.specs.declared.calls.UnitNo.{UnitNo}
 use Rattle.base_types.specs.declared.calls.Value as calls
 use Rattle.base_types.specs.declared.calls.Value.TheVariants.{Int, Text}
 use Rattle.base_types.specs.declared.entries.BadRequest.{BadRequest}
-use Rattle.base_types.specs.declared.entries.BadRequest.TheVariants.{Json, Shape as ShapeTest, Grain, Method, Args, Early}
+use Rattle.base_types.specs.declared.entries.BadRequest.TheVariants.{Json, Shape as ShapeTest, Grain, Method, Args}
 use Rattle.base_types.specs.declared.entries.Entry.{Entry}
 use Rattle.base_types.specs.declared.entries.Settled.{Settled}
 use Rattle.base_types.specs.declared.entries.Settled.TheVariants.{Done, Lock, Vote, Dependency, Disk, InDoubt, Bad}
@@ -83,7 +83,6 @@ bad_text ShapeTest = codes "shape"
 bad_text Grain = codes "grain"
 bad_text Method = codes "method"
 bad_text Args = codes "args"
-bad_text Early = codes "early"
 
 -- the line is no request, and has no unit
 abbrev pub bad_data : ℕ → BadRequest → Data

@@ -1,5 +1,5 @@
 -- What a request line asks: five tests in order, and the call of a line that passes them.
-use Rattle.std.specs.Prelude.{ℕ, suc, Bool, true, false, ◌^◌, ◌&&◌, ◌==◌, List, [], ◌∷◌, length, slice_get, slice_index, nat_lt, codes, if◌then◌else◌, Option, Some, None, option_map, option_and_then, Result, Ok, Err}
+use Rattle.std.specs.Prelude.{ℕ, suc, Bool, ◌^◌, ◌&&◌, ◌==◌, List, [], ◌∷◌, length, slice_get, slice_index, nat_lt, codes, if◌then◌else◌, Option, Some, None, option_map, option_and_then, Result, Ok, Err}
 use Rattle.std.specs.Option.{ok_or}
 use Rattle.std.specs.List.{position_or_len, before_first, after_first, list_all}
 use Rattle.std.specs.Char.{is_ascii_digit}
@@ -11,8 +11,8 @@ use Rattle.base_types.specs.declared.calls.GrainId.{GrainId}
 use Rattle.base_types.specs.declared.calls.Value.{Value}
 use Rattle.base_types.specs.declared.calls.Value.TheVariants.{Int, Text}
 use Rattle.base_types.specs.declared.entries.BadRequest.{BadRequest}
-use Rattle.base_types.specs.declared.entries.BadRequest.TheVariants.{Json, Shape, Grain, Method, Args, Early}
-use Rattle.request_wire.specs.Names.{TypeNames, counter_types, named}
+use Rattle.base_types.specs.declared.entries.BadRequest.TheVariants.{Json, Shape, Grain, Method, Args}
+use Rattle.request_wire.specs.Names.{TypeNames, named}
 use Rattle.serde_json.specs.Data.{Data, null, boolean, number, string, array, object, Items, no_items, item, Members, no_members, member}
 use Rattle.serde_json.specs.Find.{get, as_array, as_str, as_i64}
 use Rattle.serde_json.specs.Read.{read}
@@ -131,25 +131,3 @@ call_of types line = passed (ok_or (json_of line) Json)
     (λ grain. passed (ok_or (method_of types grain.0.kind grain.1) Method)
     (λ method. passed (ok_or (args_of method.1 shape.0) Args)
     (λ args. Ok (record { grain = grain.0; method = method.0; args = args }))))))
-
--- ---- what is carried
-
--- whether there is one argument, a number
-abbrev pub one_number : List Value → Bool
-one_number [] = false
-one_number (Int z ∷ []) = true
-one_number (Int z ∷ v ∷ vs) = false
-one_number (Text t ∷ vs) = false
-
--- whether a call of the counter program is of `add` with a number
-abbrev pub adds_number : Call → Bool
-adds_number call = (call.method == 0) && one_number call.args
-
--- a call is carried where it adds a number; every other line is refused as early, whatever test it fails
-abbrev pub early_of : Result Call BadRequest → Result Call BadRequest
-early_of (Ok call) = if adds_number call then Ok call else Err Early
-early_of (Err why) = Err Early
-
--- the call of a line that the counter program carries, or why it has none
-abbrev pub request_of : List ℕ → Result Call BadRequest
-request_of line = early_of (call_of counter_types line)

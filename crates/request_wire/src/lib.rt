@@ -15,4 +15,4 @@ mod requests;
 pub use faults::RequestFault;
 pub use lines::first_line;
 pub use replies::{replies_are_lines, reply_text};
-pub use requests::{Line, read_early, read_line, read_request};
+pub use requests::{Line, read_request};

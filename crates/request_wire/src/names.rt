@@ -1,5 +1,5 @@
 ghost use Rattle.std.specs.Prelude.{◌≡◌, List};
-ghost use Rattle.request_wire.specs.Names.{TypeNames, counter_types, names_in};
+ghost use Rattle.request_wire.specs.Names.{TypeNames, names_in};
 ghost use Rattle.request_wire.specs.Request.{type_of, method_of};
 ghost use Rattle.script_tree.specs.Programs.{program_tree};
 
@@ -29,27 +29,5 @@ impl Names for Checked {
 
     fn method_of(&self, kind: u16, name: &str) -> Option<(u16, usize)> {
         method_in(self.program(), kind, name)
-    }
-}
-
-/// What lines of the counter program may name.
-pub struct CounterNames;
-
-impl Names for CounterNames {
-    ghost types = { λ _. counter_types };
-
-    fn type_of(&self, name: &str) -> Option<u16> {
-        if name == "counter" { Some(0) } else { None }
-    }
-
-    fn method_of(&self, kind: u16, name: &str) -> Option<(u16, usize)> {
-        if kind != 0 {
-            return None;
-        }
-        match name {
-            "add" => Some((0, 1)),
-            "read" => Some((1, 0)),
-            _ => None,
-        }
     }
 }

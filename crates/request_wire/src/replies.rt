@@ -113,7 +113,6 @@ fn bad_word(why: BadRequest) -> &'static str
         BadRequest::Grain => "grain",
         BadRequest::Method => "method",
         BadRequest::Args => "args",
-        BadRequest::Early => "early",
     }
 }
 

@@ -3,7 +3,7 @@ use crate::setting::{MANAGER, PROGRAM, command, new_silo};
 use host_memory::MemoryHost;
 use program_file::ProgramFault;
 use script_check::CheckFault;
-use silo_runs::Status;
+use silo_top::Status;
 use std::alloc::Global;
 use std::test::Fail;
 

@@ -2,7 +2,7 @@
 use crate::setting::{ACCOUNT, MANAGER, command, length_of, new_silo, output_of};
 use host_memory::{CallKind, MemoryHost};
 use host_trait::Channel;
-use silo_runs::Status;
+use silo_top::Status;
 use std::alloc::Global;
 use std::test::Fail;
 

@@ -3,7 +3,7 @@ use crate::bank::BANK;
 use base_types::GrainId;
 use host_memory::MemoryHost;
 use host_trait::{FileId, Host};
-use silo_runs::{Gate, GatePlace, Status, run_silo};
+use silo_top::{Gate, GatePlace, Status, run_silo};
 use std::alloc::Global;
 use std::test::Fail;
 

@@ -3,7 +3,7 @@ ghost use Rattle.script_tree.specs.Programs.{method_tree, type_tree, program_tre
 ghost use Rattle.script_scopes.specs.Found.{Answers, Gives};
 ghost use Rattle.script_check.specs.Programs.{option_fault, transaction_fault, each_fault, declared_fault, field_fault, parameter_fault, parameters_fault, method_fault, field_names, type_fault, program_fault};
 
-use script_scopes::{CheckFault, Setting, check_block, check_free, check_room};
+use script_scopes::{CheckFault, InScope, Setting, check_block, check_free, check_room};
 use script_tree::{Chars, FieldDecl, Method, MethodKind, Name, TxnOption, TypeDecl};
 use std::alloc::Global;
 
@@ -101,7 +101,8 @@ fn check_method(
 {
     check_declared(METHOD_LIMIT, before, &method.name)?;
     check_transaction(method.kind, method.option, method.name.at)?;
-    let mut names = check_parameters(alloc, fields, method.params.as_slice())?;
+    let params = check_parameters(alloc, fields, method.params.as_slice())?;
+    let mut names = InScope::of(alloc, params.as_slice())?;
     let setting = Setting {
         types,
         fields,

@@ -8,7 +8,7 @@ use Rattle.script_lexer.specs.declared.tokens.Spanned.{Spanned}
 use Rattle.script_lexer.specs.declared.lexing.Lexed.{Lexed}
 use Rattle.script_lexer.specs.declared.lexemes.Lexeme.{Lexeme}
 use Rattle.script_lexer.specs.declared.lexemes.Lexeme.TheVariants.{Gap, Whole, Bad}
-use Rattle.script_lexer.specs.Lexemes.{lexeme, more_of}
+use Rattle.script_lexer.specs.Lexemes.{lexeme, length_behind}
 use Rattle.script_lexer.specs.Lexing.{TokensAndStop, in_front, lex_step, lex, lexed, end_of}
 use Rattle.script_lexer.specs.Reading.{Reads, done, gap, spelling, NothingBegins, Ends, IsLexed}
 use Rattle.script_lexer.proofs.Within.{lexeme_within}
@@ -51,7 +51,7 @@ nothing_is_bad b bs n Bad e right = refl
 module _ (stop : ParseFault) where
   -- ---- what is lexed is read
 
-  turn : (at : ℕ) (b : ℕ) (bs : List ℕ) → ((a : ℕ) (xs : List ℕ) → length xs ≤ length bs → HasRead stop a xs (lex stop a 0 xs)) → (l : Lexeme) → lexeme b bs ≡ l → more_of l ≤ length bs → IsRight b bs l → HasRead stop at (b ∷ bs) (lex_step at (λ more. lex stop (at + 1) more bs) l)
+  turn : (at : ℕ) (b : ℕ) (bs : List ℕ) → ((a : ℕ) (xs : List ℕ) → length xs ≤ length bs → HasRead stop a xs (lex stop a 0 xs)) → (l : Lexeme) → lexeme b bs ≡ l → length_behind l ≤ length bs → IsRight b bs l → HasRead stop at (b ∷ bs) (lex_step at (λ more. lex stop (at + 1) more bs) l)
   turn at b bs rest (Gap more) e le right =
       let next = rest (at + 1 + more) (drop more bs) (omega (arith, length-drop more bs)) in
       let size : at + length (b ∷ take more bs) ≡ at + 1 + more = omega (arith, length-take-le more bs le) in

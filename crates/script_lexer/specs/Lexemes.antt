@@ -69,7 +69,7 @@ lexeme b bs =
     if nat_eq b 34 then text_lexeme bs else symbol_lexeme (b ∷ bs)
 
 -- how many bytes it has after its first
-abbrev pub more_of : Lexeme → ℕ
-more_of (Gap more) = more
-more_of (Whole t more) = more
-more_of Bad = 0
+abbrev pub length_behind : Lexeme → ℕ
+length_behind (Gap more) = more
+length_behind (Whole t more) = more
+length_behind Bad = 0

@@ -2,7 +2,7 @@
 ghost use Rattle.std.specs.Prelude.{◌≡◌, ◌≤◌, ◌<◌, ◌+◌, ◌-◌, ◌^◌, ℕ, length, drop, IfOk, pos, nat_lt, bytes_eq, IsTrue, slice_index, nat_eq, Some, None, if◌then◌else◌};
 ghost use Rattle.std.specs.List.{starts_with};
 ghost use Rattle.script_lexer.specs.Spellings.{is_letter, is_digit, word_spelling, symbol_spelling, number_from};
-ghost use Rattle.script_lexer.specs.Lexemes.{word_named, symbol_at, name_lexeme, closes, text_lexeme, number_lexeme, symbol_lexeme, lexeme, more_of};
+ghost use Rattle.script_lexer.specs.Lexemes.{word_named, symbol_at, name_lexeme, closes, text_lexeme, number_lexeme, symbol_lexeme, lexeme, length_behind};
 
 use crate::classes::{
     digits_len, is_blank_byte, is_digit_byte, is_letter_byte, line_len, name_len, skip, text_len,
@@ -185,7 +185,7 @@ pub(crate) fn lexeme_at(alloc: Global, text: &str, at: usize) -> Result<Lexeme, 
     requires { at < length text.now }
     ensures value { IfOk result (λ found.
         found ≡ lexeme (slice_index text.now at) (drop (at + 1) text.now)) }
-    ensures within { IfOk result (λ found. at + more_of found < length text.now) }
+    ensures within { IfOk result (λ found. at + length_behind found < length text.now) }
 {
     any_lexeme_at(alloc, text, at)
 }

@@ -9,7 +9,7 @@ use Rattle.script_tree.specs.declared.options.EntryRefusal.{EntryRefusal}
 use Rattle.script_tree.specs.declared.options.MethodKind.TheVariants as does
 use Rattle.script_tree.specs.Options.{entered}
 use Rattle.script_tree.specs.Programs.{ProgramTree}
-use Rattle.script_values.specs.Faults.{unknown, refusal}
+use Rattle.script_values.specs.Faults.{unknown, option_refusal_text}
 use Rattle.script_holding.specs.Limits.{depth_limit}
 use Rattle.script_meaning.specs.Requests.{stop}
 use Rattle.script_meaning.specs.Calls.{enters, numbered}
@@ -42,7 +42,7 @@ module _ (types : ProgramTree) (call : Call) (callee : Callee) (there : IsThere 
       ap (first_frame (deep types (depth_limit + 1 - at)) at call) found
       ∙ (λ j. enters (deep types (depth_limit + 1 - at)) (as_first (e j)) at (sym same j) (target_of callee) call.args ends_unit stop at_start)
 
-  pub unit_refused : (why : EntryRefusal) (at : ℕ) → entered (target_of callee).method.option false ≡ Refused why → unit types call at ≡ stop (refusal why) at_start
+  pub unit_refused : (why : EntryRefusal) (at : ℕ) → entered (target_of callee).method.option false ≡ Refused why → unit types call at ≡ stop (option_refusal_text why) at_start
   unit_refused why at e = unit_enters (Refused why) at e
 
   pub unit_plain : (context : Bool) (at : ℕ) → entered (target_of callee).method.option false ≡ Plain context → unit types call at ≡ first_opened types (33 - at) callee does.Plain context call.args at

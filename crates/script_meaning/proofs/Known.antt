@@ -32,7 +32,7 @@ use Rattle.script_check.specs.Shapes.{fitted}
 use Rattle.script_check.specs.Programs.{field_names}
 use Rattle.script_check.specs.Accepted.{IsTransacted, IsAcceptedMethod, IsAcceptedProgram}
 use Rattle.script_values.specs.Expressions.{Locals, put_local, local_named, field_named, values_in}
-use Rattle.script_values.specs.Faults.{budget, depth, units, refusal}
+use Rattle.script_values.specs.Faults.{budget, depth, units, option_refusal_text}
 use Rattle.script_values.specs.Values.{ValueOrFault, is_true}
 use Rattle.script_holding.specs.declared.held.Held.{Held}
 use Rattle.script_holding.specs.Limits.{depth_limit, unit_limit, grain_limit}
@@ -208,7 +208,7 @@ module _ (types : ProgramTree) (program : IsAcceptedProgram types) (Q : List ℕ
   answered_said floor Aborted back caught known said said' = said' _ own.aborted
 
   -- the refusal of an option is one of the own faults
-  refusal_said : (why : EntryRefusal) → Q (refusal why)
+  refusal_said : (why : EntryRefusal) → Q (option_refusal_text why)
   refusal_said NoTransaction = own.no_transaction
   refusal_said NotAllowed = own.not_allowed
 
@@ -313,7 +313,7 @@ module _ (types : ProgramTree) (program : IsAcceptedProgram types) (Q : List ℕ
         (back : Back) (caught : Caught) → SaidBack floor back → SaidCaught floor caught →
         SaidGo floor (enters runner way at grain target args back caught)
     enters_said floor runner safe (Refused why) at grain target plain is args arity back caught said said' has kept =
-        stop_said floor (refusal why) (refusal_said why) has kept
+        stop_said floor (option_refusal_text why) (refusal_said why) has kept
     enters_said floor None safe NewUnit at grain target plain is args arity back caught said said' has kept =
         stop_said floor depth own.depth has kept
     enters_said floor None safe Joined at grain target plain is args arity back caught said said' has kept =

@@ -20,7 +20,7 @@ use Rattle.script_scopes.specs.Names.{Scope, Setting}
 use Rattle.script_scopes.specs.Bodies.{IsVariable, IsExpressionInScope}
 use Rattle.script_check.specs.Programs.{field_names}
 use Rattle.script_values.specs.Expressions.{Locals, Surroundings, put_local, local_named, field_from, field_named, known_value, field_value, or_field, value_named, and_so_on, or_so_on, between, value_in, one_more, values_in}
-use Rattle.script_values.specs.Faults.{overflow, divide, kind, key, too_long, budget, depth, units, grains, refusal, aborted}
+use Rattle.script_values.specs.Faults.{overflow, divide, kind, key, too_long, budget, depth, units, grains, option_refusal_text, aborted}
 use Rattle.script_values.specs.Values.{ValueOrFault, then_value, with_number, fits, within, joined_text, is_true, prefixed, quotient, remainder, of_numbers, of_texts, of_kinds, combined}
 
 -- a local or parameter of each name in scope has a value
@@ -115,8 +115,8 @@ pub record Says (Q : List ℕ → Type 0) : Type 0 where
   pub depth : Q depth
   pub units : Q units
   pub grains : Q grains
-  pub no_transaction : Q (refusal NoTransaction)
-  pub not_allowed : Q (refusal NotAllowed)
+  pub no_transaction : Q (option_refusal_text NoTransaction)
+  pub not_allowed : Q (option_refusal_text NotAllowed)
   pub aborted : Q aborted
 
 module _ (Q : List ℕ → Type 0) (own : Says Q) where

@@ -17,7 +17,7 @@ use Rattle.script_tree.specs.declared.programs.FieldDecl.{FieldDecl}
 use Rattle.script_tree.specs.Options.{entered}
 use Rattle.script_tree.specs.Programs.{MethodTree, TypeTree, ProgramTree}
 use Rattle.script_values.specs.Expressions.{Locals}
-use Rattle.script_values.specs.Faults.{kind, key, depth, units, grains, aborted, refusal, unknown}
+use Rattle.script_values.specs.Faults.{kind, key, depth, units, grains, aborted, option_refusal_text, unknown}
 use Rattle.script_holding.specs.Limits.{unit_limit, grain_limit}
 use Rattle.script_holding.specs.Holding.{Holding, mode_at, change, raised, newly_held, with_held, one_asked}
 use Rattle.script_meaning.specs.Requests.{Requests, AskLock, AskRaise, AskUnit, Back, Caught, stop}
@@ -87,7 +87,7 @@ pub record Target : Type 0 where
 
 -- a method's frame or unit, at this depth; a frame outside the transaction speaks of no field
 abbrev pub enters : Runner → Entered → ℕ → GrainId → Target → List Value → Back → Caught → Holding → Requests
-enters runner (Refused why) at grain target args back caught has = stop (refusal why) has
+enters runner (Refused why) at grain target args back caught has = stop (option_refusal_text why) has
 enters None way at grain target args back caught has = stop depth has
 enters (Some run) NewUnit at grain target args back caught has =
     in_own_unit (record { grain = grain; method = target.number; args = args }) at back caught has

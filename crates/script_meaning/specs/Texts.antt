@@ -11,14 +11,14 @@ use Rattle.script_tree.specs.Stmts.{StmtTree, BlockTree, ElseTree, Bind, Rebind,
 use Rattle.script_tree.specs.Programs.{ProgramTree}
 use Rattle.script_check.specs.Shapes.{fitted}
 use Rattle.script_check.specs.Accepted.{IsAcceptedProgram}
-use Rattle.script_values.specs.Faults.{overflow, divide, kind, key, too_long, budget, depth, units, grains, refusal, aborted}
+use Rattle.script_values.specs.Faults.{overflow, divide, kind, key, too_long, budget, depth, units, grains, option_refusal_text, aborted}
 use Rattle.script_meaning.specs.Calls.{Target, numbered}
 use Rattle.script_meaning.specs.Play.{play_over}
 
 -- the faults that the language itself gives: all of them but that of a name that stands for nothing
 abbrev pub own_faults : List (List ℕ)
 own_faults =
-    overflow ∷ divide ∷ kind ∷ key ∷ too_long ∷ budget ∷ depth ∷ units ∷ grains ∷ refusal NoTransaction ∷ refusal
+    overflow ∷ divide ∷ kind ∷ key ∷ too_long ∷ budget ∷ depth ∷ units ∷ grains ∷ option_refusal_text NoTransaction ∷ option_refusal_text
     NotAllowed ∷ aborted ∷ []
 
 -- a text with which a statement, or one in its blocks, may fail

@@ -34,7 +34,7 @@ use Rattle.script_expressions.proofs.LocalExpressions.{nought, any_first, name_e
 use Rattle.script_parser.specs.declared.methods.TheConstants.{OPTIONS, KINDS}
 use Rattle.script_parser.specs.Statements.{block}
 use Rattle.script_parser.specs.Methods.{option_word, kind_word, option_found, kind_found, option_from, kind_from, option_at, kind_at, params_in, params_at, method_at}
-use Rattle.script_parser.specs.Types.{more_of, repeated, number_at, initial_at, field_at, members_in, type_at}
+use Rattle.script_parser.specs.Types.{more_parts_of, repeated, number_at, initial_at, field_at, members_in, type_at}
 use Rattle.script_parser.proofs.Sound.{took_next}
 use Rattle.script_parser.proofs.LocalStatements.{block_local}
 
@@ -199,7 +199,7 @@ module _ (stop : ParseFault) where
     goes_on one r m = one m >>= λ x. r x.1 >>= λ q. Ok (x.0 ∷ q.0, q.1)
 
     abbrev turn : Read A → Read (List A) → Read (List A)
-    turn one r ts = more_of one r ts (taken_word w ts)
+    turn one r ts = more_parts_of one r ts (taken_word w ts)
 
     none_at_all : (one : Read A) (n : ℕ) → repeated w one n [] ≡ Ok ([], [])
     unfolding repeated taken_word
@@ -216,7 +216,7 @@ module _ (stop : ParseFault) where
 
     -- a reader of parts that leaves no more than there was
     module _ (one : Read A) (shorter : (ts : List Spanned) (y : A × List Spanned) → one ts ≡ Ok y → length y.1 ≤ length ts) where
-      goes_fewer : (r s : Read (List A)) (ts : List Spanned) → ((us : List Spanned) → length us < length ts → r us ≡ s us) → (q : Option (List Spanned)) → taken_word w ts ≡ q → more_of one r ts q ≡ more_of one s ts q
+      goes_fewer : (r s : Read (List A)) (ts : List Spanned) → ((us : List Spanned) → length us < length ts → r us ≡ s us) → (q : Option (List Spanned)) → taken_word w ts ≡ q → more_parts_of one r ts q ≡ more_parts_of one s ts q
       goes_fewer r s ts same None q = refl
       goes_fewer r s ts same (Some after) q =
           let t = took_next w ts after q in

@@ -33,7 +33,7 @@ use Rattle.script_expressions.proofs.CallLaws.{took_name, enclosed_list_sound}
 use Rattle.script_parser.specs.declared.methods.TheConstants.{OPTIONS, KINDS}
 use Rattle.script_parser.specs.Statements.{block}
 use Rattle.script_parser.specs.Methods.{option_word, kind_word, option_found, kind_found, option_from, kind_from, option_at, kind_at, params_in, params_at, method_at}
-use Rattle.script_parser.specs.Types.{more_of, repeated, negative_from, number_at, symbol_initial, initial_from, initial_at, field_at, members_in, type_at}
+use Rattle.script_parser.specs.Types.{more_parts_of, repeated, negative_from, number_at, symbol_initial, initial_from, initial_at, field_at, members_in, type_at}
 use Rattle.script_parser.specs.Programs.{at_text_end, program_over, program_of}
 use Rattle.script_parser.specs.Grammar.{OneName, IsMethod, method, IsInitial, positive, negative, worded, IsField, field, Many, none, one_more, IsBlock, IsType, type, IsProgram}
 use Rattle.script_parser.proofs.Sound.{took_next, block_sound}
@@ -167,7 +167,7 @@ module _ (stop : ParseFault) where
 
   -- ---- parts one after another
 
-  more_sound : (A : Type 0) (w : Word) (Is : List Spanned → A → List Spanned → Type 0) (one : Read A) → Behind A w Is one → (rest : Read (List A)) → ((us : List Spanned) (y : List A × List Spanned) → rest us ≡ Ok y → Many A Is us y.0 y.1) → (ts : List Spanned) (x : List A × List Spanned) (q : Option (List Spanned)) → taken_word w ts ≡ q → more_of one rest ts q ≡ Ok x → Many A Is ts x.0 x.1
+  more_sound : (A : Type 0) (w : Word) (Is : List Spanned → A → List Spanned → Type 0) (one : Read A) → Behind A w Is one → (rest : Read (List A)) → ((us : List Spanned) (y : List A × List Spanned) → rest us ≡ Ok y → Many A Is us y.0 y.1) → (ts : List Spanned) (x : List A × List Spanned) (q : Option (List Spanned)) → taken_word w ts ≡ q → more_parts_of one rest ts q ≡ Ok x → Many A Is ts x.0 x.1
   more_sound A w Is one ones rest rests ts x None q e = subst (λ (y : List A × List Spanned). Many A Is ts y.0 y.1) (ok_is ([], ts) x e) (none ts)
   more_sound A w Is one ones rest rests ts x (Some after) q e =
       let t = took_next w ts after q in

@@ -19,14 +19,14 @@ use Rattle.script_expressions.specs.Tokens.{expected, name_at, taken_word}
 use Rattle.script_parser.specs.Methods.{method_at}
 
 -- a part that stands behind its word, or none
-abbrev pub more_of : {A : Type 0} → Read A → Read (List A) → List Spanned → Option (List Spanned) → Part (List A)
-more_of one more ts None = Ok ([], ts)
-more_of one more ts (Some after) = one after >>= λ x. more x.1 >>= λ r. Ok (x.0 ∷ r.0, r.1)
+abbrev pub more_parts_of : {A : Type 0} → Read A → Read (List A) → List Spanned → Option (List Spanned) → Part (List A)
+more_parts_of one more ts None = Ok ([], ts)
+more_parts_of one more ts (Some after) = one after >>= λ x. more x.1 >>= λ r. Ok (x.0 ∷ r.0, r.1)
 
 -- The parts that stand next, each behind this word. The number bounds the turns; the count of the tokens is always enough.
 unfoldable pub repeated : {A : Type 0} → Word → Read A → ℕ → Read (List A)
 repeated w one zero ts = Ok ([], ts)
-repeated w one (suc n) ts = more_of one (repeated w one n) ts (taken_word w ts)
+repeated w one (suc n) ts = more_parts_of one (repeated w one n) ts (taken_word w ts)
 
 -- a number with its sign turned; a token's number is from 0
 abbrev pub negative_from : Token → ℕ → Read Literal

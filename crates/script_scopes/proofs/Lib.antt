@@ -2,3 +2,4 @@ pub mod Lists
 pub mod Founds
 pub mod Blocks
 pub mod Accepts
+pub mod Standing

@@ -8,6 +8,7 @@ ghost use Rattle.script_scopes.specs.Expressions.{expression_fault, arguments_fa
 ghost use Rattle.script_scopes.specs.Settings.{setting_of};
 
 use crate::faults::CheckFault;
+use crate::in_scope::InScope;
 use crate::names::{Setting, check_variable, is_same};
 use script_tree::{CallExpr, Chars, Expr, Method, TypeDecl};
 
@@ -43,8 +44,8 @@ fn method_named<'a>(methods: &'a [Method], name: &Chars) -> Option<&'a Method>
 
 /// Each name of an expression stands for a value.
 #[tactic(auto, unfolding(crate::specs::Expressions::expression_fault))]
-pub fn check_expression(setting: &Setting, names: &[&Chars], value: &Expr) -> Result<(), CheckFault>
-    ensures { Answers result (expression_fault (setting_of setting.now) (map (λ n. n.now) names.now)
+pub fn check_expression(setting: &Setting, names: &InScope, value: &Expr) -> Result<(), CheckFault>
+    ensures { Answers result (expression_fault (setting_of setting.now) (map (λ n. n.now) names.now.items)
         (expr_tree value.now)) }
 {
     match value {
@@ -59,8 +60,8 @@ pub fn check_expression(setting: &Setting, names: &[&Chars], value: &Expr) -> Re
 }
 
 /// Each name of a call's arguments stands for a value.
-fn check_arguments(setting: &Setting, names: &[&Chars], args: &[Expr]) -> Result<(), CheckFault>
-    ensures { Answers result (arguments_fault (setting_of setting.now) (map (λ n. n.now) names.now)
+fn check_arguments(setting: &Setting, names: &InScope, args: &[Expr]) -> Result<(), CheckFault>
+    ensures { Answers result (arguments_fault (setting_of setting.now) (map (λ n. n.now) names.now.items)
         (map expr_tree args.now)) }
 {
     for arg in args {
@@ -86,8 +87,8 @@ fn check_arity(target: &TypeDecl, call: &CallExpr) -> Result<(), CheckFault>
 
 /// A call names a type and a method of it, with a place and arguments that are right.
 #[tactic(auto, unfolding(crate::specs::Expressions::call_fault))]
-pub fn check_call(setting: &Setting, names: &[&Chars], call: &CallExpr) -> Result<(), CheckFault>
-    ensures { Answers result (call_fault (setting_of setting.now) (map (λ n. n.now) names.now)
+pub fn check_call(setting: &Setting, names: &InScope, call: &CallExpr) -> Result<(), CheckFault>
+    ensures { Answers result (call_fault (setting_of setting.now) (map (λ n. n.now) names.now.items)
         (call_tree call.now)) }
 {
     let Some(target) = type_named(setting.types, &call.target.text) else {

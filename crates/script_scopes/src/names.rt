@@ -6,6 +6,7 @@ ghost use Rattle.script_scopes.specs.Names.{is_in, taken_fault, room_fault, loca
 ghost use Rattle.script_scopes.specs.Settings.{setting_of};
 
 use crate::faults::CheckFault;
+use crate::in_scope::InScope;
 use script_tree::{Chars, MethodKind, Name, TypeDecl};
 
 /// What a method's body may speak of besides its parameters and locals: the program's types, the names of
@@ -60,12 +61,15 @@ pub fn check_room(limit: usize, before: &[&Chars], name: &Name) -> Result<(), Ch
 }
 
 /// A local's name is no field's, and no local's or parameter's in scope.
-pub fn check_local(setting: &Setting, names: &[&Chars], name: &Name) -> Result<(), CheckFault>
-    ensures { Answers result (local_fault (setting_of setting.now) (map (λ n. n.now) names.now)
+pub fn check_local(setting: &Setting, names: &InScope, name: &Name) -> Result<(), CheckFault>
+    ensures { Answers result (local_fault (setting_of setting.now) (map (λ n. n.now) names.now.items)
         name.now) }
 {
     check_free(setting.fields, name)?;
-    check_free(names, name)
+    if names.has(&name.text) {
+        return Err(CheckFault::TwiceNamed { at: name.at });
+    }
+    Ok(())
 }
 
 /// A method of this kind may read a field.
@@ -90,11 +94,11 @@ fn check_writing(kind: MethodKind, at: u32) -> Result<(), CheckFault>
 }
 
 /// A name in an expression is a local, a parameter, or a field that may be read.
-pub fn check_variable(setting: &Setting, names: &[&Chars], name: &Name) -> Result<(), CheckFault>
-    ensures { Answers result (variable_fault (setting_of setting.now) (map (λ n. n.now) names.now)
-        name.now) }
+pub fn check_variable(setting: &Setting, names: &InScope, name: &Name) -> Result<(), CheckFault>
+    ensures { Answers result (variable_fault (setting_of setting.now)
+        (map (λ n. n.now) names.now.items) name.now) }
 {
-    if is_in(names, &name.text) {
+    if names.has(&name.text) {
         return Ok(());
     }
     if is_in(setting.fields, &name.text) {
@@ -104,10 +108,10 @@ pub fn check_variable(setting: &Setting, names: &[&Chars], name: &Name) -> Resul
 }
 
 /// The name of an assignment is a local or a parameter.
-pub fn check_assigned(names: &[&Chars], name: &Name) -> Result<(), CheckFault>
-    ensures { Answers result (assigned_fault (map (λ n. n.now) names.now) name.now) }
+pub fn check_assigned(names: &InScope, name: &Name) -> Result<(), CheckFault>
+    ensures { Answers result (assigned_fault (map (λ n. n.now) names.now.items) name.now) }
 {
-    if is_in(names, &name.text) {
+    if names.has(&name.text) {
         return Ok(());
     }
     Err(CheckFault::UnknownName { at: name.at })

@@ -6,13 +6,14 @@ ghost use Rattle.script_scopes.specs.Settings.{setting_of};
 
 use crate::calls::{check_call, check_expression};
 use crate::faults::CheckFault;
+use crate::in_scope::InScope;
 use crate::names::{Setting, check_assigned, check_local, check_set};
-use script_tree::{Chars, Source, Stmt};
+use script_tree::{Source, Stmt};
 
 /// What a local is given is right.
 #[tactic(auto, unfolding(crate::specs::Statements::source_fault))]
-fn check_source(setting: &Setting, names: &[&Chars], value: &Source) -> Result<(), CheckFault>
-    ensures { Answers result (source_fault (setting_of setting.now) (map (λ n. n.now) names.now)
+fn check_source(setting: &Setting, names: &InScope, value: &Source) -> Result<(), CheckFault>
+    ensures { Answers result (source_fault (setting_of setting.now) (map (λ n. n.now) names.now.items)
         (source_tree value.now)) }
 {
     match value {
@@ -26,7 +27,7 @@ fn check_source(setting: &Setting, names: &[&Chars], value: &Source) -> Result<(
 #[tactic(auto, unfolding(crate::specs::Statements::statement_fault))]
 fn check_statement<'a>(
     setting: &Setting,
-    names: &mut Vec<&'a Chars>,
+    names: &mut InScope<'a>,
     statement: &'a Stmt,
 ) -> Result<(), CheckFault>
     ensures { Leaves result (statement_fault (setting_of setting.now)
@@ -36,22 +37,22 @@ fn check_statement<'a>(
 {
     match statement {
         Stmt::Let { name, value } => {
-            check_local(setting, names.as_slice(), name)?;
-            check_source(setting, names.as_slice(), value)?;
+            check_local(setting, names, name)?;
+            check_source(setting, names, value)?;
             names.push(&name.text)?;
             Ok(())
         }
         Stmt::Assign { name, value } => {
-            check_assigned(names.as_slice(), name)?;
-            check_source(setting, names.as_slice(), value)
+            check_assigned(names, name)?;
+            check_source(setting, names, value)
         }
         Stmt::Set { name, value } => {
             check_set(setting, name)?;
-            check_expression(setting, names.as_slice(), value)
+            check_expression(setting, names, value)
         }
-        Stmt::Call { call } => check_call(setting, names.as_slice(), call),
+        Stmt::Call { call } => check_call(setting, names, call),
         Stmt::If { test, then, other } => {
-            check_expression(setting, names.as_slice(), test)?;
+            check_expression(setting, names, test)?;
             check_block(setting, names, then.as_slice())?;
             match other {
                 None => Ok(()),
@@ -59,10 +60,10 @@ fn check_statement<'a>(
             }
         }
         Stmt::While { test, body } => {
-            check_expression(setting, names.as_slice(), test)?;
+            check_expression(setting, names, test)?;
             check_block(setting, names, body.as_slice())
         }
-        Stmt::Return { value } => check_expression(setting, names.as_slice(), value),
+        Stmt::Return { value } => check_expression(setting, names, value),
         Stmt::Fail { text: _ } => Ok(()),
         Stmt::Attempt {
             at: _,
@@ -71,8 +72,8 @@ fn check_statement<'a>(
             then,
             other,
         } => {
-            check_local(setting, names.as_slice(), name)?;
-            check_call(setting, names.as_slice(), call)?;
+            check_local(setting, names, name)?;
+            check_call(setting, names, call)?;
             let count = names.len();
             names.push(&name.text)?;
             check_block(setting, names, then.as_slice())?;
@@ -87,7 +88,7 @@ fn check_statement<'a>(
 #[cycle(statement)]
 pub fn check_block<'a>(
     setting: &Setting,
-    names: &mut Vec<&'a Chars>,
+    names: &mut InScope<'a>,
     body: &'a [Stmt],
 ) -> Result<(), CheckFault>
     ensures { Leaves result (block_fault (setting_of setting.now) (map (λ n. n.now) names.old.items)

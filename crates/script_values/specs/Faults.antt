@@ -40,9 +40,9 @@ abbrev pub grains : List ℕ
 grains = codes "grains"
 
 -- an option that refuses a call
-abbrev pub refusal : EntryRefusal → List ℕ
-refusal NoTransaction = codes "no transaction"
-refusal NotAllowed = codes "not allowed"
+abbrev pub option_refusal_text : EntryRefusal → List ℕ
+option_refusal_text NoTransaction = codes "no transaction"
+option_refusal_text NotAllowed = codes "not allowed"
 
 -- a child that was aborted
 abbrev pub aborted : List ℕ

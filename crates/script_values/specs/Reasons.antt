@@ -4,7 +4,7 @@ use Rattle.base_types.specs.declared.calls.Value.TheVariants.{Int}
 use Rattle.script_tree.specs.declared.options.EntryRefusal.TheVariants as option
 use Rattle.script_values.specs.declared.reasons.Reason.{Reason}
 use Rattle.script_values.specs.declared.reasons.Reason.TheVariants.{Overflow, Divide, Kind, Key, Length, Budget, Depth, Units, Grains, NoTransaction, NotAllowed, Aborted, Unknown}
-use Rattle.script_values.specs.Faults.{overflow, divide, kind, key, too_long, budget, depth, units, grains, refusal, aborted, unknown}
+use Rattle.script_values.specs.Faults.{overflow, divide, kind, key, too_long, budget, depth, units, grains, option_refusal_text, aborted, unknown}
 use Rattle.script_values.specs.Values.{ValueOrFault}
 
 -- the text of a fault
@@ -18,8 +18,8 @@ reason_text Budget = budget
 reason_text Depth = depth
 reason_text Units = units
 reason_text Grains = grains
-reason_text NoTransaction = refusal option.NoTransaction
-reason_text NotAllowed = refusal option.NotAllowed
+reason_text NoTransaction = option_refusal_text option.NoTransaction
+reason_text NotAllowed = option_refusal_text option.NotAllowed
 reason_text Aborted = aborted
 reason_text Unknown = unknown
 

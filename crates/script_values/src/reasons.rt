@@ -62,7 +62,7 @@ impl Reason {
 
 /// The fault of an option that refuses a call.
 pub fn refusal(why: EntryRefusal) -> Reason
-    ensures { reason_text result ≡ fault.refusal why }
+    ensures { reason_text result ≡ fault.option_refusal_text why }
 {
     match why {
         EntryRefusal::NoTransaction => Reason::NoTransaction,

@@ -1,7 +1,6 @@
 -- Settled entries can be written as lines.
 use Rattle.std.proofs.Common.{◌≡◌, ℕ, zero, suc, ◌^◌, ◌<◌, List, [], ◌∷◌, length, get_or, inl, inr, refl, ap, ◌∙◌, subst, arith, Option, Some, None}
-use Rattle.std.specs.Prelude.{slice_get, Result, Ok, Err}
-use Rattle.std.specs.Option.{ok_or}
+use Rattle.std.specs.Prelude.{slice_get}
 use Rattle.std.proofs.lemmas.List.{length-map}
 use Rattle.std.proofs.lemmas.Option.{slice_get_within, get_or_from_slice_get}
 use Rattle.base_types.specs.declared.calls.Call.{Call}
@@ -11,7 +10,6 @@ use Rattle.base_types.specs.declared.calls.Outcome.TheVariants as outcome
 use Rattle.base_types.specs.declared.calls.UnitNo.{UnitNo}
 use Rattle.base_types.specs.declared.calls.Value.{Value}
 use Rattle.base_types.specs.declared.entries.BadRequest.{BadRequest}
-use Rattle.base_types.specs.declared.entries.BadRequest.TheVariants.{Json, Shape, Grain, Method, Args, Early}
 use Rattle.base_types.specs.declared.entries.Entry.{Entry}
 use Rattle.base_types.specs.declared.entries.Settled.{Settled}
 use Rattle.base_types.specs.declared.entries.Settled.TheVariants as settled
@@ -29,43 +27,11 @@ use Rattle.explained_runs.proofs.UnitsByRule.{all_said}
 use Rattle.field_codec.specs.Spelling.{ResultFits}
 use Rattle.promise_spec.specs.Outputs.{HasUnit, MaySay, IsProper}
 use Rattle.promise_spec.specs.UnitRule.{Basis, KeepsUnitRule}
-use Rattle.request_wire.specs.Names.{TypeNames, names_in}
-use Rattle.request_wire.specs.Request.{call_of, passed, json_of, shape_of, grain_of, method_of, args_of}
 use Rattle.script_check.specs.Shapes.{type_shape}
-use Rattle.serde_json.specs.Data.{Data, Items}
+use Rattle.serde_json.specs.Data.{Data}
 use Rattle.settler_rules.specs.Entries.{IsEntryInRange, IsOutcomeInRange, IsSaidInRange}
 use Rattle.settler_rules.specs.Logging.{shape_with}
-use Rattle.settler_rules.proofs.Calls.{with_args, with_method, with_grain, with_shape, with_json}
 use Rattle.settler_rules.proofs.Logged.{never-aborts, kinds-are}
-
--- ---- lines that don't read as a call
-
--- the test that failed isn't that of an early line
-abbrev IsNoEarly : {A : Type 0} → Result A BadRequest → Type 0
-IsNoEarly r = r ≡ Err Early → ⊥
-
--- a test that failed
-abbrev fails_as : {A : Type 0} → BadRequest → Result A BadRequest
-fails_as why = Err why
-
-err-is : {A : Type 0} (x y : BadRequest) → fails_as {A = A} x ≡ fails_as {A = A} y → x ≡ y
-err-is {A} x y e = ap of e
-  where
-    of : Result A BadRequest → BadRequest
-    of (Ok a) = x
-    of (Err z) = z
-
-passed-late : {A B : Type 0} (o : Option A) (why : BadRequest) (next : A → Result B BadRequest) → (why ≡ Early → ⊥) → ((a : A) → IsNoEarly (next a)) → IsNoEarly (passed (ok_or o why) next)
-passed-late {A} {B} None why next late more e = late (err-is {A = B} why Early e)
-passed-late (Some a) why next late more e = more a e
-
-never-early : (names : List TypeNames) (line : List ℕ) → call_of names line ≡ Err Early → ⊥
-never-early names line =
-    passed-late {A = Data} {B = Call} (json_of line) Json (with_json names) (λ q. cc) (λ d.
-    passed-late {A = Items × List ℕ} {B = Call} (shape_of d) Shape (with_shape names) (λ q. cc) (λ shape.
-    passed-late {A = GrainId × List ℕ} {B = Call} (grain_of names shape.1) Grain (with_grain names shape) (λ q. cc) (λ grain.
-    passed-late {A = ℕ × ℕ} {B = Call} (method_of names grain.0.kind grain.1) Method (with_method shape grain) (λ q. cc) (λ method.
-    passed-late {A = List Value} {B = Call} (args_of method.1 shape.0) Args (with_args grain method) (λ q. cc) (λ args e. absurd cc)))))
 
 -- ---- entries
 
@@ -113,7 +79,7 @@ module _ (s : Basis) (r : Run) (above : 0 < r.base) (keeps : KeepsUnitRule s r) 
   may-say x (settled.Dependency on) range may t = range
   may-say x settled.Disk range may t = tt
   may-say x settled.InDoubt range may t = tt
-  may-say x (settled.Bad why) range may t = λ q. never-early (names_in s.types) t.text (t.reads ∙ ap (λ (y : BadRequest). Err y) q)
+  may-say x (settled.Bad why) range may t = tt
 
   pub entry-proper : (x : Entry) → Member x (ends r).manager.settled → IsEntryInRange x → IsProper (shape_with s.types) x
   entry-proper x m range =

@@ -5,7 +5,7 @@
 #![tactic(auto)]
 
 use host_files::FolderHost;
-use silo_runs::{Gate, GatePlace, Status, run_silo};
+use silo_top::{Gate, GatePlace, Status, run_silo};
 use std::io::Write;
 use std::process::ExitCode;
 use std::{env, io};

@@ -19,7 +19,7 @@ use Rattle.grain_log.specs.Reads.{fields_of, is_beyond, is_owned, in_file, text_
 use Rattle.commit_log.specs.declared.records.Named.{Named}
 use Rattle.cell_model.proofs.Units.{same_grain-true}
 use Rattle.log_reading.specs.Versions.{version_named, missing_or, first_missing}
-use Rattle.log_reading.specs.Sums.{end_after, later_end}
+use Rattle.log_reading.specs.Sums.{end_after, greater_end}
 
 -- an end that lies in a file, or none
 abbrev pub LiesIn : ℕ → Option ℕ → Type 0
@@ -53,11 +53,11 @@ module _ (shape : Shape) (image : Image) where
   there_by g (Ok v) later e = ((v, refl), e)
   there_by g (Err place) later e = absurd cc
 
-  later_lies : (size end : ℕ) (e : Option ℕ) → end ≤ size → LiesIn size e → LiesIn size (later_end e end)
+  later_lies : (size end : ℕ) (e : Option ℕ) → end ≤ size → LiesIn size e → LiesIn size (greater_end e end)
   later_lies size end None here lies = here
   later_lies size end (Some last) here lies = omega (arith, here, lies)
 
-  one_lies : (size end : ℕ) (e : Option ℕ) (b : Bool) → (b ≡ true → end ≤ size) → LiesIn size e → LiesIn size (if b then later_end e end else e)
+  one_lies : (size end : ℕ) (e : Option ℕ) (b : Bool) → (b ≡ true → end ≤ size) → LiesIn size e → LiesIn size (if b then greater_end e end else e)
   one_lies size end e true here lies = later_lies size end e (here refl) lies
   one_lies size end e false here lies = lies
 
@@ -69,7 +69,7 @@ module _ (shape : Shape) (image : Image) where
       let end = n.written.place.offset + n.written.place.len in
       let here : same_grain n.written.grain g ≡ true → end ≤ length (image (Grain 0 g)) = λ same.
       subst (λ (h : GrainId). end ≤ length (image (Grain 0 h))) (same_grain-true n.written.grain g same) (named_lies n t.0.0 t.0.1) in
-      ends_lie named t.1 g (if same_grain n.written.grain g then later_end e end else e) (one_lies (length (image (Grain 0 g))) end e (same_grain n.written.grain g) here lies)
+      ends_lie named t.1 g (if same_grain n.written.grain g then greater_end e end else e) (one_lies (length (image (Grain 0 g))) end e (same_grain n.written.grain g) here lies)
 
 -- an end that is there
 pub end_lies : (size end : ℕ) (e kept : Option ℕ) → kept ≡ e → LiesIn size e → kept ≡ Some end → end ≤ size

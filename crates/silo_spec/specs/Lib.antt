@@ -1,10 +1,3 @@
 pub mod Silos
-pub mod Totals
-pub mod Units
-pub mod Logs
-pub mod Damage
-pub mod Journals
 pub mod Moments
-pub mod Settling
-pub mod Ends
 pub mod Making

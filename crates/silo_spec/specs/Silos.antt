@@ -1,19 +1,9 @@
--- Whether an image is a silo, and of which program.
-use Rattle.std.specs.Prelude.{◌≡◌, ℕ, ◌+◌, ◌≤◌, List, [], ◌∷◌, ◌++◌, length, take, drop, slice_index, codes}
+-- Whether an image is a silo, and of which program. The magic is the eight bytes after the header gate.
+use Rattle.std.specs.Prelude.{◌≡◌, ℕ, ◌+◌, ◌≤◌, List, [], ◌∷◌, ◌++◌, length, take, drop, slice_index}
 use Rattle.std.specs.Int.{w32, to_le_bytes}
-use Rattle.host_trait.specs.declared.channels.FileId.{FileId}
-use Rattle.host_trait.specs.declared.channels.FileId.TheVariants.{Program}
-pub use Rattle.host_trait.specs.Files.{manager}
+pub use Rattle.host_trait.specs.Files.{manager, program_file}
 use Rattle.host_trait.specs.World.{Image}
 use Rattle.gate_block.specs.Log.{bodies_of, IsWhole}
-
--- the file of the program
-abbrev pub program_file : FileId
-program_file = Program 0
-
--- the eight bytes after the header gate that name a silo of counters
-abbrev pub counter_magic : List ℕ
-counter_magic = codes "OTXLOG00"
 
 -- a manager file of at least 16 bytes, whose first byte, the header gate, is 1 and is followed by the magic
 pub record IsSilo (magic file : List ℕ) : Type 0 where

@@ -107,7 +107,6 @@ fn doubt_and_bad_lines_have_their_words(rt: HostRuntime) -> Result<(), Fail> {
         (BadRequest::Grain, "grain"),
         (BadRequest::Method, "method"),
         (BadRequest::Args, "args"),
-        (BadRequest::Early, "early"),
     ] {
         let expected = format!(in alloc; "{{\"bad\":\"{word}\",\"n\":10}}\n")?;
         expect_reply(&rt, alloc, 10, Settled::Bad(why), expected.as_str())?;

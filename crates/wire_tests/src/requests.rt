@@ -1,20 +1,16 @@
 use crate::programs::{BANK, COUNTER, program_of};
 use base_types::{BadRequest, Call, GrainId, Value};
-use request_wire::{RequestFault, first_line, read_early, read_line, read_request};
+use request_wire::{RequestFault, first_line, read_request};
 use script_check::Checked;
 use std::alloc::Global;
 use std::test::Fail;
 
-/// The key and the number of a line that is carried, none where it is refused.
-fn added(alloc: Global, line: &[u8]) -> Result<Option<(u32, i64)>, Fail> {
-    match read_early(alloc, line) {
-        Ok(call) => match call.args.get(0) {
-            Some(Value::Int(number)) => Ok(Some((call.grain.key, *number))),
-            _ => Err("no number".into()),
-        },
-        Err(RequestFault::Bad(BadRequest::Early)) => Ok(None),
-        Err(RequestFault::Bad(_)) => Err("another test".into()),
-        Err(RequestFault::Memory) => Err("no memory".into()),
+/// The key and the number of a line that passes all tests for a program.
+fn added(alloc: Global, line: &[u8], program: &Checked) -> Result<(u32, i64), Fail> {
+    let call = passed(alloc, line, program)?;
+    match call.args.get(0) {
+        Some(Value::Int(number)) => Ok((call.grain.key, *number)),
+        _ => Err("no number".into()),
     }
 }
 
@@ -61,10 +57,12 @@ const CARRIED: &[(&str, u32, i64)] = &[
 ];
 
 #[test]
-fn a_line_that_adds_a_number_is_carried(rt: HostRuntime) -> Result<(), Fail> {
+fn a_line_that_adds_a_number_asks_for_it(rt: HostRuntime) -> Result<(), Fail> {
+    let alloc = rt.alloc();
+    let counter = program_of(alloc, COUNTER)?;
     for (line, key, number) in CARRIED {
-        let found = added(rt.alloc(), line.as_bytes())?;
-        assert!(rt; found == Some((*key, *number)), "{line}");
+        let found = added(alloc, line.as_bytes(), &counter)?;
+        assert!(rt; found == (*key, *number), "{line}");
     }
     Ok(())
 }
@@ -142,7 +140,6 @@ fn a_line_that_fails_a_test_is_refused(rt: HostRuntime) -> Result<(), Fail> {
                 failed(alloc, line.as_bytes(), &counter)? == Some(why),
                 "{line}"
             );
-            assert!(rt; added(alloc, line.as_bytes())?.is_none(), "{line}");
         }
     }
     let no_text = b"{\"args\":[5],\"call\":\"counter/1.add\xff\"}";
@@ -166,34 +163,18 @@ fn passed(alloc: Global, line: &[u8], program: &Checked) -> Result<Call, Fail> {
 }
 
 #[test]
-fn a_call_that_passes_the_tests_and_adds_no_number_is_refused(rt: HostRuntime) -> Result<(), Fail> {
+fn a_text_and_no_argument_pass_where_they_fit(rt: HostRuntime) -> Result<(), Fail> {
     let alloc = rt.alloc();
     let counter = program_of(alloc, COUNTER)?;
     let longest = with_text(alloc, 256)?;
     let call = passed(alloc, longest.as_bytes(), &counter)?;
     assert!(rt; matches!(call.args.get(0), Some(Value::Text(_))));
-    assert!(rt; added(alloc, longest.as_bytes())?.is_none());
     let too_long = with_text(alloc, 257)?;
     assert!(rt; failed(alloc, too_long.as_bytes(), &counter)? == Some(BadRequest::Args));
     let read = b"{\"args\":[],\"call\":\"counter/7.read\"}";
     let call = passed(alloc, read, &counter)?;
     assert_eq!(rt; call.grain, GrainId { kind: 0, key: 7 });
     assert_eq!(rt; call.method, 1);
-    assert!(rt; added(alloc, read)?.is_none());
-    Ok(())
-}
-
-#[test]
-fn a_line_keeps_its_number(rt: HostRuntime) -> Result<(), Fail> {
-    let alloc = rt.alloc();
-    let line = read_line(alloc, 7, b"{\"args\":[5],\"call\":\"counter/1.add\"}")?;
-    assert_eq!(rt; line.number, 7);
-    let call = line.what.map_err(|_| "refused")?;
-    assert_eq!(rt; call.grain, GrainId { kind: 0, key: 1 });
-    assert_eq!(rt; call.method, 0);
-    let line = read_line(alloc, 8, b"{")?;
-    assert_eq!(rt; line.number, 8);
-    assert!(rt; line.what.is_err());
     Ok(())
 }
 
@@ -276,7 +257,7 @@ fn the_input_is_cut_at_each_line_feed(rt: HostRuntime) -> Result<(), Fail> {
 #[test]
 fn a_fault_says_what_it_is(rt: HostRuntime) -> Result<(), Fail> {
     let alloc = rt.alloc();
-    let bad = RequestFault::Bad(BadRequest::Early);
+    let bad = RequestFault::Bad(BadRequest::Json);
     let memory = RequestFault::Memory;
     let text = format!(in alloc; "{bad}; {memory}")?;
     assert_eq!(rt;

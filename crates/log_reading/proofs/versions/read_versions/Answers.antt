@@ -13,7 +13,7 @@ use Rattle.commit_log.specs.declared.records.Named.{Named}
 use Rattle.log_reading.specs.Steps.{seen_in, live_slot}
 use Rattle.host_trait.specs.Files.{same_grain}
 use Rattle.log_reading.specs.Versions.{version_named}
-use Rattle.log_reading.specs.Sums.{later_end}
+use Rattle.log_reading.specs.Sums.{greater_end}
 use Rattle.log_reading.proofs.Errors.{other_value}
 use Rattle.log_reading.proofs.Cutting.{still_piece}
 use Rattle.log_reading.proofs.Summing.{next_default, no_item}

@@ -42,7 +42,7 @@ check_block-returns t c =
     let first = map (λ n. n.now) c.args.names.now.items in
     let all = stmt_trees c.args.body.now in
     let h = subst (λ (l : List StmtTree). HasChecked setting scope first l all) (drop_end stmt_tree c.loop-statement.statement-index c.args.body.now c.loop-statement-test.false) c.loop-statement.invariant in
-    (sym h.so_far ∙ ends setting scope, rw c.truncate.ensures.items (taken (λ n. n.now) c.loop-statement.names.items c.args.names.now.items h.added c.len-outer.result (omega arith) h.grown))
+    (sym h.so_far ∙ ends setting scope, rw c.truncate.ensures (taken (λ n. n.now) c.loop-statement.names.items c.args.names.now.items h.added c.len-outer.result (omega arith) h.grown))
 
 pub check_statement-returns-in_ok-check_block-in-Attempt-2 : goal.check_statement-returns-in_ok-check_block-in-Attempt-2
 check_statement-returns-in_ok-check_block-in-Attempt-2 t c =
@@ -50,15 +50,15 @@ check_statement-returns-in_ok-check_block-in-Attempt-2 t c =
     let scope : Scope = map (λ n. n.now) c.args.names.now.items in
     let under : Scope = map (λ n. n.now) c.push-in-Attempt.new.self.items in
     let name = c.in-Attempt.name in
-    let more : under ≡ with_name scope name = pushed (λ n. n.now) c.push-in-Attempt.new.self.items c.args.names.now.items _ c.in_ok-push-in-Attempt.ensures.items in
+    let more : under ≡ with_name scope name = pushed (λ n. n.now) c.push-in-Attempt.new.self.items c.args.names.now.items _ c.in_ok-push-in-Attempt.ensures in
     let second : map (λ n. n.now) c.check_block-in-Attempt-2.new.names.items ≡ with_name scope name = c.in_ok-check_block-in-Attempt-2.ensures.1 ∙ c.in_ok-check_block-in-Attempt.ensures.1 ∙ more in
-    let then_right : block_fault setting under (block_tree (stmt_trees c.in-Attempt.then.list.items)) ≡ None = ap (λ (l : List Stmt). block_fault setting under (block_tree (stmt_trees l))) (sym c.as_slice-in-Attempt-3.ensures) ∙ c.in_ok-check_block-in-Attempt.ensures.0 in
-    let other_same : block_fault setting under (block_tree (stmt_trees c.in-Attempt.other.list.items)) ≡ block_fault setting under (block_tree (stmt_trees c.as_slice-in-Attempt-4.result.now)) = ap (λ (l : List Stmt). block_fault setting under (block_tree (stmt_trees l))) (sym c.as_slice-in-Attempt-4.ensures) in
-    let other_under : block_fault setting under (block_tree (stmt_trees c.as_slice-in-Attempt-4.result.now)) ≡ None = ap (λ (l : Scope). block_fault setting l (block_tree (stmt_trees c.as_slice-in-Attempt-4.result.now))) (sym c.in_ok-check_block-in-Attempt.ensures.1) ∙ c.in_ok-check_block-in-Attempt-2.ensures.0 in
-    let name_right : local_fault setting scope name ≡ None = ap (λ (l : List (Bor Chars)). local_fault setting (map (λ n. n.now) l) name) (sym c.as_slice-in-Attempt.ensures.value) ∙ c.in_ok-check_local-in-Attempt.ensures in
-    let call_right : call_fault setting scope (call_tree c.in-Attempt.call) ≡ None = ap (λ (l : List (Bor Chars)). call_fault setting (map (λ n. n.now) l) (call_tree c.in-Attempt.call)) (sym c.as_slice-in-Attempt-2.ensures.value) ∙ c.in_ok-check_call-in-Attempt.ensures in
+    let then_right : block_fault setting under (block_tree (stmt_trees c.in-Attempt.then.list.items)) ≡ None = ap (λ (l : List Stmt). block_fault setting under (block_tree (stmt_trees l))) (sym c.as_slice-in-Attempt.ensures) ∙ c.in_ok-check_block-in-Attempt.ensures.0 in
+    let other_same : block_fault setting under (block_tree (stmt_trees c.in-Attempt.other.list.items)) ≡ block_fault setting under (block_tree (stmt_trees c.as_slice-in-Attempt-2.result.now)) = ap (λ (l : List Stmt). block_fault setting under (block_tree (stmt_trees l))) (sym c.as_slice-in-Attempt-2.ensures) in
+    let other_under : block_fault setting under (block_tree (stmt_trees c.as_slice-in-Attempt-2.result.now)) ≡ None = ap (λ (l : Scope). block_fault setting l (block_tree (stmt_trees c.as_slice-in-Attempt-2.result.now))) (sym c.in_ok-check_block-in-Attempt.ensures.1) ∙ c.in_ok-check_block-in-Attempt-2.ensures.0 in
+    let name_right : local_fault setting scope name ≡ None = c.in_ok-check_local-in-Attempt.ensures in
+    let call_right : call_fault setting scope (call_tree c.in-Attempt.call) ≡ None = c.in_ok-check_call-in-Attempt.ensures in
     let is : stmt_tree c.args.statement.now ≡ Try c.in-Attempt.at name (call_tree c.in-Attempt.call) (block_tree (stmt_trees c.in-Attempt.then.list.items)) (block_tree (stmt_trees c.in-Attempt.other.list.items)) = ap stmt_tree c.in-Attempt.is ∙ attempt_tree c.in-Attempt.at name c.in-Attempt.call c.in-Attempt.then c.in-Attempt.other in
-    let left : map (λ n. n.now) c.truncate.new.self.items ≡ scope = ap (λ (l : List (Bor Chars)). map (λ n. n.now) l) c.truncate.ensures.items ∙ taken (λ n. n.now) c.check_block-in-Attempt-2.new.names.items c.args.names.now.items (name.text ∷ []) c.len-count.result (omega arith) second in (
+    let left : map (λ n. n.now) c.truncate.new.self.items ≡ scope = ap (λ (l : List (Bor Chars)). map (λ n. n.now) l) c.truncate.ensures ∙ taken (λ n. n.now) c.check_block-in-Attempt-2.new.names.items c.args.names.now.items (name.text ∷ []) c.len-count.result (omega arith) second in (
       ap (statement_fault setting scope) is ∙ attempt_done setting scope under c.in-Attempt.at name (call_tree c.in-Attempt.call) (block_tree (stmt_trees c.in-Attempt.then.list.items)) (block_tree (stmt_trees c.in-Attempt.other.list.items)) more name_right call_right then_right (other_same ∙ other_under),
       left ∙ ap (scope_after scope) (sym is),
     )

@@ -1,0 +1,206 @@
+-- A run that ended by its turns, by what these leave.
+use Rattle.std.proofs.Common.{◌≡◌, ◌≢◌, ◌⊎◌, inl, inr, ℕ, ◌+◌, ◌*◌, ◌≤◌, Bool, true, false, IsTrue, List, [], ◌++◌, length, Result, Ok, Err, refl, sym, ◌∙◌, ap, subst, arith, append_assoc}
+use Rattle.std.specs.Prelude.{take}
+use Rattle.base_types.specs.declared.entries.Entry.{Entry}
+use Rattle.host_trait.specs.declared.channels.Channel.{Channel}
+use Rattle.host_trait.specs.declared.channels.Channel.TheVariants.{Input, Output}
+use Rattle.host_trait.specs.Faults.{NoneFailed}
+use Rattle.host_trait.specs.World.{World, Moment}
+use Rattle.request_wire.specs.Lines.{lines_of}
+use Rattle.core_model.specs.CoreState.{Member}
+use Rattle.core_model.specs.Legal.{Run, ends}
+use Rattle.core_model.specs.declared.events.CoreEvent.{CoreEvent}
+use Rattle.log_reading.specs.Steps.{manager}
+use Rattle.promise_spec.specs.Logs.{live_slot}
+use Rattle.promise_spec.specs.Programs.{Program, shape_in}
+use Rattle.promise_spec.specs.Records.{Commit, standing_of}
+use Rattle.promise_spec.specs.Outputs.{Grew}
+use Rattle.promise_spec.specs.Cores.{core_from, how_many}
+use Rattle.promise_spec.specs.Causes.{is_vote, is_sealed, syncs_of}
+use Rattle.promise_spec.specs.Journals.{commits_of, entries_of}
+use Rattle.promise_spec.specs.Endings.{Ending, Done, BadUse, WriteFault as Unwritten, Memory as NoMemory, HasRisen, IsBegun, IsCarried, HasLength, IsAllWritten, input_limit}
+use Rattle.promise_spec.specs.Courses.{Observed, Course, seen_at_entry, core_run}
+use Rattle.promise_spec.specs.Explained.{AreSettled}
+use Rattle.promise_spec.specs.Promise.{IsDone, Promises}
+use Rattle.explained_runs.specs.Closings.{ReadsMayStay, IsBehind}
+use Rattle.explained_runs.specs.Obligations.{ShowsAnywhere, Opens}
+use Rattle.settle_loop.specs.declared.settler.Settler.{Settler}
+use Rattle.interleaver.specs.declared.faults.RunFault.{RunFault}
+use Rattle.interleaver.specs.declared.faults.RunFault.TheVariants.{InDoubt, WriteFault, Memory}
+use Rattle.interleaver.specs.Beginnings.{Outset}
+use Rattle.interleaver.specs.Books.{Books, booked_journal}
+use Rattle.interleaver.specs.Closing.{IsCourseOf, turns_ending}
+use Rattle.interleaver.specs.Images.{LastsSo}
+use Rattle.interleaver.specs.Records.{TurnsEndAs, RecordGoesOn}
+use Rattle.interleaver.proofs.Showing.{explains, settled}
+use Rattle.interleaver.proofs.Lasting.{lasts}
+use Rattle.opening_rules.specs.Behind.{program_of, FollowsOpening}
+use Rattle.opening_rules.proofs.Behind.{behind}
+use Rattle.silo_opening.specs.declared.open.Opened.{Opened}
+use Rattle.silo_top.specs.declared.status.Status.{Status}
+use Rattle.silo_top.specs.Statuses.{status_ending}
+use Rattle.silo_top.specs.Answering.{turns_manner, observed_call, AnswersRun}
+use Rattle.silo_top.specs.Reading.{PulledOnly}
+use Rattle.silo_top.specs.Serving.{IsBehindOpening}
+use Rattle.interleaver.specs.Beside.{EmitsAs, TurnsBeside}
+use Rattle.silo_top.proofs.Beginning.{no_books}
+use Rattle.silo_top.proofs.Promised.{behind_promised}
+
+-- ---- what each answer says
+
+module _ {T : Type 0} (o : Outset) (b : Books) (r : Run) (s : Settler) (after : Channel → ℕ) where
+  risen_by : (result : Result T RunFault) → TurnsEndAs o b r s after result → HasRisen (turns_ending result) o.faults after
+  risen_by (Ok done) e = tt
+  risen_by (Err InDoubt) e = e.0.rose
+  risen_by (Err WriteFault) e = e
+  risen_by (Err Memory) e = tt
+
+  rest_by : (result : Result T RunFault) → TurnsEndAs o b r s after result → turns_ending result ≢ Unwritten → b.rest ≡ []
+  rest_by (Ok done) e other = e.1
+  rest_by (Err InDoubt) e other = e.1
+  rest_by (Err WriteFault) e other = absurd (other refl)
+  rest_by (Err Memory) e other = e
+
+begun_by : {T : Type 0} (result : Result T RunFault) → IsBegun (turns_ending result)
+begun_by (Ok done) = tt
+begun_by (Err InDoubt) = tt
+begun_by (Err WriteFault) = tt
+begun_by (Err Memory) = tt
+
+carried_by : {T : Type 0} (result : Result T RunFault) → IsCarried (turns_ending result)
+carried_by (Ok done) = tt
+carried_by (Err InDoubt) = tt
+carried_by (Err WriteFault) = tt
+carried_by (Err Memory) = tt
+
+long_by : {T : Type 0} (result : Result T RunFault) (size : ℕ) → size ≤ input_limit → HasLength (turns_ending result) size
+long_by (Ok done) size short = short
+long_by (Err InDoubt) size short = short
+long_by (Err WriteFault) size short = short
+long_by (Err Memory) size short = tt
+
+good_by : {T : Type 0} (result : Result T RunFault) → turns_ending result ≢ BadUse
+good_by (Ok done) q = cc q
+good_by (Err InDoubt) q = cc q
+good_by (Err WriteFault) q = cc q
+good_by (Err Memory) q = cc q
+
+output_by : {T : Type 0} (result : Result T RunFault) (old mid new : ℕ) → mid ≡ old → EmitsAs result mid new → new ≢ old → (turns_ending result ≡ Unwritten) ⊎ (turns_ending result ≡ NoMemory)
+output_by (Ok done) old mid new calm e other = absurd (other (e ∙ calm))
+output_by (Err InDoubt) old mid new calm e other = absurd (other (e ∙ calm))
+output_by (Err WriteFault) old mid new calm e other = inl refl
+output_by (Err Memory) old mid new calm e other = inr refl
+
+-- over every host
+pub turns_answer : {T : Type 0} (tells : Bool) (o : Outset) (b : Books) (r r' : Run) (s s' : Settler) (mid after : Channel → ℕ) (now now' : World) (result : Result T RunFault) → NoneFailed o.faults mid
+    → TurnsEndAs o b r' s' after result → TurnsBeside tells r r' s s' mid after now now' result → AnswersRun (turns_ending result) o.faults after
+turns_answer tells o b r r' s s' mid after now now' result calm e beside = record {
+  good = good_by result;
+  risen = risen_by o b r' s' after result e;
+  input = λ other. absurd (other (beside.pulled ∙ calm Input));
+  output = output_by result (o.faults Output) (mid Output) (after Output) (calm Output) beside.emitted;
+  exact = λ unbegun. absurd (unbegun (begun_by result));
+}
+
+-- ---- over a host that tells
+
+pub told : IsTrue true
+told = cc
+
+all_syncs : (new mid old v s : ℕ) → new ≡ mid + (v + 2 * s) → mid ≡ old + 1 → new ≡ old + (1 + (v + 2 * s))
+all_syncs new mid old v s a b = omega (arith, a, b)
+
+module _ {T : Type 0} (width : ℕ) (picks : List ℕ) (x : Opened) (old mid now new : World) (before after : Channel → ℕ) (status : Status) (result : Result T RunFault) (is : IsBehindOpening old mid x) (pulled : PulledOnly mid now)
+    (stay_mid : ReadsMayStay mid) (stay_new : ReadsMayStay new) (end : now.input ≡ []) (short : length old.input ≤ input_limit) (ends_as : status_ending status ≡ turns_ending result) where
+  abbrev pub p : Program
+  p = program_of is.opened
+
+  abbrev pub log : List Commit
+  log = is.opened.log
+
+  abbrev pub out : Outset
+  out = record { program = p; asked = lines_of old.input; opening = log; width = width; picks = picks; faults = before; world = mid }
+
+  abbrev pub seen : Observed
+  seen = observed_call (turns_manner width picks) old new before after status
+
+  abbrev pub r0 : Run
+  r0 = core_from p.types (standing_of p.types log) []
+
+  -- the turns went on from the start, and what the images keep held there, where the folder is sound
+  module _ (r' : Run) (s s' : Settler) (mid_faults : Channel → ℕ) (goes : RecordGoesOn true out no_books r0 r' s s' after now new result) (beside : TurnsBeside true r0 r' s s' mid_faults after now new result) (loud : s.quiet ≡ false) where
+    abbrev pub b : Books
+    b = goes.books
+
+    pub later : (l : List Moment) × (new.past ≡ now.past ++ l)
+    later = beside.past told
+
+    abbrev pub c : Course
+    c = record { opening = log; added = commits_of (booked_journal b); early = is.run.clock.more; late = pulled.moments.more ++ later.0; events = r'.events; entries = entries_of b.said; rest = b.rest }
+
+    run_is : core_run p c ≡ r'
+    run_is = ap (λ (es : List CoreEvent). core_from p.types (standing_of p.types log) es) (ap (λ (r : Run). r.events) beside.core) ∙ sym beside.core
+
+    course : IsCourseOf out b r' seen c
+    course = record {
+      opening = refl;
+      added = refl;
+      entries = refl;
+      rest = refl;
+      run = run_is;
+      asked = refl;
+      width = refl;
+      picks = refl;
+      before = refl;
+      output = sym is.run.now.output;
+    }
+
+    pub follows : FollowsOpening seen c mid log
+    follows = record {
+      opening = refl;
+      run = is.run;
+      settled = is.settled;
+      early = is.run.clock.past;
+      late = later.1 ∙ ap (λ (l : List Moment). l ++ later.0) pulled.moments.past ∙ append_assoc mid.past pulled.moments.more later.0;
+    }
+
+    pub stands : IsBehind live_slot p seen c mid
+    stands = behind x seen c mid is.opened follows
+
+    are_settled : AreSettled p seen c
+    are_settled = settled true out b r' s' seen c result (beside.quiet ∙ loud) goes.record_kept goes.ended ends_as course
+
+    is_done : (answer : Result T RunFault) → TurnsEndAs out b r' s' after answer → turns_ending answer ≡ Done → (e : c.entries ≡ (ends r').manager.settled) → IsDone seen c
+    is_done (Ok done) e q all = record {
+      input = beside.input told ∙ end;
+      answered = λ n low high. (let k = e.0.run.answered n low high in (k.0, subst (λ (l : List Entry). Member k.0 l) (sym all) k.1, k.2));
+    }
+    is_done (Err InDoubt) e q all = absurd (cc q)
+    is_done (Err WriteFault) e q all = absurd (cc q)
+    is_done (Err Memory) e q all = absurd (cc q)
+
+    answers : ShowsAnywhere p seen c
+    answers = record {
+      explains = explains true out b r' s' seen c result goes.record_kept goes.ended ends_as course;
+      settled = are_settled;
+      output = subst (λ (l : List ℕ). Grew (shape_in p) l new.output (entries_of b.said) b.rest) is.run.now.output (goes.record_kept.books.outside told).output;
+      whole = λ other. rest_by out b r' s' after result goes.ended (λ q. other (ends_as ∙ q));
+      ends = record {
+        given = refl;
+        risen = subst (λ (e : Ending). HasRisen e before after) (sym ends_as) (risen_by out b r' s' after result goes.ended);
+        carried = subst IsCarried (sym ends_as) (carried_by result);
+        long = subst (λ (e : Ending). HasLength e (length old.input)) (sym ends_as) (long_by result (length old.input) short);
+        begun = inr (record { ending = subst IsBegun (sym ends_as) (begun_by result); input = beside.input told ∙ end; short = short });
+        done = λ q. is_done result goes.ended (sym ends_as ∙ q) (are_settled.all (inl (written q)) ∙ ap (λ (r : Run). (ends r).manager.settled) run_is);
+        syncs = λ none counts. subst (λ (r : Run). new.syncs ≡ old.syncs + syncs_of r) (sym run_is)
+            (all_syncs new.syncs mid.syncs old.syncs (how_many is_vote r') (how_many is_sealed r') ((goes.record_kept.books.outside told).syncs none) is.count);
+      };
+    }
+      where
+        written : status_ending status ≡ Done → IsAllWritten (status_ending status)
+        written q = subst IsAllWritten (sym q) tt
+
+    -- so the run keeps its promise, where it is known what the images keep at the start of the turns
+    pub turns_promised : (Opens p seen c → LastsSo out (take 15 (seen_at_entry seen manager)) no_books r0 s.writer now) → Promises (turns_manner width picks) seen
+    turns_promised start = behind_promised p seen c mid stands is.stays stay_mid (turns_manner width picks) refl answers
+        (λ opens. lasts true out (take 15 (seen_at_entry seen manager)) b r' s' seen c refl goes.record_kept (goes.lasts told (take 15 (seen_at_entry seen manager)) (start opens)) course refl stands opens stay_new)

@@ -1,0 +1,81 @@
+-- A run from its opening to its end.
+use Rattle.std.proofs.Common.{◌≡◌, ℕ, ◌<◌, ◌≤◌, true, List, [], length, Result, refl, sym, ◌∙◌, ap, subst, arith}
+use Rattle.std.specs.Prelude.{take}
+use Rattle.host_trait.specs.declared.channels.Channel.{Channel}
+use Rattle.host_trait.specs.Faults.{NoneFailed}
+use Rattle.host_trait.specs.Disk.{FileState, MayLeave}
+use Rattle.host_trait.specs.World.{World, Disk, Moment, IsImage}
+use Rattle.host_trait.proofs.Crashes.{settled_only}
+use Rattle.request_wire.specs.Lines.{lines_of}
+use Rattle.request_wire.specs.declared.requests.Line.{Line}
+use Rattle.script_tree.specs.Programs.{program_tree}
+use Rattle.core_model.specs.Legal.{Run}
+use Rattle.history_core.specs.Cores.{run_of}
+use Rattle.log_reading.specs.Steps.{seen_in, manager}
+use Rattle.promise_spec.specs.Journals.{AllLog}
+use Rattle.promise_spec.specs.Endings.{input_limit}
+use Rattle.promise_spec.specs.Promise.{Promises}
+use Rattle.explained_runs.specs.Closings.{ReadsMayStay}
+use Rattle.settle_loop.specs.declared.settler.Settler.{Settler}
+use Rattle.interleaver.specs.declared.faults.RunFault.{RunFault}
+use Rattle.interleaver.specs.Beginnings.{Outset, IsOutset, CanTurn}
+use Rattle.interleaver.specs.Books.{Books}
+use Rattle.interleaver.specs.Closing.{turns_ending}
+use Rattle.interleaver.specs.Records.{KeepsRecord, IsFreshRecord, RecordGoesOn}
+use Rattle.silo_opening.specs.declared.open.Opened.{Opened}
+use Rattle.silo_top.specs.declared.status.Status.{Status}
+use Rattle.silo_top.specs.declared.starting.Started.{Started}
+use Rattle.silo_top.specs.Statuses.{status_ending}
+use Rattle.silo_top.specs.Answering.{turns_manner, observed_call}
+use Rattle.silo_top.specs.Reading.{PulledOnly, AreReadFrom}
+use Rattle.silo_top.specs.Starting.{IsStartOf}
+use Rattle.silo_top.specs.Serving.{IsBehindOpening}
+use Rattle.interleaver.specs.Beside.{TurnsBeside}
+use Rattle.silo_top.proofs.Beginning.{no_books, starts_kept, starts_quiet, starts_fresh, starts_outset}
+use Rattle.silo_top.proofs.Ended.{out, r0, stands, turns_promised}
+use Rattle.silo_top.proofs.LastsAtStart.{starts_lasting}
+use Rattle.silo_top.proofs.AtRest.{starts_resting}
+use Rattle.silo_top.proofs.Unopened.{asked_untouched}
+use Rattle.silo_top.proofs.OpensWith.{start_is}
+
+module _ {T : Type 0} (width : ℕ) (picks : List ℕ) (x : Opened) (st : Started) (old mid now new : World) (before between after : Channel → ℕ) (status : Status) (result : Result T RunFault) (is : IsBehindOpening old mid x) (start : IsStartOf x st)
+    (pulled : PulledOnly mid now) (stay_mid : ReadsMayStay mid) (stay_new : ReadsMayStay new) (end : now.input ≡ []) (short : length old.input ≤ input_limit) (ends_as : status_ending status ≡ turns_ending result) where
+  abbrev outset : Outset
+  outset = out width picks x old mid now new before after status result is pulled stay_mid stay_new end short ends_as
+
+  abbrev first : Run
+  first = r0 width picks x old mid now new before after status result is pulled stay_mid stay_new end short ends_as
+
+  -- the record that holds where the turns begin
+  kept : 0 < x.next_unit.0 → NoneFailed before between → KeepsRecord true outset no_books first st.settler between now
+  kept above calm = starts_kept first.base first.kinds first.opening true outset st.settler between now (subst (λ (n : ℕ). 0 < n) is.opened.next above) (λ c. let e = calm c in omega (arith, e))
+      start.loud start.written start.doubted start.sealing (λ told. (pulled.output, pulled.syncs))
+
+  -- what was read is an image still
+  seen_left : IsImage now.disk (seen_in old.disk)
+  seen_left = subst (λ (d : Disk). IsImage d (seen_in old.disk)) (sym pulled.disk)
+      (λ file. subst (MayLeave (mid.disk file)) ((asked_untouched old mid is.run).seen file) (stay_mid file))
+
+  -- So the run keeps its promise by what `run_turns` ensures, and by what it leaves beside that.
+  pub served : (lines : List Line) (r' : Run) (s' : Settler) → 0 < width → 0 < x.next_unit.0 → NoneFailed before between → AreReadFrom (program_tree x.checked) 0 (lines_of old.input) lines
+      → ((o : Outset) (b : Books) → IsOutset o (program_tree x.checked) (run_of st.core) lines width picks → CanTurn (run_of st.core) st.settler lines → IsFreshRecord o b (run_of st.core)
+      → KeepsRecord true o b (run_of st.core) st.settler between now → RecordGoesOn true o b (run_of st.core) r' st.settler s' after now new result)
+      → TurnsBeside true (run_of st.core) r' st.settler s' between after now new result
+      → Promises (turns_manner width picks) (observed_call (turns_manner width picks) old new before after status)
+  served lines r' s' wide above calm are turns beside =
+      let same : run_of st.core ≡ first = start_is (seen_in old.disk) x st is.opened start in
+      let base : 0 < first.base = subst (λ (n : ℕ). 0 < n) is.opened.next above in
+      let goes : RecordGoesOn true outset no_books (run_of st.core) r' st.settler s' after now new result = turns outset no_books
+      (subst (λ (r : Run). IsOutset outset (program_tree x.checked) r lines width picks) (sym same) (starts_outset first.base first.kinds first.opening outset (program_tree x.checked) (lines_of old.input) lines width picks are refl refl refl refl wide refl))
+      (subst (λ (r : Run). CanTurn r st.settler lines) (sym same) (starts_quiet first.base first.kinds first.opening (program_tree x.checked) (lines_of old.input) lines st.settler are start.doubted start.written))
+      (subst (λ (r : Run). IsFreshRecord outset no_books r) (sym same) (starts_fresh first.base first.kinds first.opening outset))
+      (subst (λ (r : Run). KeepsRecord true outset no_books r st.settler between now) (sym same) (kept above calm)) in
+      let went : RecordGoesOn true outset no_books first r' st.settler s' after now new result = subst (λ (r : Run). RecordGoesOn true outset no_books r r' st.settler s' after now new result) same goes in
+      let left : TurnsBeside true first r' st.settler s' between after now new result = subst (λ (r : Run). TurnsBeside true r r' st.settler s' between after now new result) same beside in
+      let behind = stands width picks x old mid now new before after status result is pulled stay_mid stay_new end short ends_as r' st.settler s' between went left start.loud in
+      turns_promised width picks x old mid now new before after status result is pulled stay_mid stay_new end short ends_as r' st.settler s' between went left start.loud
+      (λ opens. (let all : AllLog outset.program outset.opening mid.disk = subst (λ (m : Moment). AllLog outset.program outset.opening m.disk) behind.last opens.opened in
+      starts_lasting outset (take 15 (old.disk manager).seen) first.base first.kinds first.opening st.settler.writer now pulled all base
+      (λ image image_is. ap (take 15) (settled_only (old.disk manager).seen (image manager) (subst (λ (f : FileState). MayLeave f (image manager)) is.settled (image_is manager))))
+      (λ sure. starts_resting outset x st (seen_in old.disk) is.opened start refl first now.disk (ap (λ (d : Disk). d manager) pulled.disk ∙ is.settled) seen_left
+      (subst (AllLog outset.program outset.opening) (sym pulled.disk) all))))

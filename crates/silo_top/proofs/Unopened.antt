@@ -1,0 +1,97 @@
+-- A folder that wasn't opened.
+use Rattle.std.proofs.Common.{◌≡◌, inl, inr, ℕ, List, refl, sym, ap, subst}
+use Rattle.host_trait.specs.declared.channels.Channel.{Channel}
+use Rattle.host_trait.specs.declared.channels.FileId.{FileId}
+use Rattle.host_trait.specs.Disk.{FileState, MayLeave}
+use Rattle.host_trait.specs.World.{World, Moment, Image, IsImage, moment_of}
+use Rattle.host_trait.specs.Runs.{ChangesFile, RunsOnFile}
+use Rattle.host_trait.proofs.Names.{cases_file}
+use Rattle.host_trait.proofs.Moments.{weaker, started}
+use Rattle.silo_spec.specs.Silos.{manager}
+use Rattle.silo_spec.specs.Moments.{IsAsAtEntry, IsUntouched}
+use Rattle.silo_spec.specs.Making.{IsBeside}
+use Rattle.log_reading.specs.Steps.{seen_in}
+use Rattle.promise_spec.specs.Logs.{live_slot}
+use Rattle.promise_spec.specs.Words.{Manner}
+use Rattle.promise_spec.specs.Endings.{Ending, Memory, HasRisen}
+use Rattle.promise_spec.specs.Openings.{opened_as}
+use Rattle.promise_spec.specs.Courses.{Observed}
+use Rattle.promise_spec.specs.Commands.{MakesSilo}
+use Rattle.promise_spec.specs.Refusals.{IsRefusedBy, IsUnopened}
+use Rattle.promise_spec.specs.Promise.{Promises}
+use Rattle.silo_opening.specs.Opened.{Stays, ending_of}
+use Rattle.silo_opening.specs.Counts.{OpenFaulted}
+use Rattle.silo_opening.specs.declared.faults.OpenFault.{OpenFault}
+use Rattle.silo_top.specs.declared.status.Status.{Status}
+use Rattle.silo_top.specs.Statuses.{status_ending}
+use Rattle.silo_top.specs.Answering.{observed_call}
+use Rattle.silo_top.proofs.Counted.{open_failed, failed_risen}
+
+-- ---- nothing but asking
+
+-- where no byte changed, no outcome of a crash was added
+unchanged : (old : World) (m : Moment) → ChangesFile manager Stays old m → IsAsAtEntry old m
+unchanged old m changes = record { quiet = changes.output; images = images }
+  where
+    images : (image : Image) → IsImage m.disk image → IsImage old.disk image
+    images image is file = elim (cases_file manager file) [
+      | inl same ↦
+          let crash = changes.crash (image manager) (is manager) in
+          let left : MayLeave (old.disk manager) (image manager) = subst (λ (d : List ℕ). MayLeave (old.disk manager) d) (sym crash.2) crash.1 in
+          subst (λ (f : FileId). MayLeave (old.disk f) (image f)) same left
+      | inr other ↦ subst (λ (s : FileState). MayLeave s (image file)) (changes.others file (λ e. other (sym e))) (is file)
+    ]
+
+pub asked_untouched : (old new : World) → RunsOnFile manager Stays 1 old new → IsUntouched old new
+asked_untouched old new run = record {
+  moments = weaker (ChangesFile manager Stays old) (IsAsAtEntry old) (unchanged old) run.moments;
+  now = unchanged old (moment_of new) run.now;
+  seen = seen;
+}
+  where
+    seen : (file : FileId) → (new.disk file).seen ≡ (old.disk file).seen
+    seen file = elim (cases_file manager file) [
+      | inl same ↦ subst (λ (f : FileId). (new.disk f).seen ≡ (old.disk f).seen) same run.seen
+      | inr other ↦ ap (λ (s : FileState). s.seen) (run.now.others file (λ e. other (sym e)))
+    ]
+
+-- a run that didn't open its folder keeps its promise
+pub unopened_promised : (m : Manner) (r : Observed) → r.manner ≡ m → IsUnopened r → Promises m r
+unopened_promised m r is u = record { manner = is; answers = inl u; over_sound = λ p checked sound. inl u }
+
+-- so does one whose opening answered a fault
+pub refused_promised : (m : Manner) (old new : World) (before after : Channel → ℕ) (e : OpenFault) (status : Status) → status_ending status ≡ ending_of e → RunsOnFile manager Stays 1 old new
+    → IsRefusedBy (seen_in old.disk) (opened_as live_slot (seen_in old.disk)) (ending_of e) → OpenFaulted e before after → Promises m (observed_call m old new before after status)
+refused_promised m old new before after e status is run refused faulted = unopened_promised m (observed_call m old new before after status) refl (record {
+  untouched = asked_untouched old new run;
+  unread = run.input;
+  refused = subst (λ (x : Ending). IsRefusedBy (seen_in old.disk) (opened_as live_slot (seen_in old.disk)) x) (sym is) refused;
+  risen = subst (λ (x : Ending). HasRisen x before after) (sym is) (failed_risen before after (ending_of e) (open_failed before after e faulted));
+})
+
+-- ---- nothing at all
+
+pub nothing_touched : (w : World) → IsUntouched w w
+nothing_touched w = record {
+  moments = started (IsAsAtEntry w) w.past;
+  now = record { quiet = refl; images = λ image is. is };
+  seen = λ file. refl;
+}
+
+-- where memory is wanting before anything was done
+pub starved_promised : (m : Manner) (w : World) (counts : Channel → ℕ) → Promises m (observed_call m w w counts counts Status.Memory)
+starved_promised m w counts = unopened_promised m (observed_call m w w counts counts Status.Memory) refl (record {
+  untouched = nothing_touched w;
+  unread = refl;
+  refused = tt;
+  risen = tt;
+})
+
+pub starved_made : (m : Manner) (w : World) (counts : Channel → ℕ) → MakesSilo (observed_call m w w counts counts Status.Memory)
+starved_made m w counts = record {
+  beside = started (IsBeside w) w.past;
+  beside_now = record { output = refl; others = λ file one two. refl };
+  makes = inl (nothing_touched w);
+  ended = nothing_touched w;
+  risen = tt;
+}

@@ -1,0 +1,49 @@
+ghost use Rattle.std.specs.Prelude.{◌≡◌, [], Err, IfOk, option_map, unwrap_or};
+ghost use Rattle.promise_spec.specs.Words.{Command};
+ghost use Rattle.promise_spec.specs.Calls.{Understands};
+ghost use Rattle.command_words.specs.CutParts.{texts_of};
+ghost use Rattle.silo_top.specs.Answering.{is_built, is_taken};
+ghost use Rattle.silo_top.specs.Asking.{asked_command, IsWide};
+
+use base_types::List;
+use command_words::{Words, WordsFault, read_words};
+use std::alloc::Global;
+
+/// What the words ask for.
+#[derive(Drop)]
+pub(crate) enum Asked {
+    /// To make a silo.
+    Init,
+    /// To carry the lines of the input: how many may be in flight, and the picks.
+    Run { width: u32, picks: List<u32> },
+}
+
+/// The picks of an option, none where it isn't given.
+fn picks_of(alloc: Global, turns: Option<Vec<u32>>) -> List<u32>
+    ensures { result ≡ unwrap_or (option_map (λ picks. picks.items) turns) [] }
+{
+    match turns {
+        Some(picks) => List::from_vec(picks),
+        None => List::new(alloc),
+    }
+}
+
+/// The command that the words ask for, where it is built. Workers aren't.
+pub(crate) fn read_asked(alloc: Global, words: &[String]) -> Result<Asked, WordsFault>
+    ensures asked { IfOk result (λ asked. Understands is_built is_taken (texts_of words.now) (asked_command asked)) }
+    ensures wide { IfOk result IsWide }
+    ensures bad_use { result ≡ Err WordsFault.BadUse → (c : Command) → Understands is_built is_taken (texts_of words.now) c → ⊥ }
+{
+    match read_words(alloc, words)? {
+        Words::Init => Ok(Asked::Init),
+        Words::Run(options) => {
+            if options.workers.is_some() {
+                return Err(WordsFault::BadUse);
+            }
+            let width = options.width.unwrap_or(1);
+            let picks = picks_of(alloc, options.turns);
+            Ok(Asked::Run { width, picks })
+        }
+        _ => Err(WordsFault::BadUse),
+    }
+}

@@ -1,0 +1,97 @@
+ghost use Rattle.std.specs.Prelude.{◌≡◌, ◌^◌, ◌<◌, ◌≤◌, ℕ, IsTrue};
+ghost use Rattle.host_trait.specs.Faults.{NoneFailed};
+ghost use Rattle.host_trait.specs.Files.{StaysReady};
+ghost use Rattle.host_trait.specs.World.{World};
+ghost use Rattle.host_trait.specs.declared.channels.Channel.{Channel as AChannel};
+ghost use Rattle.log_reading.specs.Sums.{AreNear};
+ghost use Rattle.interleaver.specs.Closing.{turns_ending};
+ghost use Rattle.promise_spec.specs.Promise.{Promises};
+ghost use Rattle.silo_top.specs.Answering.{AnswersRun, turns_manner, observed_call};
+ghost use Rattle.silo_top.specs.Reading.{input_ending};
+ghost use Rattle.silo_top.specs.Serving.{IsBehindOpening};
+ghost use Rattle.silo_top.specs.Statuses.{status_ending};
+
+use crate::input::{InputFault, read_input};
+use crate::lines::read_lines;
+use crate::starting::start;
+use crate::status::Status;
+use base_types::List;
+use host_trait::{FileId, Host};
+use interleaver::{RunFault, run_turns};
+use settle_loop::Gate;
+use silo_opening::Opened;
+use std::alloc::{AllocError, Global};
+
+/// The file of the log.
+const MANAGER: FileId = FileId::Manager { slot: 0 };
+
+/// The status of a run whose turns ended so.
+fn turns_status(ended: Result<(), RunFault>) -> Status
+    ensures { status_ending result ≡ turns_ending ended }
+{
+    match ended {
+        Ok(()) => Status::Done,
+        Err(RunFault::InDoubt) => Status::DiskFault { file: MANAGER },
+        Err(RunFault::WriteFault) => Status::WriteFault,
+        Err(RunFault::Memory) => Status::Memory,
+    }
+}
+
+/// The status of a run whose input wasn't read.
+fn input_status(fault: InputFault) -> Status
+    ensures { status_ending result ≡ input_ending fault }
+{
+    match fault {
+        InputFault::Memory => Status::Memory,
+        InputFault::Failed => Status::ReadFault,
+        InputFault::TooLong => Status::InputTooLong { line: 0 },
+    }
+}
+
+/// Reads the input to its end, and carries its lines over an opened silo.
+pub(crate) fn serve<H: Host, G: Gate>(
+    alloc: Global,
+    opened: Opened,
+    host: &mut H,
+    gate: &G,
+    width: u32,
+    picks: &List<u32>,
+) -> Status
+    requires gate { opened.gate_at < 2 ^ 63 }
+    requires above { 0 < opened.next_unit.0 }
+    requires near { AreNear opened.ends }
+    requires few { opened.next_unit.0 ≤ 2 ^ 63 }
+    requires wide { 0 < width }
+    requires behind { IsTrue H.tells → (old : World) × IsBehindOpening old (H.world host.old) opened }
+
+    // Behind the opening it keeps the whole promise of a run.
+    ensures promises { IsTrue H.tells → (old : World) (before : AChannel → ℕ) → IsBehindOpening old (H.world host.old) opened
+        → NoneFailed before (H.faults host.old)
+        → Promises (turns_manner width picks.now) (observed_call (turns_manner width picks.now) old (H.world host.new) before (H.faults host.new) result) }
+    ensures answers { AnswersRun (status_ending result) (H.faults host.old) (H.faults host.new) }
+    ensures ready { StaysReady (H.is_ready host.old) (H.is_ready host.new) }
+{
+    let mut started = match start(alloc, opened) {
+        Ok(started) => started,
+        Err(AllocError) => return Status::Memory,
+    };
+    let input = match read_input(alloc, host) {
+        Ok(input) => input,
+        Err(fault) => return input_status(fault),
+    };
+    let lines = match read_lines(alloc, &started.checked, &input) {
+        Ok(lines) => lines,
+        Err(AllocError) => return Status::Memory,
+    };
+    turns_status(run_turns(
+        alloc,
+        &started.checked,
+        &mut started.core,
+        &mut started.settler,
+        &lines,
+        host,
+        gate,
+        width,
+        picks,
+    ))
+}

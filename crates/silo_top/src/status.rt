@@ -1,0 +1,102 @@
+ghost use Rattle.std.specs.Prelude.{◌≡◌, IfOk, string_bytes};
+ghost use Rattle.silo_top.specs.Statuses.{status_number, status_text};
+
+use base_types::List;
+use host_trait::{FileId, file_name};
+use program_file::ProgramFault;
+use std::alloc::{AllocError, Global};
+
+/// How a command ended. [`run_silo`](crate::run_silo) says when each comes.
+#[derive(Clone, Copy, Debug, PartialEq, Eq)]
+pub enum Status {
+    /// All was read, carried and written.
+    Done,
+    /// The words are no command.
+    BadUse,
+    /// There was no memory. What stands by then stays.
+    Memory,
+    /// The input couldn't be read.
+    ReadFault,
+    /// The output couldn't be written.
+    WriteFault,
+    /// A call on this file failed. What is on disk is what a crash may leave there.
+    DiskFault { file: FileId },
+    /// The folder is no silo.
+    NotASilo,
+    /// The folder is a silo already.
+    AlreadyASilo,
+    /// The file is damaged at this offset.
+    Damaged { file: FileId, place: u64 },
+    /// The input is no program.
+    BadProgram { fault: ProgramFault },
+    /// The input is longer than the command takes. `line` is 0 where the limit is one on the whole input.
+    InputTooLong { line: u32 },
+}
+
+impl Status {
+    /// The number that the program ends with: 0 for `Done`, and another for each other status.
+    pub fn number(&self) -> u8
+        ensures { result ≡ status_number self.now }
+    {
+        match self {
+            Status::Done => 0,
+            Status::BadUse => 2,
+            Status::Memory => 3,
+            Status::ReadFault => 4,
+            Status::WriteFault => 5,
+            Status::DiskFault { .. } => 6,
+            Status::NotASilo => 7,
+            Status::AlreadyASilo => 8,
+            Status::Damaged { .. } => 9,
+            Status::BadProgram { .. } => 10,
+            Status::InputTooLong { .. } => 11,
+        }
+    }
+
+    /// What the program says on standard error after `silo: `.
+    pub fn text(&self, alloc: Global) -> Result<List<u8>, AllocError>
+        ensures { IfOk result (λ text. text ≡ status_text self.now) }
+    {
+        let text = self.words(alloc)?;
+        Ok(List::from_vec(text.into_bytes()))
+    }
+
+    fn words(&self, alloc: Global) -> Result<String, AllocError>
+        ensures { IfOk result (λ text. string_bytes text ≡ status_text self.now) }
+    {
+        match self {
+            Status::Done => String::from_str(alloc, "done"),
+            Status::BadUse => String::from_str(alloc, "bad use"),
+            Status::Memory => String::from_str(alloc, "no memory"),
+            Status::ReadFault => String::from_str(alloc, "read fault"),
+            Status::WriteFault => String::from_str(alloc, "write fault"),
+            Status::DiskFault { file } => disk_fault_text(alloc, *file),
+            Status::NotASilo => String::from_str(alloc, "not a silo"),
+            Status::AlreadyASilo => String::from_str(alloc, "already a silo"),
+            Status::Damaged { file, place } => damaged_text(alloc, *file, *place),
+            Status::BadProgram { fault } => bad_program_text(alloc, *fault),
+            Status::InputTooLong { .. } => String::from_str(alloc, "input too long"),
+        }
+    }
+}
+
+fn disk_fault_text(alloc: Global, file: FileId) -> Result<String, AllocError>
+    ensures { IfOk result (λ text. string_bytes text ≡ status_text (Status.DiskFault file)) }
+{
+    let name = file_name(alloc, file)?;
+    format!(in alloc; "disk fault in {name}")
+}
+
+fn damaged_text(alloc: Global, file: FileId, place: u64) -> Result<String, AllocError>
+    ensures { IfOk result (λ text. string_bytes text ≡ status_text (Status.Damaged file place)) }
+{
+    let name = file_name(alloc, file)?;
+    format!(in alloc; "damaged {name} at {place}")
+}
+
+fn bad_program_text(alloc: Global, fault: ProgramFault) -> Result<String, AllocError>
+    ensures { IfOk result (λ text. string_bytes text ≡ status_text (Status.BadProgram fault)) }
+{
+    let place = fault.place().unwrap_or(0);
+    format!(in alloc; "bad program at {place}")
+}
