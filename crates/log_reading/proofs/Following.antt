@@ -10,7 +10,7 @@ use Rattle.gate_block.specs.Log.{then_bodies, then_gate, bodies_from, gate_from,
 use Rattle.gate_block.proofs.Logs.{closed_shut}
 use Rattle.commit_log.specs.declared.records.CommitRecord.{CommitRecord}
 use Rattle.commit_log.specs.Fields.{body_in}
-use Rattle.log_reading.specs.Blocks.{and_records, no_more, records_behind, records_in_file}
+use Rattle.log_reading.specs.Blocks.{header_damage, behind_header, and_records, no_more, records_behind, records_in_file}
 use Rattle.log_reading.specs.Steps.{and_gate, next_of, next_in, records_from, with_records, placed}
 
 abbrev Records : Type 0
@@ -117,8 +117,11 @@ twice : (a b : Records) (r : Result Records ℕ) → with_records a (with_record
 twice a b (Ok records) = ap Ok (sym (append_assoc a b records))
 twice a b (Err place) = refl
 
-pub follows_begins : (shape : Shape) (file : List ℕ) → Follows shape file [] first_gate
-follows_begins shape file = record { fuel = length file; enough = omega arith; rest = none_more (records_in_file shape file); last = refl }
+-- behind a header that isn't damaged nothing is read yet
+pub follows_begins : (shape : Shape) (file : List ℕ) → header_damage file ≡ None → Follows shape file [] first_gate
+follows_begins shape file clean =
+    let all : Result Records ℕ = records_from shape (length file) first_gate file in
+    record { fuel = length file; enough = omega arith; rest = none_more all ∙ sym (ap (λ (d : Option ℕ). behind_header d all) clean); last = refl }
 
 module _ (shape : Shape) (file : List ℕ) (records : List CommitRecord) (gate : ℕ) where
   on_by : (fuel : ℕ) → length file < gate + fuel → with_records records (records_from shape fuel gate file) ≡ records_in_file shape file → gate_from fuel gate file ≡ gate_of file

@@ -9,7 +9,7 @@ use Rattle.commit_log.specs.declared.records.CommitRecord.{CommitRecord}
 use Rattle.commit_log.specs.Bodies.{IsRecordIn}
 use Rattle.commit_log.specs.declared.records.Named.{Named}
 use Rattle.log_reading.specs.declared.log.ReadLog.{ReadLog}
-use Rattle.log_reading.specs.Blocks.{records_in_file}
+use Rattle.log_reading.specs.Blocks.{header_damage, records_in_file}
 use Rattle.log_reading.specs.Versions.{named_by}
 use Rattle.log_reading.specs.Steps.{next_in}
 use Rattle.log_reading.specs.Sums.{next_after, IsReadAs}
@@ -25,8 +25,8 @@ pub record HasRead (tells : Bool) (shape : Shape) (file : List ℕ) (count next 
   pub follows : IsTrue tells → Follows shape file records gate
 
 module _ (tells : Bool) (shape : Shape) (file : List ℕ) where
-  pub has_begun : (named : List Named) → named ≡ [] → HasRead tells shape file 0 1 first_gate named
-  has_begun named none = record { records = []; count_is = refl; next_is = refl; named_is = none; fit = tt; follows = λ told. follows_begins shape file }
+  pub has_begun : (named : List Named) → named ≡ [] → (IsTrue tells → header_damage file ≡ None) → HasRead tells shape file 0 1 first_gate named
+  has_begun named none clean = record { records = []; count_is = refl; next_is = refl; named_is = none; fit = tt; follows = λ told. follows_begins shape file (clean told) }
 
   pub has_more : (count next gate : ℕ) (named : List Named) → HasRead tells shape file count next gate named → (more : List CommitRecord) → AllByRecursion (IsRecordIn Logged shape) more
       → (count2 next2 behind : ℕ) (named2 : List Named) → count2 ≡ count + length more → next2 ≡ next_after next more → named2 ≡ named ++ named_by more → (IsTrue tells → next_in shape gate file ≡ Ok (Some (more, behind)))

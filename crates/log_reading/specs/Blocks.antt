@@ -1,5 +1,5 @@
--- The records of a manager file, block by block, or the first place that is damaged.
-use Rattle.std.specs.Prelude.{ℕ, ◌+◌, List, [], ◌∷◌, ◌++◌, length, Result, Ok, Err}
+-- The records of a manager file, block by block behind its header, or the first place that is damaged.
+use Rattle.std.specs.Prelude.{ℕ, ◌+◌, ◌==◌, if◌then◌else◌, List, [], ◌∷◌, ◌++◌, length, slice_index, Option, Some, None, Result, Ok, Err}
 use Rattle.base_types.specs.declared.shapes.Shape.{Shape}
 use Rattle.field_codec.specs.declared.faults.CodecFault.{CodecFault}
 use Rattle.field_codec.specs.declared.units.Numbers.TheVariants.{Logged}
@@ -8,6 +8,15 @@ use Rattle.gate_block.specs.Blocks.{BehindGate, shut, bad, whole, found_at}
 use Rattle.gate_block.specs.Log.{first_gate, bodies_of, gate_of}
 use Rattle.commit_log.specs.declared.records.CommitRecord.{CommitRecord}
 use Rattle.commit_log.specs.Fields.{body_in}
+
+-- the first of the header's bytes 13 and 14, which are zero, that isn't
+abbrev pub header_damage : List ℕ → Option ℕ
+header_damage file = if slice_index file 13 == 0 then (if slice_index file 14 == 0 then None else Some 14) else Some 13
+
+-- what is read behind a header that is damaged there first, or nowhere
+abbrev pub behind_header : Option ℕ → Result (List CommitRecord) ℕ → Result (List CommitRecord) ℕ
+behind_header None read = read
+behind_header (Some place) read = Err place
 
 -- the records of a body that stands at an offset, and then the others, or the first place that is damaged
 abbrev pub and_records : ℕ → Result (List CommitRecord) CodecFault → Result (List CommitRecord) ℕ → Result (List CommitRecord) ℕ
@@ -29,4 +38,5 @@ records_behind shape gate (body ∷ bodies) end =
 
 -- the records of a manager file, or the first place that is damaged
 abbrev pub records_in_file : Shape → List ℕ → Result (List CommitRecord) ℕ
-records_in_file shape file = records_behind shape first_gate (bodies_of file) (no_more (gate_of file) (found_at (gate_of file) file))
+records_in_file shape file =
+    behind_header (header_damage file) (records_behind shape first_gate (bodies_of file) (no_more (gate_of file) (found_at (gate_of file) file)))

@@ -7,6 +7,7 @@
 mod blocks;
 mod contents;
 mod faults;
+mod header;
 mod laws;
 mod log;
 mod pieces;

@@ -15,6 +15,7 @@ ghost use Rattle.log_reading.specs.Sums.{next_after, IsReadAs};
 
 use crate::blocks::next_block;
 use crate::faults::FolderFault;
+use crate::header::check_header;
 use base_types::{List, Shape, UnitNo};
 use commit_log::{CommitRecord, Named, Written};
 use host_trait::Host;
@@ -76,8 +77,8 @@ fn add_records(
     Ok(after)
 }
 
-/// Reads the log of the manager file, block by block, and keeps what opening needs of it. `Damaged` names the first place that
-/// is damaged, and `Failed` the manager file, a call on which failed.
+/// Reads the log of the manager file, block by block behind the header, and keeps what opening needs of it. `Damaged` names the
+/// first place that is damaged, and `Failed` the manager file, a call on which failed.
 pub fn read_log<H: Host>(alloc: Global, host: &mut H, shape: &Shape) -> Result<ReadLog, FolderFault>
     ensures log { IfOk result (λ l. IsReadAs H.tells shape.now ((H.world host.old).disk manager).seen l) }
     ensures bound { IfOk result (λ l. (l.gate_at < 2 ^ 63) × ((0 < l.next_unit.0) × (l.next_unit.0 ≤ 2 ^ 63))) }
@@ -90,6 +91,10 @@ pub fn read_log<H: Host>(alloc: Global, host: &mut H, shape: &Shape) -> Result<R
     ensures fault { IfErr result (λ e. ReadFaulted e (H.faults host.old) (H.faults host.new)) }
     ensures ready { StaysReady (H.is_ready host.old) (H.is_ready host.new) }
 {
+    match check_header(host) {
+        Ok(()) => {}
+        Err(fault) => return Err(fault),
+    }
     let mut named = List::new(alloc);
     let mut count = 0;
     let mut next = 1;

@@ -23,10 +23,10 @@ loop-named-init g c = record {
   few = omega arith;
   high = omega arith;
   low = omega arith;
-  read = has_begun g.H.Host.tells c.args.shape.now ((g.H.Host.world c.args.host.now).disk manager).seen c.new-named.result c.new-named.ensures;
-  asked = search rules;
-  calm = λ channel. refl;
-  ready = λ file was. was;
+  read = has_begun g.H.Host.tells c.args.shape.now ((g.H.Host.world c.args.host.now).disk manager).seen c.new-named.result c.new-named.ensures c.in-Ok.ensures.whole;
+  asked = c.check_header.ensures.asked;
+  calm = c.in-Ok.ensures.calm;
+  ready = c.check_header.ensures.ready;
 }
 
 pub returns-in_err-records-clause-damaged : goal.returns-in_err-records-clause-damaged
