@@ -1,5 +1,5 @@
 -- A call that keeps its promise over a sound folder leaves a sound one.
-use Rattle.std.proofs.Common.{◌≡◌, ◌≢◌, ◌⊎◌, inl, inr, ℕ, ◌≤◌, List, [], ◌∷◌, ◌++◌, length, map, slice_index, refl, sym, ap, subst, ◌∙◌, arith, get_or-take}
+use Rattle.std.proofs.Common.{◌≡◌, ◌≢◌, ◌⊎◌, inl, inr, ℕ, ◌<◌, ◌≤◌, List, [], ◌∷◌, ◌++◌, length, map, slice_index, None, refl, sym, ap, subst, ◌∙◌, arith, get_or-take}
 use Rattle.host_trait.specs.Disk.{FileState, MayLeave}
 use Rattle.host_trait.proofs.Crashes.{settled_only}
 use Rattle.host_trait.proofs.Moments.{both, weaker, weaker_twice, joined}
@@ -9,7 +9,8 @@ use Rattle.host_trait.proofs.Runs.{image_with, with_bytes-there}
 use Rattle.gate_block.specs.Log.{LogsUpTo, first_gate}
 use Rattle.gate_block.proofs.Logs.{no_blocks}
 use Rattle.core_model.specs.CoreState.{Member}
-use Rattle.silo_spec.specs.Silos.{manager, IsSilo, IsNewSilo}
+use Rattle.log_reading.specs.Blocks.{header_damage}
+use Rattle.silo_spec.specs.Silos.{manager, IsSilo, IsNewSilo, new_header}
 use Rattle.silo_spec.specs.Moments.{IsAsAtEntry, IsUntouched}
 use Rattle.silo_spec.specs.Making.{CameThisFar, IsEarly, FromFirstSync, IsNewAt}
 use Rattle.promise_spec.specs.Programs.{Program, IsChecked, shape_in}
@@ -88,6 +89,7 @@ bad_use_keeps p r bad sound = subst (IsSoundFolder p) (sym bad.unused) sound
 new_log : (p : Program) (image : Image) → IsNewSilo magic p.text image → IsLog live_slot (shape_in p) image []
 new_log p image new = record {
   silo = new.silo;
+  header = whole;
   batches = [];
   gate = first_gate;
   blocks = record { blocks = no_blocks (image manager) (omega (arith, new.silo.long)); closed = shut };
@@ -96,8 +98,16 @@ new_log p image new = record {
   kept = tt;
 }
   where
+    -- the bytes of its header are a new header's
+    byte_of : (i : ℕ) → i < 16 → slice_index (image manager) i ≡ slice_index (new_header magic) i
+    byte_of i low = sym (get_or-take 16 (image manager) i 0 low) ∙ ap (λ (l : List ℕ). slice_index l i) new.header
+
+    -- of which bytes 13 and 14 are zero
+    whole : header_damage (image manager) ≡ None
+    whole = rw (byte_of 13 (omega arith), byte_of 14 (omega arith)) refl
+
     byte : slice_index (image manager) 15 ≡ 0
-    byte = sym (get_or-take 16 (image manager) 15 0 (omega arith)) ∙ ap (λ (l : List ℕ). slice_index l 15) new.header
+    byte = byte_of 15 (omega arith)
 
     -- its gate isn't open
     shut : slice_index (image manager) 15 ≢ 1

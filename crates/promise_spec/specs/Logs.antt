@@ -1,5 +1,5 @@
 -- The log of an image, and when one log is a prefix of another.
-use Rattle.std.specs.Prelude.{◌≡◌, ℕ, ◌^◌, ◌<◌, ◌≤◌, List, [], ◌∷◌, ◌++◌, length, map, codes, slice_get, Some, ⊤}
+use Rattle.std.specs.Prelude.{◌≡◌, ℕ, ◌^◌, ◌<◌, ◌≤◌, List, [], ◌∷◌, ◌++◌, length, map, codes, slice_get, Some, None, ⊤}
 use Rattle.std.specs.List.{flat_map, AllByRecursion}
 use Rattle.base_types.specs.declared.calls.UnitNo.{UnitNo}
 use Rattle.base_types.specs.declared.calls.Value.{Value}
@@ -14,6 +14,7 @@ use Rattle.field_codec.specs.declared.units.Numbers.TheVariants.{Logged}
 use Rattle.commit_log.specs.declared.records.Written.{Written}
 use Rattle.commit_log.specs.Spelling.{spelling_of_body}
 use Rattle.commit_log.specs.Bodies.{IsRecordIn}
+use Rattle.log_reading.specs.Blocks.{header_damage}
 use Rattle.silo_spec.specs.Silos.{IsSilo}
 use Rattle.promise_spec.specs.Records.{Commit}
 
@@ -46,11 +47,12 @@ pub record IsKept (live : ℕ) (shape : Shape) (image : Image) (c : Commit) : Ty
 abbrev pub body_of : List Commit → List ℕ
 body_of batch = spelling_of_body (map (λ c. c.logged) batch)
 
--- The log of an image under a program's shape, where the live files are of this slot: a silo's manager file has, from
--- byte 15 on, the open blocks of these batches, up to a closed gate. A batch has at most 64 records. Each record is kept
--- whole.
+-- The log of an image under a program's shape, where the live files are of this slot: a silo's manager file has zeros at
+-- bytes 13 and 14, and from byte 15 on the open blocks of these batches, up to a closed gate. A batch has at most 64
+-- records. Each record is kept whole.
 pub record IsLog (live : ℕ) (shape : Shape) (image : Image) (log : List Commit) : Type 0 where
   pub silo : IsSilo magic (image (Manager live))
+  pub header : header_damage (image (Manager live)) ≡ None
   pub batches : List (List Commit)
   pub gate : ℕ
   pub blocks : LogsUpTo (map body_of batches) gate (image (Manager live))

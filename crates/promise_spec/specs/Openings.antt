@@ -11,7 +11,7 @@ use Rattle.promise_spec.specs.Logs.{magic}
 -- the program of a program file
 pub use Rattle.program_file.specs.Files.{text_in_file, with_types, program_in_file}
 -- the records of a manager file
-pub use Rattle.log_reading.specs.Blocks.{and_records, no_more, records_behind, records_in_file}
+pub use Rattle.log_reading.specs.Blocks.{header_damage, behind_header, and_records, no_more, records_behind, records_in_file}
 -- the versions that they name
 pub use Rattle.commit_log.specs.declared.records.Named.{Named}
 pub use Rattle.grain_log.specs.Reads.{is_owned}
@@ -50,7 +50,7 @@ abbrev pub with_program : ℕ → Image → Result Program ℕ → Reading
 with_program live image (Ok p) = with_log live p image (records_in_file (shape_in p) (image (Manager live)))
 with_program live image (Err place) = DamagedAt (ProgramFile live) place
 
--- What a folder reads as, where the live files are of this slot. The first damage counts: in the program file, then block
--- by block in the manager file, then version by version in the grains' files.
+-- What a folder reads as, where the live files are of this slot. The first damage counts: in the program file, then in the
+-- manager file's header and block by block, then version by version in the grains' files.
 abbrev pub opened_as : ℕ → Image → Reading
 opened_as live image = if is_silo (image (Manager live)) then with_program live image (program_in_file (image (ProgramFile live))) else NoSilo
