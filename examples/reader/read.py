@@ -117,6 +117,9 @@ def read(folder):
     size = program.number("I", lambda size: size <= 262144)
     program.need(size <= len(held) - 4, len(held))
     types = types_of(program.take(size).decode(errors="replace"))
+    header = Bytes("manager-0.otx", manager, 13, 15)
+    for _ in range(2):
+        header.number("B", lambda byte: byte == 0)
     named, last = [], 0
     for unit, told, writes in log_of("manager-0.otx", manager, types):
         print(json.dumps(told))
