@@ -36,6 +36,7 @@ five = fits_signed_from_abs w64 (pos 5) (lit< tt)
 pub logged : IsLog live_slot (shape_in account_program) (folder 1 grain_bytes) (first_commit ∷ [])
 logged = record {
   silo = record { long = omega arith; gate = refl; named = refl };
+  header = refl;
   batches = (first_commit ∷ []) ∷ [];
   gate = 88;
   blocks = record { blocks = record { small = (omega arith, tt); at = refl; within = omega arith; blocks = refl }; closed = λ e. cc e };
@@ -69,6 +70,7 @@ logged = record {
 pub closed_gate : IsLog live_slot (shape_in account_program) (folder 0 grain_bytes) []
 closed_gate = record {
   silo = record { long = omega arith; gate = refl; named = refl };
+  header = refl;
   batches = [];
   gate = 15;
   blocks = record { blocks = record { small = tt; at = refl; within = omega arith; blocks = refl }; closed = λ e. cc e };

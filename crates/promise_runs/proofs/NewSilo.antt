@@ -1,5 +1,5 @@
 -- The disks of a new silo of the accounts, and of one whose first deposit is sealed or being sealed: what their images have.
-use Rattle.std.proofs.Common.{◌≡◌, ◌≢◌, ◌⊎◌, inl, inr, ℕ, zero, suc, ◌+◌, ◌^◌, ◌<◌, ◌≤◌, Bool, true, false, if◌then◌else◌, List, [], ◌∷◌, ◌++◌, length, map, slice_index, Option, Some, Result, Ok, refl, sym, ◌∙◌, ap, subst, arith, length-append}
+use Rattle.std.proofs.Common.{◌≡◌, ◌≢◌, ◌⊎◌, inl, inr, ℕ, zero, suc, ◌+◌, ◌^◌, ◌<◌, ◌≤◌, Bool, true, false, if◌then◌else◌, List, [], ◌∷◌, ◌++◌, length, map, slice_index, Option, Some, None, Result, Ok, refl, sym, ◌∙◌, ap, subst, arith, length-append}
 use Rattle.std.specs.Prelude.{codes, nat_lt}
 use Rattle.std.specs.Option.{ok_or}
 use Rattle.std.proofs.lemmas.Bool.{cases_eq, cases_lt}
@@ -20,6 +20,7 @@ use Rattle.host_trait.proofs.Crashes.{settled_only}
 use Rattle.gate_block.specs.Log.{LogsUpTo}
 use Rattle.grain_log.specs.Places.{IsVersionAt}
 use Rattle.cell_model.specs.Units.{same_grain}
+use Rattle.log_reading.specs.Blocks.{header_damage}
 use Rattle.silo_spec.specs.Silos.{manager, program_file, IsSilo, HasProgram}
 use Rattle.request_wire.specs.Names.{TypeNames, names_in}
 use Rattle.request_wire.specs.Request.{shape_of, grain_of, method_of, args_of, passed, call_of}
@@ -45,10 +46,11 @@ module _ (image : Image) (program_is : image program_file ≡ program_bytes) whe
   has_program = subst (λ (file : List ℕ). HasProgram account_text file) (sym program_is) program_spelled
 
   -- a manager file whose first gate is closed
-  pub has_none : (file : List ℕ) → IsSilo magic file → LogsUpTo [] 15 file → image manager ≡ file → HasNone image
-  has_none file silo blocks is = (
+  pub has_none : (file : List ℕ) → IsSilo magic file → header_damage file ≡ None → LogsUpTo [] 15 file → image manager ≡ file → HasNone image
+  has_none file silo header blocks is = (
     record {
       silo = subst (λ (f : List ℕ). IsSilo magic f) (sym is) silo;
+      header = ap header_damage is ∙ header;
       batches = [];
       gate = 15;
       blocks = subst (λ (f : List ℕ). LogsUpTo [] 15 f) (sym is) blocks;
@@ -65,6 +67,7 @@ module _ (image : Image) (program_is : image program_file ≡ program_bytes) whe
       let stands = logged.kept.0.whole.0 in (
         record {
           silo = subst (λ (f : List ℕ). IsSilo magic f) (sym is) logged.silo;
+          header = ap header_damage is ∙ logged.header;
           batches = logged.batches;
           gate = logged.gate;
           blocks = subst (λ (f : List ℕ). LogsUpTo (map body_of logged.batches) logged.gate f) (sym is) logged.blocks;
@@ -146,7 +149,7 @@ gate_only block c left = ext_get_or 0 c (manager_of block (slice_index c 15)) (s
 module _ (image : Image) where
   -- a new silo's manager file has an empty log, whatever the file of `account/1` is
   pub empty_images : (grain : FileState) → IsImage (disk_of (settled new_manager) grain) image → HasNone image
-  empty_images grain left = has_none image (settled_only program_bytes (image program_file) (left program_file)) new_manager new_is_silo new_has_none (settled_only new_manager (image manager) (left manager))
+  empty_images grain left = has_none image (settled_only program_bytes (image program_file) (left program_file)) new_manager new_is_silo refl new_has_none (settled_only new_manager (image manager) (left manager))
 
   pub new_images : IsImage new_disk image → HasNone image
   new_images left = empty_images (settled []) left
@@ -159,7 +162,7 @@ module _ (image : Image) where
       let is : image manager ≡ manager_bytes gate = gate_only block_bytes (image manager) (left manager) in
       elim (cases_eq gate 1) [
         | inl open_gate ↦ inr (has_deposit image program_is (is ∙ ap manager_bytes open_gate) grain_is)
-        | inr shut ↦ inl (has_none image program_is (manager_bytes gate) (gate_is_silo block_bytes gate) (shut_has_none block_bytes gate shut) is)
+        | inr shut ↦ inl (has_none image program_is (manager_bytes gate) (gate_is_silo block_bytes gate) refl (shut_has_none block_bytes gate shut) is)
       ]
 
   pub sealed_images : IsImage sealed_disk image → HasDeposit image

@@ -1,17 +1,19 @@
 -- What the folders like that of the first deposit read as.
-use Rattle.std.proofs.Common.{◌≡◌, ◌≢◌, ℕ, false, List, [], ◌∷◌, ◌++◌, length, take, drop, Result, refl, sym, ◌∙◌, ap}
+use Rattle.std.proofs.Common.{◌≡◌, ◌≢◌, ℕ, Bool, true, false, if◌then◌else◌, Option, Some, List, [], ◌∷◌, ◌++◌, length, take, drop, Result, refl, sym, ◌∙◌, ap}
 use Rattle.std.proofs.lemmas.Bool.{ne_eqb}
 use Rattle.std.proofs.lemmas.List.{take_at}
 use Rattle.host_trait.specs.declared.channels.FileId.TheVariants.{Grain}
 use Rattle.host_trait.specs.World.{Image}
 use Rattle.field_codec.specs.Reading.{whole, refused, field, choice, when_known, chain, count_at, list_at}
 use Rattle.field_codec.specs.Fields.{value_at, exactly_at, unit_at, origin_at, answer_at, result_at}
+use Rattle.gate_block.specs.Blocks.{found_at}
+use Rattle.gate_block.specs.Log.{bodies_of, gate_of}
 use Rattle.commit_log.specs.Fields.{grain_in, call_in, write_in, writes_in, record_in}
 use Rattle.grain_log.specs.Reads.{version_in}
 use Rattle.silo_spec.specs.Silos.{manager, program_file}
-use Rattle.promise_spec.specs.Programs.{Program}
+use Rattle.promise_spec.specs.Programs.{Program, shape_in}
 use Rattle.promise_spec.specs.Logs.{magic, live_slot}
-use Rattle.promise_spec.specs.Openings.{NoSilo, DamagedAt, Reads, is_silo, with_program, opened_as}
+use Rattle.promise_spec.specs.Openings.{NoSilo, DamagedAt, Reads, is_silo, program_in_file, header_damage, behind_header, records_behind, no_more, with_program, with_log, opened_as}
 use Rattle.promise_spec.proofs.Openings.{no_silo_is_read}
 use Rattle.promise_runs.specs.Examples.{account_program, account_1, account_2, first_commit, program_bytes, grain_bytes, manager_bytes, folder, torn_folder}
 use Rattle.promise_runs.specs.Readings.{changed, folder_of, program_folder, log_folder, log_changed, grain_folder, two_writes, same_account, version_by, two_folder}
@@ -115,6 +117,24 @@ other_magic name long other = (no_silo_is_read (log_folder (1 ∷ (name ++ drop 
 pub silo_first : opened_as live_slot (folder_of (take 3 program_bytes) (take 15 (manager_bytes 1)) grain_bytes) ≡ NoSilo
 silo_first = no_silo (folder_of (take 3 program_bytes) (take 15 (manager_bytes 1)) grain_bytes) refl
 
+-- ---- folders whose manager file's header is damaged
+
+-- where a silo's header is damaged, that is what the folder reads as
+header_damaged : (file : List ℕ) (place : ℕ) → is_silo file ≡ true → header_damage file ≡ Some place → opened_as live_slot (log_folder file) ≡ DamagedAt manager place
+header_damaged file place silo damage =
+    ap (λ (b : Bool). if b then with_program live_slot (log_folder file) (program_in_file program_bytes) else NoSilo) silo
+    ∙ ap (λ (r : Result Program ℕ). with_program live_slot (log_folder file) r) file_is_read
+    ∙ ap (λ (d : Option ℕ). with_log live_slot account_program (log_folder file) (behind_header d (records_behind (shape_in account_program) 15 (bodies_of file) (no_more (gate_of file) (found_at (gate_of file) file))))) damage
+
+pub header_byte : (byte : ℕ) → byte ≢ 0 → opened_as live_slot (log_changed 13 byte) ≡ DamagedAt manager 13
+header_byte byte other = header_damaged (changed 13 byte (manager_bytes 1)) 13 refl (rw (ne_eqb byte 0 other) refl)
+
+pub next_header_byte : (byte : ℕ) → byte ≢ 0 → opened_as live_slot (log_changed 14 byte) ≡ DamagedAt manager 14
+next_header_byte byte other = header_damaged (changed 14 byte (manager_bytes 1)) 14 refl (rw (ne_eqb byte 0 other) refl)
+
+pub header_first : opened_as live_slot (log_folder (changed 14 1 (take 80 (manager_bytes 1)))) ≡ DamagedAt manager 14
+header_first = header_damaged (changed 14 1 (take 80 (manager_bytes 1))) 14 refl refl
+
 -- ---- folders whose program file is damaged
 
 pub program_short : opened_as live_slot (program_folder (take 3 program_bytes)) ≡ DamagedAt program_file 3
@@ -131,3 +151,6 @@ program_long = refl
 
 pub program_first : opened_as live_slot (folder_of (take 3 program_bytes) (take 80 (manager_bytes 1)) (take 10 grain_bytes)) ≡ DamagedAt program_file 3
 program_first = refl
+
+pub program_before_header : opened_as live_slot (folder_of (take 3 program_bytes) (changed 13 255 (manager_bytes 1)) grain_bytes) ≡ DamagedAt program_file 3
+program_before_header = refl

@@ -90,6 +90,7 @@ transfer_kept = record {
 pub logged : IsLog live_slot (shape_in bank_program) bank_folder (paid_in ∷ moved 70 30 ∷ [])
 logged = record {
   silo = record { long = omega arith; gate = refl; named = refl };
+  header = refl;
   batches = (paid_in ∷ []) ∷ (moved 70 30 ∷ []) ∷ [];
   gate = 197;
   blocks = record { blocks = record { small = (lit< tt, (lit< tt, tt)); at = refl; within = omega arith; blocks = refl }; closed = λ e. cc e };

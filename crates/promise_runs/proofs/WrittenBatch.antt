@@ -21,6 +21,7 @@ use Rattle.host_trait.specs.declared.channels.FileId.TheVariants.{Grain}
 use Rattle.host_trait.specs.Disk.{Overwrote, settled}
 use Rattle.host_trait.specs.World.{Disk, Image, IsImage, Moment, moment_of}
 use Rattle.host_trait.proofs.Crashes.{settled_only}
+use Rattle.log_reading.specs.Blocks.{header_damage}
 use Rattle.silo_spec.specs.Silos.{manager, program_file, IsSilo}
 use Rattle.promise_spec.specs.Programs.{shape_in}
 use Rattle.promise_spec.specs.Records.{Commit}
@@ -112,6 +113,7 @@ module _ (image : Image) where
   has_both : image manager ≡ manager_of both_block 1 → image (Grain 0 account_1) ≡ both_versions → HasBoth image
   has_both is grain_is = record {
     silo = subst (λ (f : List ℕ). IsSilo magic f) (sym is) (gate_is_silo both_block 1);
+    header = ap header_damage is;
     batches = both_commits ∷ [];
     gate = 152;
     blocks = subst (λ (f : List ℕ). LogsUpTo (map body_of (both_commits ∷ [])) 152 f) (sym is) both_blocks;
@@ -153,7 +155,7 @@ module _ (image : Image) where
       let is : image manager ≡ manager_of both_block gate = gate_only both_block (image manager) (left manager) in
       elim (cases_eq gate 1) [
         | inl open_gate ↦ inr (has_both (is ∙ ap (manager_of both_block) open_gate) (settled_only both_versions (image (Grain 0 account_1)) (left (Grain 0 account_1))))
-        | inr shut ↦ inl (has_none image (settled_only program_bytes (image program_file) (left program_file)) (manager_of both_block gate) (gate_is_silo both_block gate) (shut_has_none both_block gate shut) is)
+        | inr shut ↦ inl (has_none image (settled_only program_bytes (image program_file) (left program_file)) (manager_of both_block gate) (gate_is_silo both_block gate) refl (shut_has_none both_block gate shut) is)
       ]
 
   -- and once it's synced

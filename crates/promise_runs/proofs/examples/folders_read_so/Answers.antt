@@ -1,4 +1,4 @@
-use Rattle.promise_runs.proofs.Readings.{logs_read, versions_read, short, header_gate, other_magic, silo_first, program_short, program_cut, program_less, program_long, program_first}
+use Rattle.promise_runs.proofs.Readings.{logs_read, versions_read, short, header_gate, other_magic, silo_first, program_short, program_cut, program_less, program_long, program_first, program_before_header, header_byte, next_header_byte, header_first}
 use Rattle.promise_runs.proofs.BadTexts.{texts_read}
 use Rattle.promise_runs.proofs.examples.folders_read_so.Goals as goal
 
@@ -16,6 +16,15 @@ returns-clause-header_gate c = header_gate
 
 pub returns-clause-other_magic : goal.returns-clause-other_magic
 returns-clause-other_magic c = other_magic
+
+pub returns-clause-header_byte : goal.returns-clause-header_byte
+returns-clause-header_byte c = header_byte
+
+pub returns-clause-next_header_byte : goal.returns-clause-next_header_byte
+returns-clause-next_header_byte c = next_header_byte
+
+pub returns-clause-header_first : goal.returns-clause-header_first
+returns-clause-header_first c = header_first
 
 pub returns-clause-torn : goal.returns-clause-torn
 returns-clause-torn c = logs_read.torn
@@ -130,6 +139,9 @@ returns-clause-silo_first c = silo_first
 
 pub returns-clause-program_first : goal.returns-clause-program_first
 returns-clause-program_first c = program_first
+
+pub returns-clause-program_before_header : goal.returns-clause-program_before_header
+returns-clause-program_before_header c = program_before_header
 
 pub returns-clause-block_first : goal.returns-clause-block_first
 returns-clause-block_first c = versions_read.block_first
