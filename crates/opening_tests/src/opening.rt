@@ -25,13 +25,16 @@ fn the_first_deposit_is_opened(rt: HostRuntime) -> Result<(), Fail> {
     Ok(())
 }
 
-// What opening refuses the folder with.
-fn refused(alloc: Global, host: &mut MemoryHost) -> Option<OpenFault> {
-    open_silo(alloc, host).err()
+// How many records the folder is opened with, or what it is refused with.
+fn opened(alloc: Global, host: &mut MemoryHost) -> Result<u64, OpenFault> {
+    match open_silo(alloc, host) {
+        Ok(opened) => Ok(opened.count),
+        Err(fault) => Err(fault),
+    }
 }
 
-fn damaged(file: FileId, place: u64) -> Option<OpenFault> {
-    Some(OpenFault::Damaged { file, place })
+fn damaged(file: FileId, place: u64) -> Result<u64, OpenFault> {
+    Err(OpenFault::Damaged { file, place })
 }
 
 #[test]
@@ -41,11 +44,11 @@ fn a_cut_manager_file_is_no_silo_or_damaged_at_its_block(rt: HostRuntime) -> Res
         let cut = MANAGER_BYTES.get(..end).unwrap_or(&[]);
         let mut host = folder_of(alloc, cut, &GRAIN_BYTES)?;
         let wanted = if end < 16 {
-            Some(OpenFault::NotASilo)
+            Err(OpenFault::NotASilo)
         } else {
             damaged(MANAGER, 16)
         };
-        assert_eq!(rt; refused(alloc, &mut host), wanted, "{end}");
+        assert_eq!(rt; opened(alloc, &mut host), wanted, "{end}");
     }
     Ok(())
 }
@@ -53,13 +56,15 @@ fn a_cut_manager_file_is_no_silo_or_damaged_at_its_block(rt: HostRuntime) -> Res
 #[test]
 fn a_changed_byte_is_named_where_it_counts(rt: HostRuntime) -> Result<(), Fail> {
     let alloc = rt.alloc();
-    // Where the manager file is changed, to what, and what is refused.
+    // Where the manager file is changed, to what, and what opening answers.
     for (at, byte, wanted) in [
-        (0, 2, Some(OpenFault::NotASilo)),
-        (8, 48, Some(OpenFault::NotASilo)),
-        (13, 9, None),
-        (15, 0, None),
-        (15, 255, None),
+        (0, 2, Err(OpenFault::NotASilo)),
+        (8, 48, Err(OpenFault::NotASilo)),
+        (12, 9, Ok(1)),
+        (13, 255, damaged(MANAGER, 13)),
+        (14, 1, damaged(MANAGER, 14)),
+        (15, 0, Ok(0)),
+        (15, 255, Ok(0)),
         (16, 69, damaged(MANAGER, 16)),
         (20, 255, damaged(MANAGER, 20)),
         (24, 255, damaged(GRAIN, 0)),
@@ -81,22 +86,22 @@ fn a_changed_byte_is_named_where_it_counts(rt: HostRuntime) -> Result<(), Fail> 
         (72, 255, damaged(GRAIN_OF_KEY_255, 0)),
         (76, 1, damaged(GRAIN, 1)),
         (84, 18, damaged(GRAIN, 11)),
-        (88, 7, None),
+        (88, 7, Ok(1)),
     ] {
         let manager = with_byte(alloc, &MANAGER_BYTES, at, byte)?;
         let mut host = folder_of(alloc, &manager, &GRAIN_BYTES)?;
-        assert_eq!(rt; refused(alloc, &mut host), wanted, "{at}");
+        assert_eq!(rt; opened(alloc, &mut host), wanted, "{at}");
     }
     // The same of the grain's file.
     for (at, byte, wanted) in [
         (0, 2, damaged(GRAIN, 0)),
         (8, 2, damaged(GRAIN, 8)),
         (10, 9, damaged(GRAIN, 10)),
-        (18, 1, None),
+        (18, 1, Ok(1)),
     ] {
         let grain = with_byte(alloc, &GRAIN_BYTES, at, byte)?;
         let mut host = folder_of(alloc, &MANAGER_BYTES, &grain)?;
-        assert_eq!(rt; refused(alloc, &mut host), wanted, "grain {at}");
+        assert_eq!(rt; opened(alloc, &mut host), wanted, "grain {at}");
     }
     Ok(())
 }
@@ -120,7 +125,7 @@ fn a_damaged_program_file_is_named(rt: HostRuntime) -> Result<(), Fail> {
         let mut host = folder_of(alloc, &MANAGER_BYTES, &GRAIN_BYTES)?;
         host.set_file(PROGRAM, bytes)?;
         assert_eq!(rt;
-            refused(alloc, &mut host),
+            opened(alloc, &mut host),
             damaged(PROGRAM, place),
             "{place}"
         );
@@ -131,21 +136,25 @@ fn a_damaged_program_file_is_named(rt: HostRuntime) -> Result<(), Fail> {
 #[test]
 fn each_call_of_an_opening_fails_in_turn(rt: HostRuntime) -> Result<(), Fail> {
     let alloc = rt.alloc();
-    for (what, file) in [
-        (CallKind::Length, MANAGER),
-        (CallKind::Sync, MANAGER),
-        (CallKind::Read, MANAGER),
-        (CallKind::Length, PROGRAM),
-        (CallKind::Read, PROGRAM),
-        (CallKind::Read, GRAIN),
+    // The calls of a kind on a file, and how many of them there are.
+    for (what, file, count) in [
+        (CallKind::Length, MANAGER, 2),
+        (CallKind::Sync, MANAGER, 1),
+        (CallKind::Read, MANAGER, 7),
+        (CallKind::Length, PROGRAM, 1),
+        (CallKind::Read, PROGRAM, 2),
+        (CallKind::Read, GRAIN, 1),
     ] {
-        let mut host = folder_of(alloc, &MANAGER_BYTES, &GRAIN_BYTES)?;
-        host.fail_on(what, Channel::File(file), 1)?;
-        assert_eq!(rt;
-            refused(alloc, &mut host),
-            Some(OpenFault::DiskFault { file })
-        );
-        assert!(rt; open_silo(alloc, &mut host).is_ok());
+        for nth in 1..count + 1 {
+            let mut host = folder_of(alloc, &MANAGER_BYTES, &GRAIN_BYTES)?;
+            host.fail_on(what, Channel::File(file), nth)?;
+            assert_eq!(rt;
+                opened(alloc, &mut host),
+                Err(OpenFault::DiskFault { file }),
+                "{nth}"
+            );
+            assert!(rt; open_silo(alloc, &mut host).is_ok());
+        }
     }
     Ok(())
 }

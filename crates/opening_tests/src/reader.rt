@@ -266,6 +266,11 @@ impl Log {
 
 // The log of a manager file that has a header, or where it is damaged.
 pub fn read_log(file: &[u8], alloc: Global) -> Result<Result<Log, usize>, AllocError> {
+    for at in [13usize, 14] {
+        if file.get(at).copied() != Some(0) {
+            return Ok(Err(at));
+        }
+    }
     let mut log = Log {
         count: 0,
         next: 1,
