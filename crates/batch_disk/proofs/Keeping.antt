@@ -1,5 +1,5 @@
 -- What stands in an image stands in another that has the same bytes at its places.
-use Rattle.std.proofs.Common.{◌≡◌, ℕ, ◌+◌, ◌≤◌, List, [], ◌∷◌, length, map, take, drop, slice_index, refl, sym, ◌∙◌, ap, arith}
+use Rattle.std.proofs.Common.{◌≡◌, ℕ, ◌+◌, ◌<◌, ◌≤◌, ◌==◌, if◌then◌else◌, List, [], ◌∷◌, length, map, take, drop, slice_index, Option, Some, None, refl, sym, ◌∙◌, ap, arith}
 use Rattle.std.proofs.lemmas.List.{take-take, drop-take, get_or-take}
 use Rattle.std.specs.Prelude.{⊤}
 use Rattle.std.specs.List.{AllByRecursion}
@@ -13,6 +13,7 @@ use Rattle.cell_model.specs.Units.{Member}
 use Rattle.field_codec.specs.declared.units.Numbers.TheVariants.{Logged}
 use Rattle.commit_log.specs.Bodies.{IsRecordIn}
 use Rattle.commit_log.specs.declared.records.Written.{Written}
+use Rattle.log_reading.specs.Blocks.{header_damage}
 use Rattle.log_reading.specs.Steps.{live_slot, manager}
 use Rattle.silo_spec.specs.Silos.{IsSilo}
 use Rattle.promise_spec.specs.Records.{Commit}
@@ -87,10 +88,29 @@ silo_of head bodies gate file is header logs =
       named = below_same (take 15 file) file 1 8 15 (sym (take-take 15 15 file (omega arith))) (omega arith) ∙ ap (λ (l : List ℕ). take 8 (drop 1 l)) header ∙ is.named;
     }
 
+-- whether a header is damaged is told by the bytes in front of the first gate
+header_front : (file : List ℕ) → header_damage (take 15 file) ≡ header_damage file
+header_front file =
+    let byte : (i : ℕ) → i < 15 → slice_index (take 15 file) i ≡ slice_index file i = λ i low. get_or-take 15 file i 0 low in
+    rw (byte 13 (omega arith), byte 14 (omega arith)) refl
+
+-- a file with a silo's header is not damaged there
+pub whole_of : (head file : List ℕ) → BeginsSilo head → take 15 file ≡ head → header_damage file ≡ None
+whole_of head file is header = sym (header_front file) ∙ ap header_damage header ∙ is.whole
+
+-- and a silo's file, whose header isn't damaged, begins so
+pub silo_begins : (file : List ℕ) → IsSilo magic file → header_damage file ≡ None → BeginsSilo (take 15 file)
+silo_begins file silo whole = record {
+  gate = get_or-take 15 file 0 0 (omega arith) ∙ silo.gate;
+  named = ap (take 8) (drop-take 1 14 file) ∙ take-take 8 14 (drop 1 file) (omega arith) ∙ silo.named;
+  whole = header_front file ∙ whole;
+}
+
 -- each image's log between two steps
 pub rests_log : (shape : Shape) (head : List ℕ) (batches : List (List Commit)) (gate : ℕ) (ends : GrainId → ℕ) (voted : List Voted) (image : Image) → PlacesAreNamed head batches ends → IsAtRest shape head batches gate ends voted image → IsLog live_slot shape image (log_of batches)
 rests_log shape head batches gate ends voted image named rests = record {
   silo = silo_of head (map body_of batches) gate (image manager) named.silo rests.header rests.blocks;
+  header = whole_of head (image manager) named.silo rests.header;
   batches = batches;
   gate = gate;
   blocks = rests.blocks;

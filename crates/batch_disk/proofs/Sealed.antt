@@ -30,7 +30,7 @@ use Rattle.batch_disk.specs.Seals.{may_open, NoneHas, IsSealInDoubt}
 use Rattle.batch_disk.proofs.Lists.{each_any, each_leads, each_list, both_parts, flat_push, map_push}
 use Rattle.batch_disk.proofs.Ends.{raised_up, raised_each, raised_long, kept_within}
 use Rattle.batch_disk.proofs.OpenGates.{opens, stays_shut}
-use Rattle.batch_disk.proofs.Keeping.{IsSameAt, IsNextBatch, stands_same, kept_same, shorter_front, batch_stands, silo_of}
+use Rattle.batch_disk.proofs.Keeping.{IsSameAt, IsNextBatch, stands_same, kept_same, shorter_front, batch_stands, silo_of, whole_of}
 
 -- the slot of a manager file, this one for any other file
 abbrev slot_in : ℕ → FileId → ℕ
@@ -81,7 +81,7 @@ module _ (shape : Shape) (head : List ℕ) (batches : List (List Commit)) (gate 
     rests_still logs = record { header = still_head; blocks = logs; whole = still_kept; long = still_long; stand = still_voted }
 
     pub log_still : LogsUpTo (map body_of batches) gate (image manager) → IsLog live_slot shape image (log_of batches)
-    log_still logs = record { silo = silo_of head (map body_of batches) gate (image manager) named.silo still_head logs; batches = batches; gate = gate; blocks = logs; sizes = named.sizes; commits = refl; kept = still_kept }
+    log_still logs = record { silo = silo_of head (map body_of batches) gate (image manager) named.silo still_head logs; header = whole_of head (image manager) named.silo still_head; batches = batches; gate = gate; blocks = logs; sizes = named.sizes; commits = refl; kept = still_kept }
 
     with_batch : (to : ℕ) → LogsUpTo (map body_of batches ++ body_of batch ∷ []) to (image manager) → LogsUpTo (map body_of (batches ++ batch ∷ [])) to (image manager)
     with_batch to logs = subst (λ (bs : List (List ℕ)). LogsUpTo bs to (image manager)) (sym (map_push body_of batches batch)) logs
@@ -92,6 +92,7 @@ module _ (shape : Shape) (head : List ℕ) (batches : List (List Commit)) (gate 
     pub log_more : (to : ℕ) → LogsUpTo (map body_of batches ++ body_of batch ∷ []) to (image manager) → IsLog live_slot shape image (log_of batches ++ batch)
     log_more to logs = record {
       silo = silo_of head (map body_of batches ++ body_of batch ∷ []) to (image manager) named.silo still_head logs;
+      header = whole_of head (image manager) named.silo still_head;
       batches = batches ++ batch ∷ [];
       gate = to;
       blocks = with_batch to logs;

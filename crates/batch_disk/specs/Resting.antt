@@ -1,5 +1,5 @@
 -- What each image has between two steps that write a batch.
-use Rattle.std.specs.Prelude.{◌≡◌, ◌≢◌, ℕ, ◌+◌, ◌≤◌, max, if◌then◌else◌, List, [], ◌∷◌, length, map, take, drop, slice_index, slice_get, Some}
+use Rattle.std.specs.Prelude.{◌≡◌, ◌≢◌, ℕ, ◌+◌, ◌≤◌, max, if◌then◌else◌, List, [], ◌∷◌, length, map, take, drop, slice_index, slice_get, Some, None}
 use Rattle.std.specs.List.{flat_map, AllByRecursion}
 use Rattle.base_types.specs.declared.calls.GrainId.{GrainId}
 use Rattle.base_types.specs.declared.calls.UnitNo.{UnitNo}
@@ -15,6 +15,7 @@ use Rattle.gate_block.specs.Log.{LogsUpTo}
 use Rattle.grain_log.specs.Places.{places_from}
 use Rattle.grain_log.specs.Reads.{fields_of}
 use Rattle.commit_log.specs.declared.records.Written.{Written}
+use Rattle.log_reading.specs.Blocks.{header_damage}
 use Rattle.log_reading.specs.Steps.{live_slot, manager}
 use Rattle.promise_spec.specs.Records.{Commit}
 use Rattle.promise_spec.specs.Logs.{magic, WriteStands, IsKept, body_of}
@@ -37,10 +38,12 @@ pub record SomeImage (P : Image → Type 0) (disk : Disk) : Type 0 where
   pub left : IsImage disk image
   pub holds : P image
 
--- the first bytes of a silo's manager file, up to the first gate: they begin with the open header gate and the magic
+-- the first bytes of a silo's manager file, up to the first gate: they begin with the open header gate and the magic, and
+-- aren't damaged
 pub record BeginsSilo (head : List ℕ) : Type 0 where
   pub gate : slice_index head 0 ≡ 1
   pub named : take 8 (drop 1 head) ≡ magic
+  pub whole : header_damage head ≡ None
 
 -- ---- places and ends
 

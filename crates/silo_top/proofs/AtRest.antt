@@ -1,9 +1,8 @@
 -- An opened folder as the settler's writer keeps it: where each image has the log that was opened, each has it up to the writer's
 -- gate, and the writer's ends are those of the places that it names.
-use Rattle.std.proofs.Common.{◌≡◌, ℕ, ◌≤◌, max, Bool, true, false, if◌then◌else◌, List, [], ◌∷◌, Option, Some, None, length, unwrap_or, refl, sym, ◌∙◌, ap, subst, arith, append-nil, get_or-take}
-use Rattle.std.specs.Prelude.{map, take, drop}
+use Rattle.std.proofs.Common.{◌≡◌, ℕ, ◌≤◌, max, Bool, true, false, if◌then◌else◌, List, [], ◌∷◌, Option, Some, None, length, unwrap_or, refl, sym, ◌∙◌, ap, subst, arith, append-nil}
+use Rattle.std.specs.Prelude.{map, take}
 use Rattle.std.specs.List.{AllByRecursion}
-use Rattle.std.proofs.lemmas.List.{drop-take, take-take}
 use Rattle.base_types.specs.declared.calls.GrainId.{GrainId}
 use Rattle.host_trait.specs.Files.{same_grain}
 use Rattle.host_trait.specs.Disk.{FileState, MayLeave, settled}
@@ -18,16 +17,16 @@ use Rattle.log_reading.specs.Versions.{named_by, named_by_grain}
 use Rattle.log_reading.specs.Sums.{end_after, greater_end}
 use Rattle.core_model.specs.CoreState.{Member}
 use Rattle.core_model.specs.Legal.{Run, ends}
-use Rattle.silo_spec.specs.Silos.{IsSilo}
 use Rattle.promise_spec.specs.Programs.{shape_in}
 use Rattle.promise_spec.specs.Records.{Commit}
-use Rattle.promise_spec.specs.Logs.{IsKept, IsLog, body_of, magic}
+use Rattle.promise_spec.specs.Logs.{IsKept, IsLog, body_of}
 use Rattle.promise_spec.specs.Journals.{AllLog}
 use Rattle.promise_spec.proofs.ReadVersions.{all_in_order, all_of_order}
-use Rattle.batch_disk.specs.Resting.{BeginsSilo, IsAtRest, StandsIn, IsBelow, AreBelow, grain_file, write_end, raised_end, raised_ends, all_writes}
+use Rattle.batch_disk.specs.Resting.{IsAtRest, StandsIn, IsBelow, AreBelow, grain_file, write_end, raised_end, raised_ends, all_writes}
 use Rattle.batch_disk.specs.Writers.{file_end, kept_of}
 use Rattle.batch_disk.specs.declared.writer.BatchWriter.{BatchWriter}
 use Rattle.batch_disk.proofs.Ends.{raised_each, raised_long, kept_within}
+use Rattle.batch_disk.proofs.Keeping.{silo_begins}
 use Rattle.batch_disk.proofs.Lists.{both_parts, split_parts, each_list}
 use Rattle.interleaver.specs.Beginnings.{Outset}
 use Rattle.interleaver.specs.Images.{KeepsFolder}
@@ -117,12 +116,6 @@ module _ (o : Outset) (x : Opened) (st : Started) (seen : Image) (is : IsOpenedF
       (raised_long image from_zero (places_read o.opening) (λ g. omega arith)
       (all_read (λ (w : Written). write_end w ≤ length (image (grain_file w.grain))) o.opening (kept_within (shape_in o.program) image o.opening kept)) grain)
 
-  begins : (file : List ℕ) → IsSilo magic file → BeginsSilo (take 15 file)
-  begins file silo = record {
-    gate = get_or-take 15 file 0 0 (omega arith) ∙ silo.gate;
-    named = ap (take 8) (drop-take 1 14 file) ∙ take-take 8 14 (drop 1 file) (omega arith) ∙ silo.named;
-  }
-
   -- Where nothing is pending in the manager file and each image has the log, the writer keeps the folder so.
   pub starts_resting : (r : Run) (disk : Disk) → disk manager ≡ settled (seen manager) → IsImage disk seen → AllLog o.program o.opening disk → KeepsFolder o (take 15 (seen manager)) no_books r writer disk
   starts_resting r disk still left all = record {
@@ -130,7 +123,7 @@ module _ (o : Outset) (x : Opened) (st : Started) (seen : Image) (is : IsOpenedF
     log = sym own.commits ∙ sym (append-nil o.opening);
     keeps = record {
       named = record {
-        silo = begins (seen manager) own.silo;
+        silo = silo_begins (seen manager) own.silo own.header;
         sizes = own.sizes;
         below = subst (AreBelow (file_end writer)) own.commits below;
       };

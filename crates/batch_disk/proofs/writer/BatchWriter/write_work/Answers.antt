@@ -4,8 +4,17 @@ use Rattle.host_trait.specs.Disk.{settled, overlaid}
 use Rattle.grain_log.specs.Places.{spelling_of_versions, places_from, VersionsStand}
 use Rattle.batch_disk.specs.Resting.{grain_file, voted_at}
 use Rattle.batch_disk.specs.Writers.{file_end, kept_of}
-use Rattle.batch_disk.proofs.Standing.{IsReadyFor, KeepsMore, ready_for, keeps_more, places-length, run_at, bounds_some, bounds_more, fits_some, fits_more, keeps_no, keeps_yes, vote_keeps_log}
+use Rattle.batch_disk.proofs.Standing.{IsReadyFor, KeepsMore, ready_for, keeps_more, places-length, run_at, bounds_some, bounds_more, fits_some, fits_more, keeps_some, keeps_no, keeps_yes, vote_keeps_log}
 use Rattle.batch_disk.proofs.writer.BatchWriter.write_work.Goals as goal
+
+pub returns-in_err-make_room-clause-keeps : goal.returns-in_err-make_room-clause-keeps
+returns-in_err-make_room-clause-keeps g c =
+    let batch = c.args.batch in
+    let a = c.args.self.now in
+    let m = c.go_to.new.self in
+    let b = c.make_room.new.self in
+    let r : IsReadyFor batch a b = ready_for batch a m b c.go_to.ensures.same c.go_to.ensures.kept c.go_to.ensures.batch c.go_to.ensures.ends c.make_room.ensures.same c.make_room.ensures.kept c.make_room.ensures.batch c.make_room.ensures.room in
+    λ told shape head batches fresh typed keeps. keeps_some shape head batches a b batch (g.H.Host.world c.args.host.now).disk r.same r.kept keeps
 
 pub returns-in_err-make_room-clause-bounds : goal.returns-in_err-make_room-clause-bounds
 returns-in_err-make_room-clause-bounds g c =
