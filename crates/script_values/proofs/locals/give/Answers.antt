@@ -1,4 +1,4 @@
-use Rattle.std.proofs.Common.{◌≡◌, rules}
+use Rattle.std.proofs.Common.{rules}
 use Rattle.script_values.proofs.Placed.{placed_put}
 use Rattle.script_values.proofs.locals.give.Goals as goal
 

@@ -1,10 +1,9 @@
-use Rattle.std.proofs.Common.{◌≡◌, ◌∷◌, ◌++◌, [], ◌∙◌, refl, sym, ap, rules, ℕ, List, length, map, true, false, Option, Some, None, bytes_eq}
-use Rattle.std.specs.Map.{update}
+use Rattle.std.proofs.Common.{◌≡◌, ◌∷◌, ◌++◌, [], ◌∙◌, sym, ap, rules, ℕ, List, length, false, Option, Some, None}
 use Rattle.std.specs.Option.{is_some}
 use Rattle.std.proofs.lemmas.List.{length-map}
 use Rattle.script_scopes.specs.Names.{Scope}
 use Rattle.script_scopes.specs.Places.{place_in, place_of}
-use Rattle.script_scopes.proofs.Standing.{kept_places, noted_places}
+use Rattle.script_scopes.proofs.Standing.{noted_places}
 use Rattle.script_values.specs.declared.locals.Local.{Local}
 use Rattle.script_values.specs.LocalNames.{names_of}
 use Rattle.script_values.specs.Expressions.{put_local}
