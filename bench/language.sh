@@ -1,21 +1,153 @@
 #!/usr/bin/env bash
-# Times parse and check of texts of 262,144 bytes and of half of that, in shapes of their own; the steps a second of units whose method has
-# so many locals; and calls of the first and of the last of 4,096 methods:  bench/language.sh [texts] [steps] [worst]
-# By default it does the first two. With "worst" it runs a unit each of whose tests evaluates an expression as long as a text lets it be.
-# It makes a program in a folder of its own beside this checkout's crates and runs it by rt try, which proves nothing: it wants the kit and
-# Python, and no crate built before. The program carries rt try's checks of each access and is many times slower than the proved one. The
-# seconds are of the processor's time; memory is kept from one reading to the next, so that the system's pages are not timed.
+# Times the grain language:  bench/language.sh [texts] [steps] [worst] [stack]
+# texts: parse and check of texts of 262,144 bytes in shapes of their own, and of half of each. Fails where a text takes more than 2.4 times as
+#   long as its half, or its check more than 0.5 s.
+# steps: the steps a second of a unit whose method has so many locals, and of calls of the first and of the last of 4,096 methods. Fails where
+#   a unit with 10,000 locals has less than half of the steps a second of one with a single local.
+# worst: what a unit takes each of whose steps evaluates an expression as long as a text lets it be, from 50 of its evaluations.
+# stack: the least stack, of 512 KB and less, with which the deepest programs are read, checked, carried and dropped.
+# By default it does all, in about a minute behind the build. The program is built, and so proved, in a copy of the sources, so that it is no crate of this repository. The seconds
+# are of the processor's time, and the quickest of forty readings or five units; memory is kept from one to the next, so that the system's pages
+# are not timed.
 top=$(cd "$(dirname "${BASH_SOURCE[0]}")/.." && pwd)
-folder=$(mktemp -d) || exit 1
-trap 'rm -rf "$folder"' EXIT
-bench=$folder/crates/language_bench
-mkdir -p "$bench/src" || exit 1
-(cd "$top" && tar cf - --exclude=out crates) | tar xf - -C "$folder" || exit 1
-needs="base_types script_tree script_lexer script_expressions script_parser script_scopes script_check script_values script_holding script_meaning script_machine"
-{ cat "$top/crates.txt"; echo "language_bench: $needs"; } >"$folder/crates.txt"
+work=$(mktemp -d) || exit 1
+trap 'rm -rf "$work"' EXIT
+
+fail() {
+  echo "language.sh: $*" >&2
+  exit 1
+}
+
+needs=$(sed -n 's/^script_machine: //p' "$top/crates.txt")
+[ -n "$needs" ] || fail "script_machine isn't listed"
+needs="$needs script_lexer script_expressions script_parser script_scopes script_machine"
+mkdir -p "$work/crates/language_bench/src" "$work/texts"
+for crate in $needs; do
+  [ -d "$work/crates/$crate" ] && continue
+  mkdir "$work/crates/$crate"
+  cp -r "$top/crates/$crate"/{src,specs,proofs} "$work/crates/$crate/" 2>/dev/null
+  grep "^$crate:" "$top/crates.txt" >>"$work/crates.txt"
+done
+echo "language_bench: $(ls "$work/crates" | grep -v language_bench | tr '\n' ' ')" >>"$work/crates.txt"
+
+cat >"$work/crates/language_bench/src/main.rt" <<'PROGRAM'
+//! Times the readers of the grain language and its machine over texts.
+#![tactic(auto)]
+
+use base_types::{Call, GrainId, List, Outcome};
+use script_check::{Checked, check};
+use script_machine::{Input, Machine, Pause};
+use script_parser::parse;
+use std::alloc::Global;
+use std::io::{self, ErrorKind};
+use std::time::CpuClock;
+use std::{env, fs};
+
+fn checked_of(alloc: Global, text: &[u8]) -> io::Result<Checked> {
+    if text.len() > 262144 {
+        return Err(ErrorKind::InvalidData.into());
+    }
+    let Ok(program) = parse(alloc, text) else {
+        return Err(ErrorKind::InvalidInput.into());
+    };
+    let Ok(checked) = check(alloc, program) else {
+        return Err(ErrorKind::InvalidData.into());
+    };
+    Ok(checked)
+}
+
+// Microseconds of a parse and of a check.
+fn read_once(rt: &HostRuntime, text: &[u8]) -> io::Result<(u128, u128)> {
+    if text.len() > 262144 {
+        return Err(ErrorKind::InvalidData.into());
+    }
+    let begun = rt.thread_cpu_time()?.as_micros();
+    let Ok(program) = parse(rt.alloc(), text) else {
+        return Err(ErrorKind::InvalidInput.into());
+    };
+    let between = rt.thread_cpu_time()?.as_micros();
+    let Ok(checked) = check(rt.alloc(), program) else {
+        return Err(ErrorKind::InvalidData.into());
+    };
+    let ended = rt.thread_cpu_time()?.as_micros();
+    if checked.program().types.len() > 64 {
+        return Err(ErrorKind::InvalidData.into());
+    }
+    Ok((between.wrapping_sub(begun), ended.wrapping_sub(between)))
+}
+
+// The quickest of eight.
+fn read(rt: &HostRuntime, file: &str) -> io::Result<(u128, u128)> {
+    let text = fs::read_to_string(rt, file)?;
+    let mut best = (u128::MAX, u128::MAX);
+    for _ in 0..8 {
+        let (parse, check) = read_once(rt, text.as_bytes())?;
+        best.0 = best.0.min(parse);
+        best.1 = best.1.min(check);
+    }
+    Ok(best)
+}
+
+// Microseconds of a text's parse and check, and of those of a text of half its length.
+fn texts(rt: &HostRuntime, whole: &str, half: &str) -> io::Result<()> {
+    let (parse, check) = read(rt, whole)?;
+    let (half_parse, half_check) = read(rt, half)?;
+    println!(rt; "{parse} {check} {half_parse} {half_check}")
+}
+
+// One unit of a method of the first type. Answers whether it ended with a value.
+fn unit(alloc: Global, checked: &Checked, method: u16) -> io::Result<bool> {
+    let call = Call {
+        grain: GrainId { kind: 0, key: 0 },
+        method,
+        args: List::new(alloc),
+    };
+    let Ok(mut machine) = Machine::start(alloc, checked, call, 1) else {
+        return Err(ErrorKind::OutOfMemory.into());
+    };
+    match machine.resume(alloc, checked, Input::First) {
+        Ok(Pause::Done {
+            outcome: Outcome::Value(_),
+        }) => Ok(true),
+        Ok(Pause::Done {
+            outcome: Outcome::Fault(_),
+        }) => Ok(false),
+        _ => Err(ErrorKind::Other.into()),
+    }
+}
+
+// Microseconds of a unit of a method, the quickest of so many, and whether it ended with a value.
+fn units(rt: &HostRuntime, file: &str, method: u16, count: u32) -> io::Result<()> {
+    let text = fs::read_to_string(rt, file)?;
+    let checked = checked_of(rt.alloc(), text.as_bytes())?;
+    let mut best = u128::MAX;
+    let mut is_value = false;
+    for _ in 0..count {
+        let begun = rt.thread_cpu_time()?.as_micros();
+        is_value = unit(rt.alloc(), &checked, method)?;
+        let ended = rt.thread_cpu_time()?.as_micros();
+        best = best.min(ended.wrapping_sub(begun));
+    }
+    println!(rt; "{best} {is_value}")
+}
+
+fn main(rt: HostRuntime) -> io::Result<()> {
+    let mut words = Vec::new(rt.alloc());
+    for word in env::args(&rt)?.skip(1) {
+        words.push(word)?;
+    }
+    let (Some(first), Some(second)) = (words.get(0), words.get(1)) else {
+        return Err(ErrorKind::InvalidInput.into());
+    };
+    match second.as_str().parse::<u16>() {
+        Ok(method) => units(&rt, first.as_str(), method, 5),
+        Err(_) => texts(&rt, first.as_str(), second.as_str()),
+    }
+}
+PROGRAM
 
 # The texts. Each is at most so many bytes long, and is filled up with blanks.
-python3 - "$bench" <<'END' || exit 1
+python3 - "$work/texts" <<'END' || exit 1
 import sys
 
 letters = "abcdefghijklmnopqrstuvwxyz"
@@ -53,12 +185,23 @@ def small_methods(size):
         text.append(f"method m{at % 64}(a,b)create plain{{return a+b;}} ")
     return "".join(text) + "}"
 
-# One expression: each row has 33 operands, and each operand is a row in parentheses.
-def expression(size):
-    rows = ["+".join("a" * 33)] * ((size * 33) // (34 * 68))
+# Sums of 33 each, of so few in the end that one sum has them.
+def summed(rows):
     while len(rows) > 1:
         rows = ["+".join(f"({row})" for row in rows[at:at + 33]) for at in range(0, len(rows), 33)]
     return rows[0]
+
+# A sum of sums of 33 names each.
+def expression(size, given=("a",)):
+    row = lambda at: "+".join(given[(at * 33 + i) % len(given)] for i in range(33))
+    length = max(map(len, map(row, range(len(given))))) + 4
+    return summed([row(at) for at in range(size // length)])
+
+# A sum of comparisons of joined texts, each joined of 33.
+def comparisons(size, given=("a",)):
+    row = lambda at: "+".join(given[(at * 33 + i) % len(given)] for i in range(33))
+    length = 2 * max(map(len, map(row, range(len(given))))) + 12
+    return summed([f"({row(at)})==({row(at + 1)})" for at in range(size // length)])
 
 def wide(size):
     return body([], size, head="return " + expression(size) + ";", params="a")
@@ -85,14 +228,6 @@ def fields_and_parameters(size):
     params = ",".join(f"p{i}" for i in range(8))
     return body(forever("set f15=f15+p7;"), size, params=params, kind="update", fields=fields)
 
-# Calls of the last method of the last type.
-def called(size):
-    text, at = [], 0
-    for at in range(64):
-        text.append(f"type t{at}{{" + "".join(f"method m{i}()create plain{{" + ("" if (at, i) != (0, 0) else "@") + "}" for i in range(64)) + "}")
-    head, tail = "".join(text).split("@")
-    return whole(forever("call t63/0.m63();"), size, head, tail)
-
 shapes = {
     "small methods": small_methods,
     "a wide expression": wide,
@@ -105,173 +240,128 @@ shapes = {
     "locals that are used": locals_used,
     "blocks with a local": blocks,
 }
+
+def put(name, text):
+    open(f"{sys.argv[1]}/{name}", "w").write(text)
+
 for number, (shape, made) in enumerate(shapes.items()):
     for size in (262144, 131072):
         text = made(size)
         assert len(text) <= size, (shape, len(text))
-        open(f"{sys.argv[1]}/shape-{number}-{size}", "w").write(text + " " * (size - len(text)))
-open(f"{sys.argv[1]}/shape-10-262144", "w").write(called(262144))
-shapes["calls of the last method"] = called
-open(f"{sys.argv[1]}/shapes", "w").write("".join(f"{shape}\n" for shape in shapes))
+        put(f"shape-{number}-{size}", text + " " * (size - len(text)))
+put("shapes", "".join(f"{shape}\n" for shape in shapes))
 
 # A method with so many locals that then gives the last one its value till the unit's steps are over.
-def steps(count):
-    given = []
-    for name in names("tm"):
-        if len(given) == count:
-            break
-        given.append(name)
-    text = "".join(f"let {name}=0;" for name in given)
-    return "type t{method m()create plain{" + text + f"while 1{{{given[-1]}={given[-1]}+1;}}" + "}}"
+def first(count):
+    return [name for name, _ in zip(names("tm"), range(count))]
 
 for count in (1, 100, 1000, 10000):
-    open(f"{sys.argv[1]}/steps-{count}", "w").write(steps(count))
+    given = first(count)
+    text = "".join(f"let {name}=0;" for name in given)
+    put(f"steps-{count}", "type t{method m()create plain{" + text + f"while 1{{{given[-1]}={given[-1]}+1;}}" + "}}")
 
-# 64 types of 64 methods, of which the first has a loop of calls of the first or of the last.
-for number in (0, 63):
-    text = []
-    for at in range(64):
-        text.append(f"type t{at}{{" + "".join(f"method m{i}(){'create' if (at, i) == (0, 9) else 'join'} plain{{" + (f"while 1{{call t{number}/0.m{number}();}}" if (at, i) == (0, 9) else "") + "}" for i in range(64)) + "}")
-    open(f"{sys.argv[1]}/calls-{number}", "w").write("".join(text))
+# 64 types of 64 methods, of which the first type has a loop of calls of the first method or of the last.
+def method(at, number, called):
+    if (at, number) == (0, 9):
+        return f"method m9()create plain{{while 1{{call t{called}/0.m{called}();}}}}"
+    return f"method m{number}()join plain{{}}"
 
-# A unit each of whose steps but the first evaluates an expression as long as a text lets it be.
-open(f"{sys.argv[1]}/worst-0", "w").write("type t{method m()create plain{let a=0;while !(" + expression(262144) + "){}}}")
+for called in (0, 63):
+    put(f"calls-{called}", "".join(f"type t{at}{{" + "".join(method(at, i, called) for i in range(64)) + "}" for at in range(64)))
+
+# A unit that evaluates an expression 50 times which is as long as a text lets it be.
+def worst(made, value, given):
+    head = "type t{method m()create plain{let n=0;" + "".join(f"let {name}={value};" for name in given) + "while n<50{n=n+1;if "
+    tail = "{}}}}"
+    return head + made(262144 - len(head) - len(tail), given) + tail
+
+for kind, made, value in (("numbers", expression, "1"), ("texts", comparisons, '"1234567"')):
+    for count, end in ((1, ""), (900, "-of-900-locals")):
+        given = [name for name in first(count + 1) if name != "n"][:count]
+        put(f"worst-{kind}{end}", worst(made, value, given))
+
+# The deepest that may be open: parentheses that each hold 32 operators, prefix operators with parentheses, blocks; and 32 frames in 15 blocks each
+# that wait for a call, whose argument is as deep as the rest allows.
+def deep(parentheses):
+    text = "a"
+    for _ in range(parentheses):
+        text = "(" + text + ")" + "+a" * 32
+    return text
+
+head = "type t{method m()create plain{let a=1;"
+put("deep-expression", head + "return " + deep(30) + ";}}")
+put("deep-prefixes", head + "return " + "-(" * 15 + "a" + ")" * 15 + ";}}")
+put("deep-blocks", head + "if 1{" * 30 + "return a;" + "}" * 30 + "}}")
+put("deep-frames", "type t{method m()create plain{let x=call t/0.f(1);return x;}method f(n)join plain{let a=1;" + "if 1{" * 15
+    + "if n<31{let x=call t/0.f(n+1+0*(" + deep(12) + "));return x;}return " + deep(15) + ";" + "}" * 15 + "}}")
 END
 
-calls=
-for what in ${*:-texts steps}; do
-  case $what in
-    texts)
-      number=0
-      while read -r name; do
-        calls+="    shape(&rt, $number, \"$name\")?;"$'\n'
-        number=$((number + 1))
-      done <"$bench/shapes"
-      ;;
-    steps)
-      for count in 1 100 1000 10000; do
-        calls+="    steps(&rt, \"steps-$count\", 0, 5)?;"$'\n'
-      done
-      for number in 0 63; do
-        calls+="    steps(&rt, \"calls-$number\", 9, 5)?;"$'\n'
-      done
-      ;;
-    worst) calls+="    steps(&rt, \"worst-0\", 0, 1)?;"$'\n' ;;
-  esac
-done
-
-cat >"$bench/src/main.rt" <<END
-#![tactic(auto)]
-
-use base_types::{Call, GrainId, List, Outcome};
-use script_check::{Checked, check};
-use script_machine::{Input, Machine, Pause};
-use script_parser::parse;
-use std::alloc::Global;
-use std::fs;
-use std::io::{self, ErrorKind};
-use std::time::CpuClock;
-
-fn checked_of(alloc: Global, text: &[u8]) -> io::Result<Checked> {
-    if text.len() > 262144 {
-        return Err(ErrorKind::InvalidData.into());
-    }
-    let Ok(program) = parse(alloc, text) else {
-        return Err(ErrorKind::InvalidInput.into());
-    };
-    let Ok(checked) = check(alloc, program) else {
-        return Err(ErrorKind::InvalidData.into());
-    };
-    Ok(checked)
-}
-
-// Microseconds of parse and of check, of the quicker of two.
-fn read(rt: &HostRuntime, text: &[u8]) -> io::Result<(u128, u128)> {
-    let alloc = rt.alloc();
-    if text.len() > 262144 {
-        return Err(ErrorKind::InvalidData.into());
-    }
-    let mut best = (u128::MAX, u128::MAX);
-    for _ in 0..2 {
-        let begun = rt.thread_cpu_time()?;
-        let Ok(program) = parse(alloc, text) else {
-            return Err(ErrorKind::InvalidInput.into());
-        };
-        let between = rt.thread_cpu_time()?;
-        let Ok(checked) = check(alloc, program) else {
-            return Err(ErrorKind::InvalidData.into());
-        };
-        let ended = rt.thread_cpu_time()?;
-        best.0 = best.0.min(between.as_micros().wrapping_sub(begun.as_micros()));
-        best.1 = best.1.min(ended.as_micros().wrapping_sub(between.as_micros()));
-        if checked.program().types.len() > 64 {
-            return Err(ErrorKind::InvalidData.into());
-        }
-    }
-    Ok(best)
-}
-
-fn shape(rt: &HostRuntime, number: u32, name: &str) -> io::Result<()> {
-    let alloc = rt.alloc();
-    let Ok(whole) = format!(in alloc; "shape-{number}-262144") else {
-        return Err(ErrorKind::OutOfMemory.into());
-    };
-    let Ok(half) = format!(in alloc; "shape-{number}-131072") else {
-        return Err(ErrorKind::OutOfMemory.into());
-    };
-    let text = fs::read_to_string(rt, whole.as_str())?;
-    let (parse, check) = read(rt, text.as_bytes())?;
-    let both = parse.wrapping_add(check);
-    match fs::read_to_string(rt, half.as_str()) {
-        Ok(text) => {
-            let (half_parse, half_check) = read(rt, text.as_bytes())?;
-            let half = half_parse.wrapping_add(half_check);
-            let ratio = both.wrapping_mul(100).checked_div(half).unwrap_or(0);
-            println!(rt; "{name}: parse {parse} us, check {check} us; {} hundredths of half the text's", ratio)?;
-        }
-        Err(_) => println!(rt; "{name}: parse {parse} us, check {check} us")?,
-    }
-    Ok(())
-}
-
-// One unit of a method of the first type. Answers whether it ended with a value.
-fn unit(alloc: Global, checked: &Checked, method: u16) -> io::Result<bool> {
-    let call = Call { grain: GrainId { kind: 0, key: 0 }, method, args: List::new(alloc) };
-    let Ok(mut machine) = Machine::start(alloc, checked, call, 1) else {
-        return Err(ErrorKind::OutOfMemory.into());
-    };
-    match machine.resume(alloc, checked, Input::First) {
-        Ok(Pause::Done { outcome: Outcome::Value(_) }) => Ok(true),
-        Ok(Pause::Done { outcome: Outcome::Fault(_) }) => Ok(false),
-        _ => Err(ErrorKind::Other.into()),
-    }
-}
-
-fn steps(rt: &HostRuntime, file: &str, method: u16, units: u64) -> io::Result<()> {
-    let alloc = rt.alloc();
-    let text = fs::read_to_string(rt, file)?;
-    let checked = checked_of(alloc, text.as_bytes())?;
-    let begun = rt.thread_cpu_time()?;
-    for _ in 0..units {
-        if unit(alloc, &checked, method)? {
-            return Err(ErrorKind::Other.into());
-        }
-    }
-    let spent = rt.thread_cpu_time()?.as_micros().wrapping_sub(begun.as_micros());
-    let each = spent.checked_div(units as u128).unwrap_or(0);
-    let second = 10000000000u128.wrapping_mul(units as u128).checked_div(spent).unwrap_or(0);
-    println!(rt; "{file}: a unit in {each} us, {second} steps a second")?;
-    Ok(())
-}
-
-fn main(rt: HostRuntime) -> io::Result<()> {
-$calls    Ok(())
-}
-END
-cd "$bench" || exit 1
-data=()
-for file in shape-* steps-* calls-* worst-*; do
-  data+=(--data "$file=$file")
-done
+(cd "$work/crates/language_bench" && rt run -- steps-1 0) >"$work/log" 2>&1
+program=$work/crates/language_bench/out/language_bench
+[ -x "$program" ] || { tail -n 20 "$work/log" >&2; fail "the program isn't proved"; }
+cd "$work/texts" || exit 1
 export MALLOC_TRIM_THRESHOLD_=2000000000 MALLOC_MMAP_THRESHOLD_=2000000000
-rt try --steps 1 --seconds 3600 "${data[@]}" </dev/null
+bad=
+
+texts() {
+  local number=0 name
+  while read -r name; do
+    for _ in 1 2 3 4 5; do
+      "$program" "shape-$number-262144" "shape-$number-131072" || fail "$name: the program failed"
+    done >said
+    awk -v name="$name" 'NR == 1 { parse = $1; check = $2; half_parse = $3; half_check = $4 }
+      { if ($1 < parse) parse = $1; if ($2 < check) check = $2; if ($3 < half_parse) half_parse = $3; if ($4 < half_check) half_check = $4 }
+      END {
+        ratio = (parse + check) / (half_parse + half_check)
+        printf "%s: parse %.1f ms, check %.1f ms, %.2f times half the text\n", name, parse / 1000, check / 1000, ratio
+        exit ratio > 2.4 || check > 500000
+      }' said || bad+=" ($name)"
+    number=$((number + 1))
+  done <shapes
+}
+
+# Sets micros to what a unit of this method of a text takes.
+unit() {
+  read -r micros _ < <("$program" "$1" "$2")
+  [ -n "$micros" ] || fail "$1: the program failed"
+}
+
+steps() {
+  local count number one
+  for count in 1 100 1000 10000; do
+    unit "steps-$count" 0
+    [ "$count" = 1 ] && one=$micros
+    awk -v count="$count" -v micros="$micros" 'BEGIN { printf "%d locals: %.2f million steps a second\n", count, 10000 / micros }'
+  done
+  [ "$micros" -le $((2 * one)) ] || bad+=" (10,000 locals)"
+  for number in 0 63; do
+    unit "calls-$number" 9
+    awk -v number="$number" -v micros="$micros" 'BEGIN { printf "method %d of type %d: %.2f million steps a second\n", number, number, 10000 / micros }'
+  done
+}
+
+worst() {
+  local kind
+  for kind in numbers texts numbers-of-900-locals texts-of-900-locals; do
+    unit "worst-$kind" 0
+    awk -v kind="$kind" -v micros="$micros" 'BEGIN { gsub("-", " ", kind); printf "an expression of %s: %.1f ms, a unit of 10,000: %.0f s\n", kind, micros / 50000, micros / 5000 }'
+  done
+}
+
+stack() {
+  local deep size least
+  for deep in expression prefixes blocks frames; do
+    least=
+    for size in 512 448 384 320 256 192 128 96 64 48 32; do
+      { (ulimit -s "$size" && exec "$program" "deep-$deep" 0) >/dev/null 2>&1; } 2>/dev/null || break
+      least=$size
+    done
+    echo "deep $deep: ${least:-more than 512} KB"
+    [ -n "$least" ] || bad+=" (deep $deep)"
+  done
+}
+
+for what in ${*:-texts steps worst stack}; do
+  "$what"
+done
+[ -z "$bad" ] || fail "too much:$bad"
