@@ -2,7 +2,7 @@ use base_types::{Call, GrainId, List, Outcome, STATE_LIMIT, State, Store, Value}
 use script_check::{Checked, check, fitted};
 use script_parser::parse;
 use script_tree::{CallExpr, Chars, Expr, Program, Stmt, TypeDecl};
-use script_values::{Scope, evaluate};
+use script_values::{FrameLocals, Scope, evaluate};
 use std::alloc::Global;
 use std::test::Fail;
 
@@ -32,11 +32,12 @@ pub fn program_of(alloc: Global, text: &str) -> Result<Checked, Fail> {
 }
 
 fn value_of(alloc: Global, expression: &Expr) -> Result<Value, Fail> {
+    let locals = FrameLocals::new(alloc);
     let scope = Scope {
         fields: &[],
         key: 0,
         state: &[],
-        locals: &[],
+        locals: locals.as_slice(),
     };
     let value = evaluate(alloc, expression, &scope).map_err(|_| "no value")?;
     Ok(value)

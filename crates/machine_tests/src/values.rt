@@ -2,8 +2,8 @@ use crate::lines::{expect_bodies, expect_values};
 use base_types::Value;
 use script_tree::{BinaryOp, Chars, EntryRefusal, Expr, FieldDecl, Literal, Name};
 use script_values::{
-    Reason, Scope, Stop, as_number, assign, evaluate, evaluate_all, fault_of, field_number,
-    is_true, refusal,
+    FrameLocals, Reason, Scope, Stop, as_number, assign, evaluate, evaluate_all, fault_of,
+    field_number, is_true, refusal,
 };
 use std::alloc::Global;
 use std::test::Fail;
@@ -206,7 +206,7 @@ fn a_name_is_a_local_before_it_is_a_field(rt: HostRuntime) -> Result<(), Fail> {
         let initial = Literal::Int(0);
         fields.push(FieldDecl { name, initial })?;
     }
-    let mut locals = Vec::new(alloc);
+    let mut locals = FrameLocals::new(alloc);
     for (local, value) in [("x", 1), ("other", 2), ("x", 3)] {
         let name = Chars::new(alloc, local)?;
         assign(&mut locals, &name, Value::Int(value))?;
@@ -246,11 +246,12 @@ fn a_name_is_a_local_before_it_is_a_field(rt: HostRuntime) -> Result<(), Fail> {
 #[test]
 fn arguments_are_evaluated_from_left_to_right(rt: HostRuntime) -> Result<(), Fail> {
     let alloc = rt.alloc();
+    let locals = FrameLocals::new(alloc);
     let scope = Scope {
         fields: &[],
         key: 7,
         state: &[],
-        locals: &[],
+        locals: locals.as_slice(),
     };
     let mut arguments = Vec::new(alloc);
     arguments.push(Expr::literal(Literal::Int(5)))?;

@@ -10,7 +10,7 @@ use crate::callees::callee_at;
 use base_types::{GrainId, Value};
 use script_check::Checked;
 use script_tree::{MethodKind, Name, Stmt};
-use script_values::Local;
+use script_values::{FrameLocals, Local};
 use std::alloc::{AllocError, Global};
 
 /// Which of a statement's blocks.
@@ -43,7 +43,7 @@ pub struct Post {
 #[derive(Drop)]
 pub struct Frame {
     pub post: Post,
-    pub locals: Vec<Local>,
+    pub locals: FrameLocals,
     pub path: Vec<OpenBlock>,
     pub at: usize,
 }
@@ -122,10 +122,10 @@ pub fn body<'a>(post: Post, checked: &'a Checked) -> &'a [Stmt]
 }
 
 /// A method's parameters with these arguments.
-fn bind(alloc: Global, params: &[Name], args: &[Value]) -> Result<Vec<Local>, AllocError>
+fn bind(alloc: Global, params: &[Name], args: &[Value]) -> Result<FrameLocals, AllocError>
     ensures { IfOk result (λ locals. locals.items ≡ bound params.now args.now) }
 {
-    let mut locals = Vec::new(alloc);
+    let mut locals = FrameLocals::new(alloc);
     let count = params.len().min(args.len());
     for i in 0..count {
         locals.push(Local {

@@ -21,7 +21,8 @@ use base_types::{Call, GrainId, List, Mode, Outcome, State, Value};
 use script_holding::Holding;
 use script_tree::{Expr, FieldDecl, MethodKind, Name};
 use script_values::{
-    Local, Reason, Scope, Stop, evaluate, evaluate_all, fault_of, field_number, is_true, stop_at,
+    LocalList, Reason, Scope, Stop, evaluate, evaluate_all, fault_of, field_number, is_true,
+    stop_at,
 };
 use std::alloc::{AllocError, Global};
 
@@ -89,7 +90,7 @@ impl Player {
     }
 
     /// What the expressions of a frame are evaluated in.
-    fn scope<'a>(&'a self, site: &Site<'a>, locals: &'a [Local]) -> Scope<'a>
+    fn scope<'a>(&'a self, site: &Site<'a>, locals: &'a LocalList) -> Scope<'a>
         ensures { surroundings result ≡ surrounds (site_of site.now) locals.now self.now.has }
     {
         Scope {
@@ -106,7 +107,7 @@ impl Player {
         alloc: Global,
         site: &Site<'_>,
         expression: &Expr,
-        locals: &[Local],
+        locals: &LocalList,
     ) -> Result<Value, Stop>
         ensures { GivesOrStops result (value_in (surrounds (site_of site.now) locals.now self.now.has) (expr_tree expression.now)) }
     {
@@ -120,7 +121,7 @@ impl Player {
         alloc: Global,
         site: &Site<'_>,
         args: &[Expr],
-        locals: &[Local],
+        locals: &LocalList,
     ) -> Result<List<Value>, Stop>
         ensures { GivesOrStops result (values_in (surrounds (site_of site.now) locals.now self.now.has) (map expr_tree args.now)) }
     {
@@ -146,7 +147,7 @@ impl Player {
         alloc: Global,
         site: &Site<'_>,
         test: &Expr,
-        locals: &[Local],
+        locals: &LocalList,
     ) -> Result<bool, Stop>
         ensures { (world : Worlds) (first second : Requests) →
             Leads world self.now self.now.progress result (λ holds. if holds then first else second)
@@ -183,7 +184,7 @@ impl Player {
         site: &Site<'_>,
         name: &Name,
         value: &Expr,
-        locals: &[Local],
+        locals: &LocalList,
     ) -> Result<(), Stop>
         ensures led { (world : Worlds) (types : ProgramTree) (runner : Runner) (back : Back) (next : Next) →
             Leads world self.new self.old.progress result (λ _. next locals.now self.new.has)

@@ -20,7 +20,7 @@ use base_types::{Call, GrainId, List, Value};
 use script_check::fitted;
 use script_holding::DEPTH_LIMIT;
 use script_tree::{CallExpr, Entered, Expr, Method, MethodKind, Source, Stmt};
-use script_values::{Local, Reason, Stop, assign, refusal, stop_at};
+use script_values::{FrameLocals, LocalList, Reason, Stop, assign, refusal, stop_at};
 use std::alloc::Global;
 use txn_options::enter;
 
@@ -33,7 +33,7 @@ impl Player {
         world: &World<'_>,
         site: &Site<'_>,
         block: &[Stmt],
-        locals: &mut Vec<Local>,
+        locals: &mut FrameLocals,
     ) -> Result<Flow, Stop>
         requires { site.now.depth ≤ 32 }
         ensures led { (back : Back) (next : Next) →
@@ -59,7 +59,7 @@ impl Player {
         world: &World<'_>,
         site: &Site<'_>,
         stmt: &Stmt,
-        locals: &mut Vec<Local>,
+        locals: &mut FrameLocals,
     ) -> Result<Flow, Stop>
         requires { site.now.depth ≤ 32 }
         ensures led { (back : Back) (next : Next) →
@@ -82,7 +82,7 @@ impl Player {
         world: &World<'_>,
         site: &Site<'_>,
         stmt: &Stmt,
-        locals: &mut Vec<Local>,
+        locals: &mut FrameLocals,
     ) -> Result<Flow, Stop>
         requires { site.now.depth ≤ 32 }
         ensures led { (back : Back) (next : Next) →
@@ -161,7 +161,7 @@ impl Player {
         site: &Site<'_>,
         test: &Expr,
         body: &[Stmt],
-        locals: &mut Vec<Local>,
+        locals: &mut FrameLocals,
     ) -> Result<Flow, Stop>
         requires { site.now.depth ≤ 32 }
         ensures led { (back : Back) (next : Next) →
@@ -193,7 +193,7 @@ impl Player {
         world: &World<'_>,
         site: &Site<'_>,
         source: &Source,
-        locals: &[Local],
+        locals: &LocalList,
     ) -> Result<Value, Stop>
         requires { site.now.depth ≤ 32 }
         ensures led { (back : Back) (onto : Values → Next) →
@@ -216,7 +216,7 @@ impl Player {
         world: &World<'_>,
         site: &Site<'_>,
         call: &CallExpr,
-        locals: &[Local],
+        locals: &LocalList,
     ) -> Result<Value, Stop>
         requires { site.now.depth ≤ 32 }
         ensures led { (back onto : Back) →
@@ -239,7 +239,7 @@ impl Player {
         world: &World<'_>,
         site: &Site<'_>,
         call: &CallExpr,
-        locals: &[Local],
+        locals: &LocalList,
     ) -> Result<Answer, Stop>
         requires { site.now.depth ≤ 32 }
         ensures led { (back onto : Back) (caught : Caught) →

@@ -8,7 +8,7 @@ ghost use Rattle.script_meaning.specs.Targets.{target_of, type_at};
 use base_types::{List, Value};
 use script_scopes::is_same;
 use script_tree::{Chars, Items, Method, Name, TypeDecl};
-use script_values::Local;
+use script_values::{FrameLocals, Local};
 use std::alloc::{AllocError, Global};
 
 /// A method that is called: its type, its number there, and the method.
@@ -83,10 +83,10 @@ pub fn bind_arguments(
     alloc: Global,
     params: &Items<Name>,
     args: List<Value>,
-) -> Result<Vec<Local>, AllocError>
+) -> Result<FrameLocals, AllocError>
     ensures { IfOk result (λ locals. locals.items ≡ bound params.now.list.items args) }
 {
-    let mut locals = Vec::new(alloc);
+    let mut locals = FrameLocals::new(alloc);
     for value in args.into_vec() {
         let Some(param) = params.get(locals.len()) else {
             continue;

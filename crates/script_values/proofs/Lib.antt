@@ -1,3 +1,4 @@
 mod Lists
 mod Texts
 pub mod Writes
+mod Placed

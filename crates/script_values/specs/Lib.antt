@@ -3,4 +3,5 @@ pub mod Values
 pub mod Expressions
 pub mod Reasons
 pub mod Stops
+pub mod LocalNames
 pub mod Scopes

@@ -4,7 +4,6 @@ ghost use Rattle.script_values.specs.Expressions.{value_named, value_in, values_
 ghost use Rattle.script_values.specs.Stops.{GivesOrStops};
 ghost use Rattle.script_values.specs.Scopes.{surroundings};
 
-use crate::locals::local_value;
 use crate::operators::{combined, decided, prefixed_value};
 use crate::reasons::Reason;
 use crate::scopes::{Scope, field_number};
@@ -18,7 +17,7 @@ use std::alloc::Global;
 fn named(alloc: Global, name: &Chars, scope: &Scope) -> Result<Value, Stop>
     ensures { GivesOrStops result (value_named (surroundings scope.now) name.now) }
 {
-    if let Some(value) = local_value(scope.locals, name) {
+    if let Some(value) = scope.locals.get(name) {
         return Ok(value.copy()?);
     }
     let Some(number) = field_number(name, scope.fields) else {

@@ -13,7 +13,7 @@ mod scopes;
 mod stops;
 
 pub use expressions::{evaluate, evaluate_all};
-pub use locals::{Local, assign};
+pub use locals::{FrameLocals, Local, LocalList, assign};
 pub use numbers::is_true;
 pub use operators::as_number;
 pub use reasons::{Reason, fault_of, refusal};

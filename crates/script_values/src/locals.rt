@@ -1,11 +1,15 @@
-ghost use Rattle.std.specs.Prelude.{◌≡◌, OnOk, OnErr};
+ghost use Rattle.std.specs.Prelude.{◌≡◌, ◌∷◌, ◌++◌, [], ℕ, List, Some, OnOk, OnErr, is_ok, if◌then◌else◌, length, bytes_eq};
+ghost use Rattle.std.specs.Map.{update};
 ghost use Rattle.std.specs.Option.{option_copied};
+ghost use Rattle.script_scopes.specs.Places.{place_in, place_of};
 ghost use Rattle.script_values.specs.Expressions.{put_local, local_named};
+ghost use Rattle.script_values.specs.LocalNames.{names_of};
 
 use base_types::Value;
-use script_scopes::is_same;
+use script_scopes::NamePlaces;
 use script_tree::Chars;
-use std::alloc::AllocError;
+use std::alloc::{AllocError, Global};
+use std::marker::Model;
 
 /// A parameter or a local of a frame, and its value.
 #[derive(Drop)]
@@ -14,32 +18,147 @@ pub struct Local {
     pub value: Value,
 }
 
-/// The value of the parameter or local of this name, none where no one has it.
-pub fn local_value<'a>(locals: &'a [Local], name: &Chars) -> Option<&'a Value>
-    ensures { option_copied result ≡ local_named name.now locals.now }
-{
-    for local in locals {
-        if is_same(&local.name, name) {
-            return Some(&local.value);
+/// Parameters and locals in the order in which they came. One is found in time in the logarithm of how many there
+/// are.
+#[derive(Drop)]
+pub struct LocalList {
+    list: Vec<Local>,
+    places: NamePlaces,
+}
+
+impl Model for LocalList {
+    ghost use Rattle.std.specs.Prelude.{List};
+    ghost use Rattle.script_values.specs.declared.locals.Local.{Local};
+
+    ghost Value = { List Local };
+
+    ghost use Rattle.script_scopes.specs.Places.{HasPlaces};
+    ghost use Rattle.script_values.specs.LocalNames.{names_of};
+
+    ghost view = { λ l. l.list.items };
+
+    ghost invariant = { λ l. HasPlaces l.places (names_of l.list.items) };
+}
+
+impl LocalList {
+    /// The value of the parameter or local of this name, none where no one has it.
+    pub fn get(&self, name: &Chars) -> Option<&Value>
+        ensures { option_copied result ≡ local_named name.now self.now }
+    {
+        match self.places.find(name) {
+            None => None,
+            Some(at) => Some(value_at(self.list.as_slice(), name, at)),
         }
     }
-    None
+
+    fn put(&mut self, name: &Chars, value: Value) -> Result<(), AllocError>
+        ensures ok { OnOk result (self.new ≡ put_local name.now value self.old) }
+        ensures err { OnErr result (self.new ≡ self.old) }
+    {
+        match self.places.find(name) {
+            Some(at) => {
+                give(&mut self.list, name, at, value);
+                Ok(())
+            }
+            None => {
+                let name = name.copy()?;
+                add(&mut self.list, &mut self.places, Local { name, value })?;
+                Ok(())
+            }
+        }
+    }
+
+    fn push(&mut self, local: Local) -> Result<(), AllocError>
+        ensures items { self.new ≡ (if is_ok result then self.old ++ local ∷ [] else self.old) }
+    {
+        if self.places.find(&local.name).is_some() {
+            self.list.push(local)?;
+            return Ok(());
+        }
+        add(&mut self.list, &mut self.places, local)?;
+        Ok(())
+    }
+}
+
+// The value of the local at the place of this name.
+#[tactic(auto, using(crate::proofs::Placed::placed_within, crate::proofs::Placed::placed_named))]
+fn value_at<'a>(list: &'a [Local], name: &Chars, at: usize) -> &'a Value
+    requires { place_of name.now (names_of list.now) ≡ Some at }
+    ensures { Some result.now ≡ local_named name.now list.now }
+{
+    &list[at].value
+}
+
+// The local at the place of this name gets a value.
+#[tactic(auto, using(crate::proofs::Placed::placed_within))]
+fn give(list: &mut Vec<Local>, name: &Chars, at: usize, value: Value)
+    requires { place_of name.now (names_of list.old.items) ≡ Some at }
+    ensures { list.new.items ≡ put_local name.now value list.old.items }
+{
+    let local = &mut list[at];
+    local.value = value;
+}
+
+// One local more, and its place.
+fn add(list: &mut Vec<Local>, places: &mut NamePlaces, local: Local) -> Result<(), AllocError>
+    ensures items { list.new.items ≡ (if is_ok result then list.old.items ++ local ∷ [] else list.old.items) }
+    ensures places { OnOk result ((name : List ℕ) → place_in places.new name
+        ≡ update bytes_eq (place_in places.old) local.name (Some (length list.old.items)) name) }
+    ensures err { OnErr result ((name : List ℕ) → place_in places.new name ≡ place_in places.old name) }
+{
+    let alloc = *list.allocator();
+    list.reserve(1)?;
+    places.note(alloc, &local.name, list.len())?;
+    list.push_reserved(local);
+    Ok(())
+}
+
+/// The parameters and locals of a frame.
+#[derive(Drop)]
+pub struct FrameLocals {
+    pub items: LocalList,
+}
+
+impl FrameLocals {
+    /// None. Takes no memory.
+    pub fn new(alloc: Global) -> FrameLocals
+        ensures items { result.items ≡ [] }
+    {
+        FrameLocals {
+            items: LocalList {
+                list: Vec::new(alloc),
+                places: NamePlaces::new(alloc),
+            },
+        }
+    }
+
+    /// How many there are.
+    pub fn len(&self) -> usize
+        ensures { result ≡ length self.now.items }
+    {
+        self.items.list.len()
+    }
+
+    /// They in their order.
+    pub fn as_slice(&self) -> &LocalList
+        ensures value { result.now ≡ self.now.items }
+    {
+        &self.items
+    }
+
+    /// One more. Without memory they stay as they were.
+    pub fn push(&mut self, local: Local) -> Result<(), AllocError>
+        ensures items { self.new.items ≡ (if is_ok result then self.old.items ++ local ∷ [] else self.old.items) }
+    {
+        self.items.push(local)
+    }
 }
 
 /// Gives the parameter or local of this name a value, or adds one of this name. Without memory all stay as
 /// they were.
-pub fn assign(locals: &mut Vec<Local>, name: &Chars, value: Value) -> Result<(), AllocError>
+pub fn assign(locals: &mut FrameLocals, name: &Chars, value: Value) -> Result<(), AllocError>
     ensures ok { OnOk result (locals.new.items ≡ put_local name.now value locals.old.items) }
     ensures err { OnErr result (locals.new.items ≡ locals.old.items) }
 {
-    for i in 0..locals.len() {
-        if is_same(&locals[i].name, name) {
-            let local = &mut locals[i];
-            local.value = value;
-            return Ok(());
-        }
-    }
-    let name = name.copy()?;
-    locals.push(Local { name, value })?;
-    Ok(())
+    locals.items.put(name, value)
 }

@@ -1,7 +1,7 @@
 ghost use Rattle.std.specs.Prelude.{◌≡◌};
 ghost use Rattle.script_values.specs.Expressions.{field_named};
 
-use crate::locals::Local;
+use crate::locals::LocalList;
 use base_types::Value;
 use script_scopes::is_same;
 use script_tree::{Chars, FieldDecl};
@@ -13,7 +13,7 @@ pub struct Scope<'a> {
     pub fields: &'a [FieldDecl],
     pub key: u32,
     pub state: &'a [Value],
-    pub locals: &'a [Local],
+    pub locals: &'a LocalList,
 }
 
 /// The number of the field of this name, from 0 in the order of the text, none where no field has it.
