@@ -21,9 +21,9 @@ use Rattle.promise_spec.proofs.Journaled.{commits_of-append}
 use Rattle.promise_spec.proofs.Stepping.{doubts_on, doubt_cut}
 use Rattle.promise_spec.proofs.Backing.{backs_on}
 use Rattle.promise_spec.proofs.Lists.{in_append, in_flat}
-use Rattle.explained_runs.specs.Closings.{AllEnd}
-use Rattle.explained_runs.proofs.BatchEnds.{moments-stay, batch-stays-run, records-end}
-use Rattle.explained_runs.proofs.KeptRuns.{sealing_ends}
+use Rattle.promise_laws.specs.Closings.{AllEnd}
+use Rattle.promise_laws.proofs.BatchEnds.{moments-stay, batch-stays-run, records-end}
+use Rattle.promise_laws.proofs.KeptRuns.{sealing_ends}
 use Rattle.batch_disk.specs.Resting.{SomeImage}
 use Rattle.batch_disk.specs.Moments.{LeavesRest}
 use Rattle.batch_disk.specs.declared.writer.BatchWriter.{BatchWriter}

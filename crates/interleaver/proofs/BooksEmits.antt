@@ -17,8 +17,8 @@ use Rattle.promise_spec.specs.UnitRule.{KeepsUnitRule}
 use Rattle.promise_spec.specs.Journals.{Settlement, CutAt, Backs, commits_of, entries_of}
 use Rattle.promise_spec.proofs.Doubts.{doubt_left}
 use Rattle.promise_spec.proofs.Stepping.{emits_on, cuts_on, doubt_emits_on, doubt_cuts_on, whole_cut, doubt_cut}
-use Rattle.explained_runs.specs.Closings.{AllEnd}
-use Rattle.explained_runs.proofs.BatchEnds.{moments-stay, batch-stays-run}
+use Rattle.promise_laws.specs.Closings.{AllEnd}
+use Rattle.promise_laws.proofs.BatchEnds.{moments-stay, batch-stays-run}
 use Rattle.settler_rules.proofs.Commits.{doubt-stays}
 use Rattle.batch_disk.specs.Resting.{SomeImage}
 use Rattle.batch_disk.specs.Writers.{KeepsDisk}

@@ -25,8 +25,8 @@ use Rattle.core_model.proofs.Ends.{kept-ends}
 use Rattle.core_model.proofs.Further.{committed-closed}
 use Rattle.core_model.proofs.Orders.{in_drop}
 use Rattle.cell_model.proofs.Units.{filter-member}
-use Rattle.explained_runs.specs.Legality.{is_play, applied_run}
-use Rattle.explained_runs.proofs.Legal.{ends_alike, legal}
+use Rattle.promise_laws.specs.Legality.{is_play, applied_run}
+use Rattle.promise_laws.proofs.Legal.{ends_alike, legal}
 use Rattle.grain_log.specs.Reads.{fields_of}
 use Rattle.grain_log.specs.Places.{places_from}
 use Rattle.promise_spec.specs.Programs.{shape_in}

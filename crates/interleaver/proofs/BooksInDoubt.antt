@@ -22,8 +22,8 @@ use Rattle.core_model.specs.Settler.{to_commit}
 use Rattle.core_model.proofs.Ends.{kept-ends}
 use Rattle.core_model.proofs.Orders.{in_drop}
 use Rattle.core_model.proofs.Told.{told-ends}
-use Rattle.explained_runs.specs.Legality.{is_play, applied_run}
-use Rattle.explained_runs.proofs.Legal.{ends_alike, legal}
+use Rattle.promise_laws.specs.Legality.{is_play, applied_run}
+use Rattle.promise_laws.proofs.Legal.{ends_alike, legal}
 use Rattle.promise_spec.specs.Records.{Commit, AreRecordsOf}
 use Rattle.promise_spec.specs.Crashes.{HasOutcome, Acknowledges}
 use Rattle.promise_spec.specs.UnitRule.{Basis, KeepsUnitRule}

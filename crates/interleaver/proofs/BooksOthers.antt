@@ -28,7 +28,7 @@ use Rattle.promise_spec.specs.Journals.{Settlement, JournalAt, CutAt, Backs, com
 use Rattle.promise_spec.proofs.Doubts.{doubt_left}
 use Rattle.promise_spec.proofs.Journaled.{commits_of-append}
 use Rattle.promise_spec.proofs.Stepping.{settles_on, whole_cut}
-use Rattle.explained_runs.proofs.BatchEnds.{moments-stay, batch-stays-run}
+use Rattle.promise_laws.proofs.BatchEnds.{moments-stay, batch-stays-run}
 use Rattle.settler_rules.proofs.Commits.{doubt-stays, others-leave as committed-stays}
 use Rattle.batch_disk.specs.Resting.{SomeImage}
 use Rattle.settle_loop.specs.declared.settler.Settler.{Settler}

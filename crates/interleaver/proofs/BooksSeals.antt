@@ -19,9 +19,9 @@ use Rattle.promise_spec.specs.Journals.{Settlement, IsSealing, Seals, JournalAt,
 use Rattle.promise_spec.proofs.Stepping.{seals_on, settles_on, whole_cut}
 use Rattle.promise_spec.proofs.Backing.{backs_on}
 use Rattle.promise_spec.proofs.Lists.{in_append, in_flat}
-use Rattle.explained_runs.specs.Closings.{AllEnd}
-use Rattle.explained_runs.proofs.BatchEnds.{moments-stay, batch-stays-run, records-end}
-use Rattle.explained_runs.proofs.KeptRuns.{logged_ends, sealing_ends}
+use Rattle.promise_laws.specs.Closings.{AllEnd}
+use Rattle.promise_laws.proofs.BatchEnds.{moments-stay, batch-stays-run, records-end}
+use Rattle.promise_laws.proofs.KeptRuns.{logged_ends, sealing_ends}
 use Rattle.batch_disk.specs.Moments.{LeavesRest}
 use Rattle.batch_disk.specs.declared.writer.BatchWriter.{BatchWriter}
 use Rattle.interleaver.specs.Beginnings.{Outset, basis_of}

@@ -24,7 +24,7 @@ use Rattle.core_access.specs.Sights.{Sight, run_seen, Looks}
 use Rattle.core_access.specs.Spared.{is_spared, has_room}
 use Rattle.core_access.proofs.OneHolder.{own-run}
 use Rattle.core_access.proofs.Sights.{looks-alone, run-alone}
-use Rattle.explained_runs.proofs.Doubted.{doubt-rose}
+use Rattle.promise_laws.proofs.Doubted.{doubt-rose}
 use Rattle.log_reading.specs.Steps.{live_slot, manager}
 use Rattle.promise_spec.specs.Programs.{shape_in}
 use Rattle.promise_spec.specs.Outputs.{IsProper, Grew}

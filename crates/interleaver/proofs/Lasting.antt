@@ -20,9 +20,9 @@ use Rattle.promise_spec.specs.Causes.{HasDoubt}
 use Rattle.promise_spec.specs.Exits.{AreOf, doubtful, HasDoubtfulBlock}
 use Rattle.promise_spec.specs.Journals.{Settlement, CutAt, Backs, commits_of, entries_of}
 use Rattle.promise_spec.specs.Courses.{Observed, Course, order, core_end, seen_at_entry}
-use Rattle.explained_runs.specs.Closings.{IsBehind, ReadsMayStay, AllEnd, Carries}
-use Rattle.explained_runs.specs.Obligations.{Opens, Lasts}
-use Rattle.explained_runs.proofs.KeptRuns.{whole_lasts, doubt_lasts}
+use Rattle.promise_laws.specs.Closings.{IsBehind, ReadsMayStay, AllEnd, Carries}
+use Rattle.promise_laws.specs.Obligations.{Opens, Lasts}
+use Rattle.promise_laws.proofs.KeptRuns.{whole_lasts, doubt_lasts}
 use Rattle.settle_loop.specs.declared.settler.Settler.{Settler}
 use Rattle.batch_disk.specs.Resting.{SomeImage}
 use Rattle.batch_disk.specs.declared.writer.BatchWriter.{BatchWriter}

@@ -21,7 +21,7 @@ use Rattle.promise_spec.specs.Causes.{AreFaults, HasDoubt}
 use Rattle.promise_spec.specs.Endings.{DiskFault, MayDoubt, IsAllWritten, IsDiskFault}
 use Rattle.promise_spec.specs.Courses.{Observed, Course, basis, core_run, core_end}
 use Rattle.promise_spec.specs.Explained.{AreAdded, AreSettled, IsDoubtful, EndsWritten, IsCutShort}
-use Rattle.explained_runs.specs.Obligations.{ExplainsEvents}
+use Rattle.promise_laws.specs.Obligations.{ExplainsEvents}
 use Rattle.settle_loop.specs.declared.settler.Settler.{Settler}
 use Rattle.interleaver.specs.declared.faults.RunFault.{RunFault}
 use Rattle.interleaver.specs.declared.faults.RunFault.TheVariants.{InDoubt, WriteFault, Memory}

@@ -14,7 +14,7 @@ use Rattle.promise_spec.specs.Crashes.{IsAside}
 use Rattle.promise_spec.specs.Causes.{HasDoubt}
 use Rattle.promise_spec.specs.Exits.{HasBlock, DifferAt}
 use Rattle.promise_spec.specs.Journals.{CutAt, Backs, commits_of}
-use Rattle.explained_runs.specs.Closings.{AllEnd}
+use Rattle.promise_laws.specs.Closings.{AllEnd}
 use Rattle.batch_disk.specs.Resting.{Voted, log_of, EachImage, SomeImage}
 use Rattle.batch_disk.specs.Writers.{kept_of, KeepsDisk}
 use Rattle.batch_disk.specs.declared.writer.BatchWriter.{BatchWriter}

@@ -16,9 +16,9 @@ use Rattle.promise_spec.specs.Openings.{Reads}
 use Rattle.promise_spec.specs.Courses.{Observed, Course}
 use Rattle.promise_spec.specs.Promise.{IsSoundFolder}
 use Rattle.log_reading.specs.Steps.{live_slot}
-use Rattle.explained_runs.specs.Closings.{ReadsMayStay, IsBehind}
-use Rattle.explained_runs.specs.Obligations.{Opens}
-use Rattle.explained_runs.proofs.KeptRuns.{opens_sound}
+use Rattle.promise_laws.specs.Closings.{ReadsMayStay, IsBehind}
+use Rattle.promise_laws.specs.Obligations.{Opens}
+use Rattle.promise_laws.proofs.KeptRuns.{opens_sound}
 use Rattle.silo_opening.specs.Opened.{Stays, IsOpenedFrom}
 use Rattle.silo_opening.specs.declared.open.Opened.{Opened}
 use Rattle.opening_rules.specs.Behind.{program_of, FollowsOpening}

@@ -10,7 +10,7 @@
 //! is sound between calls.
 //!
 //! `laws` has what follows from the definitions alone, `steps` how a journal goes on call by call, and `folders` that each
-//! call leaves a sound folder. `promise_runs` shows runs that keep the promise, and runs that don't.
+//! call leaves a sound folder. `promise_examples` shows runs that keep the promise, and runs that don't.
 #![tactic(auto)]
 
 mod folders;

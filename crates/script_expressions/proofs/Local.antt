@@ -13,7 +13,7 @@ use Rattle.script_lexer.specs.declared.tokens.Token.TheVariants as token
 use Rattle.script_lexer.specs.declared.tokens.Symbol.{Symbol}
 use Rattle.script_lexer.specs.declared.tokens.Word.{Word}
 use Rattle.script_expressions.specs.Reading.{◌>>=◌, Part, Read}
-use Rattle.script_expressions.specs.Tokens.{is_symbol, is_word, expected, expected_word, name_at, text_at}
+use Rattle.script_expressions.specs.Tokens.{is_symbol, is_word, expected, expected_word, name_at, spelling_at}
 use Rattle.script_expressions.specs.Expressions.{operator_at}
 use Rattle.script_expressions.specs.Grammar.{IsSymbol, IsOperator}
 use Rattle.script_expressions.proofs.Sound.{symbol_is}
@@ -412,18 +412,18 @@ module _ (stop : ParseFault) where
         by_next Name First After (name_at stop) (name_at stop) (record { more = a_name ∷ []; part = record { text = []; at = 0 }; starts = λ ws h. first ws; goes = λ ws h. refl })
         (stops refl) (λ t ts. name_step t ts t.token refl)
 
-    text_step : (t : Spanned) (ts : List Spanned) (k : Token) → t.token ≡ k → Step (List ℕ) After (text_at stop) (text_at stop) t ts
-    unfolding text_at
+    text_step : (t : Spanned) (ts : List Spanned) (k : Token) → t.token ≡ k → Step (List ℕ) After (spelling_at stop) (spelling_at stop) t ts
+    unfolding spelling_at
     text_step t ts (token.Text s) e = takes (λ m. Ok (s, m)) (λ m. Ok (s, m)) (done_split (List ℕ) After s ts) (λ vs. rw e refl) (λ vs. rw e refl)
     text_step t ts (token.Word w) e = refuses (Unexpected t.at) refl (λ vs. rw e refl) (λ vs. rw e refl)
     text_step t ts (token.Int n) e = refuses (Unexpected t.at) refl (λ vs. rw e refl) (λ vs. rw e refl)
     text_step t ts (token.Name s) e = refuses (Unexpected t.at) refl (λ vs. rw e refl) (λ vs. rw e refl)
     text_step t ts (token.Symbol s) e = refuses (Unexpected t.at) refl (λ vs. rw e refl) (λ vs. rw e refl)
 
-    pub text_local : ((ws : List Spanned) → First (a_text ∷ ws)) → Local (List ℕ) First After (text_at stop) (text_at stop)
-    unfolding text_at
+    pub text_local : ((ws : List Spanned) → First (a_text ∷ ws)) → Local (List ℕ) First After (spelling_at stop) (spelling_at stop)
+    unfolding spelling_at
     text_local first =
-        by_next (List ℕ) First After (text_at stop) (text_at stop) (record { more = a_text ∷ []; part = []; starts = λ ws h. first ws; goes = λ ws h. refl })
+        by_next (List ℕ) First After (spelling_at stop) (spelling_at stop) (record { more = a_text ∷ []; part = []; starts = λ ws h. first ws; goes = λ ws h. refl })
         (stops refl) (λ t ts. text_step t ts t.token refl)
 
     -- a symbol behind which nothing more may be open, where one more may be

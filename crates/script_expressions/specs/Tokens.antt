@@ -105,9 +105,9 @@ text_from (token.Int n) at ts = Err (Unexpected at)
 text_from (token.Symbol s) at ts = Err (Unexpected at)
 
 -- a text that must stand next
-unfoldable pub text_at : ParseFault → Read (List ℕ)
-text_at stop [] = Err stop
-text_at stop (t ∷ ts) = text_from t.token t.at ts
+unfoldable pub spelling_at : ParseFault → Read (List ℕ)
+spelling_at stop [] = Err stop
+spelling_at stop (t ∷ ts) = text_from t.token t.at ts
 
 -- the tokens after a symbol, where it stands next
 unfoldable pub taken : Symbol → List Spanned → Option (List Spanned)

@@ -1,6 +1,6 @@
 ghost use Rattle.std.specs.Prelude.{◌≡◌};
 ghost use Rattle.script_expressions.specs.Reading.{GivesPart, Takes};
-ghost use Rattle.script_expressions.specs.Tokens.{symbol_number, word_number, is_symbol, is_word, refused_token, expected, expected_word, name_at, text_at, taken, taken_word};
+ghost use Rattle.script_expressions.specs.Tokens.{symbol_number, word_number, is_symbol, is_word, refused_token, expected, expected_word, name_at, spelling_at, taken, taken_word};
 
 use script_lexer::{ParseFault, Spanned, Symbol, Token, Word};
 use script_tree::{Chars, Name};
@@ -145,10 +145,10 @@ impl<'a> Cursor<'a> {
     }
 
     /// A text that must stand next.
-    #[tactic(auto, unfolding(crate::specs::Tokens::text_at))]
+    #[tactic(auto, unfolding(crate::specs::Tokens::spelling_at))]
     pub fn text(&mut self) -> Result<Chars, ParseFault>
         ensures read { GivesPart (λ text. text) result self.new.tokens.now
-            (text_at self.old.stop self.old.tokens.now) }
+            (spelling_at self.old.stop self.old.tokens.now) }
         ensures stop { self.new.stop ≡ self.old.stop }
     {
         let [first, rest @ ..] = self.tokens else {

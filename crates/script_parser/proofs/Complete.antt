@@ -10,7 +10,7 @@ use Rattle.script_lexer.specs.declared.tokens.Token.TheVariants as token
 use Rattle.script_lexer.specs.declared.tokens.Symbol.TheVariants as symbol
 use Rattle.script_lexer.specs.declared.tokens.Word.TheVariants as word
 use Rattle.script_expressions.specs.Reading.{Read}
-use Rattle.script_expressions.specs.Tokens.{is_symbol, is_word, text_at, taken, taken_word}
+use Rattle.script_expressions.specs.Tokens.{is_symbol, is_word, spelling_at, taken, taken_word}
 use Rattle.script_expressions.specs.Expressions.{Never, starts, expression}
 use Rattle.script_expressions.specs.Calls.{call_at}
 use Rattle.script_expressions.specs.Grammar.{IsSymbol, IsWord, IsName, Stops}
@@ -38,8 +38,8 @@ unfolding taken_word
 not_else [] n = refl
 not_else (t ∷ us) n = else_if t us (is_word word.Else t.token) refl (n t us refl)
 
-text_read : (stop : ParseFault) (t : Spanned) (said : List ℕ) (ts : List Spanned) → t.token ≡ token.Text said → text_at stop (t ∷ ts) ≡ Ok (said, ts)
-unfolding text_at
+text_read : (stop : ParseFault) (t : Spanned) (said : List ℕ) (ts : List Spanned) → t.token ≡ token.Text said → spelling_at stop (t ∷ ts) ≡ Ok (said, ts)
+unfolding spelling_at
 text_read stop t said ts e = rw e refl
 
 module _ (stop : ParseFault) where

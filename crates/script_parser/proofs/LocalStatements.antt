@@ -15,7 +15,7 @@ use Rattle.script_lexer.specs.declared.tokens.Symbol.TheVariants as symbol
 use Rattle.script_lexer.specs.declared.tokens.Word.{Word}
 use Rattle.script_lexer.specs.declared.tokens.Word.TheVariants as word
 use Rattle.script_expressions.specs.Reading.{◌>>=◌, Part, Read}
-use Rattle.script_expressions.specs.Tokens.{is_symbol, is_word, expected, expected_word, name_at, text_at, taken, taken_word}
+use Rattle.script_expressions.specs.Tokens.{is_symbol, is_word, expected, expected_word, name_at, spelling_at, taken, taken_word}
 use Rattle.script_expressions.specs.Expressions.{operator_at, expression}
 use Rattle.script_expressions.specs.Calls.{call_at}
 use Rattle.script_expressions.specs.Grammar.{IsSymbol}
@@ -158,7 +158,7 @@ module _ (stop : ParseFault) where
     fail_local : Local stop StmtTree Any G (fail_at stop) (fail_at stop)
     unfolding fail_at
     fail_local =
-        then_local stop (List ℕ) StmtTree Any NoOperator G (text_at stop) (text_at stop) _ _ (λ y z e. inl apart) (text_local stop Any NoOperator (λ ws. tt)) (λ said. ended_local (FailWith said))
+        then_local stop (List ℕ) StmtTree Any NoOperator G (spelling_at stop) (spelling_at stop) _ _ (λ y z e. inl apart) (text_local stop Any NoOperator (λ ws. tt)) (λ said. ended_local (FailWith said))
 
   module _ (depth : ℕ) (blocks blocks' : Read (List StmtTree)) (local : Local stop (List StmtTree) NoOperator NoOperator blocks blocks') where
     -- the second block of an if, behind its word

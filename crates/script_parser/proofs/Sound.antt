@@ -11,7 +11,7 @@ use Rattle.script_lexer.specs.declared.tokens.Symbol.TheVariants as symbol
 use Rattle.script_lexer.specs.declared.tokens.Word.{Word}
 use Rattle.script_lexer.specs.declared.tokens.Word.TheVariants as word
 use Rattle.script_expressions.specs.Reading.{◌>>=◌, Read}
-use Rattle.script_expressions.specs.Tokens.{is_word, expected, expected_word, name_at, text_from, text_at, taken, taken_word}
+use Rattle.script_expressions.specs.Tokens.{is_word, expected, expected_word, name_at, text_from, spelling_at, taken, taken_word}
 use Rattle.script_expressions.specs.Expressions.{expression}
 use Rattle.script_expressions.specs.Calls.{call_at}
 use Rattle.script_expressions.specs.Grammar.{IsWord, IsName, IsExpression, IsCall}
@@ -51,8 +51,8 @@ text_is (token.Word w) t ts x k e = absurd cc
 text_is (token.Int n) t ts x k e = absurd cc
 text_is (token.Symbol s) t ts x k e = absurd cc
 
-took_text : (stop : ParseFault) (ts : List Spanned) (x : List ℕ × List Spanned) → text_at stop ts ≡ Ok x → (u : Spanned) × (ts ≡ u ∷ x.1) × (u.token ≡ token.Text x.0)
-unfolding text_at
+took_text : (stop : ParseFault) (ts : List Spanned) (x : List ℕ × List Spanned) → spelling_at stop ts ≡ Ok x → (u : Spanned) × (ts ≡ u ∷ x.1) × (u.token ≡ token.Text x.0)
+unfolding spelling_at
 took_text stop [] x e = absurd cc
 took_text stop (t ∷ ts) x e = text_is t.token t ts x refl e
 
@@ -142,7 +142,7 @@ module _ (stop : ParseFault) where
     fail_sound : (w : Spanned) → IsWord w word.Fail → Behind w (fail_at stop)
     unfolding fail_at
     fail_sound w is ts x e =
-        let s1 = bind_ok (text_at stop ts) _ x e in
+        let s1 = bind_ok (spelling_at stop ts) _ x e in
         let s2 = bind_ok (expected stop symbol.Semicolon s1.0.1) _ x s1.2 in
         let s = took_text stop ts s1.0 s1.1 in
         let z = took stop symbol.Semicolon s1.0.1 s2.0 s2.1 in

@@ -11,7 +11,7 @@ use Rattle.script_lexer.specs.declared.tokens.Symbol.TheVariants as symbol
 use Rattle.script_lexer.specs.declared.tokens.Word.{Word}
 use Rattle.script_lexer.specs.declared.tokens.Word.TheVariants as word
 use Rattle.script_expressions.specs.Reading.{Part, Read, ◌>>=◌}
-use Rattle.script_expressions.specs.Tokens.{refused_token, expected, expected_word, name_at, text_at, taken, taken_word}
+use Rattle.script_expressions.specs.Tokens.{refused_token, expected, expected_word, name_at, spelling_at, taken, taken_word}
 use Rattle.script_expressions.specs.Expressions.{expression}
 use Rattle.script_expressions.specs.Calls.{call_at}
 
@@ -61,7 +61,7 @@ module _ (stop : ParseFault) where
 
   unfoldable pub fail_at : Read StmtTree
   fail_at ts = do
-    said ← text_at stop ts
+    said ← spelling_at stop ts
     end ← expected stop symbol.Semicolon said.1
     Ok (FailWith said.0, end.1)
 

@@ -10,8 +10,8 @@ place_from i name [] = None
 place_from i name (first ∷ rest) = if bytes_eq first name then Some i else place_from (i + 1) name rest
 
 -- the first place of a name, from 0
-abbrev pub place_of : List ℕ → Scope → Option ℕ
-place_of name scope = place_from 0 name scope
+abbrev pub name_place : List ℕ → Scope → Option ℕ
+name_place name scope = place_from 0 name scope
 
 -- the place that the code has for a name
 abbrev pub place_in : NamePlaces → List ℕ → Option ℕ
@@ -19,4 +19,4 @@ place_in places name = get_by_text places.map name
 
 -- the code has the first place of each of these names, and no other
 abbrev pub HasPlaces : NamePlaces → Scope → Type 0
-HasPlaces places scope = (name : List ℕ) → place_in places name ≡ place_of name scope
+HasPlaces places scope = (name : List ℕ) → place_in places name ≡ name_place name scope

@@ -2,7 +2,7 @@
 use Rattle.std.proofs.Common.{◌≡◌, ◌+◌, ◌<◌, ℕ, suc, List, [], ◌∷◌, ◌++◌, length, take, drop, get_or, Bool, true, false, Option, Some, None, refl, sym, ap, ◌∙◌, subst, arith}
 use Rattle.std.specs.Prelude.{if◌then◌else◌, bytes_eq, slice_set}
 use Rattle.base_types.specs.declared.calls.Value.{Value}
-use Rattle.script_scopes.specs.Places.{place_from, place_of}
+use Rattle.script_scopes.specs.Places.{place_from, name_place}
 use Rattle.script_values.specs.declared.locals.Local.{Local}
 use Rattle.script_values.specs.Expressions.{put_local, local_named}
 use Rattle.script_values.specs.LocalNames.{names_of}
@@ -60,20 +60,20 @@ placed_from name i [] p e = absurd cc
 placed_from name i (y ∷ ys) p e = placed_at name i p y ys (bytes_eq y.name name) refl e (placed_from name (i + 1) ys p)
 
 -- the place of a name is that of the first local of this name
-pub placed : (name : List ℕ) (locals : List Local) (p : ℕ) → place_of name (names_of locals) ≡ Some p → IsPlaced name locals p
+pub placed : (name : List ℕ) (locals : List Local) (p : ℕ) → name_place name (names_of locals) ≡ Some p → IsPlaced name locals p
 placed name locals p e =
     let r = placed_from name 0 locals p e in
     let is : r.0 ≡ p = omega (arith, r.1) in
     subst (λ (q : ℕ). IsPlaced name locals q) is r.2
 
-pub placed_within : (name : List ℕ) (locals : List Local) (p : ℕ) → place_of name (names_of locals) ≡ Some p → p < length locals
+pub placed_within : (name : List ℕ) (locals : List Local) (p : ℕ) → name_place name (names_of locals) ≡ Some p → p < length locals
 placed_within name locals p e = (placed name locals p e).within
 
-pub placed_named : (name : List ℕ) (locals : List Local) (p : ℕ) (x : Local) → place_of name (names_of locals) ≡ Some p → x ≡ get_or locals p x → Some x.value ≡ local_named name locals
+pub placed_named : (name : List ℕ) (locals : List Local) (p : ℕ) (x : Local) → name_place name (names_of locals) ≡ Some p → x ≡ get_or locals p x → Some x.value ≡ local_named name locals
 placed_named name locals p x e at = sym ((placed name locals p e).named x at)
 
 -- it gets a value
-pub placed_put : (name : List ℕ) (value : Value) (locals : List Local) (p : ℕ) (x y : Local) → place_of name (names_of locals) ≡ Some p → x ≡ get_or locals p x → y ≡ get_or locals p y → slice_set locals p (record { name = y.name; value = value }) ≡ put_local name value locals
+pub placed_put : (name : List ℕ) (value : Value) (locals : List Local) (p : ℕ) (x y : Local) → name_place name (names_of locals) ≡ Some p → x ≡ get_or locals p x → y ≡ get_or locals p y → slice_set locals p (record { name = y.name; value = value }) ≡ put_local name value locals
 placed_put name value locals p x y e at_x at_y =
     let is = placed name locals p e in
     let written : Local → Local = λ l. record { name = l.name; value = value } in
@@ -94,10 +94,10 @@ absent_from name i (y ∷ ys) e =
       λ value. ap (λ (b : Bool). if b then (record { name = y.name; value = value }) ∷ ys else y ∷ put_local name value ys) here.0 ∙ ap (λ (l : List Local). y ∷ l) (rest.1 value),
     )
 
-pub named_none : (name : List ℕ) (locals : List Local) → place_of name (names_of locals) ≡ None → local_named name locals ≡ None
+pub named_none : (name : List ℕ) (locals : List Local) → name_place name (names_of locals) ≡ None → local_named name locals ≡ None
 named_none name locals e = (absent_from name 0 locals e).0
 
-pub put_behind : (name : List ℕ) (locals : List Local) → place_of name (names_of locals) ≡ None → (value : Value) → put_local name value locals ≡ locals ++ (record { name = name; value = value }) ∷ []
+pub put_behind : (name : List ℕ) (locals : List Local) → name_place name (names_of locals) ≡ None → (value : Value) → put_local name value locals ≡ locals ++ (record { name = name; value = value }) ∷ []
 put_behind name locals e = (absent_from name 0 locals e).1
 
 -- a local that is there keeps its place
@@ -109,7 +109,7 @@ keeps_from : (name : List ℕ) (value : Value) (i : ℕ) (locals : List Local) (
 keeps_from name value i [] p e = absurd cc
 keeps_from name value i (y ∷ ys) p e = keeps_at name value i p y ys (bytes_eq y.name name) e (keeps_from name value (i + 1) ys p)
 
-pub keeps_names : (name : List ℕ) (value : Value) (locals : List Local) (p : ℕ) → place_of name (names_of locals) ≡ Some p → names_of (put_local name value locals) ≡ names_of locals
+pub keeps_names : (name : List ℕ) (value : Value) (locals : List Local) (p : ℕ) → name_place name (names_of locals) ≡ Some p → names_of (put_local name value locals) ≡ names_of locals
 keeps_names name value locals p e = keeps_from name value 0 locals p e
 
 -- one local more is one name more

@@ -1,7 +1,7 @@
 ghost use Rattle.std.specs.Prelude.{◌≡◌, ◌∷◌, ◌++◌, [], ℕ, List, Some, OnOk, OnErr, is_ok, if◌then◌else◌, length, bytes_eq};
 ghost use Rattle.std.specs.Map.{update};
 ghost use Rattle.std.specs.Option.{option_copied};
-ghost use Rattle.script_scopes.specs.Places.{place_in, place_of};
+ghost use Rattle.script_scopes.specs.Places.{place_in, name_place};
 ghost use Rattle.script_values.specs.Expressions.{put_local, local_named};
 ghost use Rattle.script_values.specs.LocalNames.{names_of};
 
@@ -83,7 +83,7 @@ impl LocalList {
 // The value of the local at the place of this name.
 #[tactic(auto, using(crate::proofs::Placed::placed_within, crate::proofs::Placed::placed_named))]
 fn value_at<'a>(list: &'a [Local], name: &Chars, at: usize) -> &'a Value
-    requires { place_of name.now (names_of list.now) ≡ Some at }
+    requires { name_place name.now (names_of list.now) ≡ Some at }
     ensures { Some result.now ≡ local_named name.now list.now }
 {
     &list[at].value
@@ -92,7 +92,7 @@ fn value_at<'a>(list: &'a [Local], name: &Chars, at: usize) -> &'a Value
 // The local at the place of this name gets a value.
 #[tactic(auto, using(crate::proofs::Placed::placed_within))]
 fn give(list: &mut Vec<Local>, name: &Chars, at: usize, value: Value)
-    requires { place_of name.now (names_of list.old.items) ≡ Some at }
+    requires { name_place name.now (names_of list.old.items) ≡ Some at }
     ensures { list.new.items ≡ put_local name.now value list.old.items }
 {
     let local = &mut list[at];

@@ -32,8 +32,8 @@ use Rattle.core_model.proofs.Relied.{holds-ends}
 use Rattle.core_model.proofs.Split.{Split, no_doubt, split-order}
 use Rattle.core_model.proofs.Stepped.{shows-chosen}
 use Rattle.core_model.proofs.Verdicts.{member-or-not}
-use Rattle.explained_runs.specs.Legality.{is_play, applied_run}
-use Rattle.explained_runs.proofs.Legal.{ends_alike, legal}
+use Rattle.promise_laws.specs.Legality.{is_play, applied_run}
+use Rattle.promise_laws.proofs.Legal.{ends_alike, legal}
 use Rattle.promise_spec.specs.UnitRule.{Basis, KeepsUnitRule}
 use Rattle.promise_spec.specs.Causes.{is_sealed}
 use Rattle.settler_rules.specs.Committing.{KeepsDoubt}

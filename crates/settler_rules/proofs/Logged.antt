@@ -27,10 +27,10 @@ use Rattle.core_model.specs.Tests.{is_good, members, state_written}
 use Rattle.core_model.proofs.Consistency.{consistent-ends}
 use Rattle.core_model.proofs.Numbers.{grown-run, in-kinds-ends, numbered-ends}
 use Rattle.core_model.proofs.Relied.{holds-ends}
-use Rattle.explained_runs.specs.Legality.{is_play, applied_run}
-use Rattle.explained_runs.proofs.Legal.{is_play-true, ends_alike, legal}
-use Rattle.explained_runs.proofs.Told.{Led}
-use Rattle.explained_runs.proofs.ToldRuns.{known-ends}
+use Rattle.promise_laws.specs.Legality.{is_play, applied_run}
+use Rattle.promise_laws.proofs.Legal.{is_play-true, ends_alike, legal}
+use Rattle.promise_laws.proofs.Told.{Led}
+use Rattle.promise_laws.proofs.ToldRuns.{known-ends}
 use Rattle.field_codec.specs.Units.{may_be_unit, HasParent}
 use Rattle.field_codec.specs.declared.units.Numbers.TheVariants.{Logged}
 use Rattle.grain_log.specs.Reads.{fields_of}

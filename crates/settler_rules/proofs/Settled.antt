@@ -20,10 +20,10 @@ use Rattle.core_model.specs.Legal.{Run, ends}
 use Rattle.core_model.specs.Proper.{HasUnitOf, MaySettle, IsProperEntry}
 use Rattle.core_model.specs.Settler.{Step, Votes, Decides, Seals, Learns, Writes, Takes, Rests, settler_step, work_in, write_work}
 use Rattle.core_model.proofs.Proper.{proper-ends}
-use Rattle.explained_runs.specs.Legality.{is_play, applied_run}
-use Rattle.explained_runs.proofs.Legal.{ends_alike, legal}
-use Rattle.explained_runs.proofs.Tellings.{Tells, telling-ends}
-use Rattle.explained_runs.proofs.UnitsByRule.{all_said}
+use Rattle.promise_laws.specs.Legality.{is_play, applied_run}
+use Rattle.promise_laws.proofs.Legal.{ends_alike, legal}
+use Rattle.promise_laws.proofs.Tellings.{Tells, telling-ends}
+use Rattle.promise_laws.proofs.UnitsByRule.{all_said}
 use Rattle.field_codec.specs.Spelling.{ResultFits}
 use Rattle.promise_spec.specs.Outputs.{HasUnit, MaySay, IsProper}
 use Rattle.promise_spec.specs.UnitRule.{Basis, KeepsUnitRule}

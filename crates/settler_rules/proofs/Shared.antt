@@ -20,8 +20,8 @@ use Rattle.core_model.proofs.Ends.{kept-ends}
 use Rattle.core_model.proofs.Kept.{Kept, size-open}
 use Rattle.core_model.proofs.Puts.{put-other}
 use Rattle.core_model.proofs.Reasons.{member-finished, take-drop-push}
-use Rattle.explained_runs.specs.Legality.{is_play, applied_run}
-use Rattle.explained_runs.proofs.Legal.{ends_alike, legal}
+use Rattle.promise_laws.specs.Legality.{is_play, applied_run}
+use Rattle.promise_laws.proofs.Legal.{ends_alike, legal}
 use Rattle.promise_spec.specs.UnitRule.{Basis, KeepsUnitRule}
 use Rattle.settler_rules.proofs.Commits.{filter-same, map-same}
 use Rattle.settler_rules.proofs.Standing.{ends-more}

@@ -20,8 +20,8 @@ use Rattle.core_model.specs.Tests.{is_final, is_over, outcome_in, outcome_of}
 use Rattle.core_model.proofs.Further.{children-ends, committed-closed, grows-ends, legal-front}
 use Rattle.core_model.proofs.Growth.{Grows}
 use Rattle.core_model.proofs.Told.{told-ends}
-use Rattle.explained_runs.specs.Legality.{is_play, applied_run}
-use Rattle.explained_runs.proofs.Legal.{ends_alike, legal}
+use Rattle.promise_laws.specs.Legality.{is_play, applied_run}
+use Rattle.promise_laws.proofs.Legal.{ends_alike, legal}
 use Rattle.promise_spec.specs.Cores.{applied_from}
 use Rattle.promise_spec.specs.Crashes.{HasOutcome}
 use Rattle.promise_spec.specs.UnitRule.{Basis, KeepsUnitRule}

@@ -3,7 +3,7 @@ ghost use Rattle.core_model.specs.CoreState.{GrainId, Member, Value, Version, Wr
 ghost use Rattle.core_model.specs.declared.effects.Effect.{Effect};
 ghost use Rattle.core_model.specs.Legal.{Run, ends};
 ghost use Rattle.core_model.specs.Settler.{to_commit, versions_to_write};
-ghost use Rattle.explained_runs.specs.Legality.{is_play};
+ghost use Rattle.promise_laws.specs.Legality.{is_play};
 ghost use Rattle.grain_log.specs.Reads.{fields_of};
 ghost use Rattle.prepare_batch.specs.Planned.{PlaysWriteOnce};
 ghost use Rattle.promise_spec.specs.UnitRule.{Basis, KeepsUnitRule};

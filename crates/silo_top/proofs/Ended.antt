@@ -22,8 +22,8 @@ use Rattle.promise_spec.specs.Endings.{Ending, Done, BadUse, WriteFault as Unwri
 use Rattle.promise_spec.specs.Courses.{Observed, Course, seen_at_entry, core_run}
 use Rattle.promise_spec.specs.Explained.{AreSettled}
 use Rattle.promise_spec.specs.Promise.{IsDone, Promises}
-use Rattle.explained_runs.specs.Closings.{ReadsMayStay, IsBehind}
-use Rattle.explained_runs.specs.Obligations.{ShowsAnywhere, Opens}
+use Rattle.promise_laws.specs.Closings.{ReadsMayStay, IsBehind}
+use Rattle.promise_laws.specs.Obligations.{ShowsAnywhere, Opens}
 use Rattle.settle_loop.specs.declared.settler.Settler.{Settler}
 use Rattle.interleaver.specs.declared.faults.RunFault.{RunFault}
 use Rattle.interleaver.specs.declared.faults.RunFault.TheVariants.{InDoubt, WriteFault, Memory}

@@ -12,9 +12,9 @@ use Rattle.promise_spec.specs.Records.{Commit}
 use Rattle.promise_spec.specs.Batches.{EndsABatch}
 use Rattle.promise_spec.specs.Journals.{AllLog, Seals, IsSealing, CutAt}
 use Rattle.promise_spec.proofs.Stepping.{begins_at, stays_on, whole_cut}
-use Rattle.explained_runs.specs.Closings.{AllEnd}
-use Rattle.explained_runs.proofs.BatchEnds.{records-end}
-use Rattle.explained_runs.proofs.KeptRuns.{logged_ends}
+use Rattle.promise_laws.specs.Closings.{AllEnd}
+use Rattle.promise_laws.proofs.BatchEnds.{records-end}
+use Rattle.promise_laws.proofs.KeptRuns.{logged_ends}
 use Rattle.batch_disk.specs.Resting.{EachImage}
 use Rattle.batch_disk.specs.declared.writer.BatchWriter.{BatchWriter}
 use Rattle.interleaver.specs.Beginnings.{Outset, basis_of}

@@ -8,10 +8,10 @@ use Rattle.promise_spec.specs.Words.{Manner}
 use Rattle.promise_spec.specs.Courses.{Observed, Course, seen_at_entry}
 use Rattle.promise_spec.specs.Promise.{IsSoundFolder, Promises}
 use Rattle.promise_spec.proofs.Openings.{silo_reads, sound_is_read, reads_is}
-use Rattle.explained_runs.specs.Closings.{ReadsMayStay, IsBehind}
-use Rattle.explained_runs.specs.Obligations.{ShowsAnywhere, Opens, Lasts}
-use Rattle.explained_runs.proofs.OpenedRuns.{answered_opened, answered_promised}
-use Rattle.explained_runs.proofs.KeptRuns.{opens_sound}
+use Rattle.promise_laws.specs.Closings.{ReadsMayStay, IsBehind}
+use Rattle.promise_laws.specs.Obligations.{ShowsAnywhere, Opens, Lasts}
+use Rattle.promise_laws.proofs.OpenedRuns.{answered_opened, answered_promised}
+use Rattle.promise_laws.proofs.KeptRuns.{opens_sound}
 
 module _ (p : Program) (r : Observed) (c : Course) (mid : World) (b : IsBehind live_slot p r c mid) (stay : ReadsMayStay r.old) (stay_mid : ReadsMayStay mid) where
   -- over a folder that is sound for a checked program, the program that it reads as is checked

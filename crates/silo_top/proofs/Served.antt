@@ -15,7 +15,7 @@ use Rattle.log_reading.specs.Steps.{seen_in, manager}
 use Rattle.promise_spec.specs.Journals.{AllLog}
 use Rattle.promise_spec.specs.Endings.{input_limit}
 use Rattle.promise_spec.specs.Promise.{Promises}
-use Rattle.explained_runs.specs.Closings.{ReadsMayStay}
+use Rattle.promise_laws.specs.Closings.{ReadsMayStay}
 use Rattle.settle_loop.specs.declared.settler.Settler.{Settler}
 use Rattle.interleaver.specs.declared.faults.RunFault.{RunFault}
 use Rattle.interleaver.specs.Beginnings.{Outset, IsOutset, CanTurn}

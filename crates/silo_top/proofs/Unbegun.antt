@@ -22,10 +22,10 @@ use Rattle.promise_spec.specs.Batches.{EndsABatch}
 use Rattle.promise_spec.specs.Journals.{AllLog, Seals, IsSealing, CutAt}
 use Rattle.promise_spec.specs.Promise.{Promises}
 use Rattle.promise_spec.proofs.Stepping.{begins_at, stays_on, whole_cut}
-use Rattle.explained_runs.specs.Closings.{ReadsMayStay, IsBehind, AllEnd, Carries}
-use Rattle.explained_runs.specs.Obligations.{ShowsAnywhere, Opens, Lasts}
-use Rattle.explained_runs.proofs.BatchEnds.{records-end}
-use Rattle.explained_runs.proofs.KeptRuns.{logged_ends, whole_lasts}
+use Rattle.promise_laws.specs.Closings.{ReadsMayStay, IsBehind, AllEnd, Carries}
+use Rattle.promise_laws.specs.Obligations.{ShowsAnywhere, Opens, Lasts}
+use Rattle.promise_laws.proofs.BatchEnds.{records-end}
+use Rattle.promise_laws.proofs.KeptRuns.{logged_ends, whole_lasts}
 use Rattle.opening_rules.specs.Behind.{program_of, FollowsOpening}
 use Rattle.opening_rules.proofs.Behind.{behind}
 use Rattle.silo_opening.specs.declared.open.Opened.{Opened}

@@ -4,7 +4,7 @@ use Rattle.host_trait.specs.Disk.{settled}
 use Rattle.host_trait.specs.Runs.{RunsOnFile}
 use Rattle.host_trait.specs.World.{World}
 use Rattle.log_reading.specs.Steps.{seen_in, manager}
-use Rattle.explained_runs.specs.Closings.{ReadsMayStay}
+use Rattle.promise_laws.specs.Closings.{ReadsMayStay}
 use Rattle.silo_opening.specs.Opened.{Stays, IsOpenedFrom}
 use Rattle.silo_opening.specs.declared.open.Opened.{Opened}
 

@@ -2,7 +2,7 @@ use Rattle.std.proofs.Common.{◌≡◌, ◌∷◌, ◌++◌, [], ◌∙◌, sym
 use Rattle.std.specs.Map.{update}
 use Rattle.std.specs.Option.{is_some, option_eq}
 use Rattle.script_scopes.specs.Names.{Scope}
-use Rattle.script_scopes.specs.Places.{place_in, place_of}
+use Rattle.script_scopes.specs.Places.{place_in, name_place}
 use Rattle.script_scopes.proofs.Lists.{map_length, pushed}
 use Rattle.script_scopes.proofs.Standing.{left_places, forgotten_places}
 use Rattle.script_scopes.proofs.in_scope.InScope.pop.Goals as goal
@@ -11,7 +11,7 @@ pub invariant_of-self-then-eq : goal.invariant_of-self-then-eq
 invariant_of-self-then-eq c =
     let xs : Scope = map (λ n. n.now) c.pop.new.self.items in
     let before : map (λ n. n.now) c.self.inside.list.items ≡ xs ++ c.in-Some.name.now ∷ [] = pushed (λ n. n.now) c.self.inside.list.items c.pop.new.self.items c.in-Some.name c.in-Some.ensures.items in
-    let has : (q : List ℕ) → place_in c.self.inside.places q ≡ place_of q (xs ++ c.in-Some.name.now ∷ []) = λ q. c.self.invariant q ∙ ap (λ (l : Scope). place_of q l) before in
+    let has : (q : List ℕ) → place_in c.self.inside.places q ≡ name_place q (xs ++ c.in-Some.name.now ∷ []) = λ q. c.self.invariant q ∙ ap (λ (l : Scope). name_place q l) before in
     let size : c.len.result ≡ length c.pop.new.self.items = search rules in
     let is : c.len.result ≡ length xs = size ∙ sym (map_length (λ n. n.now) c.pop.new.self.items) in
     let last : option_eq nat_eq (place_in c.self.inside.places c.in-Some.name.now) (Some c.len.result) ≡ true = search rules in
@@ -21,7 +21,7 @@ pub invariant_of-self-else-eq : goal.invariant_of-self-else-eq
 invariant_of-self-else-eq c =
     let xs : Scope = map (λ n. n.now) c.pop.new.self.items in
     let before : map (λ n. n.now) c.self.inside.list.items ≡ xs ++ c.in-Some.name.now ∷ [] = pushed (λ n. n.now) c.self.inside.list.items c.pop.new.self.items c.in-Some.name c.in-Some.ensures.items in
-    let has : (q : List ℕ) → place_in c.self.inside.places q ≡ place_of q (xs ++ c.in-Some.name.now ∷ []) = λ q. c.self.invariant q ∙ ap (λ (l : Scope). place_of q l) before in
+    let has : (q : List ℕ) → place_in c.self.inside.places q ≡ name_place q (xs ++ c.in-Some.name.now ∷ []) = λ q. c.self.invariant q ∙ ap (λ (l : Scope). name_place q l) before in
     let size : c.len.result ≡ length c.pop.new.self.items = search rules in
     let is : c.len.result ≡ length xs = size ∙ sym (map_length (λ n. n.now) c.pop.new.self.items) in
     let before_too : option_eq nat_eq (place_in c.self.inside.places c.in-Some.name.now) (Some c.len.result) ≡ false = search rules in

@@ -1,5 +1,0 @@
-use Rattle.explained_runs.proofs.ShownPromise.{promised}
-use Rattle.explained_runs.proofs.shown.shown_runs_promise.Goals as goal
-
-pub returns : goal.returns
-returns c m p r course is checked has shows = promised p r course checked shows m is has

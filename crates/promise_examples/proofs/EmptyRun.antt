@@ -1,0 +1,138 @@
+-- A run that reads no line keeps the whole promise.
+use Rattle.std.proofs.Common.{◌≡◌, inl, inr, ℕ, ◌≤◌, List, [], ◌++◌, length, refl, sym, ◌∙◌, ap, subst, arith}
+use Rattle.std.proofs.lemmas.List.{append-nil}
+use Rattle.core_model.specs.CoreState.{Member}
+use Rattle.host_trait.specs.World.{Moment, Image, IsImage, moment_of}
+use Rattle.host_trait.specs.declared.channels.Channel.{Channel}
+use Rattle.request_wire.specs.Lines.{lines_of}
+use Rattle.promise_spec.specs.Programs.{Program, shape_in}
+use Rattle.promise_spec.specs.Records.{Commit}
+use Rattle.promise_spec.specs.Logs.{live_slot, IsLog}
+use Rattle.promise_spec.specs.Moments.{IsImageOf}
+use Rattle.promise_spec.specs.Causes.{RoseBy}
+use Rattle.promise_spec.specs.Endings.{Done, DiskFault, HasRisen, IsCarried, HasLength, IsCalm}
+use Rattle.promise_spec.specs.Crashes.{LeavesAlone}
+use Rattle.promise_spec.specs.Batches.{EndsABatch}
+use Rattle.promise_spec.specs.Courses.{Observed, moments, lines, core_end}
+use Rattle.promise_spec.specs.Promise.{Keeps}
+use Rattle.promise_spec.proofs.Lists.{none_at}
+use Rattle.promise_spec.proofs.OneLog.{one_log}
+use Rattle.promise_examples.proofs.FirstFamily.{no_family}
+use Rattle.promise_examples.proofs.WholeBatches.{no_batch}
+use Rattle.promise_examples.specs.EmptyRuns.{IsEmptyRun, empty_course}
+
+module _ (p : Program) (r : Observed) (opening : List Commit) (run : IsEmptyRun p r opening) where
+  -- the two moments that count are the exit's
+  at_exit : (image : Image) → IsImageOf (moments r (empty_course r opening)) image → IsImage r.new.disk image
+  at_exit image is = elim is.member [
+    | inl same ↦ subst (λ (m : Moment). IsImage m.disk image) same is.left
+    | inr more ↦ elim more [
+      | inl same ↦ subst (λ (m : Moment). IsImage m.disk image) same is.left
+      | inr none ↦ absurd none
+    ]
+  ]
+
+  whole : (image : Image) → IsImage r.new.disk image → IsLog live_slot (shape_in p) image (opening ++ [])
+  whole image is = subst (λ (l : List Commit). IsLog live_slot (shape_in p) image l) (sym (append-nil opening)) (run.logs image is)
+
+  same_output : (m : Moment) → Member m (moments r (empty_course r opening)) → m.output ≡ r.old.output
+  same_output m there = elim there [
+    | inl same ↦ ap (λ (n : Moment). n.output) same ∙ run.output
+    | inr more ↦ elim more [ inl same ↦ ap (λ (n : Moment). n.output) same ∙ run.output | inr none ↦ absurd none ]
+  ]
+
+  disk_of : (m : Moment) (image : Image) → Member m (moments r (empty_course r opening)) → IsImage m.disk image → IsImage r.new.disk image
+  disk_of m image there left = at_exit image (record { moment = m; member = there; left = left })
+
+  no_fault : (channel : Channel) → RoseBy 0 (r.faults_before channel) (r.faults_after channel)
+  no_fault channel = let same : r.faults_after channel ≡ r.faults_before channel = run.faults channel in omega arith
+
+  ended : HasRisen r.ending r.faults_before r.faults_after × IsCarried r.ending × HasLength r.ending (length r.old.input) × IsCalm r.ending
+  ended =
+      let few : length r.old.input ≤ 16777216 = subst (λ (l : List ℕ). length l ≤ 16777216) (sym run.input) (omega arith) in
+      subst (λ e. HasRisen e r.faults_before r.faults_after × IsCarried e × HasLength e (length r.old.input) × IsCalm e) (sym run.ending) (tt, tt, few, tt)
+
+  no_lines : length (lines r) ≡ 0
+  no_lines = ap (λ (l : List (List ℕ)). length l) run.given ∙ ap (λ (l : List ℕ). length (lines_of l)) run.input
+
+  pub kept : Keeps p r (empty_course r opening)
+  kept = record {
+    headline = record {
+      ordered = record {
+        read = run.read;
+        opened = λ image is. record { entry = run.entry image is; log = run.logs image is };
+        longest = record {
+          image = run.some;
+          left = record { moment = moment_of r.new; member = inl refl; left = run.possible };
+          log = whole run.some run.possible;
+          longest = λ other is silo. (opening ++ [], whole other (at_exit other is), ([], sym (append-nil (opening ++ []))));
+        };
+        serial = tt;
+      };
+      replies = record {
+        output = record { output = run.output ∙ sym (append-nil r.old.output); unended = tt; proper = tt };
+        whole = λ other. refl;
+        within = λ e none. absurd none;
+        once = tt;
+        true_each = λ e none. absurd none;
+        ordered = λ i j m n d e a b at other. absurd (none_at i d at);
+      };
+      crashes = record {
+        past = run.synced;
+        quiet = λ m there. elim there [ inl same ↦ ap (λ (n : Moment). n.output) same ∙ run.output | inr none ↦ absurd none ];
+        before = λ image is. elim is.member [ inl same ↦ run.entry image (subst (λ (m : Moment). IsImage m.disk image) same is.left) | inr none ↦ absurd none ];
+        chain = λ one other a b silo. (opening ++ [], whole one (at_exit one a), λ silo_too. (opening ++ [], whole other (at_exit other b), inl ([], sym (append-nil (opening ++ [])))));
+        sound = λ image is. run.sound image (at_exit image is);
+        keeps = λ image is. record { log = opening; is = run.logs image (at_exit image is); longer = ([], sym (append-nil opening)) };
+        alone = λ m there. elim there [
+          | inl same ↦ subst (LeavesAlone live_slot r) (sym same) run.alone
+          | inr more ↦ elim more [ inl same ↦ subst (LeavesAlone live_slot r) (sym same) run.alone | inr none ↦ absurd none ]
+        ];
+      };
+      holds = λ m image there left. record {
+        written = [];
+        rest = [];
+        output = record { output = same_output m there ∙ sym (append-nil r.old.output); unended = tt; proper = tt };
+        front = ([], refl);
+        log = opening;
+        is = run.logs image (disk_of m image there left);
+        has = λ e l none. absurd none;
+      };
+    };
+    records = record {
+      family = no_family p.types (lines r) _ _ _;
+      whole = λ image log is log_is. subst (EndsABatch (core_end p (empty_course r opening)) opening) (one_log (shape_in p) image opening log (run.logs image (at_exit image is)) log_is) (no_batch (core_end p (empty_course r opening)) opening);
+    };
+    settled = record {
+      entries = ([], refl);
+      all = λ done. refl;
+      told = omega arith;
+      cut = inl refl;
+    };
+    explained = record {
+      records = inl tt;
+      units = λ at e is. absurd (none_at at e is.there);
+      turns = λ single at e is. absurd (none_at at e is.there);
+      caused = record { entries = λ x none. absurd none; units = λ u is. absurd (cc is) };
+      faults = record { votes = λ g. no_fault _; seals = no_fault _ };
+      doubted = λ file is. absurd (let e : Done ≡ DiskFault file = sym run.ending ∙ is in cc e);
+      ended = λ doubt. absurd (none_at doubt.at _ doubt.doubt.there);
+    };
+    exit = record {
+      logs = λ image is. record { log = opening ++ []; is = whole image is; which = inl refl };
+      doubt = λ one other a b is_one is_other log_a log_b differ. absurd (differ (one_log (shape_in p) one a (opening ++ []) log_a (whole one is_one) ∙ sym (one_log (shape_in p) other b (opening ++ []) log_b (whole other is_other))));
+      nowhere = λ e none. absurd none;
+      block = λ doubt. absurd (none_at doubt.at _ doubt.doubt.there);
+    };
+    ended = record {
+      given = run.given;
+      risen = ended.0;
+      carried = ended.1;
+      long = ended.2;
+      begun = inl refl;
+      done = λ is. record { input = run.left; answered = λ n low high. absurd (omega (arith, no_lines)) };
+      complete = λ calm. record { calm = ended.3; undisturbed = λ e none. absurd none };
+      alone = λ single one none e there. absurd there;
+      syncs = λ calm is. run.syncs;
+    };
+  }

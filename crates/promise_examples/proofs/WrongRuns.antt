@@ -1,0 +1,311 @@
+-- Runs that don't keep the promise.
+use Rattle.std.proofs.Common.{◌≡◌, ◌≢◌, inl, inr, ℕ, ◌+◌, ◌<◌, ◌≤◌, ◌^◌, Bool, true, false, List, [], ◌∷◌, ◌++◌, length, map, take, Some, Ok, Result, refl, sym, ap, subst, ◌∙◌, arith}
+use Rattle.std.specs.Prelude.{slice_get}
+use Rattle.std.specs.Int.{w32, to_le_bytes, from_le_bytes}
+use Rattle.std.specs.List.{flat_map, AllByRecursion}
+use Rattle.std.proofs.Math.Seq.{take-append_seam}
+use Rattle.std.proofs.lemmas.List.{append_cancel_left, take_at, length-map}
+use Rattle.std.proofs.lemmas.Nat.{from_le_bytes-to_le_bytes_4}
+use Rattle.std.proofs.lemmas.Option.{slice_get_within}
+use Rattle.base_types.specs.declared.calls.Call.{Call}
+use Rattle.base_types.specs.declared.calls.GrainId.{GrainId}
+use Rattle.base_types.specs.declared.calls.Origin.TheVariants.{Line, Child}
+use Rattle.base_types.specs.declared.calls.Outcome.{Outcome}
+use Rattle.base_types.specs.declared.calls.UnitNo.{UnitNo}
+use Rattle.base_types.specs.declared.entries.BadRequest.{BadRequest}
+use Rattle.base_types.specs.declared.entries.Entry.{Entry}
+use Rattle.base_types.specs.declared.entries.Settled.{Settled}
+use Rattle.base_types.specs.declared.entries.Settled.TheVariants as settled
+use Rattle.base_types.specs.declared.shapes.Shape.{Shape}
+use Rattle.commit_log.specs.declared.records.CommitRecord.{CommitRecord}
+use Rattle.commit_log.specs.Spelling.{spelling_of_record, spelling_of_body}
+use Rattle.core_model.specs.declared.effects.Effect.{Effect}
+use Rattle.core_model.specs.declared.events.CoreEvent.{CoreEvent}
+use Rattle.core_model.specs.declared.events.CoreEvent.TheVariants as event
+use Rattle.core_model.specs.Causes.{HasCause, IsCaused, IsRefusedLock}
+use Rattle.core_model.specs.Events.{applies, run, step}
+use Rattle.core_model.specs.Legal.{begins, ends}
+use Rattle.core_model.specs.Lines.{DifferInLine}
+use Rattle.core_model.specs.Serial.{committed, chosen}
+use Rattle.core_model.specs.CoreState.{Member, Mode}
+use Rattle.gate_block.proofs.Logs as blocks
+use Rattle.gate_block.specs.Log.{HasBlocks, LogsUpTo}
+use Rattle.host_trait.specs.declared.channels.FileId.{FileId}
+use Rattle.host_trait.specs.declared.channels.FileId.TheVariants as file
+use Rattle.host_trait.specs.World.{Image, IsImage, Moment, moment_of, last_of}
+use Rattle.request_wire.specs.Names.{names_in}
+use Rattle.request_wire.specs.Request.{call_of}
+use Rattle.request_wire.specs.Reply.{reply_line}
+use Rattle.script_tree.specs.Programs.{ProgramTree}
+use Rattle.script_meaning.specs.Play.{IsTransaction}
+use Rattle.silo_spec.specs.Silos.{manager, IsSilo}
+use Rattle.promise_spec.specs.Programs.{Program, shape_in}
+use Rattle.promise_spec.specs.Records.{Commit, Standing, States, after_writes, AreRecordsOf}
+use Rattle.promise_spec.specs.Serial.{IsSerial, played}
+use Rattle.promise_spec.specs.Logs.{live_slot, magic, IsLog, IsPrefix, body_of}
+use Rattle.promise_spec.specs.Moments.{IsImageOf}
+use Rattle.promise_spec.specs.Lines.{ReadsLineAs, IsLineCall}
+use Rattle.promise_spec.specs.Outputs.{reply_lines}
+use Rattle.promise_spec.specs.Cores.{AppliesAt, state_before, core_from}
+use Rattle.promise_spec.specs.Causes.{HasDoubt, IsAlive, NoneRose, syncs_of}
+use Rattle.promise_spec.specs.Family.{states_after}
+use Rattle.promise_spec.specs.Endings as ending
+use Rattle.promise_spec.specs.Courses.{Observed, Course, order, moments, seen_at_entry, lines, opening_standing, core_run, core_end}
+use Rattle.promise_spec.specs.Replies.{IsEntryOf, IsTrueOf, HasNoRecord}
+use Rattle.promise_spec.specs.Crashes.{Acknowledges, IsAside}
+use Rattle.promise_spec.specs.Batches.{kept_by}
+use Rattle.promise_spec.specs.Explained.{AreAdded}
+use Rattle.promise_spec.specs.Exits.{HasBlock}
+use Rattle.promise_spec.specs.Promise.{Keeps, HasReadAll}
+use Rattle.promise_spec.proofs.Lists.{head_of, none_is, none_at, some_is, each_of, in_append, either_in, get_seam, member_at}
+use Rattle.promise_spec.proofs.Opened.{in_settled, no_events}
+use Rattle.promise_spec.proofs.CountedSyncs.{long_syncs}
+use Rattle.promise_examples.proofs.WholeBatches.{not_between}
+use Rattle.promise_examples.proofs.Emitting.{emitted_before, nothing_unwritten}
+use Rattle.promise_spec.proofs.OneLog.{one_log}
+
+ok_is : (x y : Result Call BadRequest) (a b : Call) → x ≡ Ok a → y ≡ Ok b → x ≡ y → a ≡ b
+ok_is x y a b is_a is_b same = cc
+
+-- a line reads in one way
+same_request : (types : ProgramTree) (lines : List (List ℕ)) (n : ℕ) (a b : Result Call BadRequest) → ReadsLineAs types lines n a → ReadsLineAs types lines n b → a ≡ b
+same_request types lines n a b x y =
+    let index : x.index ≡ y.index = (let i : n ≡ x.index + 1 = x.number in let j : n ≡ y.index + 1 = y.number in omega arith) in
+    let text : x.text ≡ y.text = some_is x.text y.text (sym x.there ∙ ap (slice_get lines) index ∙ y.there) in
+    sym x.reads ∙ ap (call_of (names_in types)) text ∙ y.reads
+
+same_call : (types : ProgramTree) (lines : List (List ℕ)) (n : ℕ) (a b : Call) → IsLineCall types lines n a → IsLineCall types lines n b → a ≡ b
+same_call types lines n a b x y = ok_is (Ok a) (Ok b) a b refl refl (same_request types lines n (Ok a) (Ok b) x y)
+
+-- an output that grew by a line feed grew by an entry
+written_some : (shape : Shape) (written entries : List Entry) (rest more : List ℕ) → more ≡ reply_lines shape written ++ rest → AllByRecursion (λ (byte : ℕ). byte ≢ 10) rest → Member 10 more → IsPrefix written entries
+    → (e : Entry) × Member e written × Member e entries
+written_some shape [] entries rest more same unended feed front = absurd (each_of (λ (byte : ℕ). byte ≢ 10) rest 10 unended (subst (λ (l : List ℕ). Member 10 l) same feed) refl)
+written_some shape (e ∷ es) entries rest more same unended feed front = (e, inl refl, subst (λ (l : List Entry). Member e l) (sym front.1) (inl refl))
+
+twice : (front between back : List Entry) (d e : Entry) → DifferInLine (front ++ (d ∷ (between ++ (e ∷ back)))) → d.line ≡ e.line → ⊥
+twice [] between back d e all same = all.0 e (in_append e between (e ∷ back) (inr (inl refl))) same
+twice (x ∷ front) between back d e all same = twice front between back d e all.1 same
+
+-- each record of a serial list replays over the states that those before it left
+serial_at : (types : ProgramTree) (states : States) (front : List Commit) (l : Commit) (back : List Commit) → IsSerial types states (front ++ (l ∷ back)) → (played types (states_after states front) l.logged).result ≡ l.logged.result
+serial_at types states [] l back serial = serial.0.result
+serial_at types states (x ∷ front) l back serial = serial_at types (after_writes states x) front l back serial.1
+
+length-count : (n : ℕ) → length (to_le_bytes w32 n) ≡ 4
+length-count n = refl
+
+count_of : (rs : List CommitRecord) → length rs < 2 ^ 32 → from_le_bytes w32 (take 4 (spelling_of_body rs)) ≡ length rs
+count_of rs small = ap (from_le_bytes w32) (take_at (to_le_bytes w32 (length rs)) (flat_map spelling_of_record rs) 4 (length-count (length rs))) ∙ from_le_bytes-to_le_bytes_4 (length rs) small
+
+many : (batches : List (List Commit)) (records : List CommitRecord) → AllByRecursion (λ batch. length batch ≤ 64) batches → length records ≡ 65 → map body_of batches ≡ spelling_of_body records ∷ [] → ⊥
+many [] records sizes long same = none_is (spelling_of_body records) [] (sym same)
+many (batch ∷ batches) records sizes long same =
+    let body : body_of batch ≡ spelling_of_body records = head_of (body_of batch) (spelling_of_body records) (map body_of batches) [] same in
+    let size : length (map (λ (c : Commit). c.logged) batch) ≡ length batch = length-map batch (λ (c : Commit). c.logged) in
+    let few : length batch ≤ 64 = sizes.0 in
+    let one : from_le_bytes w32 (take 4 (body_of batch)) ≡ length (map (λ (c : Commit). c.logged) batch) = count_of (map (λ (c : Commit). c.logged) batch) (omega (arith, size, few)) in
+    let other : from_le_bytes w32 (take 4 (spelling_of_body records)) ≡ length records = count_of records (omega (arith, long)) in
+    let same_count : length (map (λ (c : Commit). c.logged) batch) ≡ length records = sym one ∙ ap (λ (l : List ℕ). from_le_bytes w32 (take 4 l)) body ∙ other in
+    omega (arith, same_count, size, few, long)
+
+pub too_many : (shape : Shape) (image : Image) (records : List CommitRecord) (gate : ℕ) (log : List Commit) → length records ≡ 65 → LogsUpTo (spelling_of_body records ∷ []) gate (image manager) → IsLog live_slot shape image log → ⊥
+too_many shape image records gate log long blocks_are is =
+    many is.batches records is.sizes long (blocks.one_log (map body_of is.batches) (spelling_of_body records ∷ []) is.gate gate (image manager) is.blocks blocks_are).0
+
+-- without events no record is added
+nothing_added : (types : ProgramTree) (standing : Standing) (added : List Commit) → AreAdded (ends (core_from types standing [])) added → (l : Commit) → Member l added → ⊥
+nothing_added types standing [] are l there = there
+nothing_added types standing (x ∷ added) (inl none) l there = absurd none
+nothing_added types standing (x ∷ added) (inr follow) l there = absurd (cc follow.doubt)
+
+module _ (p : Program) (r : Observed) (c : Course) where
+  pub read_at_entry : (log : List Commit) → Keeps p r c → IsLog live_slot (shape_in p) (seen_at_entry r) log → c.opening ≡ log
+  read_at_entry log keeps is = one_log (shape_in p) (seen_at_entry r) c.opening log keeps.headline.ordered.read is
+
+  pub opening_is : (image : Image) (log : List Commit) → Keeps p r c → IsImage (last_of (moment_of r.old) c.early).disk image → IsLog live_slot (shape_in p) image log → c.opening ≡ log
+  opening_is image log keeps left is = one_log (shape_in p) image c.opening log (keeps.headline.ordered.opened image left).log is
+
+  pub shorter : (image : Image) (log : List Commit) → Keeps p r c → IsImageOf (moments r c) image → IsLog live_slot (shape_in p) image log → (IsPrefix c.opening log → ⊥) → ⊥
+  shorter image log keeps left is lost =
+      let k = keeps.headline.crashes.keeps image left in
+      lost (subst (λ (l : List Commit). IsPrefix c.opening l) (one_log (shape_in p) image k.log log k.is is) k.longer)
+
+  pub part_of_batch : (image : Image) (more : List Commit) (n : ℕ) → Keeps p r c → IsImageOf (moments r c) image → IsLog live_slot (shape_in p) image (c.opening ++ more)
+      → length (kept_by (core_end p c) n) < length more → length more < length (kept_by (core_end p c) (n + 1)) → ⊥
+  part_of_batch image more n keeps left is above below =
+      not_between (core_end p c) c.opening more n (keeps.records.whole image (c.opening ++ more) left is) above below
+
+  pub one_of_two : (image : Image) (l : Commit) → Keeps p r c → IsImageOf (moments r c) image → IsLog live_slot (shape_in p) image (c.opening ++ (l ∷ [])) → 2 ≤ length (kept_by (core_end p c) 1) → ⊥
+  one_of_two image l keeps left is two =
+      let none : length (kept_by (core_end p c) 0) ≡ 0 = refl in
+      let below : length (l ∷ []) < length (kept_by (core_end p c) (0 + 1)) = omega (arith, two) in
+      part_of_batch image (l ∷ []) 0 keeps left is (omega (arith, none)) below
+
+  pub more_syncs : Keeps p r c → NoneRose r.faults_before r.faults_after → ending.CountsSyncs r.ending → r.old.syncs + syncs_of (core_run p c) < r.new.syncs → ⊥
+  more_syncs keeps calm is more = let same : r.new.syncs ≡ r.old.syncs + syncs_of (core_run p c) = keeps.ended.syncs calm is in omega (arith, same, more)
+
+  pub fewer_syncs : Keeps p r c → NoneRose r.faults_before r.faults_after → ending.CountsSyncs r.ending → r.new.syncs < r.old.syncs + syncs_of (core_run p c) → ⊥
+  fewer_syncs keeps calm is fewer = let same : r.new.syncs ≡ r.old.syncs + syncs_of (core_run p c) = keeps.ended.syncs calm is in omega (arith, same, fewer)
+
+  pub other_long_syncs : (line : ℕ) → Keeps p r c → NoneRose r.faults_before r.faults_after → r.ending ≡ ending.InputTooLong line → r.new.syncs ≢ r.old.syncs + 1 → ⊥
+  other_long_syncs line keeps calm is differ = differ (long_syncs p r c line keeps calm is)
+
+  pub closed : (image : Image) → Keeps p r c → IsImage r.new.disk image → (IsSilo magic (image manager) → ⊥) → ⊥
+  closed image keeps left none = none (keeps.exit.logs image left).is.silo
+
+  pub changed_aside : (m : Moment) (f : FileId) → Keeps p r c → Member m (moments r c) → IsAside live_slot f → m.disk f ≢ r.old.disk f → ⊥
+  changed_aside m f keeps there aside differ = differ ((keeps.headline.crashes.alone m there).aside f aside)
+
+  pub changed_header : (m : Moment) (image : Image) → Keeps p r c → Member m (moments r c) → IsImage m.disk image → take 15 (image manager) ≢ take 15 (seen_at_entry r manager) → ⊥
+  changed_header m image keeps there left differ = differ ((keeps.headline.crashes.alone m there).header image left)
+
+  pub early_reply : (m : Moment) (image : Image) (more : List ℕ) → Keeps p r c → Member m (moments r c) → IsImage m.disk image → IsLog live_slot (shape_in p) image c.opening → m.output ≡ r.old.output ++ more → Member 10 more
+      → ((e : Entry) → Member e c.entries → (l : Commit) × Member l c.added × Acknowledges e l × (Member l c.opening → ⊥)) → ⊥
+  early_reply m image more keeps there left is grew feed backed =
+      let h = keeps.headline.holds m image there left in
+      let same : more ≡ reply_lines (shape_in p) h.written ++ h.rest = append_cancel_left r.old.output more (reply_lines (shape_in p) h.written ++ h.rest) (sym grew ∙ h.output.output) in
+      let w = written_some (shape_in p) h.written c.entries h.rest more same h.output.unended feed h.front in
+      let b = backed w.0 w.2 in
+      let has : Member b.0 h.log = h.has w.0 b.0 w.1 b.1 b.2 in
+      b.3 (subst (λ (l : List Commit). Member b.0 l) (one_log (shape_in p) image h.log c.opening h.is is) has)
+
+  pub untold : Keeps p r c → length c.entries < (core_end p c).manager.emitted → ⊥
+  untold keeps more = let told : (core_end p c).manager.emitted ≤ length c.entries = keeps.settled.told in omega arith
+
+  pub taken_unwritten : (at : ℕ) → Keeps p r c → r.manner.threaded ≡ false → AppliesAt (core_run p c) at event.Take → length c.entries < length (state_before (core_run p c) at).manager.settled → ⊥
+  taken_unwritten at keeps single takes more =
+      let told : (core_end p c).manager.emitted ≤ length c.entries = keeps.settled.told in
+      let before : (state_before (core_run p c) at).manager.emitted ≤ (core_end p c).manager.emitted = emitted_before (core_run p c) at in
+      nothing_unwritten p.types (length (lines r)) r.manner.width r.manner.picks (core_run p c) at (keeps.explained.turns single) takes (omega arith)
+
+  pub cut_elsewhere : Keeps p r c → c.rest ≢ [] → ((e : Entry) → Member e (core_end p c).manager.settled → IsPrefix c.rest (reply_line (shape_in p) e) → ⊥) → ⊥
+  cut_elsewhere keeps some none = elim keeps.settled.cut [
+    | inl empty ↦ some empty
+    | inr next ↦ none next.0 (member_at (length c.entries) next.0 (core_end p c).manager.settled next.1) next.2
+  ]
+
+  pub answered_twice : (front between back : List Entry) (d e : Entry) → Keeps p r c → c.entries ≡ front ++ (d ∷ (between ++ (e ∷ back))) → d.line ≡ e.line → ⊥
+  answered_twice front between back d e keeps split same = twice front between back d e (subst DifferInLine split keeps.headline.replies.once) same
+
+  pub locked_and_logged : (e : Entry) (l : Commit) (by : UnitNo) (grain : GrainId) → Keeps p r c → Member e c.entries → e.what ≡ settled.Lock by grain → Member l c.added → l.logged.unit ≡ e.unit → ⊥
+  locked_and_logged e l by grain keeps there is added same = subst (λ (w : Settled). IsTrueOf p r c e w) is (keeps.headline.replies.true_each e there) l added same
+
+  in_order : (image : Image) (log : List Commit) (l : Commit) → Keeps p r c → IsImage r.new.disk image → IsLog live_slot (shape_in p) image log → Member l log → Member l (order c)
+  in_order image log l keeps left is there =
+      let k = keeps.exit.logs image left in
+      let here : Member l k.log = subst (λ (x : List Commit). Member l x) (one_log (shape_in p) image log k.log is k.is) there in
+      elim k.which [
+        | inl same ↦ subst (λ (x : List Commit). Member l x) same here
+        | inr lacks ↦ subst (λ (x : List Commit). Member l x) (sym lacks.split) (in_append l k.log lacks.last (inl here))
+      ]
+
+  pub refused_in_doubt : (e : Entry) (l : Commit) (image : Image) (log : List Commit) → Keeps p r c → Member e c.entries → e.what ≡ settled.Disk → IsImage r.new.disk image → IsLog live_slot (shape_in p) image log → Member l log
+      → (Member l c.opening → ⊥) → l.logged.unit ≡ e.unit → ⊥
+  refused_in_doubt e l image log keeps there is left log_is in_log not_old same =
+      let none : HasNoRecord c e.unit = subst (λ (w : Settled). IsTrueOf p r c e w) is (keeps.headline.replies.true_each e there) in
+      elim (either_in l c.opening c.added (in_order image log l keeps left log_is in_log)) [ inl old ↦ not_old old | inr added ↦ none l added same ]
+
+  pub another_block : (image : Image) → Keeps p r c → HasDoubt (core_run p c) → IsImage r.new.disk image
+      → ((gate : ℕ) (batch : List Commit) (batches : List (List Commit)) → AreRecordsOf (chosen (core_end p c)) batch → HasBlocks (map body_of batches) gate (image manager) → HasBlock live_slot gate batch image → ⊥) → ⊥
+  another_block image keeps doubt left none =
+      let b = keeps.exit.block doubt in
+      none b.gate b.batch b.batches b.records (b.front image left) (b.block image left)
+
+  pub no_such_line : (l : Commit) (n : ℕ) → Keeps p r c → Member l c.added → l.logged.origin ≡ Line n → length (lines r) < n → ⊥
+  no_such_line l n keeps added is beyond =
+      let x = keeps.records.family.line l n added is in
+      let within : x.index < length (lines r) = slice_get_within (lines r) x.index x.text x.there in
+      let number : n ≡ x.index + 1 = x.number in
+      omega arith
+
+  pub not_asked : (l parent : Commit) (index depth : ℕ) → Keeps p r c → Member l c.added → Member parent c.added → l.logged.origin ≡ Child parent.logged.unit index depth
+      → ((states : States) → (played p.types states parent.logged).asked ≡ []) → ⊥
+  not_asked l parent index depth keeps added also is asks_none =
+      let a = keeps.records.family.asked l parent index depth added also is in
+      let none = asks_none (states_after (opening_standing p c).states a.front) in
+      none_at index _ (sym (ap (λ asked. slice_get asked index) none) ∙ a.asks)
+
+  pub another_call : (at n : ℕ) (call other : Call) (plain : Bool) → Keeps p r c → AppliesAt (core_run p c) at (event.Begin (Line n) call plain) → IsLineCall p.types (lines r) n other → call ≢ other → ⊥
+  another_call at n call other plain keeps begins_it asks differ = differ (same_call p.types (lines r) n call other (keeps.explained.units at (event.Begin (Line n) call plain) begins_it).0 asks)
+
+  pub wrong_total : (e : Entry) (l : Commit) (front back : List Commit) (outcome : Outcome) → Keeps p r c → Member e c.entries → e.what ≡ settled.Done outcome → c.added ≡ front ++ (l ∷ back) → IsEntryOf e l → IsTransaction p.types l.logged.call
+      → (played p.types (states_after (opening_standing p c).states front) l.logged).result ≢ outcome → ⊥
+  wrong_total e l front back outcome keeps there is split of transaction differ =
+      let added : Member l c.added = subst (λ (x : List Commit). Member l x) (sym split) (in_append l front (l ∷ back) (inr (inl refl))) in
+      let replays = serial_at p.types (opening_standing p c).states front l back (subst (λ (x : List Commit). IsSerial p.types (opening_standing p c).states x) split keeps.headline.ordered.serial) in
+      elim (subst (λ (w : Settled). IsTrueOf p r c e w) is (keeps.headline.replies.true_each e there)) [
+        | inl reply ↦
+            let same : reply.commit ≡ l = keeps.records.family.one_each reply.commit l e.line reply.added added reply.of.line of.line in
+            differ (replays ∙ ap (λ (x : Commit). x.logged.result) (sym same) ∙ reply.result)
+        | inr plain ↦
+            let same : l.logged.call ≡ plain.call = same_call p.types (lines r) e.line l.logged.call plain.call (keeps.records.family.line l e.line added of.line) plain.line in
+            plain.plain (subst (IsTransaction p.types) same transaction)
+      ]
+
+  first_of : (effects : List Effect) (first : Effect) (later : List Effect) (l : Commit) (more : List Commit) → AreRecordsOf effects c.added → effects ≡ first ∷ later → c.added ≡ l ∷ more → l.logged.unit ≡ first.unit
+  first_of effects first later l more are is split =
+      (subst (λ (x : List Commit). AreRecordsOf (first ∷ later) x) split (subst (λ (x : List Effect). AreRecordsOf x c.added) is are)).0.unit
+
+  pub wrong_order : (first : Effect) (later : List Effect) (l : Commit) (more : List Commit) → Keeps p r c → committed (core_end p c) ≡ first ∷ later → c.added ≡ l ∷ more → l.logged.unit ≢ first.unit → ⊥
+  wrong_order first later l more keeps is split differ =
+      elim keeps.explained.records [
+        | inl are ↦ differ (first_of (committed (core_end p c)) first later l more are is split)
+        | inr follow ↦ differ (first_of (committed (core_end p c) ++ chosen (core_end p c)) first (later ++ chosen (core_end p c)) l more follow.records (ap (λ (x : List Effect). x ++ chosen (core_end p c)) is) split)
+      ]
+
+  settled_too : (e : Entry) → Keeps p r c → Member e c.entries → IsCaused (core_run p c) e
+  settled_too e keeps there =
+      keeps.explained.caused.entries e (in_settled p r c e keeps there)
+
+  pub no_refusal : (e : Entry) (by : UnitNo) (grain : GrainId) → Keeps p r c → Member e c.entries → e.what ≡ settled.Lock by grain
+      → ((at : ℕ) (mode : Mode) → AppliesAt (core_run p c) at (event.Refuse e.unit grain mode) → ⊥) → ⊥
+  no_refusal e by grain keeps there is never =
+      let k = settled_too e keeps there in
+      let w = run (begins (core_run p c)) k.before in
+      let refused : IsRefusedLock w k.event e.unit by grain = subst (λ (x : Settled). HasCause w k.event (step w k.event) e.unit x) is k.cause in
+      let front : take (length k.before) c.events ≡ k.before = ap (take (length k.before)) k.split ∙ take-append_seam k.before (k.event ∷ k.later) in
+      let there_at : slice_get c.events (length k.before) ≡ Some (event.Refuse e.unit grain refused.mode) =
+      ap (λ (x : List CoreEvent). slice_get x (length k.before)) k.split ∙ get_seam k.before k.event k.later ∙ ap Some refused.refused in
+      let applied : applies (run (begins (core_run p c)) (take (length k.before) c.events)) (event.Refuse e.unit grain refused.mode) ≡ true =
+      ap (λ (x : List CoreEvent). applies (run (begins (core_run p c)) x) (event.Refuse e.unit grain refused.mode)) front
+      ∙ ap (λ (x : CoreEvent). applies w x) (sym refused.refused) ∙ k.applied in
+      never (length k.before) refused.mode (record { there = there_at; applied = applied })
+
+  pub blamed_alive : (e : Entry) (on : UnitNo) → Keeps p r c → Member e c.entries → e.what ≡ settled.Dependency on
+      → ((before later : List CoreEvent) (event : CoreEvent) → c.events ≡ before ++ (event ∷ later) → IsAlive (run (begins (core_run p c)) before) event on) → ⊥
+  blamed_alive e on keeps there is alive =
+      let k = settled_too e keeps there in
+      let w = run (begins (core_run p c)) k.before in
+      let lives = alive k.before k.later k.event k.split in
+      elim (subst (λ (x : Settled). HasCause w k.event (step w k.event) e.unit x) is k.cause) [
+        | inl refused ↦ lives.before refused.dead
+        | inr decided ↦ lives.decided decided.0 decided.4.dead
+      ]
+
+  -- where an event applies the input was read whole
+  read_all : (at : ℕ) (e : CoreEvent) → Keeps p r c → AppliesAt (core_run p c) at e → HasReadAll r
+  read_all at e keeps applies_it = elim keeps.ended.begun [
+    | inl none ↦ absurd (none_at at e (subst (λ (events : List CoreEvent). slice_get events at ≡ Some e) none applies_it.there))
+    | inr all ↦ all
+  ]
+
+  pub begun_unread : (at : ℕ) (e : CoreEvent) → Keeps p r c → AppliesAt (core_run p c) at e → r.new.input ≢ [] → ⊥
+  begun_unread at e keeps applies_it some = some (read_all at e keeps applies_it).input
+
+  pub begun_too_long : (at : ℕ) (e : CoreEvent) → Keeps p r c → AppliesAt (core_run p c) at e → ending.input_limit < length r.old.input → ⊥
+  begun_too_long at e keeps applies_it long = let short : length r.old.input ≤ ending.input_limit = (read_all at e keeps applies_it).short in omega arith
+
+  pub begun_and_unreadable : (at : ℕ) (e : CoreEvent) → Keeps p r c → AppliesAt (core_run p c) at e → r.ending ≡ ending.ReadFault → ⊥
+  begun_and_unreadable at e keeps applies_it is = subst ending.IsBegun is (read_all at e keeps applies_it).ending
+
+  -- a run that ends as none does that has begun has no records
+  pub unbegun_record : (l : Commit) → Keeps p r c → (ending.IsBegun r.ending → ⊥) → Member l c.added → ⊥
+  unbegun_record l keeps never there =
+      nothing_added p.types (opening_standing p c) c.added (subst (λ (events : List CoreEvent). AreAdded (ends (core_from p.types (opening_standing p c) events)) c.added) (no_events p r c keeps never) keeps.explained.records) l there
+
+  pub grain_fault : (slot : ℕ) (grain : GrainId) → Keeps p r c → r.ending ≡ ending.DiskFault (file.Grain slot grain) → ⊥
+  grain_fault slot grain keeps is = let same : file.Grain slot grain ≡ manager = (keeps.explained.doubted (file.Grain slot grain) is).0 in absurd (cc same)
+
+  pub done_in_doubt : Keeps p r c → HasDoubt (core_run p c) → r.ending ≡ ending.Done → ⊥
+  done_in_doubt keeps doubt is = subst ending.MayDoubt is (keeps.explained.ended doubt)

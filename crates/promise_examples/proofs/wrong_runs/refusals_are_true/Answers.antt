@@ -1,0 +1,41 @@
+use Rattle.promise_examples.proofs.WrongAnswers.{another_place, sound_damaged, silo_called_none, none_opened, damaged_carried, no_bad_use, grain_blamed, unnamed_blamed, done_unread, done_unanswered, grain_fault_opened, said_unbegun, blamed_behind}
+use Rattle.promise_examples.proofs.wrong_runs.refusals_are_true.Goals as goal
+
+pub returns-clause-place : goal.returns-clause-place
+returns-clause-place c = another_place
+
+pub returns-clause-sound : goal.returns-clause-sound
+returns-clause-sound c = sound_damaged
+
+pub returns-clause-silo : goal.returns-clause-silo
+returns-clause-silo c = silo_called_none
+
+pub returns-clause-opened : goal.returns-clause-opened
+returns-clause-opened c = none_opened
+
+pub returns-clause-carried : goal.returns-clause-carried
+returns-clause-carried c = damaged_carried
+
+pub returns-clause-bad_use : goal.returns-clause-bad_use
+returns-clause-bad_use c = no_bad_use
+
+pub returns-clause-blamed : goal.returns-clause-blamed
+returns-clause-blamed c = grain_blamed
+
+pub returns-clause-unnamed : goal.returns-clause-unnamed
+returns-clause-unnamed c = unnamed_blamed
+
+pub returns-clause-unread : goal.returns-clause-unread
+returns-clause-unread c = done_unread
+
+pub returns-clause-unanswered : goal.returns-clause-unanswered
+returns-clause-unanswered c = done_unanswered
+
+pub returns-clause-grain : goal.returns-clause-grain
+returns-clause-grain c = grain_fault_opened
+
+pub returns-clause-said : goal.returns-clause-said
+returns-clause-said c = said_unbegun
+
+pub returns-clause-behind : goal.returns-clause-behind
+returns-clause-behind c = blamed_behind

@@ -1,0 +1,53 @@
+-- A run of two lines, of which the first one's file can't be written, and the second read what the first left.
+use Rattle.std.specs.Prelude.{◌≡◌, ◌≤◌, ◌≢◌, ◌+◌, false, List, [], ◌∷◌, ◌++◌, length}
+use Rattle.std.specs.List.{AllByRecursion}
+use Rattle.host_trait.specs.declared.channels.Channel.{Channel}
+use Rattle.host_trait.specs.declared.channels.Channel.TheVariants.{File}
+use Rattle.host_trait.specs.declared.channels.FileId.TheVariants.{Grain}
+use Rattle.host_trait.specs.World.{Moment, Image, IsImage, moment_of}
+use Rattle.request_wire.specs.Lines.{lines_of}
+use Rattle.promise_spec.specs.Programs.{shape_in}
+use Rattle.promise_spec.specs.Logs.{live_slot, IsLog}
+use Rattle.promise_spec.specs.Outputs.{reply_lines}
+use Rattle.promise_spec.specs.Endings.{Done, input_limit}
+use Rattle.promise_spec.specs.Crashes.{LeavesAlone}
+use Rattle.promise_spec.specs.Courses.{Observed, Course, seen_at_entry, lines}
+use Rattle.promise_examples.specs.Examples.{account_program, account_1, voted_entry, vote_entries, vote_events, AskBoth}
+use Rattle.promise_examples.specs.DepositRuns.{HasNone, IsBetween}
+
+-- The files read as an empty log at entry. The run synced it, failed to write the first line's file, and wrote that
+-- this line is aborted for its vote, and the second for what it depends on: each image has an empty log all along, and
+-- there is one. That file's count of faults rose by one, and no other.
+pub record IsVoteRun (r : Observed) (opened : Moment) (failing told : List Moment) : Type 0 where
+  pub ending : r.ending ≡ Done
+  pub pair : (r.manner.threaded ≡ false) × (r.manner.width ≡ 2) × (r.manner.picks ≡ [])
+  pub small : length r.old.input ≤ input_limit
+  pub two : length (lines r) ≡ 2
+  pub given : lines r ≡ lines_of r.old.input
+  pub asks : AskBoth (lines r)
+  pub left : r.new.input ≡ []
+  pub read : IsLog live_slot (shape_in account_program) (seen_at_entry r) []
+  pub past : r.new.past ≡ r.old.past ++ (opened ∷ (failing ++ told ++ moment_of r.new ∷ []))
+  pub quiet : opened.output ≡ r.old.output
+  pub output : r.new.output ≡ r.old.output ++ reply_lines (shape_in account_program) vote_entries
+  pub entry : (image : Image) → IsImage opened.disk image → IsImage r.old.disk image × HasNone image
+  pub unsaid : AllByRecursion (IsBetween r r.old.output HasNone) failing
+  pub first : AllByRecursion (IsBetween r (r.old.output ++ reply_lines (shape_in account_program) (voted_entry ∷ [])) HasNone) told
+  pub exit : (image : Image) → IsImage r.new.disk image → HasNone image
+  pub alone : LeavesAlone live_slot r opened × LeavesAlone live_slot r (moment_of r.new)
+  pub some : Image
+  pub possible : IsImage r.new.disk some
+  pub rose : r.faults_after (File (Grain 0 account_1)) ≡ r.faults_before (File (Grain 0 account_1)) + 1
+  pub others : (channel : Channel) → channel ≢ File (Grain 0 account_1) → r.faults_after channel ≡ r.faults_before channel
+
+-- the course of such a run
+abbrev pub vote_course : Moment → List Moment → List Moment → Observed → Course
+vote_course opened failing told r = record {
+  opening = [];
+  added = [];
+  early = opened ∷ [];
+  late = failing ++ told ++ moment_of r.new ∷ [];
+  events = vote_events;
+  entries = vote_entries;
+  rest = [];
+}

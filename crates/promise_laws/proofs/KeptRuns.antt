@@ -1,0 +1,253 @@
+-- From what a run's loop carries to what lasts.
+use Rattle.std.proofs.Common.{◌≡◌, ◌≢◌, take, inl, inr, ℕ, Some, List, [], ◌∷◌, ◌++◌, refl, sym, ap, subst, ◌∙◌, append_assoc, append-nil}
+use Rattle.std.specs.List.{AllByRecursion}
+use Rattle.std.proofs.lemmas.List.{append_cancel_left}
+use Rattle.base_types.specs.declared.entries.Entry.{Entry}
+use Rattle.host_trait.specs.Disk.{FileState, MayLeave, settled}
+use Rattle.host_trait.specs.declared.channels.FileId.{FileId}
+use Rattle.host_trait.specs.declared.channels.FileId.TheVariants.{Program as ProgramFile, Manager, Grain}
+use Rattle.host_trait.specs.World.{World, Moment, Image, IsImage, Passes, moment_of}
+use Rattle.host_trait.proofs.Crashes.{settled_only}
+use Rattle.core_model.specs.CoreState as core
+use Rattle.core_model.specs.CoreState.{Member}
+use Rattle.silo_spec.specs.Silos.{manager}
+use Rattle.silo_spec.specs.Moments.{IsAsAtEntry}
+use Rattle.promise_spec.specs.Programs.{Program, IsChecked, shape_in}
+use Rattle.promise_spec.specs.Records.{Commit}
+use Rattle.promise_spec.specs.Logs.{live_slot, IsLog}
+use Rattle.promise_spec.specs.Images.{IsSound}
+use Rattle.promise_spec.specs.Outputs.{IsProper, Grew}
+use Rattle.promise_spec.specs.Courses.{Observed, Course, order, moments, seen_at_entry, core_end}
+use Rattle.promise_spec.specs.Crashes.{IsAside, LeavesAlone}
+use Rattle.promise_spec.specs.Batches.{EndsABatch}
+use Rattle.promise_spec.specs.Exits.{HasLogAtExit, IsNowhere, AreOf, doubtful}
+use Rattle.promise_spec.specs.Journals.{Settlement, KeepsJournal, AllSay, AllLog, CutAt, IsSealing, commits_of, entries_of}
+use Rattle.promise_spec.specs.Promise.{IsSoundFolder, Promises}
+use Rattle.promise_spec.specs.Replies.{HasNoRecord}
+use Rattle.promise_spec.proofs.Lists.{each_of, in_append, either_in}
+use Rattle.promise_spec.proofs.OneLog.{one_log}
+use Rattle.promise_spec.proofs.Openings.{silo_reads, sound_is_read, reads_is}
+use Rattle.promise_spec.proofs.SettledLogs.{settled_logs}
+use Rattle.promise_spec.proofs.Stepping.{entries_of-append, joined_logs, begins_at, now_says, keep_more, say_more, cut_says}
+use Rattle.promise_laws.specs.Closings.{ReadsMayStay, IsBehind, AllEnd, Carries}
+use Rattle.promise_laws.specs.Obligations.{ShowsAnywhere, Opens, SaysIn, Journals, Lasts}
+use Rattle.promise_laws.proofs.OpenedRuns.{answered_promised}
+use Rattle.promise_spec.specs.Words.{Manner}
+
+-- ---- the opening
+
+module _ (p : Program) (r : Observed) (c : Course) (mid : World) (b : IsBehind live_slot p r c mid) where
+  -- a program for which the folder is sound is the one that it reads as
+  same_program : (q : Program) → IsChecked q → IsSoundFolder q r.old → ReadsMayStay r.old → (q ≡ p) × IsLog live_slot (shape_in q) (seen_at_entry r) c.opening
+  same_program q checked sound stay =
+      let s : IsSound live_slot q (seen_at_entry r) = sound.sound (seen_at_entry r) stay (silo_reads (seen_at_entry r) p c.opening b.reads) in
+      let both = reads_is q p s.log c.opening (sym (sound_is_read q (seen_at_entry r) checked s) ∙ b.reads) in
+      (both.0, subst (IsLog live_slot (shape_in q) (seen_at_entry r)) both.1 s.is)
+
+  -- the early moments are those of the opening
+  early_is : b.untouched.moments.more ≡ c.early
+  early_is = append_cancel_left r.old.past b.untouched.moments.more c.early (sym b.untouched.moments.past ∙ b.early)
+
+  -- at each of them all is as at entry
+  as_entry : (m : Moment) → Member m c.early → IsAsAtEntry r.old m
+  as_entry m there = each_of (IsAsAtEntry r.old) b.untouched.moments.more m b.untouched.moments.each (subst (λ (l : List Moment). Member m l) (sym early_is) there)
+
+  -- each image behind the opening is one of entry, with the manager file as it read
+  stays_sound : (image : Image) → IsImage mid.disk image → IsImage r.old.disk image × (image manager ≡ (r.old.disk manager).seen)
+  stays_sound image left = (b.untouched.now.images image left, settled_only (seen_at_entry r manager) (image manager) (subst (λ (f : FileState). MayLeave f (image manager)) b.settled (left manager)))
+
+  -- over a folder that is sound for the program that it reads as
+  pub opens : IsSoundFolder p r.old → ReadsMayStay r.old → ReadsMayStay mid → IsLog live_slot (shape_in p) (seen_at_entry r) c.opening → Opens p r c
+  opens sound stay stay_mid read =
+      let all : AllLog p c.opening mid.disk = settled_logs p r.old mid.disk c.opening sound stay stays_sound read in
+      record {
+        folder = sound;
+        read = read;
+        opened = subst (λ (m : Moment). AllLog p c.opening m.disk) (sym b.last) all;
+        some = λ file. (mid.disk file).seen;
+        possible = subst (λ (m : Moment). IsImage m.disk (λ file. (mid.disk file).seen)) (sym b.last) stay_mid;
+        past = b.late ∙ ap (λ (l : List Moment). l ++ c.late) b.early ∙ append_assoc r.old.past c.early c.late;
+        quiet = λ m there. (as_entry m there).quiet;
+        before = λ image of. (as_entry of.moment of.member).images image of.left;
+      }
+
+  -- and over one that is sound for any checked program
+  pub opens_sound : (q : Program) → IsChecked q → IsSoundFolder q r.old → ReadsMayStay r.old → ReadsMayStay mid → Opens p r c
+  opens_sound q checked sound stay stay_mid =
+      let t = same_program q checked sound stay in
+      opens (subst (λ (x : Program). IsSoundFolder x r.old) t.0 sound) stay stay_mid (subst (λ (x : Program). IsLog live_slot (shape_in x) (seen_at_entry r) c.opening) t.0 t.1)
+
+  -- each image behind the opening has the opening log
+  opened_at : Opens p r c → AllLog p c.opening mid.disk
+  opened_at o = subst (λ (m : Moment). AllLog p c.opening m.disk) b.last o.opened
+
+  -- ---- the moments
+
+  -- what holds behind the opening, at each moment since and at the exit holds at each moment that counts
+  gather : (P : Moment → Type 0) → P (moment_of mid) → Passes P mid.past r.new.past → P (moment_of r.new) → (m : Moment) → Member m (moments r c) → P m
+  gather P first passes now m (inl same) = subst P (sym (same ∙ b.last)) first
+  gather P first passes now m (inr there) = elim (either_in m c.late (moment_of r.new ∷ []) there) [
+    | inl late ↦ each_of P passes.more m passes.each (subst (λ (l : List Moment). Member m l) (sym late_is) late)
+    | inr end ↦ elim end [
+      | inl same ↦ subst P (sym same) now
+      | inr none ↦ absurd none
+    ]
+  ]
+    where
+      late_is : passes.more ≡ c.late
+      late_is = append_cancel_left mid.past passes.more c.late (sym passes.past ∙ b.late)
+
+  -- behind the opening each log is the opening log: no batch
+  first_ends : Opens p r c → AllEnd p (core_end p c) c.opening (moment_of mid)
+  first_ends o image log left is = record {
+    batches = 0;
+    more = [];
+    split = one_log (shape_in p) image log c.opening is (opened_at o image left) ∙ sym (append-nil c.opening);
+    records = tt;
+  }
+
+  -- and files and header are as they were
+  first_alone : LeavesAlone live_slot r (moment_of mid)
+  first_alone = record {
+    aside = λ file is. b.others file (apart file is);
+    header = λ image left. ap (take 15) (stays_sound image left).1;
+  }
+    where
+      apart : (file : FileId) → IsAside live_slot file → file ≢ manager
+      apart (ProgramFile slot) is same = absurd (cc same)
+      apart (Manager slot) is same = is (cc same)
+      apart (Grain slot grain) is same = absurd (cc same)
+
+  module _ (o : Opens p r c) (said journal : List Settlement) (entries : c.entries ≡ entries_of said) where
+    -- what an image keeps was said in the entries
+    says_in : (m : Moment) → AllSay p c.opening mid.output said journal m → SaysIn p r c journal m
+    says_in m all image left =
+        let t = all image left in
+        let k : KeepsJournal p c.opening mid.output journal m image = t.0 in
+        let quiet : mid.output ≡ r.old.output = b.untouched.now.quiet in
+        let more : entries_of said ≡ entries_of k.said ++ entries_of t.1.0 = ap entries_of t.1.1 ∙ entries_of-append k.said t.1.0 in (
+          record {
+            said = k.said;
+            unsaid = k.unsaid;
+            later = k.later;
+            rest = k.rest;
+            split = k.split;
+            log = k.log;
+            output = subst (λ (before : List ℕ). Grew (shape_in p) before m.output (entries_of k.said) k.rest) quiet k.output;
+          },
+          (entries_of t.1.0, entries ∙ more),
+        )
+
+    -- at the return of the opening's last sync
+    first_says : AllSay p c.opening mid.output said journal (moment_of mid)
+    first_says =
+        keep_more p c.opening mid.output said [] journal (moment_of mid)
+        (say_more p c.opening mid.output [] said [] (moment_of mid)
+        (now_says p c.opening mid [] [] mid tt (begins_at p c.opening mid mid refl refl (opened_at o))))
+
+    -- so it is at each moment that counts
+    pub says_all : Passes (AllSay p c.opening mid.output said journal) mid.past r.new.past → AllSay p c.opening mid.output said journal (moment_of r.new)
+        → (m : Moment) → Member m (moments r c) → SaysIn p r c journal m
+    says_all passes now m there = says_in m (gather (AllSay p c.opening mid.output said journal) first_says passes now m there)
+
+  -- ---- the end
+
+  module _ (o : Opens p r c) (said unsaid later : List Settlement) (cut : CutAt p c.opening mid said unsaid later c.rest r.new) (entries : c.entries ≡ entries_of said)
+      (proper : AllByRecursion (IsProper (shape_in p)) (entries_of said)) (carries : Carries p r c mid ((said ++ unsaid) ++ later))
+      (last : Image) (left : IsImage r.new.disk last) (has : IsLog live_slot (shape_in p) last (order c)) where
+    order_is : order c ≡ c.opening ++ commits_of ((said ++ unsaid) ++ later)
+    order_is = ap (λ (l : List Commit). c.opening ++ l) carries.commits
+
+    -- the journal that was kept is what a run has to show of one
+    journals : Journals p r c
+    journals = record {
+      journal = (said ++ unsaid) ++ later;
+      commits = carries.commits;
+      backs = carries.backs;
+      kept = says_all o said ((said ++ unsaid) ++ later) entries cut.moments (cut_says p c.opening mid said unsaid later c.rest r.new proper cut);
+      batches = λ image log of is. gather (AllEnd p (core_end p c) c.opening) (first_ends o) carries.batches carries.batches_now of.moment of.member image log of.left is;
+      last = last;
+      left = record { moment = moment_of r.new; member = inr (in_append (moment_of r.new) c.late (moment_of r.new ∷ []) (inr (inl refl))); left = left };
+      longest = has;
+      alone = gather (LeavesAlone live_slot r) first_alone carries.alone carries.alone_now;
+    }
+
+    -- an image with all that is in the journal has the whole order
+    whole_order : (image : Image) → IsLog live_slot (shape_in p) image (c.opening ++ commits_of ((said ++ unsaid) ++ later)) → HasLogAtExit p c (core_end p c) image
+    whole_order image is = record { log = order c; is = subst (IsLog live_slot (shape_in p) image) (sym order_is) is; which = inl refl }
+
+    -- a unit that no image has is in no record
+    nowhere : (e : Entry) → IsNowhere p r e.unit → HasNoRecord c e.unit
+    nowhere e none l there = none last (order c) l left has (in_append l c.opening c.added (inr there))
+
+    -- and what its images hold, where those that lack the last batch are explained
+    lasts : ((image : Image) → IsLog live_slot (shape_in p) image (c.opening ++ commits_of (said ++ unsaid)) → HasLogAtExit p c (core_end p c) image) → Lasts p r c
+    lasts short = record {
+      opens = o;
+      journals = journals;
+      leaves = record {
+        logs = λ image may. elim (cut.log image may) [ inl was ↦ short image was | inr is ↦ whole_order image is ];
+        nowhere = λ e there what none. nowhere e none;
+        block = carries.block;
+      };
+    }
+
+  -- no batch is in doubt, or none that an image may have
+  pub whole_lasts : (said unsaid : List Settlement) → Opens p r c → ReadsMayStay r.new → CutAt p c.opening mid said unsaid [] c.rest r.new → c.entries ≡ entries_of said
+      → AllByRecursion (IsProper (shape_in p)) (entries_of said) → Carries p r c mid (said ++ unsaid) → Lasts p r c
+  whole_lasts said unsaid o stay cut entries proper carries =
+      lasts o said unsaid [] cut entries proper (subst (Carries p r c mid) (sym (append-nil (said ++ unsaid))) carries) (λ file. (r.new.disk file).seen) stay (all (λ file. (r.new.disk file).seen) (short (λ file. (r.new.disk file).seen) stay))
+      (λ image is. record { log = order c; is = all image is; which = inl refl })
+    where
+      short : (image : Image) → IsImage r.new.disk image → IsLog live_slot (shape_in p) image (c.opening ++ commits_of (said ++ unsaid))
+      short image left = elim (cut.log image left) [
+        | inl was ↦ was
+        | inr is ↦ subst (λ (l : List Settlement). IsLog live_slot (shape_in p) image (c.opening ++ commits_of l)) (append-nil (said ++ unsaid)) is
+      ]
+
+      all : (image : Image) → IsLog live_slot (shape_in p) image (c.opening ++ commits_of (said ++ unsaid)) → IsLog live_slot (shape_in p) image (order c)
+      all image is = subst (λ (l : List Commit). IsLog live_slot (shape_in p) image (c.opening ++ l)) (sym carries.commits) is
+
+  -- a batch is in doubt, and an image has it
+  pub doubt_lasts : (said unsaid : List Settlement) (batch : Settlement) (last : Image) (begins : ℕ) → Opens p r c → CutAt p c.opening mid said unsaid (batch ∷ []) c.rest r.new → c.entries ≡ entries_of said
+      → AllByRecursion (IsProper (shape_in p)) (entries_of said) → Carries p r c mid ((said ++ unsaid) ++ batch ∷ []) → IsImage r.new.disk last → IsLog live_slot (shape_in p) last (order c)
+      → (core_end p c).manager.doubt ≡ Some begins → AreOf (doubtful (core_end p c)) (commits_of (batch ∷ [])) → Lasts p r c
+  doubt_lasts said unsaid batch last begins o cut entries proper carries left has doubt units =
+      lasts o said unsaid (batch ∷ []) cut entries proper carries last left has
+      (λ image is. record {
+        log = c.opening ++ commits_of (said ++ unsaid);
+        is = is;
+        which = inr (record {
+          begins = begins;
+          doubt = doubt;
+          last = commits_of (batch ∷ []);
+          split = ap (λ (l : List Commit). c.opening ++ l) carries.commits ∙ sym (joined_logs c.opening (said ++ unsaid) (batch ∷ []));
+          units = units;
+        });
+      })
+
+-- ---- the promise
+
+-- what a run answers, and what lasts where its folder was opened so, is the whole promise
+pub carried_promised : (m : Manner) (p : Program) (r : Observed) (c : Course) (mid : World) → ShowsAnywhere p r c → r.manner ≡ m → IsChecked p → IsBehind live_slot p r c mid → ReadsMayStay r.old → ReadsMayStay mid
+    → (Opens p r c → Lasts p r c) → Promises m r
+carried_promised m p r c mid answers is checked behind stay stay_mid lasts =
+    answered_promised p r c answers m c.opening is checked behind.reads (λ q checked_too sound. lasts (opens_sound p r c mid behind q checked_too sound stay stay_mid))
+
+-- ---- batches at the moments of a step
+
+-- another log of the image is the same, and ends so too
+same_ends : (p : Program) (w : core.CoreState) (opening log other : List Commit) (image : Image) → EndsABatch w opening log → IsLog live_slot (shape_in p) image log → IsLog live_slot (shape_in p) image other → EndsABatch w opening other
+same_ends p w opening log other image ends is is_too = subst (EndsABatch w opening) (one_log (shape_in p) image log other is is_too) ends
+
+-- where each image has one log
+pub logged_ends : (p : Program) (w : core.CoreState) (opening log : List Commit) (m : Moment) → AllLog p log m.disk → EndsABatch w opening log → AllEnd p w opening m
+logged_ends p w opening log m all ends image other left is = same_ends p w opening log other image ends (all image left) is
+
+-- while a batch is sealed, by whichever state both logs end so
+pub sealing_ends : (p : Program) (w : core.CoreState) (opening before : List Commit) (batch : List Settlement) (mid : World) (m : Moment) → IsSealing p before batch mid m
+    → EndsABatch w opening before → EndsABatch w opening (before ++ commits_of batch) → AllEnd p w opening m
+sealing_ends p w opening before batch mid m s first second image log left is = elim (s.log image left) [
+  | inl was ↦ same_ends p w opening before log image first was is
+  | inr has ↦ same_ends p w opening (before ++ commits_of batch) log image second has is
+]

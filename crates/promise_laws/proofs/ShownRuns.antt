@@ -1,0 +1,239 @@
+-- What a run shows is enough for its promise.
+use Rattle.std.proofs.Common.{◌≡◌, ◌≢◌, ℕ, ◌∙◌, Some, List, [], ◌∷◌, ◌++◌, inl, inr, refl, sym, ap, subst, arith}
+use Rattle.core_model.specs.CoreState.{Member}
+use Rattle.host_trait.specs.declared.channels.Channel.{Channel}
+use Rattle.host_trait.specs.declared.channels.Channel.TheVariants.{Input, Output, File}
+use Rattle.host_trait.specs.declared.channels.FileId.TheVariants.{Program as ProgramFile, Manager, Grain}
+use Rattle.host_trait.specs.Faults.{Rose}
+use Rattle.host_trait.specs.Disk.{MayLeave}
+use Rattle.host_trait.specs.World.{Moment, Image, IsImage, moment_of, last_of}
+use Rattle.silo_spec.specs.Silos.{program_file, HasProgram}
+use Rattle.promise_spec.specs.Programs.{Program, shape_in}
+use Rattle.promise_spec.specs.Records.{Commit, new_silo}
+use Rattle.promise_spec.specs.Serial.{IsSerial}
+use Rattle.promise_spec.specs.Logs.{live_slot, IsLog}
+use Rattle.promise_spec.specs.Images.{AreNumbered, IsSound}
+use Rattle.promise_spec.specs.Moments.{IsImageOf, IsLongest}
+use Rattle.promise_spec.specs.Causes.{NoneRose, HasDoubt}
+use Rattle.promise_spec.specs.Endings as ending
+use Rattle.promise_spec.specs.Endings.{Ending, HasRisen, IsCarried, IsCalm}
+use Rattle.promise_spec.specs.Courses.{Observed, Course, order, moments, lines, basis, opening_standing, core_run, core_end}
+use Rattle.promise_spec.specs.Orders.{IsOrdered}
+use Rattle.promise_spec.specs.Replies.{AreReplies}
+use Rattle.promise_spec.specs.Crashes.{SurvivesCrashes, HoldsReplies}
+use Rattle.promise_spec.specs.Explained.{ComeOfEvents, IsExplained}
+use Rattle.promise_spec.specs.Exits.{IsDoubt, IsLeft}
+use Rattle.promise_spec.specs.Journals.{KeepsJournal, commits_of}
+use Rattle.promise_spec.specs.Promise.{HasEnded, Keeps}
+use Rattle.promise_spec.proofs.OneLog.{one_log}
+use Rattle.promise_spec.proofs.Journaled as journaled
+use Rattle.promise_laws.specs.Obligations.{Opens, Journals, ExplainsEvents, Shows}
+use Rattle.promise_laws.proofs.SerialRecords.{above_records, explained_serial}
+use Rattle.promise_laws.proofs.AbortCauses.{explained_aborts}
+use Rattle.promise_laws.proofs.OneFamily.{explained_family}
+use Rattle.promise_laws.proofs.TrueReplies.{known_of, in_settled, replies_within, replies_once, replies_ordered, replies_true}
+use Rattle.promise_laws.proofs.Undisturbed.{calm_undisturbed}
+use Rattle.promise_laws.proofs.Unlocked.{single_unlocked}
+use Rattle.promise_spec.proofs.Doubts.{doubt_left}
+use Rattle.promise_laws.proofs.Doubted.{doubt-rose, doubt-told}
+use Rattle.promise_laws.proofs.ShownOrder.{order_serial, order_numbered}
+
+-- ---- causes
+
+-- each abort has its cause by the unit rule
+pub explained : (p : Program) (r : Observed) (c : Course) → ExplainsEvents p r c → IsExplained p r c
+explained p r c e = record {
+  records = e.records;
+  units = e.units;
+  turns = e.turns;
+  caused = explained_aborts (basis p r c) (core_run p c) (above_records (new_silo p.types) c.opening (omega arith)) e.units;
+  faults = e.faults;
+  doubted = e.doubted;
+  ended = e.ended;
+}
+
+-- ---- the opening log
+
+-- the last moment is the one before all, or one of them
+last-in : (before : Moment) (ms : List Moment) → Member (last_of before ms) (before ∷ ms)
+last-in before [] = inl refl
+last-in before (m ∷ ms) = inr (last-in m ms)
+
+-- each image at the return of the opening's last sync is one of those at entry
+pub at_entry : (p : Program) (r : Observed) (c : Course) → Opens p r c → (image : Image) → IsImage (last_of (moment_of r.old) c.early).disk image → IsImage r.old.disk image
+at_entry p r c o image is = elim (last-in (moment_of r.old) c.early) [
+  | inl same ↦ subst (λ (m : Moment). IsImage m.disk image) same is
+  | inr there ↦ o.before image (record { moment = last_of (moment_of r.old) c.early; member = there; left = is })
+]
+
+-- the opening log is serial from a new silo, and numbered
+opening_sound : (p : Program) (r : Observed) (c : Course) → Opens p r c → IsSerial p.types (new_silo p.types).states c.opening × AreNumbered (new_silo p.types).next c.opening
+opening_sound p r c o =
+    let log : IsLog live_slot (shape_in p) o.some c.opening = o.opened o.some o.possible in
+    let s : IsSound live_slot p o.some = o.folder.sound o.some (at_entry p r c o o.some o.possible) log.silo in
+    let same : s.log ≡ c.opening = one_log (shape_in p) o.some s.log c.opening s.is log in
+    (subst (IsSerial p.types (new_silo p.types).states) same s.serial, subst (AreNumbered (new_silo p.types).next) same s.numbered)
+
+-- one image with the program file of another
+with_program : Image → Image → Image
+with_program image other (ProgramFile slot) = other (ProgramFile slot)
+with_program image other (Manager slot) = image (Manager slot)
+with_program image other (Grain slot grain) = image (Grain slot grain)
+
+-- each image has the program, as the program file is left alone
+has_program : (p : Program) (r : Observed) (c : Course) → Opens p r c → Journals p r c → (image : Image) → IsImageOf (moments r c) image → HasProgram p.text (image program_file)
+unfolding with_program
+has_program p r c o j image of =
+    (o.folder.sound (with_program o.some image) mixed (o.opened o.some o.possible).silo).program
+  where
+    mixed : IsImage r.old.disk (with_program o.some image)
+    mixed (ProgramFile slot) = subst (λ file. MayLeave file (image (ProgramFile slot))) ((j.alone of.moment of.member).aside (ProgramFile slot) tt) (of.left (ProgramFile slot))
+    mixed (Manager slot) = at_entry p r c o o.some o.possible (Manager slot)
+    mixed (Grain slot grain) = at_entry p r c o o.some o.possible (Grain slot grain)
+
+-- ---- clauses
+
+-- what each image keeps of the journal
+kept_in : (p : Program) (r : Observed) (c : Course) → (j : Journals p r c) → (image : Image) → (of : IsImageOf (moments r c) image) → KeepsJournal p c.opening r.old.output j.journal of.moment image
+kept_in p r c j image of = (j.kept of.moment of.member image of.left).0
+
+-- the order is the opening log with the journal's records
+order_is : (p : Program) (r : Observed) (c : Course) → (j : Journals p r c) → order c ≡ c.opening ++ commits_of j.journal
+order_is p r c j = ap (λ l. c.opening ++ l) j.commits
+
+module _ (p : Program) (r : Observed) (c : Course) (s : Shows p r c) where
+  o : Opens p r c
+  o = s.opens
+
+  j : Journals p r c
+  j = s.journals
+
+  is : IsExplained p r c
+  is = explained p r c s.explains
+
+  -- the records are the core's, behind the opening log
+  ordered : IsOrdered p r c
+  ordered = record {
+    read = o.read;
+    opened = λ image possible. record { entry = at_entry p r c o image possible; log = o.opened image possible };
+    longest =
+        subst (IsLongest p (moments r c)) (sym (order_is p r c j))
+        (journaled.longest p c.opening r.old.output j.journal (moments r c) j.last j.left (subst (IsLog live_slot (shape_in p) j.last) (order_is p r c j) j.longest)
+        (λ m there image left. (j.kept m there image left).0));
+    serial = explained_serial p r c is;
+  }
+
+  -- the entries are a first part of those that the core settled
+  replies : AreReplies p r c
+  replies = record {
+    output = s.output;
+    whole = s.whole;
+    within = replies_within p r c is s.settled.entries;
+    once = replies_once p r c is s.settled.entries;
+    true_each = replies_true p r c is (opening_sound p r c o).1 s.settled.entries;
+    ordered = replies_ordered p r c is s.settled.entries;
+  }
+
+  -- each image of each moment keeps the journal
+  crashes : SurvivesCrashes p r c
+  crashes = record {
+    past = o.past;
+    quiet = o.quiet;
+    before = o.before;
+    chain = λ one other of_one of_other. journaled.chained p c.opening r.old.output j.journal of_one.moment of_other.moment one other (kept_in p r c j one of_one) (kept_in p r c j other of_other);
+    sound = λ image of.
+        journaled.sound p c.opening r.old.output j.journal of.moment image (kept_in p r c j image of) (has_program p r c o j image of)
+        (subst (IsSerial p.types (new_silo p.types).states) (order_is p r c j) (order_serial p r c is (opening_sound p r c o).0))
+        (subst (AreNumbered 1) (order_is p r c j) (order_numbered p r c is (opening_sound p r c o).1));
+    keeps = λ image of.
+        (let k = kept_in p r c j image of in
+        record { log = c.opening ++ commits_of (k.said ++ k.unsaid); is = k.log; longer = (commits_of (k.said ++ k.unsaid), refl) });
+    alone = j.alone;
+  }
+
+  -- the records come from the lines, and each image's log ends where a batch does
+  records : ComeOfEvents p r c
+  records = record { family = explained_family p r c is (opening_sound p r c o).1; whole = j.batches }
+
+  holds : HoldsReplies p r c
+  holds m image there left =
+      let k = j.kept m there image left in
+      journaled.holds p r c j.journal m image j.backs k.0 k.1
+
+  -- where images have different logs, one lacks the batch in doubt
+  doubtful_batch : (one other : Image) (a b : List Commit) → IsImage r.new.disk one → IsImage r.new.disk other → IsLog live_slot (shape_in p) one a → IsLog live_slot (shape_in p) other b → a ≢ b
+      → (begins : ℕ) × ((core_end p c).manager.doubt ≡ Some begins)
+  doubtful_batch one other a b left left_too is_a is_b differ =
+      let x = s.leaves.logs one left in
+      let y = s.leaves.logs other left_too in
+      elim x.which [
+        | inl whole ↦ elim y.which [
+          | inl whole_too ↦ absurd (differ (one_log (shape_in p) one a x.log is_a x.is ∙ whole ∙ sym whole_too ∙ one_log (shape_in p) other y.log b y.is is_b))
+          | inr lacks ↦ (lacks.begins, lacks.doubt)
+        ]
+        | inr lacks ↦ (lacks.begins, lacks.doubt)
+      ]
+
+  -- so the manager file failed, and who is in the batch was told of the doubt
+  doubted : (begins : ℕ) → (core_end p c).manager.doubt ≡ Some begins → IsDoubt live_slot r c (core_end p c)
+  doubted begins d =
+      let left : HasDoubt (core_run p c) = doubt_left (core_run p c) begins d in
+      record {
+        rose = doubt-rose (core_run p c) _ _ left is.faults.seals;
+        ending = is.ended left;
+        told = λ e m doubtful. doubt-told p.types (lines r) (opening_standing p c).states (opening_standing p c).next (core_end p c) (known_of p r c is) e (in_settled p c s.settled.entries e m) doubtful;
+      }
+
+  -- so different logs show a doubt
+  exit : IsLeft p r c
+  exit = record {
+    logs = s.leaves.logs;
+    doubt = λ one other a b left left_too is_a is_b differ. (let d = doubtful_batch one other a b left left_too is_a is_b differ in doubted d.0 d.1);
+    nowhere = s.leaves.nowhere;
+    block = s.leaves.block;
+  }
+
+  -- where no count rose, no fault ended the run
+  calm : NoneRose r.faults_before r.faults_after → IsCalm r.ending
+  calm none = go r.ending s.ends.carried s.ends.risen
+    where
+      rose : (channel : Channel) → Rose (r.faults_before channel) (r.faults_after channel) → ⊥
+      rose channel more = (let n = none channel in absurd (omega (arith, more, n.0, n.1)))
+
+      go : (e : Ending) → IsCarried e → HasRisen e r.faults_before r.faults_after → IsCalm e
+      go ending.Done carried risen = tt
+      go ending.BadUse carried risen = absurd carried
+      go ending.Memory carried risen = tt
+      go ending.ReadFault carried risen = rose Input risen
+      go ending.WriteFault carried risen = rose Output risen
+      go (ending.DiskFault file) carried risen = rose (File file) risen
+      go ending.NotASilo carried risen = absurd carried
+      go ending.AlreadyASilo carried risen = absurd carried
+      go (ending.Damaged file place) carried risen = absurd carried
+      go (ending.BadProgram fault) carried risen = absurd carried
+      go (ending.InputTooLong line) carried risen = tt
+
+  -- and no line was aborted for one; at width 1 none for a lock
+  ended : HasEnded p r c
+  ended = record {
+    given = s.ends.given;
+    risen = s.ends.risen;
+    carried = s.ends.carried;
+    long = s.ends.long;
+    begun = s.ends.begun;
+    done = s.ends.done;
+    complete = λ none. record { calm = calm none; undisturbed = λ e m. calm_undisturbed p r c is none e (in_settled p c s.settled.entries e m) };
+    alone = λ unthreaded one childless e m. single_unlocked p r c is unthreaded one childless e (in_settled p c s.settled.entries e m);
+    syncs = s.ends.syncs;
+  }
+
+  -- all clauses
+  pub shown : Keeps p r c
+  shown = record {
+    headline = record { ordered = ordered; replies = replies; crashes = crashes; holds = holds };
+    records = records;
+    settled = s.settled;
+    explained = is;
+    exit = exit;
+    ended = ended;
+  }

@@ -1,0 +1,18 @@
+ghost use Rattle.std.specs.Prelude.{◌≡◌};
+ghost use Rattle.silo_spec.specs.Silos.{program_file, HasProgram};
+ghost use Rattle.promise_spec.specs.Programs.{Program, IsChecked};
+ghost use Rattle.promise_spec.specs.Words.{Manner};
+ghost use Rattle.promise_spec.specs.Courses.{Observed, Course, seen_at_entry};
+ghost use Rattle.promise_spec.specs.Promise.{Keeps, Promises};
+ghost use Rattle.promise_laws.specs.Obligations.{Shows};
+
+/// What a run has to show is enough: whatever shows it keeps the whole promise.
+pub fn shown_runs_keep()
+    ensures { (p : Program) (r : Observed) (c : Course) → Shows p r c → Keeps p r c }
+{}
+
+/// And it promises so, in the manner of its words, where its files read as a checked program at entry.
+pub fn shown_runs_promise()
+    ensures { (m : Manner) (p : Program) (r : Observed) (c : Course) → r.manner ≡ m → IsChecked p
+        → HasProgram p.text (seen_at_entry r program_file) → Shows p r c → Promises m r }
+{}

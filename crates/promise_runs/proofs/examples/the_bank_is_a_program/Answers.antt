@@ -1,8 +1,0 @@
-use Rattle.promise_runs.proofs.BankText.{bank_is_checked, bank_is_named}
-use Rattle.promise_runs.proofs.examples.the_bank_is_a_program.Goals as goal
-
-pub returns-clause-checked : goal.returns-clause-checked
-returns-clause-checked c = bank_is_checked
-
-pub returns-clause-named : goal.returns-clause-named
-returns-clause-named c = bank_is_named

@@ -1,5 +1,0 @@
-use Rattle.promise_runs.proofs.WrongRuns.{cut_elsewhere}
-use Rattle.promise_runs.proofs.wrong_runs.cut_lines_are_replies.Goals as goal
-
-pub returns : goal.returns
-returns c = cut_elsewhere

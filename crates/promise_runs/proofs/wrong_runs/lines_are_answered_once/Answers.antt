@@ -1,5 +1,0 @@
-use Rattle.promise_runs.proofs.WrongRuns.{answered_twice}
-use Rattle.promise_runs.proofs.wrong_runs.lines_are_answered_once.Goals as goal
-
-pub returns : goal.returns
-returns c = answered_twice

@@ -1,5 +1,0 @@
-use Rattle.promise_runs.proofs.WrongRuns.{early_reply}
-use Rattle.promise_runs.proofs.wrong_runs.replies_come_after_records.Goals as goal
-
-pub returns : goal.returns
-returns c = early_reply
