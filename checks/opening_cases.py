@@ -496,10 +496,10 @@ def changes():
 
 
 # The bytes of the header that have to be zero, and the calls of an opening on each file that are to fail.
-ZEROS = []
-ZERO_ROWS = [(13, 9, OPENED)]
-OPENING_CALLS = [("length", "manager", 1), ("sync", "manager", 1), ("read", "manager", 1), ("length", "program", 1),
-                 ("read", "program", 1), ("read", "0/1", 1)]
+ZEROS = [13, 14]
+ZERO_ROWS = [(13, 255, "manager at 13"), (14, 1, "manager at 14")]
+OPENING_CALLS = [("length", "manager", 2), ("sync", "manager", 1), ("read", "manager", 7), ("length", "program", 1),
+                 ("read", "program", 2), ("read", "0/1", 1)]
 
 openings()
 transfer()
