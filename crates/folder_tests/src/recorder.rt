@@ -1,4 +1,4 @@
-// A file system that records the calls that a folder makes, for tests.
+// A file system that records the calls that a folder makes.
 use host_files::DiskFile;
 use std::alloc::{Allocator, Global};
 use std::cell::{Cell, RefCell};
@@ -20,7 +20,7 @@ pub enum Disk {
     Bad,
 }
 
-/// The calls so far as one text, a line each, and what is so on the disk.
+/// The calls so far as one text, each behind the end of a line, and what is so on the disk.
 #[derive(Drop)]
 pub struct Calls {
     alloc: Global,
@@ -30,14 +30,22 @@ pub struct Calls {
 }
 
 impl Calls {
-    /// No call yet. The next handle has this number.
-    pub fn new(alloc: Global, next: i32) -> Calls {
+    /// No call yet.
+    pub fn new(alloc: Global) -> Calls {
         Calls {
             alloc,
             text: RefCell::new(String::new(alloc)),
-            next: Cell::new(next),
+            next: Cell::new(0),
             disk: Cell::new(Disk::Usual),
         }
+    }
+
+    /// No call from here on. The next handle has this number.
+    pub fn restart(&self, next: i32) -> io::Result<()> {
+        self.next.set(next);
+        self.disk.set(Disk::Usual);
+        self.taken()?;
+        Ok(())
     }
 
     /// What is so from here on.
@@ -48,8 +56,8 @@ impl Calls {
     fn note(&self, line: &str) -> io::Result<()> {
         match self.text.try_borrow_mut() {
             Ok(mut text) => {
+                text.push_str("\n  ")?;
                 text.push_str(line)?;
-                text.push('\n')?;
                 Ok(())
             }
             Err(_) => Err(ErrorKind::Other.into()),

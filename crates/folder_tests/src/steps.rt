@@ -1,84 +1,97 @@
-// Calls of a host on a file, as data.
-ghost use Rattle.std.specs.Prelude.{ℕ, ◌≤◌, IsTrue};
+// Calls of a host on a file, as words.
+ghost use Rattle.std.specs.Prelude.{ℕ, ◌≤◌, IsTrue, IfSome};
 ghost use Rattle.host_trait.specs.Files.{HasSlot};
 
 use base_types::GrainId;
 use host_trait::{FileId, Host};
-use std::alloc::AllocError;
+use std::alloc::{AllocError, Global};
 
-/// The program file of slot 0, the manager file of slot 1, or the file of a grain.
-#[derive(Clone, Copy)]
-pub enum Which {
-    Program,
-    Manager,
-    Grain,
+/// The file of a name.
+pub fn file_of(name: &str) -> Option<FileId>
+    ensures { IfSome result HasSlot }
+{
+    match name {
+        "program" => Some(FileId::Program { slot: 0 }),
+        "manager" => Some(FileId::Manager { slot: 1 }),
+        "grain" => Some(FileId::Grain {
+            slot: 0,
+            grain: GrainId {
+                kind: 3,
+                key: 70_000,
+            },
+        }),
+        _ => None,
+    }
 }
 
-pub const MANAGER: FileId = FileId::Manager { slot: 1 };
-
-pub const PROGRAM: FileId = FileId::Program { slot: 0 };
-
-const GRAIN: FileId = FileId::Grain {
-    slot: 0,
-    grain: GrainId {
-        kind: 3,
-        key: 70_000,
-    },
-};
-
-/// What is asked of a file. A read is of so many bytes, at most as many as it is given room for.
-#[derive(Clone, Copy)]
-pub enum Step<'a> {
-    Length,
-    Read { at: u64, len: usize },
-    Write { at: u64, bytes: &'a [u8] },
-    Sync,
+/// What is asked of a file: how many bytes a read is of, at most 8, and those that are written.
+#[derive(Drop)]
+pub struct Step<'a> {
+    pub word: &'a str,
+    pub at: u64,
+    pub count: usize,
+    pub bytes: &'a [u8],
 }
 
-// A host's answer: a count where it has one, else 0, and none where the call failed.
-fn ask_file<H: Host>(
+fn digit_of(letter: u8) -> u8 {
+    match letter {
+        b'0'..=b'9' => letter - b'0',
+        b'a'..=b'f' => letter - b'a' + 10,
+        _ => 0,
+    }
+}
+
+/// The bytes of some pairs of hexadecimal digits.
+pub fn bytes_of(alloc: Global, digits: &str) -> Result<Vec<u8>, AllocError> {
+    let mut bytes = Vec::new(alloc);
+    for pair in digits.as_bytes().chunks(2) {
+        if let [high, low] = pair {
+            bytes.push(
+                digit_of(*high)
+                    .wrapping_mul(16)
+                    .wrapping_add(digit_of(*low)),
+            )?;
+        }
+    }
+    Ok(bytes)
+}
+
+fn add_read(out: &mut String, bytes: &[u8]) -> Result<(), AllocError> {
+    let count = bytes.len();
+    write!(out, "{count} bytes {bytes:?}")
+}
+
+/// Writes what a host that tells nothing answers, with the file's path made before.
+pub fn add_answer<H: Host>(
+    out: &mut String,
     host: &mut H,
     file: FileId,
-    step: Step<'_>,
-    into: &mut [u8],
-) -> Result<Option<u64>, AllocError>
+    step: &Step<'_>,
+) -> Result<(), AllocError>
     requires file { HasSlot file }
     requires untold { (at count : ℕ) → IsTrue H.tells → at ≤ count }
 {
     host.ready(file)?;
-    match step {
-        Step::Length => Ok(host.length(file).ok()),
-        Step::Read { at, len } => {
-            let count = len.min(into.len());
-            match host.read_at(file, at, &mut into[..count]) {
-                Ok(found) => Ok(Some(found as u64)),
-                Err(_) => Ok(None),
+    match step.word {
+        "length" => match host.length(file) {
+            Ok(length) => write!(out, "{length}"),
+            Err(_) => out.push_str("failed"),
+        },
+        "read" => {
+            let mut into = [0; 8];
+            let count = step.count.min(8);
+            match host.read_at(file, step.at, &mut into[..count]) {
+                Ok(found) => add_read(out, into.get(..found).unwrap_or(&[])),
+                Err(_) => out.push_str("failed"),
             }
         }
-        Step::Write { at, bytes } => match host.write_at(file, at, bytes) {
-            Ok(()) => Ok(Some(0)),
-            Err(_) => Ok(None),
+        "write" => match host.write_at(file, step.at, step.bytes) {
+            Ok(()) => out.push_str("done"),
+            Err(_) => out.push_str("failed"),
         },
-        Step::Sync => match host.sync(file) {
-            Ok(()) => Ok(Some(0)),
-            Err(_) => Ok(None),
+        _ => match host.sync(file) {
+            Ok(()) => out.push_str("done"),
+            Err(_) => out.push_str("failed"),
         },
-    }
-}
-
-/// What a host that tells nothing answers of one of the files, with its path made before: a count where it has one, else 0, and
-/// none where the call failed.
-pub fn ask<H: Host>(
-    host: &mut H,
-    which: Which,
-    step: Step<'_>,
-    into: &mut [u8],
-) -> Result<Option<u64>, AllocError>
-    requires untold { (at count : ℕ) → IsTrue H.tells → at ≤ count }
-{
-    match which {
-        Which::Program => ask_file(host, PROGRAM, step, into),
-        Which::Manager => ask_file(host, MANAGER, step, into),
-        Which::Grain => ask_file(host, GRAIN, step, into),
     }
 }

@@ -5,11 +5,11 @@ ghost use Rattle.script_machine.specs.Machines.{AnswersRequest, has_begun, pause
 
 use crate::printing::{Deeds, add_call, add_grain, line_of, list_of, outcome_text};
 use crate::settings::Setting;
+use crate::trouble::Trouble;
 use base_types::{Call, GrainId, Mode, Outcome, State};
 use script_check::{Checked, initial_state};
 use script_machine::{Input, Machine, Parts, Pause};
 use std::alloc::Global;
-use std::test::Fail;
 
 // More than the locks, raises and units that a unit may ask for.
 const MOST_PAUSES: u32 = 200;
@@ -32,9 +32,9 @@ impl Driver<'_> {
         grain: GrainId,
         mode: Mode,
         raise: bool,
-    ) -> Result<(), Fail> {
+    ) -> Result<(), Trouble> {
         if self.grains.contains(&grain) != raise {
-            return Err("a raise of another grain".into());
+            return Err(Trouble::Case("a raise of another grain"));
         }
         let mut pause = String::from_str(alloc, word_of(raise, mode))?;
         add_grain(&mut pause, self.program, grain)?;
@@ -44,7 +44,7 @@ impl Driver<'_> {
     }
 
     // Writes a unit down, and answers how it ends.
-    fn note_unit(&mut self, alloc: Global, call: Call, depth: u16) -> Result<Outcome, Fail> {
+    fn note_unit(&mut self, alloc: Global, call: Call, depth: u16) -> Result<Outcome, Trouble> {
         let mut pause = String::from_str(alloc, "unit ")?;
         add_call(&mut pause, self.program, &call, depth)?;
         self.pauses.push(pause)?;
@@ -57,7 +57,7 @@ impl Driver<'_> {
     }
 
     // A grain's state in the store, or the fields of its type.
-    fn state_of(&self, alloc: Global, grain: GrainId) -> Result<State, Fail> {
+    fn state_of(&self, alloc: Global, grain: GrainId) -> Result<State, Trouble> {
         if let Some(state) = self.setting.store.get(grain) {
             return Ok(state.copy()?);
         }
@@ -68,7 +68,7 @@ impl Driver<'_> {
             .get(usize::from(grain.kind))
             .ok_or("no type")?;
         if of_type.fields.len() > 16 {
-            return Err("too many fields".into());
+            return Err(Trouble::Case("too many fields"));
         }
         Ok(initial_state(alloc, of_type.fields.as_slice())?)
     }
@@ -80,7 +80,7 @@ impl Driver<'_> {
         machine: &Machine,
         grain: GrainId,
         mode: Mode,
-    ) -> Result<Input, Fail>
+    ) -> Result<Input, Trouble>
         requires { has_begun machine.now ≡ true }
         ensures { IfOk result (λ input. (types : ProgramTree) → Pause.NeedGrain grain mode ≡ pause_for (asks (rest types machine.now)) → AnswersRequest (rest types machine.now) input) }
     {
@@ -94,7 +94,7 @@ impl Driver<'_> {
     }
 
     // What a machine is given that has paused.
-    fn answer(&mut self, alloc: Global, machine: &Machine, pause: Pause) -> Result<Input, Fail>
+    fn answer(&mut self, alloc: Global, machine: &Machine, pause: Pause) -> Result<Input, Trouble>
         requires { has_begun machine.now ≡ true }
         ensures { IfOk result (λ input. (types : ProgramTree) → pause ≡ pause_for (asks (rest types machine.now)) → AnswersRequest (rest types machine.now) input) }
     {
@@ -104,7 +104,7 @@ impl Driver<'_> {
                 let outcome = self.note_unit(alloc, call, depth)?;
                 Ok(Input::Unit { outcome })
             }
-            Pause::Done { .. } => Err("it is over".into()),
+            Pause::Done { .. } => Err(Trouble::Case("it is over")),
         }
     }
 }
@@ -120,14 +120,14 @@ fn word_of(held: bool, mode: Mode) -> &'static str {
 impl Driver<'_> {
     // What the machine did, as a line, and its pauses. It keeps the result that it told, and an outcome for each unit
     // that it asked for.
-    fn ended(self, alloc: Global, parts: &Parts, outcome: &Outcome) -> Result<Driven, Fail> {
+    fn ended(self, alloc: Global, parts: &Parts, outcome: &Outcome) -> Result<Driven, Trouble> {
         let told = outcome_text(alloc, outcome)?;
         let kept = outcome_text(alloc, &parts.result)?;
         if told.as_str() != kept.as_str() {
-            return Err("another result".into());
+            return Err(Trouble::Case("another result"));
         }
         if parts.answers.len() != self.asked.len() {
-            return Err("another number of answers".into());
+            return Err(Trouble::Case("another number of answers"));
         }
         let deeds = Deeds {
             result: &parts.result,
@@ -151,7 +151,7 @@ pub struct Driven {
 }
 
 /// What a machine does that is driven over the store and the outcomes, from its first input to its end.
-pub fn drive(alloc: Global, program: &Checked, setting: &Setting) -> Result<Driven, Fail> {
+pub fn drive(alloc: Global, program: &Checked, setting: &Setting) -> Result<Driven, Trouble> {
     let mut machine = Machine::start(alloc, program, setting.call.copy()?, setting.depth)?;
     let mut driver = Driver {
         program,
@@ -171,5 +171,5 @@ pub fn drive(alloc: Global, program: &Checked, setting: &Setting) -> Result<Driv
             pause => input = driver.answer(alloc, &machine, pause)?,
         }
     }
-    Err("no end".into())
+    Err(Trouble::Case("no end"))
 }

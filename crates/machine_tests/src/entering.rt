@@ -1,35 +1,25 @@
-use txn_options::{Entered, EntryRefusal, TxnOption, enter};
+use crate::trouble::Trouble;
+use std::alloc::Global;
+use txn_options::{TxnOption, enter};
 
-const OWN: Entered = Entered::NewUnit;
-
-const JOINED: Entered = Entered::Joined;
-
-const PLAIN: Entered = Entered::Plain { context: false };
-
-const PASSED_ON: Entered = Entered::Plain { context: true };
-
-const NO_TRANSACTION: Entered = Entered::Refused(EntryRefusal::NoTransaction);
-
-const NOT_ALLOWED: Entered = Entered::Refused(EntryRefusal::NotAllowed);
-
-// Each option, with what it gives without a context and with one.
-const TABLE: [(TxnOption, Entered, Entered); 6] = [
-    (TxnOption::Create, OWN, OWN),
-    (TxnOption::Join, NO_TRANSACTION, JOINED),
-    (TxnOption::CreateOrJoin, OWN, JOINED),
-    (TxnOption::Suppress, PLAIN, PLAIN),
-    (TxnOption::Supported, PLAIN, PASSED_ON),
-    (TxnOption::NotAllowed, PLAIN, NOT_ALLOWED),
-];
-
-#[test]
-fn each_option_enters_by_the_table(rt: HostRuntime) {
-    for (option, without, within) in TABLE {
-        assert_eq!(rt;
-            enter(option, false),
-            without,
-            "{option:?} without a context"
-        );
-        assert_eq!(rt; enter(option, true), within, "{option:?} with a context");
+fn option_of(word: &str) -> Option<TxnOption> {
+    match word {
+        "create" => Some(TxnOption::Create),
+        "join" => Some(TxnOption::Join),
+        "createorjoin" => Some(TxnOption::CreateOrJoin),
+        "suppress" => Some(TxnOption::Suppress),
+        "supported" => Some(TxnOption::Supported),
+        "notallowed" => Some(TxnOption::NotAllowed),
+        _ => None,
     }
+}
+
+/// How the option of this name enters without a context, and with one.
+pub fn entering(alloc: Global, word: &str) -> Result<String, Trouble> {
+    let Some(option) = option_of(word) else {
+        return Err(Trouble::Case("no such option"));
+    };
+    let without = enter(option, false);
+    let within = enter(option, true);
+    Ok(format!(in alloc; "{without:?}, {within:?}")?)
 }

@@ -21,7 +21,8 @@ fn add_value(out: &mut String, value: &Value) -> Result<(), AllocError> {
     }
 }
 
-fn add_values(out: &mut String, values: &[Value]) -> Result<(), AllocError> {
+/// Writes values in parentheses.
+pub fn add_values(out: &mut String, values: &[Value]) -> Result<(), AllocError> {
     let mut between = "(";
     for value in values {
         out.push_str(between)?;

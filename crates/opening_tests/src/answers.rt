@@ -1,0 +1,87 @@
+use crate::names::{NAMES, add_bytes, add_file, grain_of};
+use base_types::{GrainId, State};
+use field_codec::put_state;
+use host_memory::MemoryHost;
+use silo_opening::{InitFault, OpenFault, Opened, init, open_silo};
+use std::alloc::{AllocError, Global};
+
+fn add_open_fault(out: &mut String, fault: OpenFault) -> Result<(), AllocError> {
+    match fault {
+        OpenFault::NotASilo => out.push_str("no silo"),
+        OpenFault::Damaged { file, place } => {
+            add_file(out, file)?;
+            write!(out, " at {place}")
+        }
+        OpenFault::DiskFault { file } => {
+            out.push_str("fault of ")?;
+            add_file(out, file)
+        }
+        OpenFault::Memory => out.push_str("no memory"),
+    }
+}
+
+fn add_state(alloc: Global, out: &mut String, state: &State) -> Result<(), AllocError> {
+    let mut bytes = Vec::new(alloc);
+    put_state(&mut bytes, state)?;
+    add_bytes(out, &bytes)
+}
+
+// The grain's state and the end of its file, where the log has one.
+fn add_grain(
+    alloc: Global,
+    out: &mut String,
+    opened: &Opened,
+    grain: GrainId,
+) -> Result<(), AllocError> {
+    let GrainId { kind, key } = grain;
+    if let Some(state) = opened.store.get(grain) {
+        write!(out, "; {kind}/{key} ")?;
+        add_state(alloc, out, state)?;
+    }
+    if let Some(end) = opened.ends.get(grain) {
+        write!(out, " to {end}")?;
+    }
+    Ok(())
+}
+
+fn add_opened(alloc: Global, out: &mut String, opened: &Opened) -> Result<(), AllocError> {
+    let count = opened.count;
+    let next = opened.next_unit.0;
+    let gate = opened.gate_at;
+    write!(out, "{count} records, next unit {next}, gate {gate}")?;
+    for name in NAMES {
+        if let Some(grain) = grain_of(name) {
+            add_grain(alloc, out, opened, grain)?;
+        }
+    }
+    Ok(())
+}
+
+/// Writes what opening answers.
+pub fn add_opening(
+    alloc: Global,
+    out: &mut String,
+    host: &mut MemoryHost,
+) -> Result<(), AllocError> {
+    match open_silo(alloc, host) {
+        Ok(opened) => add_opened(alloc, out, &opened),
+        Err(fault) => add_open_fault(out, fault),
+    }
+}
+
+/// Writes what making answers.
+pub fn add_making(
+    alloc: Global,
+    out: &mut String,
+    host: &mut MemoryHost,
+) -> Result<(), AllocError> {
+    match init(alloc, host) {
+        Ok(()) => out.push_str("made"),
+        Err(InitFault::DiskFault { file }) => {
+            out.push_str("fault of ")?;
+            add_file(out, file)
+        }
+        Err(InitFault::BadProgram(fault)) => write!(out, "{fault:?}"),
+        Err(fault) => write!(out, "{fault}"),
+    }
+}
