@@ -106,7 +106,7 @@ def infix(operator, one, other):
     if operator == "+" and isinstance(one, str) and isinstance(other, str):
         need(len((one + other).encode()) <= LONGEST, "length")
         return one + other
-    number(one), number(other)
+    one, other = number(one), number(other)
     match operator:
         case "+":
             return fits(one + other)
@@ -182,8 +182,8 @@ class Unit:
 class Frame:
     """A method under way on a grain."""
 
-    def __init__(self, unit, grain, locals, within, depth):
-        self.unit, self.grain, self.locals, self.within, self.depth = unit, grain, locals, within, depth
+    def __init__(self, unit, grain, names, within, depth):
+        self.unit, self.grain, self.names, self.within, self.depth = unit, grain, names, within, depth
 
     def value(self, it):
         match it:
@@ -192,7 +192,7 @@ class Frame:
             case ("name", "key"):
                 return self.grain[1]
             case ("name", name):
-                return self.locals[name] if name in self.locals else self.unit.state(self.grain)[name]
+                return self.names[name] if name in self.names else self.unit.state(self.grain)[name]
             case ("prefix", operator, one):
                 one = number(self.value(one))
                 return fits(-one) if operator == "-" else int(one == 0)
@@ -231,9 +231,9 @@ class Frame:
     def statement(self, it):
         match it:
             case ("let", name, ("call", *call)):
-                self.locals[name], _ = self.call(*call)
+                self.names[name], _ = self.call(*call)
             case ("let" | "give", name, one):
-                self.locals[name] = self.value(one)
+                self.names[name] = self.value(one)
             case ("set", field, one):
                 self.unit.state(self.grain)[field] = self.value(one)
                 self.unit.written[self.grain] = self.unit.states[self.grain]
@@ -249,7 +249,7 @@ class Frame:
             case ("call", *call):
                 self.call(*call)
             case ("attempt", name, ("call", *call), then, other):
-                self.locals[name], has_value = self.call(*call, tried=True)
+                self.names[name], has_value = self.call(*call, tried=True)
                 self.block(then if has_value else other)
 
     def test(self, one):
