@@ -5,8 +5,8 @@ them by `attempt`, and carries random requests by two runs, each of a random wid
 examples/reader reads, is played from its front, one unit after another, by plain_player, which knows nothing of locks, versions or
 batches. Each unit gives its record's result over the states that those before it left, asks for the children that the log has
 before it, and is answered what these gave; the grains end with the states that the folder holds; each request has one reply, which is
-that of its record, or of a run outside transactions over what its children gave, and an aborted one has no record; and replies
-stand in the log's order. The same seed gives the same rounds.
+that of its record, or of a run outside transactions over what its children gave, and an aborted one has no record, and names a lock,
+since no call on a file fails here; and replies stand in the log's order. The same seed gives the same rounds.
 """
 import collections
 import contextlib
@@ -24,7 +24,7 @@ sys.path.insert(0, os.path.join(TOP, "examples", "reader"))
 import read  # noqa: E402
 
 ROUNDS, SEED = 30, 7
-KEYS = 3
+KEYS = 2
 
 
 def infix(operator, one, other):
@@ -97,13 +97,13 @@ class Writer:
             return draw.choice([plain(draw.randrange(5)), name(draw.choice(there)), name(draw.choice([*fields, *there]))])
         if draw.random() < 0.1:
             return ("prefix", draw.choice("-!"), self.value(there, depth - 1))
-        operator = draw.choice(["+"] * 12 + ["-"] * 4 + ["*", "*", "/", "%", "<", "<=", ">", ">=", "==", "!=", "&&", "||"])
+        operator = draw.choice(["+"] * 24 + ["-"] * 8 + ["*", "*", "/", "%", "<", "<=", ">", ">=", "==", "!=", "&&", "||"])
         return infix(operator, self.value(there, depth - 1), self.value(there, depth - 1))
 
     def called(self, there):
         draw = self.draw
         kind, method = draw.choice(self.callees)
-        place = draw.choice([plain(draw.randrange(KEYS)), plain(draw.randrange(KEYS)), name(draw.choice(there)), infix("%", self.value(there, 1), plain(KEYS))])
+        place = draw.choice([*(plain(key) for key in range(KEYS)), *(plain(key) for key in range(KEYS)), name("key"), infix("%", self.value(there, 1), plain(KEYS))])
         return call(kind, place, method.name, *(self.value(there, 1) for _ in method.parameters))
 
     def block(self, there, count, depth):
@@ -116,20 +116,20 @@ class Writer:
         """A statement or two, which may add to the names that are there."""
         draw = self.draw
         roll = draw.random()
-        if roll < 0.4 and self.callees:
+        if roll < 0.5 and self.callees:
             return [self.call_statement(there, depth)]
-        if roll < 0.6 and self.kind == "update":
+        if roll < 0.65 and self.kind == "update":
             return [("set", draw.choice(self.fields), self.value(there, 2))]
-        if roll < 0.7 and depth > 0:
+        if roll < 0.73 and depth > 0:
             return [("if", self.value(there, 1), self.block(there, draw.randrange(3), depth - 1), self.block(there, draw.randrange(2), depth - 1))]
-        if roll < 0.75 and depth > 0:
+        if roll < 0.77 and depth > 0:
             limit, count = self.fresh(), self.fresh()
             body = self.block(there, 1, 0)
             return [("let", limit, plain(draw.randrange(1, 4))), ("let", count, plain(0)),
                     ("while", infix("<", name(count), name(limit)), [("give", count, infix("+", name(count), plain(1))), *body])]
-        if roll < 0.765:
+        if roll < 0.775:
             return [("if", self.value(there, 1), [("fail", draw.choice(["no", "never"]))], [])]
-        if roll < 0.83 and len(there) > 1:
+        if roll < 0.84 and len(there) > 1:
             return [("give", draw.choice(there[1:]), self.value(there, 2))]
         made = ("let", self.fresh(), self.value(there, 2))
         there.append(made[1])
@@ -169,16 +169,17 @@ def random_request(draw, program):
     if roll < 0.05:
         method = draw.choice(list(EDGES))
         return f"edge/0.{method}", [draw.randrange(*EDGES[method])]
-    kind = draw.choice(program[:-1])
-    method = draw.choice(kind.methods)
+    # Mostly of the types whose methods call others.
+    kind = draw.choice([*program[:-1], program[-2], program[-2], program[-2]])
+    method = draw.choice([it for it in kind.methods if it.option != "join" or draw.random() < 0.1] or kind.methods)
     return f"{kind.name}/{draw.randrange(KEYS)}.{method.name}", [draw.choice([*range(-1, 5), "a"][: 6 + (draw.random() < 0.02)]) for _ in method.parameters]
 
 
 def random_words(draw):
-    words = ["run", "--width", str(draw.choice([1, 2, 3, 4, 8, 16, 64]))]
-    if draw.random() < 0.8:
-        most = draw.choice([2, 5, 50])
-        words += ["--turns", ",".join(str(draw.randrange(most)) for _ in range(draw.randrange(1, 400)))]
+    words = ["run", "--width", str(draw.choice([1, 2, 3, 4, 4, 8, 8, 16, 64]))]
+    if draw.random() < 0.9:
+        most = draw.choice([2, 5, 10, 50])
+        words += ["--turns", ",".join(str(draw.randrange(most)) for _ in range(draw.randrange(1, 800)))]
     return words
 
 
@@ -234,7 +235,7 @@ class Replay:
         if kinds[:1] == ["bad"]:
             return self.expect("unit" not in reply and request[0] == "t0/0.nothing", f"{reply} to {request}")
         if kinds[:1] == ["aborted"]:
-            return self.expect(record is None, f"{reply} beside {record}")
+            return self.expect(record is None and reply["aborted"] == "lock", f"{reply} beside {record}")
         said = reply["reply"] if "reply" in reply else {"fault": reply["fault"]}
         if record is not None:
             return self.expect((record["call"], record["args"], record["result"]) == (*request, said), f"{reply} beside {record}")
