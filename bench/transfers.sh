@@ -8,9 +8,9 @@
 # Wanted at width 64: 20,000 transfers in at most 1.25 times the time of the bare syncs; 50,000 a second where syncs cost nothing; at
 # 100,000 at most 1.1 times the time for each that it takes at 2,000.
 # Measured beside other work on four processors: 36 us of processor time for each transfer at width 64, at 2,000 as at 20,000, and
-# 19,500 a second where syncs cost nothing, so the second isn't met there. By a profile of an earlier build a sixth of the time is
-# looking for the mover and a twelfth looking for units to drop, since each turn walks over the units in flight; the rest is spread
-# over the core's events, the allocator and the bytes of versions and records.
+# 19,500 a second where syncs cost nothing, so the second isn't met there. By a profile a quarter of the time is walks over the units
+# in flight, which each turn makes: a tenth looks for units to drop, a twentieth for the mover, and the rest counts the lines among
+# them; what is left is spread over the core's events, the allocator and the bytes of versions and records.
 top=$(cd "$(dirname "${BASH_SOURCE[0]}")/.." && pwd)
 [ -n "${SILO:-}" ] || "$top/silo" </dev/null >/dev/null 2>&1
 exec python3 - "$top" "${SILO:-$top/crates/silo/out/silo}" "$@" <<'END'

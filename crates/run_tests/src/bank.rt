@@ -1,4 +1,4 @@
-/// The bank program.
+/// The bank program. What `books` answers has the balances of three accounts in its digits, those of `account/1` last.
 pub const BANK: &str = r#"type account {
   field balance = 0;
   method deposit(n) createorjoin update { set balance = balance + n; return balance; }
@@ -14,6 +14,12 @@ type atm {
     call account/a.withdraw(n);
     call account/b.deposit(n);
     return n;
+  }
+  method books() create plain {
+    let a = call account/1.read();
+    let b = call account/2.read();
+    let c = call account/3.read();
+    return a + 1000 * b + 1000000 * c;
   }
 }
 type probe {

@@ -4,6 +4,8 @@
 #[cfg(test)]
 mod bank;
 #[cfg(test)]
+mod faults;
+#[cfg(test)]
 mod making;
 #[cfg(test)]
 mod rows;
@@ -11,3 +13,7 @@ mod rows;
 mod setting;
 #[cfg(test)]
 mod standing;
+#[cfg(test)]
+mod stops;
+#[cfg(test)]
+mod transfers;

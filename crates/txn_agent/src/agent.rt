@@ -134,6 +134,31 @@ impl Agent {
         }
     }
 
+    // Does what `ready` says, also where the script waits for no child. It stands apart since room for what a script is at is cleared
+    // wherever this is entered, which costs more than a look at an agent that waits for none.
+    #[inline(never)]
+    fn hear_now<A: Access>(
+        &mut self,
+        alloc: Global,
+        checked: &Checked,
+        access: &mut A,
+    ) -> Result<(), AllocError>
+        requires fit { A.is_fit access.old }
+        requires counts { Counts (A.sight access.old) }
+        requires knows { Knows (program_tree checked.now) (A.sight access.old) self.old }
+        ensures fit { A.is_fit access.new }
+        ensures aside { A.aside access.new ≡ A.aside access.old }
+        ensures carried { self.new.carried ≡ self.old.carried }
+        ensures looked { Looks A.may_come (A.sight access.old) (A.sight access.new) }
+        ensures heard { IfOk result (λ _. Hears (A.sight access.new) self.new.doing) }
+        ensures children { IfOk result (λ _. children_of self.new.doing ≡ children_of self.old.doing) }
+        ensures knows { IfOk result (λ _. Knows (program_tree checked.now) (A.sight access.new) self.new) }
+    {
+        let doing = mem::replace(&mut self.doing, Doing::Stopped);
+        self.doing = hear_child(alloc, checked, access, self.carried, doing)?;
+        Ok(())
+    }
+
     /// Hands the script the outcome of the child for which it waits, where the core shows in this call that the child is
     /// decided, and runs the script to its next pause.
     pub fn ready<A: Access>(
@@ -156,8 +181,7 @@ impl Agent {
         if !matches!(self.doing, Doing::Awaits { .. }) {
             return Ok(());
         }
-        let doing = mem::replace(&mut self.doing, Doing::Stopped);
-        self.doing = hear_child(alloc, checked, access, self.carried, doing)?;
+        self.hear_now(alloc, checked, access)?;
         Ok(())
     }
 
