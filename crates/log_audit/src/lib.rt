@@ -3,12 +3,18 @@
 //! Each opens the folder, and changes nothing of it. The definitions of the texts are `promise_spec`'s.
 #![tactic(auto)]
 
-mod audit;
+mod audits;
 mod faults;
-mod history;
-mod show;
+mod grains;
+mod lines;
+mod parts;
+mod records;
+mod replay;
+mod states;
+mod writing;
 
-pub use audit::{AuditReport, Bad, audit, print_audit};
+pub use audits::{AuditReport, audit, print_audit};
 pub use faults::ReportFault;
-pub use history::history;
-pub use show::show;
+pub use records::history;
+pub use replay::Bad;
+pub use states::show;

@@ -1,0 +1,15 @@
+-- The grains that records wrote.
+use Rattle.std.specs.Prelude.{List, [], ◌∷◌, map}
+use Rattle.std.specs.List.{flat_map}
+use Rattle.base_types.specs.declared.calls.GrainId.{GrainId}
+use Rattle.commit_log.specs.declared.records.CommitRecord.{CommitRecord}
+use Rattle.log_reading.specs.Versions.{ascending_with}
+
+-- the grains that records wrote, in the log's order
+abbrev pub written_by : List CommitRecord → List GrainId
+written_by records = flat_map (λ r. map (λ w. w.grain) r.writes) records
+
+-- these grains, one after another, among others that ascend
+abbrev pub with_grains : List GrainId → List GrainId → List GrainId
+with_grains kept [] = kept
+with_grains kept (g ∷ gs) = with_grains (ascending_with g kept) gs
