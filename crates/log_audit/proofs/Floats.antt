@@ -1,5 +1,5 @@
 -- No line of a report has a float, so each has a compact text.
-use Rattle.std.proofs.Common.{◌≡◌, ℕ, Bool, true, false, List, [], ◌∷◌, Option, Some, None, refl, ◌∙◌, ap, pos, negsuc}
+use Rattle.std.proofs.Common.{◌≡◌, ℕ, Bool, true, false, List, [], ◌∷◌, Option, Some, None, Result, IfOk, String, Global, string_bytes, refl, ◌∙◌, ap, pos, negsuc}
 use Rattle.std.specs.Prelude.{◌||◌}
 use Rattle.std.specs.declared.cmp.Ordering.{Ordering}
 use Rattle.std.specs.declared.cmp.Ordering.TheVariants.{Less, Equal, Greater}
@@ -19,8 +19,9 @@ use Rattle.script_tree.specs.declared.programs.FieldDecl.{FieldDecl}
 use Rattle.script_tree.specs.Programs.{ProgramTree}
 use Rattle.serde_json.specs.Data.{Data, Items, no_items, item, Members, no_members, member, put, object, array, string}
 use Rattle.serde_json.specs.Written.{has_float, items_have_float, members_have_float}
-use Rattle.promise_spec.specs.Reports.{fields_data, items_of, ended_as}
-use Rattle.log_audit.specs.Lines.{fields_in, grain_data, count_data, call_named, record_data, audit_data}
+use Rattle.log_reading.proofs.Cutting.{weaker_ok}
+use Rattle.promise_spec.specs.Reports.{line_of, fields_data, items_of, ended_as}
+use Rattle.log_audit.specs.Lines.{fields_of_kind, grain_data, count_data, call_named, record_data, audit_data}
 
 value_none : (v : Value) → has_float (value_data v) ≡ false
 value_none (Int (pos k)) = refl
@@ -62,7 +63,7 @@ fields_none (f ∷ fields) [] = refl
 fields_none (f ∷ fields) (v ∷ values) = put_none f.name.text (value_data v) (fields_data fields values) (value_none v) (fields_none fields values)
 
 pub grain_no_float : (shape : Shape) (types : ProgramTree) (grain : GrainId) (state : List Value) → has_float (grain_data shape types grain state) ≡ false
-grain_no_float shape types grain state = neither (members_have_float (fields_data (fields_in types grain.kind) state)) false (fields_none (fields_in types grain.kind) state) refl
+grain_no_float shape types grain state = neither (members_have_float (fields_data (fields_of_kind types grain.kind) state)) false (fields_none (fields_of_kind types grain.kind) state) refl
 
 pub count_no_float : (count : ℕ) → has_float (count_data count) ≡ false
 count_no_float count = refl
@@ -82,4 +83,7 @@ pub audit_no_float : (count : ℕ) (unit : Option ℕ) → has_float (audit_data
 audit_no_float count None = refl
 audit_no_float count (Some unit) = refl
 
-pub ruleset no_float_lines = (grain_no_float, count_no_float, record_no_float, audit_no_float)
+
+-- the line of a value that is this one, which has no float
+pub lined : {E : Type 0} (d line : Data) (r : Result (String Global) E) → d ≡ line → has_float line ≡ false → IfOk r (λ text. has_float d ≡ false → string_bytes text ≡ line_of d) → IfOk r (λ text. string_bytes text ≡ line_of line)
+lined d line r same none is = weaker_ok _ _ r (λ text told. told (ap has_float same ∙ none) ∙ ap line_of same) is

@@ -12,9 +12,9 @@ use Rattle.log_reading.specs.Steps.{next_in, manager, records_from, with_records
 use Rattle.log_reading.specs.declared.faults.FolderFault.{FolderFault}
 use Rattle.log_reading.proofs.Following.{Follows, follows_begins, follows_on, follows_ends}
 use Rattle.log_reading.proofs.Errors.{failed}
-use Rattle.log_audit.specs.Written.{written_by, with_grains}
+use Rattle.log_audit.specs.Written.{grains_written, grains_added}
 use Rattle.log_audit.specs.Unread.{IsLogFault}
-use Rattle.log_audit.proofs.Growing.{with_grains-append}
+use Rattle.log_audit.proofs.Growing.{grains_added-append}
 
 -- where the log ends, all of its records were read
 pub all_read : (shape : Shape) (file : List ℕ) (done : List CommitRecord) (gate : ℕ) → Follows shape file done gate → next_in shape gate file ≡ Ok None → (records : List CommitRecord) → records_in_file shape file ≡ Ok records → done ≡ records
@@ -32,24 +32,24 @@ rest_of shape file done records gate f is = by (records_from shape f.fuel gate f
 pub record HasGrains (shape : Shape) (file : List ℕ) (gate : ℕ) (kept : List GrainId) : Type 0 where
   pub records : List CommitRecord
   pub follows : Follows shape file records gate
-  pub are : kept ≡ with_grains [] (written_by records)
+  pub are : kept ≡ grains_added [] (grains_written records)
 
 module _ (shape : Shape) (file : List ℕ) where
   pub grains_begun : (kept : List GrainId) → kept ≡ [] → HasGrains shape file first_gate kept
   grains_begun kept none = record { records = []; follows = follows_begins shape file; are = none }
 
-  pub grains_more : (gate : ℕ) (kept : List GrainId) → HasGrains shape file gate kept → (more : List CommitRecord) (behind : ℕ) (new : List GrainId) → new ≡ with_grains kept (written_by more)
+  pub grains_more : (gate : ℕ) (kept : List GrainId) → HasGrains shape file gate kept → (more : List CommitRecord) (behind : ℕ) (new : List GrainId) → new ≡ grains_added kept (grains_written more)
       → next_in shape gate file ≡ Ok (Some (more, behind)) → HasGrains shape file behind new
   grains_more gate kept h more behind new put step = record {
     records = h.records ++ more;
     follows = follows_on shape file h.records gate h.follows more behind step;
     are =
-        put ∙ ap (λ (l : List GrainId). with_grains l (written_by more)) h.are ∙ sym (with_grains-append [] (written_by h.records) (written_by more))
-        ∙ ap (with_grains []) (sym (flat_map-append (λ (r : CommitRecord). map (λ (w : Written). w.grain) r.writes) h.records more));
+        put ∙ ap (λ (l : List GrainId). grains_added l (grains_written more)) h.are ∙ sym (grains_added-append [] (grains_written h.records) (grains_written more))
+        ∙ ap (grains_added []) (sym (flat_map-append (λ (r : CommitRecord). map (λ (w : Written). w.grain) r.writes) h.records more));
   }
 
-  pub grains_ended : (gate : ℕ) (kept : List GrainId) → HasGrains shape file gate kept → next_in shape gate file ≡ Ok None → (records : List CommitRecord) → records_in_file shape file ≡ Ok records → kept ≡ with_grains [] (written_by records)
-  grains_ended gate kept h end records is = h.are ∙ ap (λ (l : List CommitRecord). with_grains [] (written_by l)) (all_read shape file h.records gate h.follows end records is)
+  pub grains_ended : (gate : ℕ) (kept : List GrainId) → HasGrains shape file gate kept → next_in shape gate file ≡ Ok None → (records : List CommitRecord) → records_in_file shape file ≡ Ok records → kept ≡ grains_added [] (grains_written records)
+  grains_ended gate kept h end records is = h.are ∙ ap (λ (l : List CommitRecord). grains_added [] (grains_written l)) (all_read shape file h.records gate h.follows end records is)
 
   -- a fault of reading the log
   pub log_fault : {A : Type 0} (e : FolderFault) → ((at : FileId) (place : ℕ) → failed {A = A} e ≡ failed (FolderFault.Damaged at place) → records_in_file shape file ≡ Err place)

@@ -15,7 +15,7 @@ use Rattle.base_types.specs.Stores.{grain_cmp}
 use Rattle.commit_log.specs.declared.records.CommitRecord.{CommitRecord}
 use Rattle.commit_log.specs.declared.records.Written.{Written}
 use Rattle.log_reading.specs.Versions.{ascending_with, ascending}
-use Rattle.log_audit.specs.Written.{written_by, with_grains}
+use Rattle.log_audit.specs.Written.{grains_written, grains_added}
 
 -- ---- two keys that are added to others, in either order
 
@@ -149,36 +149,36 @@ either_grain a b xs =
 
 -- ---- one by one
 
-one_before : (g : GrainId) (kept gs : List GrainId) → with_grains (ascending_with g kept) gs ≡ ascending_with g (with_grains kept gs)
+one_before : (g : GrainId) (kept gs : List GrainId) → grains_added (ascending_with g kept) gs ≡ ascending_with g (grains_added kept gs)
 one_before g kept [] = refl
-one_before g kept (h ∷ gs) = ap (λ (l : List GrainId). with_grains l gs) (either_grain h g kept) ∙ one_before g (ascending_with h kept) gs
+one_before g kept (h ∷ gs) = ap (λ (l : List GrainId). grains_added l gs) (either_grain h g kept) ∙ one_before g (ascending_with h kept) gs
 
-pub are_ascending : (gs : List GrainId) → with_grains [] gs ≡ ascending gs
+pub are_ascending : (gs : List GrainId) → grains_added [] gs ≡ ascending gs
 are_ascending [] = refl
 are_ascending (g ∷ gs) = one_before g [] gs ∙ ap (ascending_with g) (are_ascending gs)
 
-pub with_grains-append : (kept xs ys : List GrainId) → with_grains kept (xs ++ ys) ≡ with_grains (with_grains kept xs) ys
-with_grains-append kept [] ys = refl
-with_grains-append kept (x ∷ xs) ys = with_grains-append (ascending_with x kept) xs ys
+pub grains_added-append : (kept xs ys : List GrainId) → grains_added kept (xs ++ ys) ≡ grains_added (grains_added kept xs) ys
+grains_added-append kept [] ys = refl
+grains_added-append kept (x ∷ xs) ys = grains_added-append (ascending_with x kept) xs ys
 
 abbrev of_writes : List Written → List GrainId
 of_writes ws = map (λ (w : Written). w.grain) ws
 
 -- one write more
-pub write_more : (w : Written) (more left : List Written) (kept new whole : List GrainId) → left ≡ w ∷ more → new ≡ insert_key grain_cmp kept w.grain → with_grains kept (of_writes left) ≡ whole → with_grains new (of_writes more) ≡ whole
+pub write_more : (w : Written) (more left : List Written) (kept new whole : List GrainId) → left ≡ w ∷ more → new ≡ insert_key grain_cmp kept w.grain → grains_added kept (of_writes left) ≡ whole → grains_added new (of_writes more) ≡ whole
 write_more w more left kept new whole next put so_far =
-    ap (λ (l : List GrainId). with_grains l (of_writes more)) (put ∙ inserted kept w.grain)
-    ∙ sym (ap (λ (l : List Written). with_grains kept (of_writes l)) next) ∙ so_far
+    ap (λ (l : List GrainId). grains_added l (of_writes more)) (put ∙ inserted kept w.grain)
+    ∙ sym (ap (λ (l : List Written). grains_added kept (of_writes l)) next) ∙ so_far
 
-pub writes_all : (left : List Written) (kept whole : List GrainId) → left ≡ [] → with_grains kept (of_writes left) ≡ whole → kept ≡ whole
-writes_all left kept whole none so_far = sym (ap (λ (l : List Written). with_grains kept (of_writes l)) none) ∙ so_far
+pub writes_all : (left : List Written) (kept whole : List GrainId) → left ≡ [] → grains_added kept (of_writes left) ≡ whole → kept ≡ whole
+writes_all left kept whole none so_far = sym (ap (λ (l : List Written). grains_added kept (of_writes l)) none) ∙ so_far
 
 -- one record more
-pub record_more : (r : CommitRecord) (more left : List CommitRecord) (kept new whole : List GrainId) → left ≡ r ∷ more → new ≡ with_grains kept (of_writes r.writes)
-    → with_grains kept (written_by left) ≡ whole → with_grains new (written_by more) ≡ whole
+pub record_more : (r : CommitRecord) (more left : List CommitRecord) (kept new whole : List GrainId) → left ≡ r ∷ more → new ≡ grains_added kept (of_writes r.writes)
+    → grains_added kept (grains_written left) ≡ whole → grains_added new (grains_written more) ≡ whole
 record_more r more left kept new whole next put so_far =
-    ap (λ (l : List GrainId). with_grains l (written_by more)) put ∙ sym (with_grains-append kept (of_writes r.writes) (written_by more))
-    ∙ sym (ap (λ (l : List CommitRecord). with_grains kept (written_by l)) next) ∙ so_far
+    ap (λ (l : List GrainId). grains_added l (grains_written more)) put ∙ sym (grains_added-append kept (of_writes r.writes) (grains_written more))
+    ∙ sym (ap (λ (l : List CommitRecord). grains_added kept (grains_written l)) next) ∙ so_far
 
-pub records_all : (left : List CommitRecord) (kept whole : List GrainId) → left ≡ [] → with_grains kept (written_by left) ≡ whole → kept ≡ whole
-records_all left kept whole none so_far = sym (ap (λ (l : List CommitRecord). with_grains kept (written_by l)) none) ∙ so_far
+pub records_all : (left : List CommitRecord) (kept whole : List GrainId) → left ≡ [] → grains_added kept (grains_written left) ≡ whole → kept ≡ whole
+records_all left kept whole none so_far = sym (ap (λ (l : List CommitRecord). grains_added kept (grains_written l)) none) ∙ so_far

@@ -1,10 +1,10 @@
 -- Records that were played one after another.
-use Rattle.std.proofs.Common.{◌≡◌, ◌≢◌, ◌⊎◌, inl, inr, ℕ, Bool, true, false, List, [], ◌∷◌, ◌++◌, length, map, Option, Some, None, Result, Ok, Err, refl, sym, ◌∙◌, ap, subst, append_assoc, append-nil, map-append}
+use Rattle.std.proofs.Common.{◌≡◌, ◌≢◌, ◌⊎◌, inl, inr, ℕ, Bool, true, false, List, [], ◌∷◌, ◌++◌, length, map, Option, Some, None, Result, Ok, Err, refl, sym, ◌∙◌, ap, subst, append_assoc, append-nil}
 use Rattle.std.specs.Prelude.{◌==◌, ◌&&◌, not, if◌then◌else◌, is_some, slice_get, unwrap_or, zip}
 use Rattle.std.specs.List.{fold, flat_map}
 use Rattle.std.specs.Cmp.{signed_Decides}
 use Rattle.std.proofs.lemmas.Bool.{and_parts, and_from, eqb-true, eq-eqb, true≢false, false≢true, cases_Bool}
-use Rattle.std.proofs.lemmas.List.Sums.{fold-append}
+use Rattle.std.proofs.lemmas.List.{map-append}
 use Rattle.base_types.specs.declared.calls.GrainId.{GrainId}
 use Rattle.base_types.specs.declared.calls.Outcome.{Outcome}
 use Rattle.base_types.specs.declared.calls.Outcome.TheVariants as outcome
@@ -30,7 +30,7 @@ use Rattle.promise_spec.specs.Family.{states_after}
 use Rattle.promise_spec.specs.Logs.{live_slot}
 use Rattle.promise_spec.specs.Openings.{commit_of}
 use Rattle.log_audit.specs.declared.replay.Bad.{Bad}
-use Rattle.log_audit.specs.Replaying.{same_write, agree, commits_of, FailsToReplay, ReplaysTo, FailsFirst, AllReplayTo, IsFirstFailure}
+use Rattle.log_audit.specs.Replaying.{same_write, agree, as_commits, FailsToReplay, ReplaysTo, FailsFirst, AllReplayTo, IsFirstFailure}
 use Rattle.log_audit.proofs.Gathering.{all_read, rest_of}
 
 -- ---- a value is itself, by the tests
@@ -136,8 +136,8 @@ none_kept types store none = λ i grain. unwrap_or (none grain i) (initial_of (s
 -- ---- one after another
 
 serial_both : (types : ProgramTree) (states : States) (a b : List Commit) → IsSerial types states a → IsSerial types (states_after states a) b → IsSerial types states (a ++ b)
-serial_both types states [] b first then = then
-serial_both types states (c ∷ a) b first then = (first.0, serial_both types (after_writes states c) a b first.1 then)
+serial_both types states [] b first rest = rest
+serial_both types states (c ∷ a) b first rest = (first.0, serial_both types (after_writes states c) a b first.1 rest)
 
 after_both : (states : States) (a b : List Commit) → states_after states (a ++ b) ≡ states_after (states_after states a) b
 after_both states [] b = refl
@@ -145,7 +145,7 @@ after_both states (c ∷ a) b = after_both (after_writes states c) a b
 
 module _ (types : ProgramTree) (shape : Shape) (image : Image) (start : States) where
   abbrev commits : List CommitRecord → List Commit
-  commits records = commits_of shape image records
+  commits records = as_commits shape image records
 
   abbrev commit : CommitRecord → Commit
   commit r = commit_of live_slot shape image r
@@ -205,53 +205,53 @@ module _ (types : ProgramTree) (shape : Shape) (image : Image) (file : List ℕ)
   pub record HasAudited (gate : ℕ) (now : States) : Type 0 where
     pub records : List CommitRecord
     pub follows : Follows shape file records gate
-    pub serial : IsSerial types start (commits_of shape image records)
-    pub states : now ≡ states_after start (commits_of shape image records)
+    pub serial : IsSerial types start (as_commits shape image records)
+    pub states : now ≡ states_after start (as_commits shape image records)
 
   pub audit_begun : (now : States) → now ≡ start → HasAudited 15 now
   audit_begun now is = record { records = []; follows = follows_begins shape file; serial = tt; states = is }
 
   pub audit_more : (gate : ℕ) (now new : States) (more : List CommitRecord) (behind : ℕ) → HasAudited gate now → next_in shape gate file ≡ Ok (Some (more, behind))
-      → AllReplayTo types now (commits_of shape image more) new None → HasAudited behind new
+      → AllReplayTo types now (as_commits shape image more) new None → HasAudited behind new
   audit_more gate now new more behind h step to =
-      let seam : commits_of shape image (h.records ++ more) ≡ commits_of shape image h.records ++ commits_of shape image more = map-append (commit_of live_slot shape image) h.records more in
+      let seam : as_commits shape image (h.records ++ more) ≡ as_commits shape image h.records ++ as_commits shape image more = map-append (commit_of live_slot shape image) h.records more in
       record {
         records = h.records ++ more;
         follows = follows_on shape file h.records gate h.follows more behind step;
         serial = subst (λ (l : List Commit). IsSerial types start l) (sym seam)
-            (serial_both types start (commits_of shape image h.records) (commits_of shape image more) h.serial (subst (λ (s : States). IsSerial types s (commits_of shape image more)) h.states to.0));
-        states = to.1 ∙ ap (λ (s : States). states_after s (commits_of shape image more)) h.states
-            ∙ sym (ap (λ (l : List Commit). states_after start l) seam ∙ after_both start (commits_of shape image h.records) (commits_of shape image more));
+            (serial_both types start (as_commits shape image h.records) (as_commits shape image more) h.serial (subst (λ (s : States). IsSerial types s (as_commits shape image more)) h.states to.0));
+        states = to.1 ∙ ap (λ (s : States). states_after s (as_commits shape image more)) h.states
+            ∙ sym (ap (λ (l : List Commit). states_after start l) seam ∙ after_both start (as_commits shape image h.records) (as_commits shape image more));
       }
 
-  pub audit_bad : (gate : ℕ) (now : States) (more : List CommitRecord) (behind : ℕ) (bad : Bad) → HasAudited gate now → next_in shape gate file ≡ Ok (Some (more, behind)) → FailsFirst types now (commits_of shape image more) bad
-      → (records : List CommitRecord) → records_in_file shape file ≡ Ok records → FailsFirst types start (commits_of shape image records) bad
+  pub audit_bad : (gate : ℕ) (now : States) (more : List CommitRecord) (behind : ℕ) (bad : Bad) → HasAudited gate now → next_in shape gate file ≡ Ok (Some (more, behind)) → FailsFirst types now (as_commits shape image more) bad
+      → (records : List CommitRecord) → records_in_file shape file ≡ Ok records → FailsFirst types start (as_commits shape image records) bad
   audit_bad gate now more behind bad h step f records is =
       let read = follows_on shape file h.records gate h.follows more behind step in
       let rest = rest_of shape file (h.records ++ more) records behind read is in
-      let of = commit_of live_slot shape image in
-      let done : List Commit = map of h.records in
-      let all : map of records ≡ done ++ (f.front ++ (f.here ∷ (f.back ++ map of rest.0))) =
-      ap (map of) rest.1 ∙ map-append of (h.records ++ more) rest.0 ∙ ap (λ (l : List Commit). l ++ map of rest.0) (map-append of h.records more ∙ ap (λ (l : List Commit). done ++ l) f.are)
-      ∙ append_assoc done (f.front ++ (f.here ∷ f.back)) (map of rest.0) ∙ ap (λ (l : List Commit). done ++ l) (append_assoc f.front (f.here ∷ f.back) (map of rest.0)) in
+      let made = commit_of live_slot shape image in
+      let done : List Commit = map made h.records in
+      let all : map made records ≡ done ++ (f.front ++ (f.here ∷ (f.back ++ map made rest.0))) =
+      ap (map made) rest.1 ∙ map-append made (h.records ++ more) rest.0 ∙ ap (λ (l : List Commit). l ++ map made rest.0) (map-append made h.records more ∙ ap (λ (l : List Commit). done ++ l) f.are)
+      ∙ append_assoc done (f.front ++ (f.here ∷ f.back)) (map made rest.0) ∙ ap (λ (l : List Commit). done ++ l) (append_assoc f.front (f.here ∷ f.back) (map made rest.0)) in
       record {
         front = done ++ f.front;
         here = f.here;
-        back = f.back ++ map of rest.0;
-        are = all ∙ sym (append_assoc done f.front (f.here ∷ (f.back ++ map of rest.0)));
+        back = f.back ++ map made rest.0;
+        are = all ∙ sym (append_assoc done f.front (f.here ∷ (f.back ++ map made rest.0)));
         serial = serial_both types start done f.front h.serial (subst (λ (s : States). IsSerial types s f.front) h.states f.serial);
         fails = subst (λ (s : States). FailsToReplay types s f.here bad) (ap (λ (s : States). states_after s f.front) h.states ∙ sym (after_both start done f.front)) f.fails;
       }
 
   pub audit_found : (gate : ℕ) (now new : States) (more : List CommitRecord) (behind : ℕ) (found : Option Bad) → HasAudited gate now → next_in shape gate file ≡ Ok (Some (more, behind)) → is_some found ≡ true
-      → AllReplayTo types now (commits_of shape image more) new found → (records : List CommitRecord) → records_in_file shape file ≡ Ok records → IsFirstFailure types start (commits_of shape image records) found
+      → AllReplayTo types now (as_commits shape image more) new found → (records : List CommitRecord) → records_in_file shape file ≡ Ok records → IsFirstFailure types start (as_commits shape image records) found
   audit_found gate now new more behind None h step some to records is = absurd cc
   audit_found gate now new more behind (Some bad) h step some to records is = audit_bad gate now more behind bad h step to records is
 
   pub audit_next : (gate : ℕ) (now new : States) (more : List CommitRecord) (behind : ℕ) (found : Option Bad) → HasAudited gate now → next_in shape gate file ≡ Ok (Some (more, behind)) → is_some found ≡ false
-      → AllReplayTo types now (commits_of shape image more) new found → HasAudited behind new
+      → AllReplayTo types now (as_commits shape image more) new found → HasAudited behind new
   audit_next gate now new more behind None h step none to = audit_more gate now new more behind h step to
   audit_next gate now new more behind (Some bad) h step none to = absurd cc
 
-  pub audit_done : (gate : ℕ) (now : States) → HasAudited gate now → next_in shape gate file ≡ Ok None → (records : List CommitRecord) → records_in_file shape file ≡ Ok records → IsFirstFailure types start (commits_of shape image records) None
-  audit_done gate now h end records is = subst (λ (l : List CommitRecord). IsSerial types start (commits_of shape image l)) (all_read shape file h.records gate h.follows end records is) h.serial
+  pub audit_done : (gate : ℕ) (now : States) → HasAudited gate now → next_in shape gate file ≡ Ok None → (records : List CommitRecord) → records_in_file shape file ≡ Ok records → IsFirstFailure types start (as_commits shape image records) None
+  audit_done gate now h end records is = subst (λ (l : List CommitRecord). IsSerial types start (as_commits shape image l)) (all_read shape file h.records gate h.follows end records is) h.serial

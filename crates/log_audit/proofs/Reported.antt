@@ -23,7 +23,8 @@ use Rattle.promise_spec.specs.Logs.{live_slot}
 use Rattle.promise_spec.specs.Openings.{Reading, NoSilo, Reads, is_silo, program_in_file, records_in_file, named_by, named_by_grain, first_missing, commit_of, with_versions, with_log, with_program, opened_as}
 use Rattle.promise_spec.specs.Words.{Manner}
 use Rattle.promise_spec.specs.Refusals.{IsRefusedBy, IsUnopened}
-use Rattle.promise_spec.specs.Commands.{LeavesAsBefore, IsReported}
+use Rattle.promise_spec.specs.Reports.{audit_text}
+use Rattle.promise_spec.specs.Commands.{LeavesAsBefore, IsReported, IsFirstBad, IsAudited}
 use Rattle.promise_spec.specs.Endings.{Ending, Done, BadUse, Memory, ReadFault, WriteFault, DiskFault, NotASilo, AlreadyASilo, Damaged, BadProgram, InputTooLong, HasRisen, HasFailedAs}
 use Rattle.promise_spec.proofs.Openings.{reads_is}
 use Rattle.log_audit.specs.declared.faults.ReportFault.{ReportFault}
@@ -124,7 +125,7 @@ not_opened manner asked old new before after result e is run refused faulted = r
 
 module _ (old mid : World) (settles : mid.disk manager ≡ settled (old.disk manager).seen) (run : RunsOnFile manager Stays 1 old mid) where
   early : (m : Moment) → IsAsAtEntry old m → LeavesAsBefore old m
-  early m as image is = (as.images image is, λ other. absurd (other as.quiet))
+  early m entry image is = (entry.images image is, λ other. absurd (other entry.quiet))
 
   late : (m : Moment) → m.disk ≡ mid.disk → LeavesAsBefore old m
   late m same image is =
@@ -153,3 +154,11 @@ module _ (old mid : World) (settles : mid.disk manager ≡ settled (old.disk man
     ending = end;
     risen = failed_risen before after (report_ending result) failed;
   }
+
+  -- an audit of one that was
+  pub is_audited : {A : Type 0} (unit : Option ℕ) (p : Program) (log : List Commit) (manner : Manner) (asked : List (List ℕ)) (new : World) (before after : Counts) (result : Result A ReportFault)
+      → opened_as live_slot (seen_in old.disk) ≡ Reads p log → PutsPart (audit_text log unit) (is_ok result) mid new → MayEnd (report_ending result) → HasFailedAs (report_ending result) before after → IsFirstBad p log unit
+      → IsAudited (reported_as manner asked old new before after result)
+  unfolding is_reported
+  is_audited unit p log manner asked new before after result reads part end failed first =
+      record { first_bad = unit; report = is_reported (λ q l. audit_text l unit) p log manner asked new before after result reads part end failed; first = first }

@@ -1,8 +1,9 @@
 -- Faults of reading again, as those of a report.
-use Rattle.std.proofs.Common.{◌≡◌, inr, ℕ, List, Result, Ok, Err, refl, sym, ◌∙◌}
+use Rattle.std.proofs.Common.{◌≡◌, inr, ℕ, List, Result, Ok, Err, refl, sym, ◌∙◌, subst}
 use Rattle.base_types.specs.declared.shapes.Shape.{Shape}
 use Rattle.host_trait.specs.declared.channels.Channel.{Channel}
 use Rattle.host_trait.specs.declared.channels.FileId.{FileId}
+use Rattle.host_trait.specs.Faults.{NoneFailed}
 use Rattle.commit_log.specs.declared.records.CommitRecord.{CommitRecord}
 use Rattle.log_reading.specs.Blocks.{records_in_file}
 use Rattle.log_reading.specs.Counts.{ReadFaulted}
@@ -20,6 +21,10 @@ pub folder_failed : (old new : Channel → ℕ) (e : FolderFault) → ReadFaulte
 folder_failed old new (FolderFault.Damaged at place) f = f
 folder_failed old new (FolderFault.Failed at) f = f
 folder_failed old new FolderFault.Memory f = f
+
+-- calls that raised nothing, and then those of a fault
+pub read_then : (a b c : Channel → ℕ) (e : FolderFault) → NoneFailed a b → ReadFaulted e b c → ReadFaulted e a c
+read_then a b c e none failed = subst (λ (x : Channel → ℕ). ReadFaulted e x c) (λ i channel. none channel i) failed
 
 pub open_faulted : (old new : Channel → ℕ) (e : FolderFault) → ReadFaulted e old new → OpenFaulted (in_folder e) old new
 open_faulted old new (FolderFault.Damaged at place) f = f

@@ -16,13 +16,13 @@ use Rattle.serde_json.specs.Data.{Data, string, array, object, member, no_member
 use Rattle.promise_spec.specs.Reports.{line_of, fields_data, items_of, method_name, ended_as, unit_data}
 
 -- the fields of the type of this number
-abbrev pub fields_in : ProgramTree → ℕ → List FieldDecl
-fields_in types kind = unwrap_or (option_map (λ t. t.fields) (slice_get types kind)) []
+abbrev pub fields_of_kind : ProgramTree → ℕ → List FieldDecl
+fields_of_kind types kind = unwrap_or (option_map (λ t. t.fields) (slice_get types kind)) []
 
 -- a grain with this state
 abbrev pub grain_data : Shape → ProgramTree → GrainId → List Value → Data
 grain_data shape types grain state =
-    let fields = object (fields_data (fields_in types grain.kind) state) in
+    let fields = object (fields_data (fields_of_kind types grain.kind) state) in
     object (member (codes "fields") fields (member (codes "grain") (string (grain_text shape grain)) no_members))
 
 -- the lines of these grains, with the states that they have in a store

@@ -26,8 +26,8 @@ abbrev pub agree : Bool → Outcome → Outcome → ℕ → ℕ → Bool
 agree same gives kept asked answers = same && (same_outcome gives kept && (asked == answers))
 
 -- the records with the states that stand at their places
-abbrev pub commits_of : Shape → Image → List CommitRecord → List Commit
-commits_of shape image records = map (commit_of live_slot shape image) records
+abbrev pub as_commits : Shape → Image → List CommitRecord → List Commit
+as_commits shape image records = map (commit_of live_slot shape image) records
 
 -- The record doesn't replay over these states: its unit and result are told, the result that its call gives, and whether
 -- its call writes other grains or states.

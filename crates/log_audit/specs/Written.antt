@@ -6,10 +6,10 @@ use Rattle.commit_log.specs.declared.records.CommitRecord.{CommitRecord}
 use Rattle.log_reading.specs.Versions.{ascending_with}
 
 -- the grains that records wrote, in the log's order
-abbrev pub written_by : List CommitRecord → List GrainId
-written_by records = flat_map (λ r. map (λ w. w.grain) r.writes) records
+abbrev pub grains_written : List CommitRecord → List GrainId
+grains_written records = flat_map (λ r. map (λ w. w.grain) r.writes) records
 
 -- these grains, one after another, among others that ascend
-abbrev pub with_grains : List GrainId → List GrainId → List GrainId
-with_grains kept [] = kept
-with_grains kept (g ∷ gs) = with_grains (ascending_with g kept) gs
+abbrev pub grains_added : List GrainId → List GrainId → List GrainId
+grains_added kept [] = kept
+grains_added kept (g ∷ gs) = grains_added (ascending_with g kept) gs

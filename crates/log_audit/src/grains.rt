@@ -9,7 +9,7 @@ ghost use Rattle.log_reading.specs.Blocks.{records_in_file};
 ghost use Rattle.log_reading.specs.Counts.{ReadFaulted};
 ghost use Rattle.log_reading.specs.Steps.{manager};
 ghost use Rattle.log_audit.specs.Unread.{IsLogFault};
-ghost use Rattle.log_audit.specs.Written.{written_by, with_grains};
+ghost use Rattle.log_audit.specs.Written.{grains_written, grains_added};
 
 use base_types::{GrainId, Shape};
 use commit_log::{CommitRecord, Written};
@@ -20,7 +20,7 @@ use std::collections::BTreeSet;
 
 // Adds the grains of these writes.
 fn add_written(grains: &mut BTreeSet<GrainId>, writes: &[Written]) -> Result<(), AllocError>
-    ensures { OnOk result (grains.new.keys ≡ with_grains grains.old.keys (map (λ w. w.grain) writes.now)) }
+    ensures { OnOk result (grains.new.keys ≡ grains_added grains.old.keys (map (λ w. w.grain) writes.now)) }
 {
     for one in writes {
         grains.insert(one.grain)?;
@@ -30,7 +30,7 @@ fn add_written(grains: &mut BTreeSet<GrainId>, writes: &[Written]) -> Result<(),
 
 // Adds the grains that these records wrote.
 fn add_grains(grains: &mut BTreeSet<GrainId>, records: &[CommitRecord]) -> Result<(), AllocError>
-    ensures { OnOk result (grains.new.keys ≡ with_grains grains.old.keys (written_by records.now)) }
+    ensures { OnOk result (grains.new.keys ≡ grains_added grains.old.keys (grains_written records.now)) }
 {
     for entry in records {
         add_written(grains, entry.writes.as_slice())?;
@@ -45,7 +45,7 @@ pub(crate) fn read_grains<H: Host>(
     shape: &Shape,
 ) -> Result<BTreeSet<GrainId>, FolderFault>
     ensures found { IfOk result (λ grains. IsTrue H.tells → (records : List ARecord) → records_in_file shape.now ((H.world host.old).disk manager).seen ≡ Ok records
-        → grains.keys ≡ with_grains [] (written_by records)) }
+        → grains.keys ≡ grains_added [] (grains_written records)) }
     ensures unread { IfErr result (λ e. IsTrue H.tells → IsLogFault shape.now ((H.world host.old).disk manager).seen e) }
     ensures asked { IsTrue H.tells → OnlyAsked (H.world host.old) (H.world host.new) }
     ensures calm { OnOk result (NoneFailed (H.faults host.old) (H.faults host.new)) }

@@ -10,7 +10,7 @@ ghost use Rattle.serde_json.specs.Written.{has_float};
 ghost use Rattle.promise_spec.specs.Reports.{line_of, origin_count, ended_as};
 ghost use Rattle.log_audit.specs.Lines.{grain_data, count_data, record_data, audit_data};
 
-use crate::parts::{args_json, call_text, fields_in, fields_json, grain_text, value_json};
+use crate::parts::{args_json, call_text, fields_of_kind, fields_json, grain_text, value_json};
 use base_types::{GrainId, Origin, Outcome, Shape, Value};
 use commit_log::CommitRecord;
 use script_tree::TypeDecl;
@@ -33,7 +33,6 @@ fn grain_json(alloc: Global, fields: Json, grain: &str) -> Result<Json, AllocErr
 }
 
 /// A grain with this state.
-#[tactic(auto, using(crate::proofs::Floats::no_float_lines))]
 pub(crate) fn grain_line(
     alloc: Global,
     types: &[TypeDecl],
@@ -43,7 +42,7 @@ pub(crate) fn grain_line(
 ) -> Result<String, AllocError>
     ensures { IfOk result (λ line. string_bytes line ≡ line_of (grain_data shape.now (map type_tree types.now) grain state.now)) }
 {
-    let fields = fields_json(alloc, fields_in(types, grain.kind), state)?;
+    let fields = fields_json(alloc, fields_of_kind(types, grain.kind), state)?;
     let text = grain_text(alloc, shape, grain)?;
     let value = grain_json(alloc, fields, text.as_str())?;
     line_text(alloc, &value)
@@ -138,7 +137,6 @@ fn record_json(
 }
 
 /// A record of the log.
-#[tactic(auto, using(crate::proofs::Floats::no_float_lines))]
 pub(crate) fn record_line(
     alloc: Global,
     types: &[TypeDecl],

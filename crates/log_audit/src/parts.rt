@@ -8,7 +8,7 @@ ghost use Rattle.script_meaning.specs.Calls.{numbered};
 ghost use Rattle.serde_json.specs.Data.{array, object};
 ghost use Rattle.serde_json.specs.View.{view};
 ghost use Rattle.promise_spec.specs.Reports.{fields_data, items_of, method_name};
-ghost use Rattle.log_audit.specs.Lines.{fields_in, call_named};
+ghost use Rattle.log_audit.specs.Lines.{fields_of_kind, call_named};
 
 use base_types::{Call, GrainId, Shape, Value};
 use script_meaning::target_at;
@@ -63,8 +63,8 @@ pub(crate) fn call_text(
 }
 
 /// The fields of the type of this number, none where the program has none.
-pub(crate) fn fields_in(types: &[TypeDecl], kind: u16) -> &[FieldDecl]
-    ensures { result.now ≡ fields_in (map type_tree types.now) kind }
+pub(crate) fn fields_of_kind(types: &[TypeDecl], kind: u16) -> &[FieldDecl]
+    ensures { result.now ≡ fields_of_kind (map type_tree types.now) kind }
 {
     match types.get(kind as usize) {
         Some(of_type) => of_type.fields.as_slice(),

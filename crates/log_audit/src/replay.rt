@@ -15,7 +15,7 @@ ghost use Rattle.promise_spec.specs.Logs.{live_slot};
 ghost use Rattle.promise_spec.specs.Openings.{commit_of};
 ghost use Rattle.promise_spec.specs.Serial.{depth_of};
 ghost use Rattle.log_audit.specs.Unread.{IsVersionFault, IsRereadFault};
-ghost use Rattle.log_audit.specs.Replaying.{same_write, agree, commits_of, ReplaysTo, AllReplayTo, IsFirstFailure};
+ghost use Rattle.log_audit.specs.Replaying.{same_write, agree, as_commits, ReplaysTo, AllReplayTo, IsFirstFailure};
 
 use base_types::{GrainId, Origin, Outcome, Shape, State, Store, UnitNo};
 use commit_log::{CommitRecord, Named};
@@ -161,7 +161,7 @@ fn replay_block<H: Host>(
     records: &[CommitRecord],
 ) -> Result<Option<Bad>, FolderFault>
     ensures replays { IfOk result (λ found. IsTrue H.tells → let types = program_tree checked.now in
-        AllReplayTo types (found_in types store.old) (commits_of shape.now (seen_in (H.world host.old).disk) records.now) (found_in types store.new) found) }
+        AllReplayTo types (found_in types store.old) (as_commits shape.now (seen_in (H.world host.old).disk) records.now) (found_in types store.new) found) }
     ensures unread { IfErr result (λ e. IsTrue H.tells → IsVersionFault shape.now (seen_in (H.world host.old).disk) records.now e) }
     ensures asked { IsTrue H.tells → OnlyAsked (H.world host.old) (H.world host.new) }
     ensures calm { OnOk result (NoneFailed (H.faults host.old) (H.faults host.new)) }
@@ -187,7 +187,7 @@ pub(crate) fn replay_log<H: Host>(
 ) -> Result<Option<Bad>, FolderFault>
     ensures replays { IfOk result (λ found. IsTrue H.tells → (records : Lists ARecord) → records_in_file shape.now ((H.world host.old).disk manager).seen ≡ Ok records
         → let types = program_tree checked.now in
-        IsFirstFailure types (log_start types).states (commits_of shape.now (seen_in (H.world host.old).disk) records) found) }
+        IsFirstFailure types (log_start types).states (as_commits shape.now (seen_in (H.world host.old).disk) records) found) }
     ensures unread { IfErr result (λ e. IsTrue H.tells → (records : Lists ARecord) → records_in_file shape.now ((H.world host.old).disk manager).seen ≡ Ok records
         → IsRereadFault shape.now (seen_in (H.world host.old).disk) records e) }
     ensures asked { IsTrue H.tells → OnlyAsked (H.world host.old) (H.world host.new) }

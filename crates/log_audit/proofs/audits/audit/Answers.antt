@@ -17,7 +17,7 @@ use Rattle.promise_spec.specs.Logs.{live_slot}
 use Rattle.promise_spec.specs.Openings.{opened_as}
 use Rattle.promise_spec.specs.Refusals.{IsRefusedBy}
 use Rattle.log_audit.specs.Endings.{program_opened}
-use Rattle.log_audit.specs.Replaying.{commits_of, IsFirstFailure}
+use Rattle.log_audit.specs.Replaying.{as_commits, IsFirstFailure}
 use Rattle.log_audit.specs.Unread.{IsRereadFault}
 use Rattle.log_audit.proofs.Reread.{open_faulted}
 use Rattle.log_audit.proofs.Refused.{refused_again}
@@ -37,7 +37,7 @@ returns-in-Ok-replay_log-clause-audited g c told =
     let shape : c.in-Ok-shape.shape ≡ shape_in p = (λ i. record { types = c.in-Ok-shape.ensures i }) in
     let whole = parts image opened o in
     let read : records_in_file c.in-Ok-shape.shape ((mid.disk manager).seen) ≡ Ok whole.records = (λ i. records_in_file (shape i) (same i manager)) ∙ whole.read in
-    let log : commits_of c.in-Ok-shape.shape (seen_in mid.disk) whole.records ≡ o.log = (λ i. commits_of (shape i) (same i) whole.records) ∙ whole.commits in
+    let log : as_commits c.in-Ok-shape.shape (seen_in mid.disk) whole.records ≡ o.log = (λ i. as_commits (shape i) (same i) whole.records) ∙ whole.commits in
     record {
       program = p;
       log = o.log;
@@ -55,11 +55,11 @@ returns-in-Ok-replay_log-clause-calm g c = none_then _ _ _ c.in-Ok.ensures.calm 
 pub returns-in-Ok-replay_log-clause-run : goal.returns-in-Ok-replay_log-clause-run
 returns-in-Ok-replay_log-clause-run g c told = run_only_asked _ _ _ _ _ _ (c.open_silo.ensures.run told) (c.replay_log.ensures.asked told)
 
-pub returns-in-Err-replay_log-clause-run : goal.returns-in-Err-replay_log-clause-run
-returns-in-Err-replay_log-clause-run g c told = run_only_asked _ _ _ _ _ _ (c.open_silo.ensures.run told) (c.replay_log.ensures.asked told)
+pub returns-clause-run : goal.returns-clause-run
+returns-clause-run g c told = run_only_asked _ _ _ _ _ _ (c.open_silo.ensures.run told) (c.replay_log.ensures.asked told)
 
-pub returns-in-Err-replay_log-clause-refused : goal.returns-in-Err-replay_log-clause-refused
-returns-in-Err-replay_log-clause-refused g c told =
+pub returns-clause-refused : goal.returns-clause-refused
+returns-clause-refused g c told =
     let old = g.H.Host.world c.args.host.now in
     let mid = g.H.Host.world c.open_silo.new.host in
     let opened = c.in-Ok.opened in
@@ -75,8 +75,8 @@ returns-in-Err-replay_log-clause-refused g c told =
     (subst (λ (s : Shape). IsRereadFault s (seen_in mid.disk) whole.records fault) shape (c.in-Err-replay_log.ensures.unread told whole.records read)) in
     subst (λ (e : OpenFault). IsRefusedBy image (opened_as live_slot image) (ending_of e)) (sym c.not_read.ensures) (refused_again image p o.log whole o.reads fault again)
 
-pub returns-in-Err-replay_log-clause-fault : goal.returns-in-Err-replay_log-clause-fault
-returns-in-Err-replay_log-clause-fault g c =
+pub returns-clause-fault : goal.returns-clause-fault
+returns-clause-fault g c =
     let calm = c.in-Ok.ensures.calm in
     let late : OpenFaulted c.not_read.result (g.H.Host.faults c.open_silo.new.host) (g.H.Host.faults c.replay_log.new.host) =
     subst (λ (e : OpenFault). OpenFaulted e (g.H.Host.faults c.open_silo.new.host) (g.H.Host.faults c.replay_log.new.host)) (sym c.not_read.ensures) (open_faulted _ _ c.in-Err-replay_log.fault c.in-Err-replay_log.ensures.fault) in

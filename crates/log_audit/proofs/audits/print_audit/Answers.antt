@@ -7,7 +7,7 @@ use Rattle.log_audit.specs.Lines.{audit_data}
 use Rattle.log_audit.specs.Writing.{PutsPart}
 use Rattle.log_audit.specs.Auditing.{bad_unit}
 use Rattle.log_audit.proofs.Finding.{first_is}
-use Rattle.log_audit.proofs.Reported.{failed_then, open_failed, never_bad_use, not_opened, is_reported}
+use Rattle.log_audit.proofs.Reported.{failed_then, open_failed, never_bad_use, not_opened, is_audited}
 use Rattle.log_audit.proofs.audits.print_audit.Goals as goal
 
 pub returns-in-Ok-clause-audits : goal.returns-in-Ok-clause-audits
@@ -20,12 +20,8 @@ returns-in-Ok-clause-audits g c told manner asked =
     let unit = bad_unit report.first_bad in
     let part : PutsPart (audit_text a.log unit) (is_ok c.write_audit.result) mid new =
     subst (λ (n : ℕ). PutsPart (line_of (audit_data n unit)) (is_ok c.write_audit.result) mid new) a.count (c.write_audit.ensures.puts told) in
-    inr (record {
-      first_bad = unit;
-      report = is_reported old mid (c.in-Ok.ensures.settled told) (c.audit.ensures.run told) (λ p log. audit_text log unit) a.program a.log manner asked new (g.H.Host.faults c.args.host.now) (g.H.Host.faults c.write_audit.new.host) c.write_audit.result
-          a.reads part c.write_audit.ensures.ended (failed_then _ _ _ _ c.in-Ok.ensures.calm c.write_audit.ensures.exact);
-      first = first_is a.program a.log report.first_bad a.first;
-    })
+    inr (is_audited old mid (c.in-Ok.ensures.settled told) (c.audit.ensures.run told) unit a.program a.log manner asked new (g.H.Host.faults c.args.host.now) (g.H.Host.faults c.write_audit.new.host) c.write_audit.result
+    a.reads part c.write_audit.ensures.ended (failed_then _ _ _ _ c.in-Ok.ensures.calm c.write_audit.ensures.exact) (first_is a.program a.log report.first_bad a.first))
 
 pub returns-in-Ok-clause-exact : goal.returns-in-Ok-clause-exact
 returns-in-Ok-clause-exact g c = failed_then _ _ _ _ c.in-Ok.ensures.calm c.write_audit.ensures.exact
@@ -39,7 +35,7 @@ returns-in-Err-clause-audits g c told manner asked =
     (c.audit.ensures.run told) (c.in-Err.ensures.refused told) c.in-Err.ensures.fault)
 
 pub returns-in-Err-clause-exact : goal.returns-in-Err-clause-exact
-returns-in-Err-clause-exact g c = subst (λ (e : Ending). HasFailedAs e _ _) (sym c.unopened.ensures) (open_failed _ _ c.in-Err.fault c.in-Err.ensures.fault)
+returns-in-Err-clause-exact g c = subst (λ (e : Ending). HasFailedAs e (g.H.Host.faults c.args.host.now) (g.H.Host.faults c.audit.new.host)) (sym c.unopened.ensures) (open_failed _ _ c.in-Err.fault c.in-Err.ensures.fault)
 
 pub returns-in-Err-clause-good : goal.returns-in-Err-clause-good
 returns-in-Err-clause-good g c = never_bad_use {A = Unit {0}} (Err c.unopened.result)

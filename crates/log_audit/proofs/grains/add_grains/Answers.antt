@@ -1,7 +1,7 @@
 use Rattle.std.proofs.Common.{◌+◌, List, map, drop, ap, ◌∙◌}
 use Rattle.commit_log.specs.declared.records.Written.{Written}
 use Rattle.log_reading.proofs.Summing.{next_item, no_item}
-use Rattle.log_audit.specs.Written.{with_grains}
+use Rattle.log_audit.specs.Written.{grains_added}
 use Rattle.log_audit.proofs.Growing.{record_more, records_all}
 use Rattle.log_audit.proofs.grains.add_grains.Goals as goal
 
@@ -11,7 +11,7 @@ loop-entry-preserved c =
     let xs = c.args.records.now in
     let x = c.entry-item.result in
     record_more x (drop (i + 1) xs) (drop i xs) _ _ _ (next_item i xs x c.loop-entry-test.true c.entry-item.is)
-    (c.in_ok-add_written.ensures ∙ ap (λ (l : List Written). with_grains c.loop-entry.grains.keys (map (λ (w : Written). w.grain) l)) c.as_slice.ensures) c.loop-entry.invariant
+    (c.in_ok-add_written.ensures ∙ ap (λ (l : List Written). grains_added c.loop-entry.grains.keys (map (λ (w : Written). w.grain) l)) c.as_slice.ensures) c.loop-entry.invariant
 
 pub returns : goal.returns
 returns c =

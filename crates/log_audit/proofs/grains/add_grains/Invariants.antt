@@ -1,6 +1,6 @@
 use Rattle.std.proofs.Common.{◌≡◌, drop}
-use Rattle.log_audit.specs.Written.{written_by, with_grains}
+use Rattle.log_audit.specs.Written.{grains_written, grains_added}
 use Rattle.log_audit.proofs.grains.add_grains.Given as goal
 
 abbrev pub invariant-loop-entry : goal.invariant-loop-entry
-invariant-loop-entry l = with_grains l.grains.keys (written_by (drop l.entry-index l.records)) ≡ with_grains l.fn.grains.keys (written_by l.records)
+invariant-loop-entry l = grains_added l.grains.keys (grains_written (drop l.entry-index l.records)) ≡ grains_added l.fn.grains.keys (grains_written l.records)

@@ -13,7 +13,7 @@ loop-value-preserved c =
     let i = c.loop-value.value-index in
     let xs = c.args.values.now in
     let x = c.value-item.result in
-    let v = c.in_ok-value_json.value in
+    let v = c.in_ok-value_json.field-0 in
     let pushed : c.push.new.self.items ≡ c.loop-value.items.items ++ v ∷ [] = search rules in
     item_more (map seen.view c.loop-value.items.items) (map seen.view c.push.new.self.items) _ x (drop (i + 1) xs) (drop i xs) (seen.view v) (next_item i xs x c.loop-value-test.true c.value-item.is)
     (ap (map seen.view) pushed ∙ map-append seen.view c.loop-value.items.items (v ∷ [])) c.in_ok-value_json.ensures c.loop-value.invariant

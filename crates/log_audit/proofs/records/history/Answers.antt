@@ -36,7 +36,7 @@ returns-in-Err-clause-reports g c told manner asked =
     (c.open_silo.ensures.run told) (c.in-Err.ensures.refused told) c.in-Err.ensures.fault)
 
 pub returns-in-Err-clause-exact : goal.returns-in-Err-clause-exact
-returns-in-Err-clause-exact g c = subst (λ (e : Ending). HasFailedAs e _ _) (sym c.unopened.ensures) (open_failed _ _ c.in-Err.fault c.in-Err.ensures.fault)
+returns-in-Err-clause-exact g c = subst (λ (e : Ending). HasFailedAs e (g.H.Host.faults c.args.host.now) (g.H.Host.faults c.open_silo.new.host)) (sym c.unopened.ensures) (open_failed _ _ c.in-Err.fault c.in-Err.ensures.fault)
 
 pub returns-in-Err-clause-good : goal.returns-in-Err-clause-good
 returns-in-Err-clause-good g c = never_bad_use {A = Unit {0}} (Err c.unopened.result)

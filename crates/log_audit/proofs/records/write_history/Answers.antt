@@ -16,7 +16,7 @@ use Rattle.log_audit.proofs.records.write_history.Goals as goal
 pub returns-in_err-shape-clause-puts : goal.returns-in_err-shape-clause-puts
 returns-in_err-shape-clause-puts g c =
     let p = err_from_is_err_and c.from_residual.result c.from_residual.ensures.1 in
-    rw (p.1, p.2) λ told o. part_front _ _ [] _ _ (none_put (g.H.Host.world c.args.host.now)) refl
+    rw p.1 λ told o. part_front _ _ [] _ _ (none_put (g.H.Host.world c.args.host.now)) refl
 
 pub returns-clause-puts : goal.returns-clause-puts
 returns-clause-puts g c told o =

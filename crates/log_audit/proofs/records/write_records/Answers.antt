@@ -17,7 +17,7 @@ loop-entry-init g c = record { puts = λ told. gone_none _ _; calm = λ channel.
 pub returns-in_err-line-clause-puts : goal.returns-in_err-line-clause-puts
 returns-in_err-line-clause-puts g c =
     let p = err_from_is_err_and c.from_residual.result c.from_residual.ensures.1 in
-    rw (p.1, p.2) λ told. gone_stopped _ _ _ _ (c.loop-entry.invariant.puts told)
+    rw p.1 λ told. gone_stopped _ _ _ _ (c.loop-entry.invariant.puts told)
 
 pub returns-in_err-write_line-clause-puts : goal.returns-in_err-write_line-clause-puts
 returns-in_err-write_line-clause-puts g c =
@@ -27,8 +27,8 @@ returns-in_err-write_line-clause-puts g c =
     let i = c.loop-entry.entry-index in
     let xs = c.args.records.now in
     let x = c.entry-item.result in
-    let text : c.as_bytes.result.now ≡ line_of (record_data shape types x) = search rules in
-    rw (p.1, p.2) λ told.
+    let text : c.as_bytes.result.now ≡ line_of (record_data shape types x) = c.as_bytes.ensures.value ∙ c.in_ok-line.ensures in
+    rw p.1 λ told.
     gone_cut _ _ _ (line_of (record_data shape types x)) (record_lines shape types (drop (i + 1) xs)) false _ _ (c.loop-entry.invariant.puts told)
     (ap (λ (l : List CommitRecord). record_lines shape types l) (next_item i xs x c.loop-entry-test.true c.entry-item.is))
     (subst (λ (l : List ℕ). PutsPart l false (g.H.Host.world c.loop-entry.host) (g.H.Host.world c.write_line.new.host)) text (c.in_err-write_line.ensures.puts told))
@@ -46,7 +46,7 @@ loop-entry-preserved g c =
     let i = c.loop-entry.entry-index in
     let xs = c.args.records.now in
     let x = c.entry-item.result in
-    let text : c.as_bytes.result.now ≡ line_of (record_data shape types x) = search rules in
+    let text : c.as_bytes.result.now ≡ line_of (record_data shape types x) = c.as_bytes.ensures.value ∙ c.in_ok-line.ensures in
     record {
       puts = λ told.
           gone_more _ _ _ (line_of (record_data shape types x)) (record_lines shape types (drop (i + 1) xs)) _ _ (inv.puts told)

@@ -10,6 +10,7 @@ use Rattle.log_reading.specs.Steps.{seen_in, live_slot}
 use Rattle.log_reading.specs.Versions.{version_named}
 use Rattle.log_reading.proofs.Summing.{next_default, no_item}
 use Rattle.log_audit.proofs.Versions.{named_as, states_at, version_more, versions_all, version_fault, in_seam}
+use Rattle.log_audit.proofs.Reread.{read_then}
 use Rattle.log_audit.proofs.replay.read_writes.Goals as goal
 
 abbrev no_write : Written
@@ -17,7 +18,7 @@ no_write = record { grain = record { kind = 0; key = 0 }; place = record { offse
 
 pub loop-one-init : goal.loop-one-init
 loop-one-init g c = record {
-  writes = λ told. ap (λ (l : List Written). states_at c.args.shape.now (seen_in (g.H.Host.world c.args.host.now).disk) c.args.entry.now.unit l) c.as_slice.ensures;
+  writes = λ told. ap (λ (l : List (GrainId × List Value)). l ++ states_at c.args.shape.now (seen_in (g.H.Host.world c.args.host.now).disk) c.args.entry.now.unit c.as_slice-writes.result.now) c.new-kept.ensures.items ∙ ap (λ (l : List Written). states_at c.args.shape.now (seen_in (g.H.Host.world c.args.host.now).disk) c.args.entry.now.unit l) c.as_slice-writes.ensures;
   asked = search rules;
   calm = λ channel. refl;
   ready = λ file was. was;
@@ -31,12 +32,17 @@ returns-in_err-version-clause-unread g c =
     let r = c.args.entry.now in
     let image = seen_in (g.H.Host.world c.args.host.now).disk in
     let i = c.loop-one.one-index in
-    let xs = c.as_slice.result.now in
+    let xs = c.as_slice-writes.result.now in
     let x : Written = get_or xs i no_write in
     rw (p.1, p.2) λ told.
-    version_fault shape image r x (in_seam xs i no_write r.writes c.loop-one-test.true c.as_slice.ensures) c.in_err-version.e
+    version_fault shape image r x (in_seam xs i no_write r.writes c.loop-one-test.true c.as_slice-writes.ensures) c.in_err-version.field-0.0
     (λ at place is. subst (λ (d : Disk). version_named live_slot shape (seen_in d) (named_as r.unit x) ≡ Err place) (inv.asked told).disk (c.in_err-version.ensures.damaged at place is told))
     (λ at is. c.in_err-version.ensures.failed at is)
+
+pub returns-in_err-version-clause-fault : goal.returns-in_err-version-clause-fault
+returns-in_err-version-clause-fault g c =
+    let p = err_from_is_err_and c.from_residual.result c.from_residual.ensures.1 in
+    rw (p.1, p.2) (read_then _ _ _ c.in_err-version.field-0.0 c.loop-one.invariant.calm c.in_err-version.ensures.fault)
 
 pub returns-in_err-version-clause-asked : goal.returns-in_err-version-clause-asked
 returns-in_err-version-clause-asked g c told = asked_then _ _ _ (c.loop-one.invariant.asked told) (c.named_version.ensures.asked told)
@@ -51,7 +57,7 @@ loop-one-preserved g c =
     let r = c.args.entry.now in
     let image = seen_in (g.H.Host.world c.args.host.now).disk in
     let i = c.loop-one.one-index in
-    let xs = c.as_slice.result.now in
+    let xs = c.as_slice-writes.result.now in
     let x : Written = get_or xs i no_write in
     let v = c.in_ok-version.version in
     let pushed : c.push.new.self.items ≡ c.loop-one.kept.items ++ ((x.grain, v.state) ∷ []) = search rules in
@@ -66,5 +72,5 @@ loop-one-preserved g c =
 
 pub returns-clause-writes : goal.returns-clause-writes
 returns-clause-writes g c told =
-    versions_all c.args.shape.now (seen_in (g.H.Host.world c.args.host.now).disk) c.args.entry.now.unit (drop c.loop-one.one-index c.as_slice.result.now) _ _
-    (no_item c.loop-one.one-index c.as_slice.result.now c.loop-one-test.false) (c.loop-one.invariant.writes told)
+    versions_all c.args.shape.now (seen_in (g.H.Host.world c.args.host.now).disk) c.args.entry.now.unit (drop c.loop-one.one-index c.as_slice-writes.result.now) _ _
+    (no_item c.loop-one.one-index c.as_slice-writes.result.now c.loop-one-test.false) (c.loop-one.invariant.writes told)

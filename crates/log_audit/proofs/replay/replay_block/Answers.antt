@@ -33,7 +33,7 @@ returns-in_err-found-clause-unread g c =
     let i = c.loop-entry.entry-index in
     let xs = c.args.records.now in
     let x = c.entry-item.result in
-    let e = c.in_err-found.e in
+    let e = c.in_err-found.field-0.0 in
     rw (p.1, p.2) λ told.
     let h = inv.replays told in
     let here = subst (λ (d : Disk). IsVersionFault shape (seen_in d) (x ∷ []) e) (inv.asked told).disk (c.in_err-found.ensures.unread told) in
@@ -52,7 +52,7 @@ returns-then-is_some-clause-replays g c told =
     let xs = c.args.records.now in
     let x = c.entry-item.result in
     let found = c.in_ok-found.found in
-    let some : is_some found ≡ true = search rules in
+    let some : is_some found ≡ true = sym c.is_some.ensures ∙ c.if-is_some.true in
     let to = subst (λ (d : Disk). ReplaysTo types (found_in types c.loop-entry.store) (commit_of live_slot shape (seen_in d) x) (found_in types c.replay.new.store) found) (inv.asked told).disk (c.in_ok-found.ensures.replays told) in
     replayed_found _ _ _ _ xs _ (drop (i + 1) xs) x _ _ found (inv.replays told) (next_item i xs x c.loop-entry-test.true c.entry-item.is) some to
 
@@ -68,7 +68,7 @@ loop-entry-preserved g c =
     let xs = c.args.records.now in
     let x = c.entry-item.result in
     let found = c.in_ok-found.found in
-    let none : is_some found ≡ false = search rules in
+    let none : is_some found ≡ false = sym c.is_some.ensures ∙ c.if-is_some.false in
     record {
       replays = λ told.
           let to = subst (λ (d : Disk). ReplaysTo types (found_in types c.loop-entry.store) (commit_of live_slot shape (seen_in d) x) (found_in types c.replay.new.store) found) (inv.asked told).disk (c.in_ok-found.ensures.replays told) in

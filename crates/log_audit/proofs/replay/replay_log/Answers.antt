@@ -11,7 +11,7 @@ use Rattle.log_reading.proofs.Following.{follows_on, follows_breaks}
 use Rattle.script_tree.specs.Programs.{program_tree}
 use Rattle.script_meaning.specs.Play.{found_in}
 use Rattle.promise_spec.specs.Records.{log_start}
-use Rattle.log_audit.specs.Replaying.{commits_of, AllReplayTo}
+use Rattle.log_audit.specs.Replaying.{as_commits, AllReplayTo}
 use Rattle.log_audit.specs.Unread.{IsVersionFault}
 use Rattle.log_audit.proofs.Gathering.{log_fault, rest_of}
 use Rattle.log_audit.proofs.Refused.{fault_among}
@@ -29,23 +29,23 @@ loop-store-init g c =
       ready = λ file was. was;
     }
 
-pub returns-in_err-next_block-clause-unread : goal.returns-in_err-next_block-clause-unread
-returns-in_err-next_block-clause-unread g c =
+pub returns-in_err-records-clause-unread : goal.returns-in_err-records-clause-unread
+returns-in_err-records-clause-unread g c =
     let p = err_from_is_err_and c.from_residual.result c.from_residual.ensures.1 in
     let inv = c.loop-store.invariant in
     let shape = c.args.shape.now in
     let gate = c.loop-store.gate_at in
     let file = ((g.H.Host.world c.args.host.now).disk manager).seen in
     rw (p.1, p.2) λ told records is.
-    inl (log_fault shape file c.in_err-next_block.e
+    inl (log_fault shape file c.in_err-records.field-0.0
     (λ at place fault.
-        let here = c.in_err-next_block.ensures.damaged at place fault told in
+        let here = c.in_err-records.ensures.damaged at place fault told in
         let there : next_in shape gate file ≡ Err place = subst (λ (d : Disk). next_in shape gate (d manager).seen ≡ Err place) (inv.asked told).disk here in
         follows_breaks shape file (inv.audited told).records gate (inv.audited told).follows place there)
-    (λ at fault. c.in_err-next_block.ensures.failed at fault))
+    (λ at fault. c.in_err-records.ensures.failed at fault))
 
-pub returns-in_err-next_block-clause-asked : goal.returns-in_err-next_block-clause-asked
-returns-in_err-next_block-clause-asked g c told = asked_then _ _ _ (c.loop-store.invariant.asked told) (c.next_block.ensures.asked told)
+pub returns-in_err-records-clause-asked : goal.returns-in_err-records-clause-asked
+returns-in_err-records-clause-asked g c told = asked_then _ _ _ (c.loop-store.invariant.asked told) (c.next_block.ensures.asked told)
 
 pub returns-in_err-found-clause-unread : goal.returns-in_err-found-clause-unread
 returns-in_err-found-clause-unread g c =
@@ -57,7 +57,7 @@ returns-in_err-found-clause-unread g c =
     let behind = c.in-Some.behind in
     let image = seen_in (g.H.Host.world c.args.host.now).disk in
     let file = ((g.H.Host.world c.args.host.now).disk manager).seen in
-    let e = c.in_err-found.e in
+    let e = c.in_err-found.field-0.0 in
     rw (p.1, p.2) λ told records is.
     let h = inv.audited told in
     let step : next_in shape gate ((g.H.Host.world c.loop-store.host).disk manager).seen ≡ Ok (Some (more, behind)) = search rules in
@@ -81,12 +81,12 @@ returns-then-is_some-clause-replays g c told records is =
     let more = c.in-Some.records in
     let behind = c.in-Some.behind in
     let found = c.in_ok-found.found in
-    let some : is_some found ≡ true = search rules in
+    let some : is_some found ≡ true = sym c.is_some.ensures ∙ c.if-is_some.true in
     let step : next_in shape gate ((g.H.Host.world c.loop-store.host).disk manager).seen ≡ Ok (Some (more, behind)) = search rules in
     let there = subst (λ (d : Disk). next_in shape gate (d manager).seen ≡ Ok (Some (more, behind))) (inv.asked told).disk step in
     let mid = asked_then _ _ _ (inv.asked told) (c.next_block.ensures.asked told) in
-    let to = subst (λ (d : Disk). AllReplayTo types (found_in types c.loop-store.store) (commits_of shape (seen_in d) more) (found_in types c.replay_block.new.store) found) mid.disk
-    (subst (λ (l : List CommitRecord). AllReplayTo types (found_in types c.loop-store.store) (commits_of shape (seen_in (g.H.Host.world c.next_block.new.host).disk) l) (found_in types c.replay_block.new.store) found) c.as_slice.ensures (c.in_ok-found.ensures.replays told)) in
+    let to = subst (λ (d : Disk). AllReplayTo types (found_in types c.loop-store.store) (as_commits shape (seen_in d) more) (found_in types c.replay_block.new.store) found) mid.disk
+    (subst (λ (l : List CommitRecord). AllReplayTo types (found_in types c.loop-store.store) (as_commits shape (seen_in (g.H.Host.world c.next_block.new.host).disk) l) (found_in types c.replay_block.new.store) found) c.as_slice.ensures (c.in_ok-found.ensures.replays told)) in
     audit_found _ _ _ _ _ gate _ _ more behind found (inv.audited told) there some to records is
 
 pub returns-then-is_some-clause-asked : goal.returns-then-is_some-clause-asked
@@ -101,7 +101,7 @@ loop-store-preserved g c =
     let more = c.in-Some.records in
     let behind = c.in-Some.behind in
     let found = c.in_ok-found.found in
-    let none : is_some found ≡ false = search rules in
+    let none : is_some found ≡ false = sym c.is_some.ensures ∙ c.if-is_some.false in
     let far : (gate + 5 + length more ≤ behind) × (behind < 2 ^ 63) = search rules in
     record {
       bound = far.1;
@@ -109,11 +109,11 @@ loop-store-preserved g c =
           let step : next_in shape gate ((g.H.Host.world c.loop-store.host).disk manager).seen ≡ Ok (Some (more, behind)) = search rules in
           let there = subst (λ (d : Disk). next_in shape gate (d manager).seen ≡ Ok (Some (more, behind))) (inv.asked told).disk step in
           let mid = asked_then _ _ _ (inv.asked told) (c.next_block.ensures.asked told) in
-          let to = subst (λ (d : Disk). AllReplayTo types (found_in types c.loop-store.store) (commits_of shape (seen_in d) more) (found_in types c.replay_block.new.store) found) mid.disk
-          (subst (λ (l : List CommitRecord). AllReplayTo types (found_in types c.loop-store.store) (commits_of shape (seen_in (g.H.Host.world c.next_block.new.host).disk) l) (found_in types c.replay_block.new.store) found) c.as_slice.ensures (c.in_ok-found.ensures.replays told)) in
+          let to = subst (λ (d : Disk). AllReplayTo types (found_in types c.loop-store.store) (as_commits shape (seen_in d) more) (found_in types c.replay_block.new.store) found) mid.disk
+          (subst (λ (l : List CommitRecord). AllReplayTo types (found_in types c.loop-store.store) (as_commits shape (seen_in (g.H.Host.world c.next_block.new.host).disk) l) (found_in types c.replay_block.new.store) found) c.as_slice.ensures (c.in_ok-found.ensures.replays told)) in
           audit_next _ _ _ _ _ gate _ _ more behind found (inv.audited told) there none to;
       asked = λ told. asked_then _ _ _ (asked_then _ _ _ (inv.asked told) (c.next_block.ensures.asked told)) (c.replay_block.ensures.asked told);
-      calm = none_then _ _ _ (none_then _ _ _ inv.calm c.in_ok-next_block.ensures.calm) c.in_ok-found.ensures.calm;
+      calm = none_then _ _ _ (none_then _ _ _ inv.calm c.in_ok-records.ensures.calm) c.in_ok-found.ensures.calm;
       ready = λ at was. c.replay_block.ensures.ready at (c.next_block.ensures.ready at (inv.ready at was));
     }
 

@@ -11,13 +11,13 @@ use Rattle.log_audit.proofs.Putting.{gone_none, gone_more, gone_cut, gone_stoppe
 use Rattle.log_audit.proofs.Reported.{failed_then}
 use Rattle.log_audit.proofs.states.write_grains.Goals as goal
 
-pub loop-left-init : goal.loop-left-init
-loop-left-init g c = record { puts = λ told. gone_none _ _; calm = λ channel. refl; ready = λ file was. was }
+pub loop-grain-init : goal.loop-grain-init
+loop-grain-init g c = record { puts = λ told. gone_none _ _; calm = λ channel. refl; ready = λ file was. was }
 
 pub returns-in_err-line-clause-puts : goal.returns-in_err-line-clause-puts
 returns-in_err-line-clause-puts g c =
     let p = err_from_is_err_and c.from_residual.result c.from_residual.ensures.1 in
-    rw (p.1, p.2) λ told. gone_stopped _ _ _ _ (c.loop-left.invariant.puts told)
+    rw p.1 λ told. gone_stopped _ _ _ _ (c.loop-grain.invariant.puts told)
 
 pub returns-in_err-write_line-clause-puts : goal.returns-in_err-write_line-clause-puts
 returns-in_err-write_line-clause-puts g c =
@@ -26,36 +26,36 @@ returns-in_err-write_line-clause-puts g c =
     let types = program_tree c.args.opened.now.checked in
     let store = c.args.opened.now.store in
     let grain = c.in-Some.grain in
-    let text : c.as_bytes.result.now ≡ line_of (grain_data shape types grain (found_in types store grain)) = search rules in
-    rw (p.1, p.2) λ told.
-    gone_cut _ _ _ (line_of (grain_data shape types grain (found_in types store grain))) (grain_lines shape types store c.pop_first.new.self.keys) false _ _ (c.loop-left.invariant.puts told)
+    let text : c.as_bytes.result.now ≡ line_of (grain_data shape types grain (found_in types store grain)) = c.as_bytes.ensures.value ∙ c.in_ok-line.ensures in
+    rw p.1 λ told.
+    gone_cut _ _ _ (line_of (grain_data shape types grain (found_in types store grain))) (grain_lines shape types store c.pop_first.new.self.keys) false _ _ (c.loop-grain.invariant.puts told)
     (ap (λ (l : List GrainId). grain_lines shape types store l) c.in-Some.ensures.removal)
-    (subst (λ (l : List ℕ). PutsPart l false (g.H.Host.world c.loop-left.host) (g.H.Host.world c.write_line.new.host)) text (c.in_err-write_line.ensures.puts told))
+    (subst (λ (l : List ℕ). PutsPart l false (g.H.Host.world c.loop-grain.host) (g.H.Host.world c.write_line.new.host)) text (c.in_err-write_line.ensures.puts told))
 
 pub returns-in_err-write_line-clause-exact : goal.returns-in_err-write_line-clause-exact
 returns-in_err-write_line-clause-exact g c =
     let p = err_from_is_err_and c.from_residual-in_err-write_line.result c.from_residual-in_err-write_line.ensures.1 in
-    rw (p.1, p.2) (failed_then _ _ _ _ c.loop-left.invariant.calm c.in_err-write_line.ensures.exact)
+    rw (p.1, p.2) (failed_then _ _ _ _ c.loop-grain.invariant.calm c.in_err-write_line.ensures.exact)
 
-pub loop-left-preserved : goal.loop-left-preserved
-loop-left-preserved g c =
-    let inv = c.loop-left.invariant in
+pub loop-grain-preserved : goal.loop-grain-preserved
+loop-grain-preserved g c =
+    let inv = c.loop-grain.invariant in
     let shape = c.args.shape.now in
     let types = program_tree c.args.opened.now.checked in
     let store = c.args.opened.now.store in
     let grain = c.in-Some.grain in
-    let text : c.as_bytes.result.now ≡ line_of (grain_data shape types grain (found_in types store grain)) = search rules in
+    let text : c.as_bytes.result.now ≡ line_of (grain_data shape types grain (found_in types store grain)) = c.as_bytes.ensures.value ∙ c.in_ok-line.ensures in
     record {
       puts = λ told.
           gone_more _ _ _ (line_of (grain_data shape types grain (found_in types store grain))) (grain_lines shape types store c.pop_first.new.self.keys) _ _ (inv.puts told)
           (ap (λ (l : List GrainId). grain_lines shape types store l) c.in-Some.ensures.removal)
-          (subst (λ (l : List ℕ). PutsPart l true (g.H.Host.world c.loop-left.host) (g.H.Host.world c.write_line.new.host)) text (c.in_ok-write_line.ensures.puts told));
+          (subst (λ (l : List ℕ). PutsPart l true (g.H.Host.world c.loop-grain.host) (g.H.Host.world c.write_line.new.host)) text (c.in_ok-write_line.ensures.puts told));
       calm = none_then _ _ _ inv.calm c.in_ok-write_line.ensures.exact;
       ready = λ file was. c.write_line.ensures.ready file (inv.ready file was);
     }
 
 pub returns-clause-puts : goal.returns-clause-puts
 returns-clause-puts g c told =
-    let none : c.loop-left.left.keys ≡ [] = search rules in
-    gone_all _ _ _ _ (c.loop-left.invariant.puts told)
+    let none : c.loop-grain.left.keys ≡ [] = search rules in
+    gone_all _ _ _ _ (c.loop-grain.invariant.puts told)
     (ap (λ (l : List GrainId). grain_lines c.args.shape.now (program_tree c.args.opened.now.checked) c.args.opened.now.store l) none)

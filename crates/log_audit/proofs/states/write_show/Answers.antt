@@ -22,7 +22,7 @@ use Rattle.log_audit.proofs.states.write_show.Goals as goal
 pub returns-in_err-shape-clause-puts : goal.returns-in_err-shape-clause-puts
 returns-in_err-shape-clause-puts g c =
     let p = err_from_is_err_and c.from_residual.result c.from_residual.ensures.1 in
-    rw (p.1, p.2) λ told o. part_front _ _ [] _ _ (none_put (g.H.Host.world c.args.host.now)) refl
+    rw p.1 λ told o. part_front _ _ [] _ _ (none_put (g.H.Host.world c.args.host.now)) refl
 
 pub returns-in-Err-clause-puts : goal.returns-in-Err-clause-puts
 returns-in-Err-clause-puts g c told o = part_front _ _ [] _ _ (asked_puts _ _ (c.read_grains.ensures.asked told)) refl
@@ -38,7 +38,7 @@ returns-in-Err-clause-ended g c told o =
     subst (λ (e : ReportFault). MayEnd (fault_ending e)) (sym c.unread.ensures) (folder_ends c.in_ok-shape.shape (image manager) records read c.in-Err.fault (c.in-Err.ensures.unread told))
 
 pub returns-in-Err-clause-exact : goal.returns-in-Err-clause-exact
-returns-in-Err-clause-exact g c = subst (λ (e : ReportFault). HasFailedAs (fault_ending e) _ _) (sym c.unread.ensures) (folder_failed _ _ c.in-Err.fault c.in-Err.ensures.fault)
+returns-in-Err-clause-exact g c = subst (λ (e : ReportFault). HasFailedAs (fault_ending e) (g.H.Host.faults c.args.host.now) (g.H.Host.faults c.read_grains.new.host)) (sym c.unread.ensures) (folder_failed _ _ c.in-Err.fault c.in-Err.ensures.fault)
 
 pub returns-in_err-write_grains-clause-puts : goal.returns-in_err-write_grains-clause-puts
 returns-in_err-write_grains-clause-puts g c =
@@ -46,7 +46,7 @@ returns-in_err-write_grains-clause-puts g c =
     let opened = c.args.opened.now in
     let types = program_tree opened.checked in
     let image = seen_in (g.H.Host.world c.args.host.now).disk in
-    rw (p.1, p.2) λ told o.
+    rw p.1 λ told o.
     let program = program_opened image opened o in
     let shape : c.in_ok-shape.shape ≡ shape_in program = (λ i. record { types = c.in_ok-shape.ensures i }) in
     let records = (parts image opened o).records in
@@ -67,7 +67,7 @@ returns-in_err-line-clause-puts g c =
     let opened = c.args.opened.now in
     let types = program_tree opened.checked in
     let image = seen_in (g.H.Host.world c.args.host.now).disk in
-    rw (p.1, p.2) λ told o.
+    rw p.1 λ told o.
     let program = program_opened image opened o in
     let shape : c.in_ok-shape.shape ≡ shape_in program = (λ i. record { types = c.in_ok-shape.ensures i }) in
     let records = (parts image opened o).records in
@@ -90,7 +90,7 @@ returns-clause-puts g c told o =
     let keys = c.in-Ok.grains.keys in
     let text : List ℕ = grain_lines (shape_in program) types opened.store keys in
     let part = subst (λ (s : Shape). PutsPart (grain_lines s types opened.store keys) true (g.H.Host.world c.read_grains.new.host) (g.H.Host.world c.write_grains.new.host)) shape (c.in_ok-write_grains.ensures.puts told) in
-    let line : c.as_bytes.result.now ≡ line_of (count_data opened.count) = search rules in
+    let line : c.as_bytes.result.now ≡ line_of (count_data opened.count) = c.as_bytes.ensures.value ∙ c.in_ok-line.ensures in
     let last = subst (λ (l : List ℕ). PutsPart l (is_ok c.write_line.result) (g.H.Host.world c.write_grains.new.host) (g.H.Host.world c.write_line.new.host)) line (c.write_line.ensures.puts told) in
     part_then _ _ text (line_of (count_data opened.count)) _ _ _ (puts_then [] text _ _ _ (asked_puts _ _ (c.read_grains.ensures.asked told)) (part_done text _ _ part)) last
     (show_opened image opened o keys (c.in-Ok.ensures.found told records read))
