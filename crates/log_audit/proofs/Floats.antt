@@ -83,7 +83,6 @@ pub audit_no_float : (count : ℕ) (unit : Option ℕ) → has_float (audit_data
 audit_no_float count None = refl
 audit_no_float count (Some unit) = refl
 
-
 -- the line of a value that is this one, which has no float
 pub lined : {E : Type 0} (d line : Data) (r : Result (String Global) E) → d ≡ line → has_float line ≡ false → IfOk r (λ text. has_float d ≡ false → string_bytes text ≡ line_of d) → IfOk r (λ text. string_bytes text ≡ line_of line)
 lined d line r same none is = weaker_ok _ _ r (λ text told. told (ap has_float same ∙ none) ∙ ap line_of same) is

@@ -1,5 +1,5 @@
 -- What was written so far, and what is left of a text.
-use Rattle.std.proofs.Common.{◌≡◌, ℕ, Bool, true, false, List, [], ◌∷◌, ◌++◌, length, take, drop, refl, sym, ◌∙◌, ap, subst, append_assoc, append-nil, take-append-drop}
+use Rattle.std.proofs.Common.{◌≡◌, ℕ, Bool, true, false, List, [], ◌∷◌, ◌++◌, length, take, drop, refl, sym, ◌∙◌, ap, subst, arith, append_assoc, append-nil, take-append-drop}
 use Rattle.host_trait.specs.World.{World, Moment, Emitted, moment_of}
 use Rattle.host_trait.specs.Runs.{OnlyAsked}
 use Rattle.host_trait.proofs.Moments.{started, one, both, weaker}
@@ -61,7 +61,7 @@ module _ (whole : List ℕ) (old : World) where
     front = (
       second.front.0 ++ rest,
       split ∙ ap (λ (l : List ℕ). a ++ (l ++ rest)) second.front.1 ∙ ap (λ (l : List ℕ). a ++ l) (append_assoc second.added second.front.0 rest)
-      ∙ sym (append_assoc a second.added (second.front.0 ++ rest)),
+          ∙ sym (append_assoc a second.added (second.front.0 ++ rest)),
     );
     whole = λ no. absurd cc;
   }
@@ -69,6 +69,11 @@ module _ (whole : List ℕ) (old : World) where
 -- a call that succeeded wrote its whole text
 pub part_done : (text : List ℕ) (old new : World) → PutsPart text true old new → PutsOut text old new
 part_done text old new p = subst (λ (l : List ℕ). PutsOut l old new) (p.whole refl) p.puts
+
+-- a list without items
+pub none_left : {A : Type 0} (xs : List A) → length xs ≡ 0 → xs ≡ []
+none_left [] e = refl
+none_left (x ∷ xs) e = absurd (omega (arith, e))
 
 -- Of this text all but what is left was written.
 pub record Gone (whole left : List ℕ) (old now : World) : Type 0 where

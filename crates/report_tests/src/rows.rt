@@ -30,8 +30,7 @@ const GRAIN_LINE: &str = "{\"fields\":{\"balance\":5},\"grain\":\"account/1\"}\n
 
 const SHOWN: &str = "{\"fields\":{\"balance\":5},\"grain\":\"account/1\"}\n{\"count\":1}\n";
 
-const TOLD: &str =
-    "{\"args\":[5],\"call\":\"account/1.deposit\",\"n\":1,\"reply\":5,\"unit\":1}\n";
+const TOLD: &str = "{\"args\":[5],\"call\":\"account/1.deposit\",\"n\":1,\"reply\":5,\"unit\":1}\n";
 
 const WELL: &str = "{\"count\":1,\"first_bad\":null}\n";
 

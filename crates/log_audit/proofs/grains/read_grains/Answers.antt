@@ -31,9 +31,9 @@ returns-in_err-records-clause-unread g c =
     rw (p.1, p.2) λ told.
     log_fault shape file c.in_err-records.field-0.0
     (λ at place is.
-        let here = c.in_err-records.ensures.damaged at place is told in
-        let there : next_in shape gate file ≡ Err place = subst (λ (d : Disk). next_in shape gate (d manager).seen ≡ Err place) (inv.asked told).disk here in
-        follows_breaks shape file (inv.has told).records gate (inv.has told).follows place there)
+    let here = c.in_err-records.ensures.damaged at place is told in
+    let there : next_in shape gate file ≡ Err place = subst (λ (d : Disk). next_in shape gate (d manager).seen ≡ Err place) (inv.asked told).disk here in
+    follows_breaks shape file (inv.has told).records gate (inv.has told).follows place there)
     (λ at is. c.in_err-records.ensures.failed at is)
 
 pub returns-in_err-records-clause-asked : goal.returns-in_err-records-clause-asked

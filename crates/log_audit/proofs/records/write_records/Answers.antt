@@ -1,9 +1,11 @@
-use Rattle.std.proofs.Common.{rules, ◌≡◌, ◌+◌, ℕ, List, [], ◌∷◌, true, false, drop, refl, sym, ◌∙◌, ap, subst}
+use Rattle.std.proofs.Common.{rules, ◌≡◌, ◌+◌, ℕ, List, [], ◌∷◌, true, false, map, drop, refl, sym, ◌∙◌, ap, subst}
 use Rattle.std.proofs.lemmas.Result.{err_from_is_err_and}
 use Rattle.host_trait.proofs.Counts.{none_then}
 use Rattle.commit_log.specs.declared.records.CommitRecord.{CommitRecord}
 use Rattle.log_reading.proofs.Summing.{next_item, no_item}
-use Rattle.script_tree.specs.Programs.{program_tree}
+use Rattle.script_tree.specs.declared.programs.Program.{Program}
+use Rattle.script_tree.specs.declared.programs.TypeDecl.{TypeDecl}
+use Rattle.script_tree.specs.Programs.{type_tree, program_tree}
 use Rattle.promise_spec.specs.Reports.{line_of}
 use Rattle.log_audit.specs.Lines.{record_data, record_lines}
 use Rattle.log_audit.specs.Writing.{PutsPart}
@@ -27,7 +29,7 @@ returns-in_err-write_line-clause-puts g c =
     let i = c.loop-entry.entry-index in
     let xs = c.args.records.now in
     let x = c.entry-item.result in
-    let text : c.as_bytes.result.now ≡ line_of (record_data shape types x) = c.as_bytes.ensures.value ∙ c.in_ok-line.ensures in
+    let text : c.as_bytes.result.now ≡ line_of (record_data shape types x) = c.as_bytes.ensures.value ∙ c.in_ok-line.ensures ∙ ap (λ (ts : List TypeDecl). line_of (record_data shape (map type_tree ts) x)) (c.as_slice-types.ensures ∙ ap (λ (p : Program). p.types.list.items) c.program.ensures.same) in
     rw p.1 λ told.
     gone_cut _ _ _ (line_of (record_data shape types x)) (record_lines shape types (drop (i + 1) xs)) false _ _ (c.loop-entry.invariant.puts told)
     (ap (λ (l : List CommitRecord). record_lines shape types l) (next_item i xs x c.loop-entry-test.true c.entry-item.is))
@@ -46,7 +48,7 @@ loop-entry-preserved g c =
     let i = c.loop-entry.entry-index in
     let xs = c.args.records.now in
     let x = c.entry-item.result in
-    let text : c.as_bytes.result.now ≡ line_of (record_data shape types x) = c.as_bytes.ensures.value ∙ c.in_ok-line.ensures in
+    let text : c.as_bytes.result.now ≡ line_of (record_data shape types x) = c.as_bytes.ensures.value ∙ c.in_ok-line.ensures ∙ ap (λ (ts : List TypeDecl). line_of (record_data shape (map type_tree ts) x)) (c.as_slice-types.ensures ∙ ap (λ (p : Program). p.types.list.items) c.program.ensures.same) in
     record {
       puts = λ told.
           gone_more _ _ _ (line_of (record_data shape types x)) (record_lines shape types (drop (i + 1) xs)) _ _ (inv.puts told)

@@ -39,9 +39,9 @@ returns-in_err-records-clause-unread g c =
     rw (p.1, p.2) λ told records is.
     inl (log_fault shape file c.in_err-records.field-0.0
     (λ at place fault.
-        let here = c.in_err-records.ensures.damaged at place fault told in
-        let there : next_in shape gate file ≡ Err place = subst (λ (d : Disk). next_in shape gate (d manager).seen ≡ Err place) (inv.asked told).disk here in
-        follows_breaks shape file (inv.audited told).records gate (inv.audited told).follows place there)
+    let here = c.in_err-records.ensures.damaged at place fault told in
+    let there : next_in shape gate file ≡ Err place = subst (λ (d : Disk). next_in shape gate (d manager).seen ≡ Err place) (inv.asked told).disk here in
+    follows_breaks shape file (inv.audited told).records gate (inv.audited told).follows place there)
     (λ at fault. c.in_err-records.ensures.failed at fault))
 
 pub returns-in_err-records-clause-asked : goal.returns-in_err-records-clause-asked

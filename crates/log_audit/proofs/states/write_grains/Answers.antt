@@ -1,4 +1,4 @@
-use Rattle.std.proofs.Common.{rules, ◌≡◌, ℕ, List, [], ◌∷◌, true, false, refl, sym, ◌∙◌, ap, subst}
+use Rattle.std.proofs.Common.{rules, ◌≡◌, ℕ, List, [], ◌∷◌, true, false, length, refl, sym, ◌∙◌, ap, subst}
 use Rattle.std.proofs.lemmas.Result.{err_from_is_err_and}
 use Rattle.base_types.specs.declared.calls.GrainId.{GrainId}
 use Rattle.host_trait.proofs.Counts.{none_then}
@@ -7,7 +7,7 @@ use Rattle.script_meaning.specs.Play.{found_in}
 use Rattle.promise_spec.specs.Reports.{line_of}
 use Rattle.log_audit.specs.Lines.{grain_data, grain_lines}
 use Rattle.log_audit.specs.Writing.{PutsPart}
-use Rattle.log_audit.proofs.Putting.{gone_none, gone_more, gone_cut, gone_stopped, gone_all}
+use Rattle.log_audit.proofs.Putting.{gone_none, gone_more, gone_cut, gone_stopped, gone_all, none_left}
 use Rattle.log_audit.proofs.Reported.{failed_then}
 use Rattle.log_audit.proofs.states.write_grains.Goals as goal
 
@@ -56,6 +56,7 @@ loop-grain-preserved g c =
 
 pub returns-clause-puts : goal.returns-clause-puts
 returns-clause-puts g c told =
-    let none : c.loop-grain.left.keys ≡ [] = search rules in
+    let size : length c.loop-grain.left.keys ≡ 0 = search rules in
+    let none : c.loop-grain.left.keys ≡ [] = none_left c.loop-grain.left.keys size in
     gone_all _ _ _ _ (c.loop-grain.invariant.puts told)
     (ap (λ (l : List GrainId). grain_lines c.args.shape.now (program_tree c.args.opened.now.checked) c.args.opened.now.store l) none)
