@@ -1,5 +1,5 @@
 -- The lines of a log that is read again and written block by block.
-use Rattle.std.proofs.Common.{◌≡◌, ℕ, Bool, true, false, List, [], ◌++◌, Option, Some, None, Result, Ok, Err, refl, sym, ◌∙◌, ap, subst, append_assoc, inr}
+use Rattle.std.proofs.Common.{◌≡◌, ℕ, Bool, true, false, List, [], ◌++◌, Some, None, Ok, Err, sym, ◌∙◌, ap, subst, append_assoc, inr}
 use Rattle.std.proofs.lemmas.Grind.{flat_map-append}
 use Rattle.base_types.specs.declared.shapes.Shape.{Shape}
 use Rattle.host_trait.specs.World.{World}

@@ -1,5 +1,5 @@
 -- What an audit found, in the words of the promise.
-use Rattle.std.proofs.Common.{◌≡◌, ℕ, List, Option, Some, None, ap}
+use Rattle.std.proofs.Common.{List, Option, Some, None, ap}
 use Rattle.base_types.specs.declared.calls.UnitNo.{UnitNo}
 use Rattle.promise_spec.specs.Programs.{Program}
 use Rattle.promise_spec.specs.Records.{Commit, log_start}

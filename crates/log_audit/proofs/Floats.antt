@@ -17,11 +17,11 @@ use Rattle.commit_log.specs.declared.records.CommitRecord.{CommitRecord}
 use Rattle.request_wire.specs.Reply.{value_data}
 use Rattle.script_tree.specs.declared.programs.FieldDecl.{FieldDecl}
 use Rattle.script_tree.specs.Programs.{ProgramTree}
-use Rattle.serde_json.specs.Data.{Data, Items, no_items, item, Members, no_members, member, put, object, array, string}
+use Rattle.serde_json.specs.Data.{Data, Members, no_members, member, put}
 use Rattle.serde_json.specs.Written.{has_float, items_have_float, members_have_float}
 use Rattle.log_reading.proofs.Cutting.{weaker_ok}
 use Rattle.promise_spec.specs.Reports.{line_of, fields_data, items_of, ended_as}
-use Rattle.log_audit.specs.Lines.{fields_of_kind, grain_data, count_data, call_named, record_data, audit_data}
+use Rattle.log_audit.specs.Lines.{fields_of_kind, grain_data, count_data, record_data, audit_data}
 
 value_none : (v : Value) → has_float (value_data v) ≡ false
 value_none (Int (pos k)) = refl

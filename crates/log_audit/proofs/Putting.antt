@@ -1,9 +1,8 @@
 -- What was written so far, and what is left of a text.
 use Rattle.std.proofs.Common.{◌≡◌, ℕ, Bool, true, false, List, [], ◌∷◌, ◌++◌, length, take, drop, refl, sym, ◌∙◌, ap, subst, arith, append_assoc, append-nil, take-append-drop}
-use Rattle.host_trait.specs.World.{World, Moment, Emitted, moment_of}
+use Rattle.host_trait.specs.World.{World, Moment, Emitted}
 use Rattle.host_trait.specs.Runs.{OnlyAsked}
 use Rattle.host_trait.proofs.Moments.{started, one, both, weaker}
-use Rattle.promise_spec.specs.Logs.{IsPrefix}
 use Rattle.log_audit.specs.Writing.{PutsOut, PutsPart}
 
 pub none_put : (w : World) → PutsOut [] w w

@@ -1,8 +1,7 @@
 -- Why an opened folder couldn't be read again, as a refusal.
-use Rattle.std.proofs.Common.{◌≡◌, ◌⊎◌, inl, inr, ℕ, List, [], ◌∷◌, ◌++◌, map, Result, Ok, Err, refl, sym, ◌∙◌, ap, subst}
+use Rattle.std.proofs.Common.{◌≡◌, inl, inr, List, [], ◌∷◌, ◌++◌, map, Ok, Err, sym, ◌∙◌, ap, subst}
 use Rattle.std.specs.List.{AllByRecursion}
 use Rattle.base_types.specs.declared.shapes.Shape.{Shape}
-use Rattle.base_types.specs.declared.stores.Version.{Version}
 use Rattle.host_trait.specs.World.{Image}
 use Rattle.commit_log.specs.declared.records.CommitRecord.{CommitRecord}
 use Rattle.commit_log.specs.declared.records.Named.{Named}
@@ -13,7 +12,7 @@ use Rattle.silo_opening.specs.Opened.{in_folder, ending_of}
 use Rattle.promise_spec.specs.Programs.{Program, shape_in}
 use Rattle.promise_spec.specs.Records.{Commit}
 use Rattle.promise_spec.specs.Logs.{live_slot}
-use Rattle.promise_spec.specs.Openings.{Reading, Reads, named_by, named_by_grain, version_named, opened_as}
+use Rattle.promise_spec.specs.Openings.{Reading, Reads, named_by, named_by_grain, opened_as}
 use Rattle.promise_spec.specs.Refusals.{IsRefusedBy}
 use Rattle.promise_spec.proofs.Lists.{each_of, in_append}
 use Rattle.promise_spec.proofs.ReadVersions.{IsThere, all_of_order, none_missing}

@@ -1,5 +1,5 @@
 -- Faults of reading again, as those of a report.
-use Rattle.std.proofs.Common.{◌≡◌, inr, ℕ, List, Result, Ok, Err, refl, sym, ◌∙◌, subst}
+use Rattle.std.proofs.Common.{◌≡◌, inr, ℕ, List, Ok, Err, refl, sym, ◌∙◌, subst}
 use Rattle.base_types.specs.declared.shapes.Shape.{Shape}
 use Rattle.host_trait.specs.declared.channels.Channel.{Channel}
 use Rattle.host_trait.specs.declared.channels.FileId.{FileId}
@@ -13,8 +13,7 @@ use Rattle.log_reading.proofs.Errors.{failed}
 use Rattle.promise_spec.specs.Endings.{HasFailedAs}
 use Rattle.silo_opening.specs.Counts.{OpenFaulted}
 use Rattle.silo_opening.specs.Opened.{in_folder}
-use Rattle.log_audit.specs.declared.faults.ReportFault.{ReportFault}
-use Rattle.log_audit.specs.Endings.{fault_ending, report_ending, MayEnd, from_folder}
+use Rattle.log_audit.specs.Endings.{fault_ending, MayEnd, from_folder}
 use Rattle.log_audit.specs.Unread.{IsLogFault, IsBlockFault}
 
 pub folder_failed : (old new : Channel → ℕ) (e : FolderFault) → ReadFaulted e old new → HasFailedAs (fault_ending (from_folder e)) old new

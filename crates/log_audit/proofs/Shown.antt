@@ -1,5 +1,5 @@
 -- The texts of the reports, from what was opened and read again.
-use Rattle.std.proofs.Common.{◌≡◌, ℕ, ◌+◌, List, [], ◌∷◌, ◌++◌, length, map, Ok, refl, sym, ◌∙◌, ap, arith}
+use Rattle.std.proofs.Common.{◌≡◌, ℕ, ◌+◌, List, [], ◌∷◌, ◌++◌, length, map, refl, sym, ◌∙◌, ap, arith}
 use Rattle.std.specs.List.{flat_map}
 use Rattle.base_types.specs.declared.calls.GrainId.{GrainId}
 use Rattle.base_types.specs.declared.calls.Value.{Value}
@@ -8,7 +8,7 @@ use Rattle.host_trait.specs.World.{Image}
 use Rattle.commit_log.specs.declared.records.CommitRecord.{CommitRecord}
 use Rattle.commit_log.specs.declared.records.Written.{Written}
 use Rattle.log_reading.specs.Versions.{ascending}
-use Rattle.script_tree.specs.Programs.{ProgramTree, program_tree}
+use Rattle.script_tree.specs.Programs.{ProgramTree}
 use Rattle.script_meaning.specs.Play.{found_in}
 use Rattle.silo_opening.specs.Opened.{IsOpenedFrom}
 use Rattle.silo_opening.specs.declared.open.Opened.{Opened}
@@ -16,7 +16,7 @@ use Rattle.promise_spec.specs.Programs.{Program, shape_in}
 use Rattle.promise_spec.specs.Records.{Commit, Standing, after_record, after_records, log_start, standing_of}
 use Rattle.promise_spec.specs.Logs.{live_slot}
 use Rattle.promise_spec.specs.Openings.{commit_of}
-use Rattle.promise_spec.specs.Reports.{line_of, grains_in, grain_line, show_text, record_line, history_text}
+use Rattle.promise_spec.specs.Reports.{line_of, grains_in, grain_line, show_text, history_text}
 use Rattle.log_audit.specs.Lines.{grain_data, grain_lines, count_data, record_data, record_lines}
 use Rattle.log_audit.specs.Written.{grains_written, grains_added}
 use Rattle.log_audit.specs.Endings.{program_opened}

@@ -1,6 +1,5 @@
-use Rattle.std.proofs.Common.{rules, ◌≡◌, inl, inr, List, ℕ, Ok, Err, sym, ◌∙◌, ap, subst}
+use Rattle.std.proofs.Common.{inl, inr, ℕ, Err, sym, subst}
 use Rattle.std.specs.Prelude.{is_ok}
-use Rattle.host_trait.specs.declared.channels.Channel.{Channel}
 use Rattle.promise_spec.specs.Endings.{Ending, HasFailedAs}
 use Rattle.promise_spec.specs.Reports.{line_of, audit_text}
 use Rattle.log_audit.specs.Lines.{audit_data}

@@ -1,4 +1,4 @@
-use Rattle.std.proofs.Common.{◌+◌, List, drop, get_or}
+use Rattle.std.proofs.Common.{◌+◌, drop, get_or}
 use Rattle.commit_log.specs.declared.records.Written.{Written}
 use Rattle.log_reading.proofs.Summing.{next_default, no_item}
 use Rattle.log_audit.proofs.Growing.{write_more, writes_all}

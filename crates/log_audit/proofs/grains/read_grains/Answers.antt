@@ -1,11 +1,9 @@
-use Rattle.std.proofs.Common.{rules, arith, ◌≡◌, ◌+◌, ◌^◌, ◌<◌, ◌≤◌, ℕ, List, length, Option, Some, None, Ok, Err, refl, sym, ◌∙◌, ap, subst}
+use Rattle.std.proofs.Common.{rules, arith, ◌≡◌, ◌+◌, ◌^◌, ◌<◌, ◌≤◌, List, length, Some, None, Ok, Err, refl, ◌∙◌, ap, subst}
 use Rattle.std.proofs.lemmas.Result.{err_from_is_err_and}
-use Rattle.base_types.specs.declared.calls.GrainId.{GrainId}
 use Rattle.host_trait.specs.World.{Disk}
 use Rattle.host_trait.proofs.Runs.{asked_then}
 use Rattle.host_trait.proofs.Counts.{none_then}
 use Rattle.commit_log.specs.declared.records.CommitRecord.{CommitRecord}
-use Rattle.log_reading.specs.Blocks.{records_in_file}
 use Rattle.log_reading.specs.Steps.{manager, next_in}
 use Rattle.log_reading.proofs.Following.{follows_breaks}
 use Rattle.log_audit.specs.Written.{grains_written, grains_added}

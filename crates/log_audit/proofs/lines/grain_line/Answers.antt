@@ -1,9 +1,8 @@
-use Rattle.std.proofs.Common.{◌≡◌, List, ℕ, map, codes, sym, ◌∙◌, ap}
-use Rattle.base_types.specs.declared.calls.Value.{Value}
+use Rattle.std.proofs.Common.{◌≡◌, List, map, codes, ◌∙◌, ap}
 use Rattle.request_wire.specs.Reply.{grain_text}
 use Rattle.script_tree.specs.declared.programs.FieldDecl.{FieldDecl}
 use Rattle.script_tree.specs.Programs.{type_tree}
-use Rattle.serde_json.specs.Data.{Data, string, object, member, no_members}
+use Rattle.serde_json.specs.Data.{string, object, member, no_members}
 use Rattle.serde_json.specs.View.{view}
 use Rattle.promise_spec.specs.Reports.{fields_data}
 use Rattle.log_audit.specs.Lines.{fields_of_kind, grain_data}

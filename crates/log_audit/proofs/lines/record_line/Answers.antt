@@ -1,7 +1,7 @@
-use Rattle.std.proofs.Common.{◌≡◌, List, ℕ, map, codes, sym, ◌∙◌, ap}
+use Rattle.std.proofs.Common.{◌≡◌, List, map, codes, ◌∙◌, ap}
 use Rattle.base_types.specs.declared.calls.Value.{Value}
 use Rattle.script_tree.specs.Programs.{type_tree}
-use Rattle.serde_json.specs.Data.{Data, string, array, object, member}
+use Rattle.serde_json.specs.Data.{string, array, object, member}
 use Rattle.serde_json.specs.View.{view}
 use Rattle.promise_spec.specs.Reports.{items_of, ended_as}
 use Rattle.log_audit.specs.Lines.{call_named, record_data}

@@ -1,4 +1,4 @@
-use Rattle.std.proofs.Common.{rules, ◌≡◌, ℕ, List, Ok, Err, sym, subst}
+use Rattle.std.proofs.Common.{sym, subst}
 use Rattle.log_reading.specs.Steps.{manager}
 use Rattle.promise_spec.specs.Endings.{HasFailedAs}
 use Rattle.log_audit.specs.declared.faults.ReportFault.{ReportFault}

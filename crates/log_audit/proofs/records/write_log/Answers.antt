@@ -1,4 +1,4 @@
-use Rattle.std.proofs.Common.{rules, arith, ◌≡◌, ◌+◌, ◌^◌, ◌<◌, ◌≤◌, ℕ, List, length, true, false, Option, Some, None, Ok, Err, refl, sym, ◌∙◌, ap, subst}
+use Rattle.std.proofs.Common.{rules, arith, ◌≡◌, ◌+◌, ◌^◌, ◌<◌, ◌≤◌, List, length, true, false, Some, None, Ok, refl, subst}
 use Rattle.std.proofs.lemmas.Result.{err_from_is_err_and}
 use Rattle.host_trait.specs.World.{Disk}
 use Rattle.host_trait.proofs.Counts.{none_then}
@@ -8,8 +8,7 @@ use Rattle.script_tree.specs.Programs.{program_tree}
 use Rattle.log_audit.specs.Lines.{record_lines}
 use Rattle.log_audit.specs.Unread.{IsBlockFault}
 use Rattle.log_audit.specs.Writing.{PutsPart}
-use Rattle.log_audit.specs.declared.faults.ReportFault.{ReportFault}
-use Rattle.log_audit.proofs.Copying.{HasCopied, copied_none, copied_more, copied_cut, copied_all, copied_stopped, block_ends}
+use Rattle.log_audit.proofs.Copying.{copied_none, copied_more, copied_cut, copied_all, copied_stopped, block_ends}
 use Rattle.log_audit.proofs.Reported.{failed_then}
 use Rattle.log_audit.proofs.records.write_log.Goals as goal
 

@@ -1,8 +1,5 @@
-use Rattle.std.proofs.Common.{rules, ◌≡◌, ◌++◌, ◌∷◌, [], List, sym, ◌∙◌, ap}
-use Rattle.std.specs.List.{fold}
+use Rattle.std.proofs.Common.{◌∷◌, [], sym, ◌∙◌, ap}
 use Rattle.std.proofs.lemmas.List.Sums.{fold-append}
-use Rattle.base_types.specs.declared.calls.GrainId.{GrainId}
-use Rattle.base_types.specs.declared.calls.Value.{Value}
 use Rattle.script_meaning.specs.Play.{found_in}
 use Rattle.promise_spec.specs.Records.{States, put_state}
 use Rattle.log_audit.proofs.Replaying.{one_kept}

@@ -1,9 +1,8 @@
-use Rattle.std.proofs.Common.{rules, ◌≡◌, ℕ, List, Bool, true, false, length, Some, Ok, Err, refl, sym, ◌∙◌, ap, subst}
+use Rattle.std.proofs.Common.{◌≡◌, List, true, false, length, refl, sym, ◌∙◌, ap}
 use Rattle.std.specs.Prelude.{not}
 use Rattle.std.specs.List.{fold}
 use Rattle.base_types.specs.declared.calls.GrainId.{GrainId}
 use Rattle.base_types.specs.declared.calls.Value.{Value}
-use Rattle.base_types.specs.declared.calls.Outcome.{Outcome}
 use Rattle.core_model.specs.Equality.{same_list}
 use Rattle.log_reading.specs.Steps.{seen_in, live_slot}
 use Rattle.script_tree.specs.Programs.{program_tree}

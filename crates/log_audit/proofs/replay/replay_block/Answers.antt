@@ -1,4 +1,4 @@
-use Rattle.std.proofs.Common.{rules, ◌≡◌, ◌+◌, ◌++◌, ◌∷◌, [], ℕ, List, IsTrue, true, false, drop, take, Option, Some, None, Ok, Err, refl, sym, ◌∙◌, ap, subst}
+use Rattle.std.proofs.Common.{rules, ◌≡◌, ◌+◌, ◌++◌, ◌∷◌, [], List, true, false, drop, refl, sym, ◌∙◌, ap, subst}
 use Rattle.std.specs.Prelude.{is_some}
 use Rattle.std.proofs.lemmas.Result.{err_from_is_err_and}
 use Rattle.host_trait.specs.World.{Disk}
@@ -10,9 +10,9 @@ use Rattle.log_reading.proofs.Summing.{next_item, no_item}
 use Rattle.script_tree.specs.Programs.{program_tree}
 use Rattle.script_meaning.specs.Play.{found_in}
 use Rattle.promise_spec.specs.Openings.{commit_of}
-use Rattle.log_audit.specs.Replaying.{ReplaysTo, AllReplayTo}
+use Rattle.log_audit.specs.Replaying.{ReplaysTo}
 use Rattle.log_audit.specs.Unread.{IsVersionFault}
-use Rattle.log_audit.proofs.Replaying.{HasReplayed, replayed_none, replayed_found, replayed_next, replayed_all}
+use Rattle.log_audit.proofs.Replaying.{replayed_none, replayed_found, replayed_next, replayed_all}
 use Rattle.log_audit.proofs.Refused.{fault_among}
 use Rattle.log_audit.proofs.replay.replay_block.Goals as goal
 

@@ -1,8 +1,7 @@
-use Rattle.std.proofs.Common.{rules, arith, ◌≡◌, ◌+◌, ◌^◌, ◌<◌, ◌≤◌, ◌++◌, ◌∷◌, [], inl, inr, ℕ, List, length, true, false, Option, Some, None, Ok, Err, refl, sym, ◌∙◌, ap, subst, append_assoc}
+use Rattle.std.proofs.Common.{rules, arith, ◌≡◌, ◌+◌, ◌^◌, ◌<◌, ◌≤◌, ◌++◌, inl, inr, List, length, true, false, Some, None, Ok, Err, refl, sym, ◌∙◌, subst, append_assoc}
 use Rattle.std.specs.Prelude.{is_some}
 use Rattle.std.proofs.lemmas.Result.{err_from_is_err_and}
-use Rattle.base_types.specs.declared.stores.Store.{Store}
-use Rattle.host_trait.specs.World.{Disk, Image}
+use Rattle.host_trait.specs.World.{Disk}
 use Rattle.host_trait.proofs.Runs.{asked_then}
 use Rattle.host_trait.proofs.Counts.{none_then}
 use Rattle.commit_log.specs.declared.records.CommitRecord.{CommitRecord}
@@ -15,7 +14,7 @@ use Rattle.log_audit.specs.Replaying.{as_commits, AllReplayTo}
 use Rattle.log_audit.specs.Unread.{IsVersionFault}
 use Rattle.log_audit.proofs.Gathering.{log_fault, rest_of}
 use Rattle.log_audit.proofs.Refused.{fault_among}
-use Rattle.log_audit.proofs.Replaying.{HasAudited, none_kept, audit_begun, audit_found, audit_next, audit_done}
+use Rattle.log_audit.proofs.Replaying.{none_kept, audit_begun, audit_found, audit_next, audit_done}
 use Rattle.log_audit.proofs.replay.replay_log.Goals as goal
 
 pub loop-store-init : goal.loop-store-init

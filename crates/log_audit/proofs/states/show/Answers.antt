@@ -1,4 +1,4 @@
-use Rattle.std.proofs.Common.{rules, ◌≡◌, inl, inr, List, ℕ, Ok, Err, sym, ◌∙◌, ap, subst}
+use Rattle.std.proofs.Common.{◌≡◌, inl, inr, Err, sym, ◌∙◌, ap, subst}
 use Rattle.host_trait.specs.World.{Image}
 use Rattle.log_reading.specs.Steps.{seen_in}
 use Rattle.silo_opening.specs.Opened.{IsOpenedFrom}
@@ -7,8 +7,7 @@ use Rattle.promise_spec.specs.Logs.{live_slot}
 use Rattle.promise_spec.specs.Openings.{opened_as}
 use Rattle.promise_spec.specs.Endings.{Ending, HasFailedAs}
 use Rattle.promise_spec.specs.Reports.{show_text}
-use Rattle.log_audit.specs.declared.faults.ReportFault.{ReportFault}
-use Rattle.log_audit.specs.Endings.{report_ending, program_opened}
+use Rattle.log_audit.specs.Endings.{program_opened}
 use Rattle.log_audit.proofs.Reported.{failed_then, open_failed, never_bad_use, not_opened, is_reported}
 use Rattle.log_audit.proofs.states.show.Goals as goal
 

@@ -1,4 +1,4 @@
-use Rattle.std.proofs.Common.{rules, ◌≡◌, inr, ℕ, List, [], ◌++◌, true, false, Ok, refl, sym, ◌∙◌, ap, subst}
+use Rattle.std.proofs.Common.{◌≡◌, ℕ, List, [], true, false, Ok, refl, sym, ◌∙◌, subst}
 use Rattle.std.specs.Prelude.{is_ok}
 use Rattle.std.proofs.lemmas.Result.{err_from_is_err_and}
 use Rattle.base_types.specs.declared.shapes.Shape.{Shape}
@@ -8,10 +8,10 @@ use Rattle.log_reading.specs.Steps.{manager, seen_in}
 use Rattle.script_tree.specs.Programs.{program_tree}
 use Rattle.promise_spec.specs.Programs.{shape_in}
 use Rattle.promise_spec.specs.Endings.{HasFailedAs}
-use Rattle.promise_spec.specs.Reports.{line_of, show_text}
+use Rattle.promise_spec.specs.Reports.{line_of}
 use Rattle.log_audit.specs.declared.faults.ReportFault.{ReportFault}
 use Rattle.log_audit.specs.Lines.{grain_lines, count_data}
-use Rattle.log_audit.specs.Writing.{PutsOut, PutsPart}
+use Rattle.log_audit.specs.Writing.{PutsPart}
 use Rattle.log_audit.specs.Endings.{fault_ending, MayEnd, program_opened}
 use Rattle.log_audit.proofs.Putting.{none_put, asked_puts, puts_then, part_then, part_front, part_cut, part_done}
 use Rattle.log_audit.proofs.Reported.{failed_then}

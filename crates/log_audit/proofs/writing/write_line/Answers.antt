@@ -1,4 +1,4 @@
-use Rattle.std.proofs.Common.{◌≡◌, length, true, false}
+use Rattle.std.proofs.Common.{length, true, false}
 use Rattle.std.proofs.Math.Seq.{take-length}
 use Rattle.log_audit.proofs.Putting.{emitted_part}
 use Rattle.log_audit.proofs.writing.write_line.Goals as goal
