@@ -1,0 +1,59 @@
+-- A log that is read again, block by block, and the grains that it wrote.
+use Rattle.std.proofs.Common.{◌≡◌, ℕ, List, [], ◌++◌, map, Some, None, Result, Ok, Err, refl, sym, ◌∙◌, ap}
+use Rattle.std.proofs.lemmas.Grind.{flat_map-append}
+use Rattle.base_types.specs.declared.calls.GrainId.{GrainId}
+use Rattle.base_types.specs.declared.shapes.Shape.{Shape}
+use Rattle.gate_block.specs.Log.{first_gate}
+use Rattle.commit_log.specs.declared.records.CommitRecord.{CommitRecord}
+use Rattle.commit_log.specs.declared.records.Written.{Written}
+use Rattle.host_trait.specs.declared.channels.FileId.{FileId}
+use Rattle.log_reading.specs.Blocks.{records_in_file}
+use Rattle.log_reading.specs.Steps.{next_in, manager, records_from, with_records}
+use Rattle.log_reading.specs.declared.faults.FolderFault.{FolderFault}
+use Rattle.log_reading.proofs.Following.{Follows, follows_begins, follows_on, follows_ends}
+use Rattle.log_reading.proofs.Errors.{failed}
+use Rattle.log_audit.specs.Written.{grains_written, grains_added}
+use Rattle.log_audit.specs.Unread.{IsLogFault}
+use Rattle.log_audit.proofs.Growing.{grains_added-append}
+
+-- where the log ends, all of its records were read
+pub all_read : (shape : Shape) (file : List ℕ) (done : List CommitRecord) (gate : ℕ) → Follows shape file done gate → next_in shape gate file ≡ Ok None → (records : List CommitRecord) → records_in_file shape file ≡ Ok records → done ≡ records
+all_read shape file done gate f end records is = let same : Ok done ≡ Ok records = sym (follows_ends shape file done gate f end).0 ∙ is in cc same
+
+-- what is left behind the records that were read
+pub rest_of : (shape : Shape) (file : List ℕ) (done records : List CommitRecord) (gate : ℕ) → Follows shape file done gate → records_in_file shape file ≡ Ok records → (rest : List CommitRecord) × (records ≡ done ++ rest)
+rest_of shape file done records gate f is = by (records_from shape f.fuel gate file) (f.rest ∙ is)
+  where
+    by : (r : Result (List CommitRecord) ℕ) → with_records done r ≡ Ok records → (rest : List CommitRecord) × (records ≡ done ++ rest)
+    by (Ok rest) e = (rest, (let same : Ok (done ++ rest) ≡ Ok records = e in cc same))
+    by (Err place) e = absurd cc
+
+-- the grains of the records that were read
+pub record HasGrains (shape : Shape) (file : List ℕ) (gate : ℕ) (kept : List GrainId) : Type 0 where
+  pub records : List CommitRecord
+  pub follows : Follows shape file records gate
+  pub are : kept ≡ grains_added [] (grains_written records)
+
+module _ (shape : Shape) (file : List ℕ) where
+  pub grains_begun : (kept : List GrainId) → kept ≡ [] → HasGrains shape file first_gate kept
+  grains_begun kept none = record { records = []; follows = follows_begins shape file; are = none }
+
+  pub grains_more : (gate : ℕ) (kept : List GrainId) → HasGrains shape file gate kept → (more : List CommitRecord) (behind : ℕ) (new : List GrainId) → new ≡ grains_added kept (grains_written more)
+      → next_in shape gate file ≡ Ok (Some (more, behind)) → HasGrains shape file behind new
+  grains_more gate kept h more behind new put step = record {
+    records = h.records ++ more;
+    follows = follows_on shape file h.records gate h.follows more behind step;
+    are =
+        put ∙ ap (λ (l : List GrainId). grains_added l (grains_written more)) h.are ∙ sym (grains_added-append [] (grains_written h.records) (grains_written more))
+        ∙ ap (grains_added []) (sym (flat_map-append (λ (r : CommitRecord). map (λ (w : Written). w.grain) r.writes) h.records more));
+  }
+
+  pub grains_ended : (gate : ℕ) (kept : List GrainId) → HasGrains shape file gate kept → next_in shape gate file ≡ Ok None → (records : List CommitRecord) → records_in_file shape file ≡ Ok records → kept ≡ grains_added [] (grains_written records)
+  grains_ended gate kept h end records is = h.are ∙ ap (λ (l : List CommitRecord). grains_added [] (grains_written l)) (all_read shape file h.records gate h.follows end records is)
+
+  -- a fault of reading the log
+  pub log_fault : {A : Type 0} (e : FolderFault) → ((at : FileId) (place : ℕ) → failed {A = A} e ≡ failed (FolderFault.Damaged at place) → records_in_file shape file ≡ Err place)
+      → ((at : FileId) → failed {A = A} e ≡ failed (FolderFault.Failed at) → at ≡ manager) → IsLogFault shape file e
+  log_fault (FolderFault.Damaged at place) damaged fails = damaged at place refl
+  log_fault (FolderFault.Failed at) damaged fails = fails at refl
+  log_fault FolderFault.Memory damaged fails = tt

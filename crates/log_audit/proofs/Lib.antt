@@ -1,0 +1,13 @@
+pub mod Growing
+pub mod Putting
+pub mod Items
+pub mod Floats
+pub mod Gathering
+pub mod Reported
+pub mod Shown
+pub mod Copying
+pub mod Replaying
+pub mod Refused
+pub mod Versions
+pub mod Reread
+pub mod Finding

@@ -1,0 +1,83 @@
+use Rattle.std.proofs.Common.{◌≡◌, ℕ, List, Ok, sym, ◌∙◌, ap, subst}
+use Rattle.base_types.specs.declared.shapes.Shape.{Shape}
+use Rattle.host_trait.specs.declared.channels.Channel.{Channel}
+use Rattle.host_trait.specs.World.{Disk, Image}
+use Rattle.host_trait.proofs.Counts.{none_then}
+use Rattle.log_reading.specs.Blocks.{records_in_file}
+use Rattle.log_reading.specs.Steps.{manager, seen_in}
+use Rattle.script_tree.specs.Programs.{program_tree}
+use Rattle.silo_opening.specs.Counts.{OpenFaulted}
+use Rattle.silo_opening.specs.Opened.{ending_of}
+use Rattle.silo_opening.specs.declared.faults.OpenFault.{OpenFault}
+use Rattle.silo_opening.proofs.Opening.{seen_same}
+use Rattle.silo_opening.proofs.Runs.{run_only_asked}
+use Rattle.promise_spec.specs.Programs.{shape_in}
+use Rattle.promise_spec.specs.Records.{Commit, log_start}
+use Rattle.promise_spec.specs.Logs.{live_slot}
+use Rattle.promise_spec.specs.Openings.{opened_as}
+use Rattle.promise_spec.specs.Refusals.{IsRefusedBy}
+use Rattle.log_audit.specs.Endings.{program_opened}
+use Rattle.log_audit.specs.Replaying.{as_commits, IsFirstFailure}
+use Rattle.log_audit.specs.Unread.{IsRereadFault}
+use Rattle.log_audit.proofs.Reread.{open_faulted}
+use Rattle.log_audit.proofs.Refused.{refused_again}
+use Rattle.log_audit.proofs.Shown.{parts, count_of}
+use Rattle.log_audit.proofs.audits.audit.Goals as goal
+
+pub returns-in-Ok-replay_log-clause-audited : goal.returns-in-Ok-replay_log-clause-audited
+returns-in-Ok-replay_log-clause-audited g c told =
+    let old = g.H.Host.world c.args.host.now in
+    let mid = g.H.Host.world c.open_silo.new.host in
+    let opened = c.in-Ok.opened in
+    let types = program_tree opened.checked in
+    let image = seen_in old.disk in
+    let o = c.in-Ok.ensures.opened told in
+    let p = program_opened image opened o in
+    let same : seen_in mid.disk ≡ image = seen_same old mid (c.open_silo.ensures.run told) in
+    let shape : c.in-Ok-shape.shape ≡ shape_in p = (λ i. record { types = c.in-Ok-shape.ensures i }) in
+    let whole = parts image opened o in
+    let read : records_in_file c.in-Ok-shape.shape ((mid.disk manager).seen) ≡ Ok whole.records = (λ i. records_in_file (shape i) (same i manager)) ∙ whole.read in
+    let log : as_commits c.in-Ok-shape.shape (seen_in mid.disk) whole.records ≡ o.log = (λ i. as_commits (shape i) (same i) whole.records) ∙ whole.commits in
+    record {
+      program = p;
+      log = o.log;
+      reads = o.reads;
+      count = o.count ∙ count_of types o.log;
+      first = subst (λ (l : List Commit). IsFirstFailure types (log_start types).states l c.in-Ok-replay_log.first_bad) log (c.in-Ok-replay_log.ensures.replays told whole.records read);
+    }
+
+pub returns-in-Ok-replay_log-clause-settled : goal.returns-in-Ok-replay_log-clause-settled
+returns-in-Ok-replay_log-clause-settled g c told = ap (λ (d : Disk). d manager) (c.replay_log.ensures.asked told).disk ∙ c.in-Ok.ensures.settled told
+
+pub returns-in-Ok-replay_log-clause-calm : goal.returns-in-Ok-replay_log-clause-calm
+returns-in-Ok-replay_log-clause-calm g c = none_then _ _ _ c.in-Ok.ensures.calm c.in-Ok-replay_log.ensures.calm
+
+pub returns-in-Ok-replay_log-clause-run : goal.returns-in-Ok-replay_log-clause-run
+returns-in-Ok-replay_log-clause-run g c told = run_only_asked _ _ _ _ _ _ (c.open_silo.ensures.run told) (c.replay_log.ensures.asked told)
+
+pub returns-clause-run : goal.returns-clause-run
+returns-clause-run g c told = run_only_asked _ _ _ _ _ _ (c.open_silo.ensures.run told) (c.replay_log.ensures.asked told)
+
+pub returns-clause-refused : goal.returns-clause-refused
+returns-clause-refused g c told =
+    let old = g.H.Host.world c.args.host.now in
+    let mid = g.H.Host.world c.open_silo.new.host in
+    let opened = c.in-Ok.opened in
+    let image = seen_in old.disk in
+    let o = c.in-Ok.ensures.opened told in
+    let p = program_opened image opened o in
+    let same : seen_in mid.disk ≡ image = seen_same old mid (c.open_silo.ensures.run told) in
+    let shape : c.in-Ok-shape.shape ≡ shape_in p = (λ i. record { types = c.in-Ok-shape.ensures i }) in
+    let whole = parts image opened o in
+    let read : records_in_file c.in-Ok-shape.shape ((mid.disk manager).seen) ≡ Ok whole.records = (λ i. records_in_file (shape i) (same i manager)) ∙ whole.read in
+    let fault = c.in-Err-replay_log.fault in
+    let again : IsRereadFault (shape_in p) image whole.records fault = subst (λ (im : Image). IsRereadFault (shape_in p) im whole.records fault) same
+    (subst (λ (s : Shape). IsRereadFault s (seen_in mid.disk) whole.records fault) shape (c.in-Err-replay_log.ensures.unread told whole.records read)) in
+    subst (λ (e : OpenFault). IsRefusedBy image (opened_as live_slot image) (ending_of e)) (sym c.not_read.ensures) (refused_again image p o.log whole o.reads fault again)
+
+pub returns-clause-fault : goal.returns-clause-fault
+returns-clause-fault g c =
+    let calm = c.in-Ok.ensures.calm in
+    let late : OpenFaulted c.not_read.result (g.H.Host.faults c.open_silo.new.host) (g.H.Host.faults c.replay_log.new.host) =
+    subst (λ (e : OpenFault). OpenFaulted e (g.H.Host.faults c.open_silo.new.host) (g.H.Host.faults c.replay_log.new.host)) (sym c.not_read.ensures) (open_faulted _ _ c.in-Err-replay_log.fault c.in-Err-replay_log.ensures.fault) in
+    subst (λ (x : Channel → ℕ). OpenFaulted c.not_read.result x (g.H.Host.faults c.replay_log.new.host)) (λ i channel. calm channel i) late

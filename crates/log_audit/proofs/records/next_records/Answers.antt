@@ -1,0 +1,18 @@
+use Rattle.std.proofs.Common.{sym, subst}
+use Rattle.log_reading.specs.Steps.{manager}
+use Rattle.promise_spec.specs.Endings.{HasFailedAs}
+use Rattle.log_audit.specs.declared.faults.ReportFault.{ReportFault}
+use Rattle.log_audit.specs.Endings.{fault_ending}
+use Rattle.log_audit.specs.Unread.{IsBlockFault}
+use Rattle.log_audit.proofs.Reread.{folder_failed, block_fault}
+use Rattle.log_audit.proofs.records.next_records.Goals as goal
+
+pub returns-in-Err-clause-unread : goal.returns-in-Err-clause-unread
+returns-in-Err-clause-unread g c told =
+    let shape = c.args.shape.now in
+    let file = ((g.H.Host.world c.args.host.now).disk manager).seen in
+    subst (λ (e : ReportFault). IsBlockFault shape c.args.gate_at file e) (sym c.unread.ensures)
+    (block_fault shape file c.args.gate_at c.in-Err.fault (λ at place is. c.in-Err.ensures.damaged at place is told))
+
+pub returns-in-Err-clause-exact : goal.returns-in-Err-clause-exact
+returns-in-Err-clause-exact g c = subst (λ (e : ReportFault). HasFailedAs (fault_ending e) (g.H.Host.faults c.args.host.now) (g.H.Host.faults c.next_block.new.host)) (sym c.unread.ensures) (folder_failed _ _ c.in-Err.fault c.in-Err.ensures.fault)

@@ -1,0 +1,41 @@
+use Rattle.std.proofs.Common.{◌≡◌, ℕ, List, [], Ok, refl, sym, ◌∙◌, ap, subst}
+use Rattle.std.specs.Prelude.{is_ok}
+use Rattle.std.proofs.lemmas.Result.{err_from_is_err_and}
+use Rattle.base_types.specs.declared.shapes.Shape.{Shape}
+use Rattle.log_reading.specs.Blocks.{records_in_file}
+use Rattle.log_reading.specs.Steps.{manager, seen_in}
+use Rattle.script_tree.specs.Programs.{program_tree}
+use Rattle.promise_spec.specs.Programs.{shape_in}
+use Rattle.log_audit.specs.Lines.{record_lines}
+use Rattle.log_audit.specs.Writing.{PutsPart}
+use Rattle.log_audit.specs.Endings.{program_opened}
+use Rattle.log_audit.proofs.Putting.{none_put, part_front}
+use Rattle.log_audit.proofs.Shown.{parts, history_opened}
+use Rattle.log_audit.proofs.records.write_history.Goals as goal
+
+pub returns-in_err-shape-clause-puts : goal.returns-in_err-shape-clause-puts
+returns-in_err-shape-clause-puts g c =
+    let p = err_from_is_err_and c.from_residual.result c.from_residual.ensures.1 in
+    rw p.1 λ told o. part_front _ _ [] _ _ (none_put (g.H.Host.world c.args.host.now)) refl
+
+pub returns-clause-puts : goal.returns-clause-puts
+returns-clause-puts g c told o =
+    let opened = c.args.opened.now in
+    let types = program_tree opened.checked in
+    let image = seen_in (g.H.Host.world c.args.host.now).disk in
+    let program = program_opened image opened o in
+    let shape : c.in_ok-shape.shape ≡ shape_in program = (λ i. record { types = c.in_ok-shape.ensures i }) in
+    let records = (parts image opened o).records in
+    let read : records_in_file c.in_ok-shape.shape (image manager) ≡ Ok records = subst (λ (s : Shape). records_in_file s (image manager) ≡ Ok records) (sym shape) (parts image opened o).read in
+    let text : record_lines c.in_ok-shape.shape types records ≡ record_lines (shape_in program) types records = ap (λ (s : Shape). record_lines s types records) shape in
+    subst (λ (l : List ℕ). PutsPart l (is_ok c.write_log.result) (g.H.Host.world c.args.host.now) (g.H.Host.world c.write_log.new.host)) (text ∙ sym (history_opened image opened o)) (c.write_log.ensures.puts told records read)
+
+pub returns-clause-ended : goal.returns-clause-ended
+returns-clause-ended g c told o =
+    let opened = c.args.opened.now in
+    let image = seen_in (g.H.Host.world c.args.host.now).disk in
+    let program = program_opened image opened o in
+    let shape : c.in_ok-shape.shape ≡ shape_in program = (λ i. record { types = c.in_ok-shape.ensures i }) in
+    let records = (parts image opened o).records in
+    let read : records_in_file c.in_ok-shape.shape (image manager) ≡ Ok records = subst (λ (s : Shape). records_in_file s (image manager) ≡ Ok records) (sym shape) (parts image opened o).read in
+    c.write_log.ensures.ended told records read

@@ -1,0 +1,91 @@
+use Rattle.std.proofs.Common.{rules, arith, ◌≡◌, ◌+◌, ◌^◌, ◌<◌, ◌≤◌, List, length, true, false, Some, None, Ok, refl, subst}
+use Rattle.std.proofs.lemmas.Result.{err_from_is_err_and}
+use Rattle.host_trait.specs.World.{Disk}
+use Rattle.host_trait.proofs.Counts.{none_then}
+use Rattle.commit_log.specs.declared.records.CommitRecord.{CommitRecord}
+use Rattle.log_reading.specs.Steps.{manager, next_in}
+use Rattle.script_tree.specs.Programs.{program_tree}
+use Rattle.log_audit.specs.Lines.{record_lines}
+use Rattle.log_audit.specs.Unread.{IsBlockFault}
+use Rattle.log_audit.specs.Writing.{PutsPart}
+use Rattle.log_audit.proofs.Copying.{copied_none, copied_more, copied_cut, copied_all, copied_stopped, block_ends}
+use Rattle.log_audit.proofs.Reported.{failed_then}
+use Rattle.log_audit.proofs.records.write_log.Goals as goal
+
+pub loop-records-init : goal.loop-records-init
+loop-records-init g c = record {
+  bound = omega arith;
+  puts = λ told. copied_none c.args.shape.now (program_tree c.args.checked.now) ((g.H.Host.world c.args.host.now).disk manager).seen (g.H.Host.world c.args.host.now);
+  calm = λ channel. refl;
+  ready = λ file was. was;
+}
+
+pub returns-in_err-records-clause-puts : goal.returns-in_err-records-clause-puts
+returns-in_err-records-clause-puts g c =
+    let p = err_from_is_err_and c.from_residual.result c.from_residual.ensures.1 in
+    rw p.1 λ told records is. copied_stopped _ _ _ _ _ _ _ (c.loop-records.invariant.puts told) (c.next_records.ensures.asked told) records is
+
+pub returns-in_err-records-clause-ended : goal.returns-in_err-records-clause-ended
+returns-in_err-records-clause-ended g c =
+    let p = err_from_is_err_and c.from_residual.result c.from_residual.ensures.1 in
+    let inv = c.loop-records.invariant in
+    let shape = c.args.shape.now in
+    let gate = c.loop-records.gate_at in
+    let file = ((g.H.Host.world c.args.host.now).disk manager).seen in
+    rw (p.1, p.2) λ told records is.
+    let here = subst (λ (d : Disk). IsBlockFault shape gate (d manager).seen c.in_err-records.field-0.0) (inv.puts told).puts.disk (c.in_err-records.ensures.unread told) in
+    block_ends shape (program_tree c.args.checked.now) file gate (inv.puts told).records (inv.puts told).follows c.in_err-records.field-0.0 here records is
+
+pub returns-in_err-records-clause-exact : goal.returns-in_err-records-clause-exact
+returns-in_err-records-clause-exact g c =
+    let p = err_from_is_err_and c.from_residual.result c.from_residual.ensures.1 in
+    rw (p.1, p.2) (failed_then _ _ _ _ c.loop-records.invariant.calm c.in_err-records.ensures.exact)
+
+pub returns-in_err-write_records-clause-puts : goal.returns-in_err-write_records-clause-puts
+returns-in_err-write_records-clause-puts g c =
+    let p = err_from_is_err_and c.from_residual-in_err-write_records.result c.from_residual-in_err-write_records.ensures.1 in
+    let inv = c.loop-records.invariant in
+    let shape = c.args.shape.now in
+    let types = program_tree c.args.checked.now in
+    let gate = c.loop-records.gate_at in
+    let more = c.in-Some.records in
+    let behind = c.in-Some.behind in
+    rw p.1 λ told records is.
+    let here : next_in shape gate ((g.H.Host.world c.loop-records.host).disk manager).seen ≡ Ok (Some (more, behind)) = search rules in
+    let there = subst (λ (d : Disk). next_in shape gate (d manager).seen ≡ Ok (Some (more, behind))) (inv.puts told).puts.disk here in
+    copied_cut shape types _ gate _ _ _ _ (inv.puts told) (c.next_records.ensures.asked told) more behind false there
+    (subst (λ (l : List CommitRecord). PutsPart (record_lines shape types l) false (g.H.Host.world c.next_records.new.host) (g.H.Host.world c.write_records.new.host)) c.as_slice.ensures (c.in_err-write_records.ensures.puts told)) records is
+
+pub returns-in_err-write_records-clause-exact : goal.returns-in_err-write_records-clause-exact
+returns-in_err-write_records-clause-exact g c =
+    let p = err_from_is_err_and c.from_residual-in_err-write_records.result c.from_residual-in_err-write_records.ensures.1 in
+    rw (p.1, p.2) (failed_then _ _ _ _ (none_then _ _ _ c.loop-records.invariant.calm c.in_ok-records.ensures.exact) c.in_err-write_records.ensures.exact)
+
+pub loop-records-preserved : goal.loop-records-preserved
+loop-records-preserved g c =
+    let inv = c.loop-records.invariant in
+    let shape = c.args.shape.now in
+    let types = program_tree c.args.checked.now in
+    let gate = c.loop-records.gate_at in
+    let more = c.in-Some.records in
+    let behind = c.in-Some.behind in
+    let far : (gate + 5 + length more ≤ behind) × (behind < 2 ^ 63) = search rules in
+    record {
+      bound = far.1;
+      puts = λ told.
+          let here : next_in shape gate ((g.H.Host.world c.loop-records.host).disk manager).seen ≡ Ok (Some (more, behind)) = search rules in
+          let there = subst (λ (d : Disk). next_in shape gate (d manager).seen ≡ Ok (Some (more, behind))) (inv.puts told).puts.disk here in
+          copied_more shape types _ gate _ _ _ _ (inv.puts told) (c.next_records.ensures.asked told) more behind there
+          (subst (λ (l : List CommitRecord). PutsPart (record_lines shape types l) true (g.H.Host.world c.next_records.new.host) (g.H.Host.world c.write_records.new.host)) c.as_slice.ensures (c.in_ok-write_records.ensures.puts told));
+      calm = none_then _ _ _ (none_then _ _ _ inv.calm c.in_ok-records.ensures.exact) c.in_ok-write_records.ensures.exact;
+      ready = λ at was. c.write_records.ensures.ready at (c.next_records.ensures.ready at (inv.ready at was));
+    }
+
+pub returns-clause-puts : goal.returns-clause-puts
+returns-clause-puts g c told records is =
+    let inv = c.loop-records.invariant in
+    let shape = c.args.shape.now in
+    let gate = c.loop-records.gate_at in
+    let here : next_in shape gate ((g.H.Host.world c.loop-records.host).disk manager).seen ≡ Ok None = search rules in
+    let there = subst (λ (d : Disk). next_in shape gate (d manager).seen ≡ Ok None) (inv.puts told).puts.disk here in
+    copied_all _ _ _ gate _ _ _ (inv.puts told) (c.next_records.ensures.asked told) records is there

@@ -1,0 +1,50 @@
+use Rattle.std.proofs.Common.{◌≡◌, List, true, false, length, refl, sym, ◌∙◌, ap}
+use Rattle.std.specs.Prelude.{not}
+use Rattle.std.specs.List.{fold}
+use Rattle.base_types.specs.declared.calls.GrainId.{GrainId}
+use Rattle.base_types.specs.declared.calls.Value.{Value}
+use Rattle.core_model.specs.Equality.{same_list}
+use Rattle.log_reading.specs.Steps.{seen_in, live_slot}
+use Rattle.script_tree.specs.Programs.{program_tree}
+use Rattle.script_meaning.specs.Play.{Played, found_in}
+use Rattle.script_meaning.specs.Playing.{played_of}
+use Rattle.promise_spec.specs.Records.{Commit, States, written, put_state}
+use Rattle.promise_spec.specs.Serial.{played}
+use Rattle.promise_spec.specs.Openings.{commit_of}
+use Rattle.log_audit.specs.Replaying.{same_write, agree}
+use Rattle.log_audit.proofs.Replaying.{passed_replays, failed_fails, played_is}
+use Rattle.log_audit.proofs.replay.replay.Goals as goal
+
+pub returns-then-agrees-clause-replays : goal.returns-then-agrees-clause-replays
+returns-then-agrees-clause-replays g c told =
+    let types = program_tree c.args.checked.now in
+    let r = c.args.entry.now in
+    let image = seen_in (g.H.Host.world c.args.host.now).disk in
+    let one : Commit = commit_of live_slot c.args.shape.now image r in
+    let states : States = found_in types c.args.store.now in
+    let given : Played = played_of c.in_ok-played.played in
+    let is : given ≡ played types states r = played_is types c.args.store.now r given _ _ c.in_ok-played.ensures c.depth_of-depth.ensures c.as_slice-answers.ensures in
+    let kept : c.in_ok-kept.kept.items ≡ written one = c.in_ok-kept.ensures.writes told in
+    let same : c.are_same_writes-same.result ≡ same_list same_write (played types states r).writes (written one) =
+    c.are_same_writes-same.ensures ∙ (λ i. same_list same_write ((c.as_slice.ensures ∙ ap (λ (p : Played). p.writes) is) i) ((c.as_slice-2.ensures.value ∙ kept) i)) in
+    let passes : agree c.are_same_writes-same.result (played types states r).result r.result (length (played types states r).asked) (length r.answers) ≡ true =
+    sym (ap (λ (p : Played). agree c.are_same_writes-same.result p.result r.result (length p.asked) (length r.answers)) is) ∙ sym c.agrees.ensures ∙ c.if-agrees.true in
+    (passed_replays types states one c.are_same_writes-same.result same passes, c.in_ok-keep.ensures types ∙ ap (λ (l : List (GrainId × List Value)). fold put_state states l) kept)
+
+pub returns-clause-replays : goal.returns-clause-replays
+returns-clause-replays g c told =
+    let types = program_tree c.args.checked.now in
+    let r = c.args.entry.now in
+    let image = seen_in (g.H.Host.world c.args.host.now).disk in
+    let one : Commit = commit_of live_slot c.args.shape.now image r in
+    let states : States = found_in types c.args.store.now in
+    let given : Played = played_of c.in_ok-played.played in
+    let is : given ≡ played types states r = played_is types c.args.store.now r given _ _ c.in_ok-played.ensures c.depth_of-depth.ensures c.as_slice-answers.ensures in
+    let kept : c.in_ok-kept.kept.items ≡ written one = c.in_ok-kept.ensures.writes told in
+    let same : c.are_same_writes-same.result ≡ same_list same_write (played types states r).writes (written one) =
+    c.are_same_writes-same.ensures ∙ (λ i. same_list same_write ((c.as_slice.ensures ∙ ap (λ (p : Played). p.writes) is) i) ((c.as_slice-2.ensures.value ∙ kept) i)) in
+    let fails : agree c.are_same_writes-same.result (played types states r).result r.result (length (played types states r).asked) (length r.answers) ≡ false =
+    sym (ap (λ (p : Played). agree c.are_same_writes-same.result p.result r.result (length p.asked) (length r.answers)) is) ∙ sym c.agrees.ensures ∙ c.if-agrees.false in
+    failed_fails types states one c.are_same_writes-same.result same
+    (record { unit = r.unit; kept = c.in_ok-logged.logged; played = c.in_ok-played.played.result; states_differ = not c.are_same_writes-same.result })
+    refl c.in_ok-logged.ensures (ap (λ (p : Played). p.result) is) refl fails

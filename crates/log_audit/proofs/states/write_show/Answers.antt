@@ -1,0 +1,99 @@
+use Rattle.std.proofs.Common.{◌≡◌, ℕ, List, [], true, false, Ok, refl, sym, ◌∙◌, subst}
+use Rattle.std.specs.Prelude.{is_ok}
+use Rattle.std.proofs.lemmas.Result.{err_from_is_err_and}
+use Rattle.base_types.specs.declared.shapes.Shape.{Shape}
+use Rattle.host_trait.proofs.Counts.{none_then}
+use Rattle.log_reading.specs.Blocks.{records_in_file}
+use Rattle.log_reading.specs.Steps.{manager, seen_in}
+use Rattle.script_tree.specs.Programs.{program_tree}
+use Rattle.promise_spec.specs.Programs.{shape_in}
+use Rattle.promise_spec.specs.Endings.{HasFailedAs}
+use Rattle.promise_spec.specs.Reports.{line_of}
+use Rattle.log_audit.specs.declared.faults.ReportFault.{ReportFault}
+use Rattle.log_audit.specs.Lines.{grain_lines, count_data}
+use Rattle.log_audit.specs.Writing.{PutsPart}
+use Rattle.log_audit.specs.Endings.{fault_ending, MayEnd, program_opened}
+use Rattle.log_audit.proofs.Putting.{none_put, asked_puts, puts_then, part_then, part_front, part_cut, part_done}
+use Rattle.log_audit.proofs.Reported.{failed_then}
+use Rattle.log_audit.proofs.Reread.{folder_failed, folder_ends}
+use Rattle.log_audit.proofs.Shown.{parts, show_opened}
+use Rattle.log_audit.proofs.states.write_show.Goals as goal
+
+pub returns-in_err-shape-clause-puts : goal.returns-in_err-shape-clause-puts
+returns-in_err-shape-clause-puts g c =
+    let p = err_from_is_err_and c.from_residual.result c.from_residual.ensures.1 in
+    rw p.1 λ told o. part_front _ _ [] _ _ (none_put (g.H.Host.world c.args.host.now)) refl
+
+pub returns-in-Err-clause-puts : goal.returns-in-Err-clause-puts
+returns-in-Err-clause-puts g c told o = part_front _ _ [] _ _ (asked_puts _ _ (c.read_grains.ensures.asked told)) refl
+
+pub returns-in-Err-clause-ended : goal.returns-in-Err-clause-ended
+returns-in-Err-clause-ended g c told o =
+    let opened = c.args.opened.now in
+    let image = seen_in (g.H.Host.world c.args.host.now).disk in
+    let p = program_opened image opened o in
+    let shape : c.in_ok-shape.shape ≡ shape_in p = (λ i. record { types = c.in_ok-shape.ensures i }) in
+    let records = (parts image opened o).records in
+    let read : records_in_file c.in_ok-shape.shape (image manager) ≡ Ok records = subst (λ (s : Shape). records_in_file s (image manager) ≡ Ok records) (sym shape) (parts image opened o).read in
+    subst (λ (e : ReportFault). MayEnd (fault_ending e)) (sym c.unread.ensures) (folder_ends c.in_ok-shape.shape (image manager) records read c.in-Err.fault (c.in-Err.ensures.unread told))
+
+pub returns-in-Err-clause-exact : goal.returns-in-Err-clause-exact
+returns-in-Err-clause-exact g c = subst (λ (e : ReportFault). HasFailedAs (fault_ending e) (g.H.Host.faults c.args.host.now) (g.H.Host.faults c.read_grains.new.host)) (sym c.unread.ensures) (folder_failed _ _ c.in-Err.fault c.in-Err.ensures.fault)
+
+pub returns-in_err-write_grains-clause-puts : goal.returns-in_err-write_grains-clause-puts
+returns-in_err-write_grains-clause-puts g c =
+    let p = err_from_is_err_and c.from_residual-in_err-write_grains.result c.from_residual-in_err-write_grains.ensures.1 in
+    let opened = c.args.opened.now in
+    let types = program_tree opened.checked in
+    let image = seen_in (g.H.Host.world c.args.host.now).disk in
+    rw p.1 λ told o.
+    let program = program_opened image opened o in
+    let shape : c.in_ok-shape.shape ≡ shape_in program = (λ i. record { types = c.in_ok-shape.ensures i }) in
+    let records = (parts image opened o).records in
+    let read : records_in_file c.in_ok-shape.shape (image manager) ≡ Ok records = subst (λ (s : Shape). records_in_file s (image manager) ≡ Ok records) (sym shape) (parts image opened o).read in
+    let keys = c.in-Ok.grains.keys in
+    let part = subst (λ (s : Shape). PutsPart (grain_lines s types opened.store keys) false (g.H.Host.world c.read_grains.new.host) (g.H.Host.world c.write_grains.new.host)) shape (c.in_err-write_grains.ensures.puts told) in
+    part_cut _ _ [] (grain_lines (shape_in program) types opened.store keys) (line_of (count_data opened.count)) false _ _ (asked_puts _ _ (c.read_grains.ensures.asked told)) part
+    (show_opened image opened o keys (c.in-Ok.ensures.found told records read))
+
+pub returns-in_err-write_grains-clause-exact : goal.returns-in_err-write_grains-clause-exact
+returns-in_err-write_grains-clause-exact g c =
+    let p = err_from_is_err_and c.from_residual-in_err-write_grains.result c.from_residual-in_err-write_grains.ensures.1 in
+    rw (p.1, p.2) (failed_then _ _ _ _ c.in-Ok.ensures.calm c.in_err-write_grains.ensures.exact)
+
+pub returns-in_err-line-clause-puts : goal.returns-in_err-line-clause-puts
+returns-in_err-line-clause-puts g c =
+    let p = err_from_is_err_and c.from_residual-in_err-line.result c.from_residual-in_err-line.ensures.1 in
+    let opened = c.args.opened.now in
+    let types = program_tree opened.checked in
+    let image = seen_in (g.H.Host.world c.args.host.now).disk in
+    rw p.1 λ told o.
+    let program = program_opened image opened o in
+    let shape : c.in_ok-shape.shape ≡ shape_in program = (λ i. record { types = c.in_ok-shape.ensures i }) in
+    let records = (parts image opened o).records in
+    let read : records_in_file c.in_ok-shape.shape (image manager) ≡ Ok records = subst (λ (s : Shape). records_in_file s (image manager) ≡ Ok records) (sym shape) (parts image opened o).read in
+    let keys = c.in-Ok.grains.keys in
+    let text : List ℕ = grain_lines (shape_in program) types opened.store keys in
+    let part = subst (λ (s : Shape). PutsPart (grain_lines s types opened.store keys) true (g.H.Host.world c.read_grains.new.host) (g.H.Host.world c.write_grains.new.host)) shape (c.in_ok-write_grains.ensures.puts told) in
+    part_front _ _ text (line_of (count_data opened.count)) _ (puts_then [] text _ _ _ (asked_puts _ _ (c.read_grains.ensures.asked told)) (part_done text _ _ part))
+    (show_opened image opened o keys (c.in-Ok.ensures.found told records read))
+
+pub returns-clause-puts : goal.returns-clause-puts
+returns-clause-puts g c told o =
+    let opened = c.args.opened.now in
+    let types = program_tree opened.checked in
+    let image = seen_in (g.H.Host.world c.args.host.now).disk in
+    let program = program_opened image opened o in
+    let shape : c.in_ok-shape.shape ≡ shape_in program = (λ i. record { types = c.in_ok-shape.ensures i }) in
+    let records = (parts image opened o).records in
+    let read : records_in_file c.in_ok-shape.shape (image manager) ≡ Ok records = subst (λ (s : Shape). records_in_file s (image manager) ≡ Ok records) (sym shape) (parts image opened o).read in
+    let keys = c.in-Ok.grains.keys in
+    let text : List ℕ = grain_lines (shape_in program) types opened.store keys in
+    let part = subst (λ (s : Shape). PutsPart (grain_lines s types opened.store keys) true (g.H.Host.world c.read_grains.new.host) (g.H.Host.world c.write_grains.new.host)) shape (c.in_ok-write_grains.ensures.puts told) in
+    let line : c.as_bytes.result.now ≡ line_of (count_data opened.count) = c.as_bytes.ensures.value ∙ c.in_ok-line.ensures in
+    let last = subst (λ (l : List ℕ). PutsPart l (is_ok c.write_line.result) (g.H.Host.world c.write_grains.new.host) (g.H.Host.world c.write_line.new.host)) line (c.write_line.ensures.puts told) in
+    part_then _ _ text (line_of (count_data opened.count)) _ _ _ (puts_then [] text _ _ _ (asked_puts _ _ (c.read_grains.ensures.asked told)) (part_done text _ _ part)) last
+    (show_opened image opened o keys (c.in-Ok.ensures.found told records read))
+
+pub returns-clause-exact : goal.returns-clause-exact
+returns-clause-exact g c = failed_then _ _ _ _ (none_then _ _ _ c.in-Ok.ensures.calm c.in_ok-write_grains.ensures.exact) c.write_line.ensures.exact

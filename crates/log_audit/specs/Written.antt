@@ -1,0 +1,15 @@
+-- The grains that records wrote.
+use Rattle.std.specs.Prelude.{List, [], ◌∷◌, map}
+use Rattle.std.specs.List.{flat_map}
+use Rattle.base_types.specs.declared.calls.GrainId.{GrainId}
+use Rattle.commit_log.specs.declared.records.CommitRecord.{CommitRecord}
+use Rattle.log_reading.specs.Versions.{ascending_with}
+
+-- the grains that records wrote, in the log's order
+abbrev pub grains_written : List CommitRecord → List GrainId
+grains_written records = flat_map (λ r. map (λ w. w.grain) r.writes) records
+
+-- these grains, one after another, among others that ascend
+abbrev pub grains_added : List GrainId → List GrainId → List GrainId
+grains_added kept [] = kept
+grains_added kept (g ∷ gs) = grains_added (ascending_with g kept) gs

@@ -1,0 +1,63 @@
+ghost use Rattle.std.specs.Prelude.{◌≡◌};
+ghost use Rattle.silo_opening.specs.Opened.{ending_of};
+ghost use Rattle.log_audit.specs.Endings.{fault_ending, from_folder};
+
+use host_trait::FileId;
+use log_reading::FolderFault;
+use silo_opening::OpenFault;
+use std::alloc::AllocError;
+use thiserror::Error;
+
+/// Why a report wasn't written whole.
+#[derive(Debug, Clone, Copy, PartialEq, Eq, Error)]
+pub enum ReportFault {
+    /// The manager file is shorter than 16 bytes, or its first byte isn't 1, or the next eight aren't the magic.
+    #[error("the folder is no silo")]
+    NotASilo,
+    /// The file is damaged at this offset.
+    #[error("{file:?} is damaged at {place}")]
+    Damaged { file: FileId, place: u64 },
+    /// A call on this file failed. A part of the report may be written.
+    #[error("a call on {file:?} failed")]
+    DiskFault { file: FileId },
+    /// A call on the output failed. A part of the report may be written.
+    #[error("the output failed")]
+    WriteFault,
+    /// There was no memory. A part of the report may be written.
+    #[error("no memory")]
+    Memory,
+}
+
+impl From<AllocError> for ReportFault {
+    ghost use Rattle.std.specs.Prelude.{◌≡◌};
+    ghost use Rattle.log_audit.specs.declared.faults.ReportFault.{ReportFault};
+
+    ghost from_gives = { λ _ fault. fault ≡ ReportFault.Memory };
+
+    fn from(_: AllocError) -> Self {
+        ReportFault::Memory
+    }
+}
+
+/// The fault of a folder that wasn't opened.
+pub(crate) fn unopened(fault: OpenFault) -> ReportFault
+    ensures { fault_ending result ≡ ending_of fault }
+{
+    match fault {
+        OpenFault::NotASilo => ReportFault::NotASilo,
+        OpenFault::Damaged { file, place } => ReportFault::Damaged { file, place },
+        OpenFault::DiskFault { file } => ReportFault::DiskFault { file },
+        OpenFault::Memory => ReportFault::Memory,
+    }
+}
+
+/// The fault of a log that couldn't be read again.
+pub(crate) fn unread(fault: FolderFault) -> ReportFault
+    ensures { result ≡ from_folder fault }
+{
+    match fault {
+        FolderFault::Damaged { file, place } => ReportFault::Damaged { file, place },
+        FolderFault::Failed { file } => ReportFault::DiskFault { file },
+        FolderFault::Memory => ReportFault::Memory,
+    }
+}

@@ -1,0 +1,62 @@
+// The grains that a log wrote.
+
+ghost use Rattle.std.specs.Prelude.{◌≡◌, ℕ, [], List, map, IsTrue, Ok, OnOk, IfOk, IfErr};
+ghost use Rattle.host_trait.specs.Files.{StaysReady};
+ghost use Rattle.host_trait.specs.Faults.{NoneFailed};
+ghost use Rattle.host_trait.specs.Runs.{OnlyAsked};
+ghost use Rattle.commit_log.specs.declared.records.CommitRecord.{CommitRecord as ARecord};
+ghost use Rattle.log_reading.specs.Blocks.{records_in_file};
+ghost use Rattle.log_reading.specs.Counts.{ReadFaulted};
+ghost use Rattle.log_reading.specs.Steps.{manager};
+ghost use Rattle.log_audit.specs.Unread.{IsLogFault};
+ghost use Rattle.log_audit.specs.Written.{grains_written, grains_added};
+
+use base_types::{GrainId, Shape};
+use commit_log::{CommitRecord, Written};
+use host_trait::Host;
+use log_reading::{FolderFault, next_block};
+use std::alloc::{AllocError, Global};
+use std::collections::BTreeSet;
+
+// Adds the grains of these writes.
+fn add_written(grains: &mut BTreeSet<GrainId>, writes: &[Written]) -> Result<(), AllocError>
+    ensures { OnOk result (grains.new.keys ≡ grains_added grains.old.keys (map (λ w. w.grain) writes.now)) }
+{
+    for one in writes {
+        grains.insert(one.grain)?;
+    }
+    Ok(())
+}
+
+// Adds the grains that these records wrote.
+fn add_grains(grains: &mut BTreeSet<GrainId>, records: &[CommitRecord]) -> Result<(), AllocError>
+    ensures { OnOk result (grains.new.keys ≡ grains_added grains.old.keys (grains_written records.now)) }
+{
+    for entry in records {
+        add_written(grains, entry.writes.as_slice())?;
+    }
+    Ok(())
+}
+
+/// The grains that the log's records wrote, ascending. It reads the log block by block, and keeps them alone.
+pub(crate) fn read_grains<H: Host>(
+    alloc: Global,
+    host: &mut H,
+    shape: &Shape,
+) -> Result<BTreeSet<GrainId>, FolderFault>
+    ensures found { IfOk result (λ grains. IsTrue H.tells → (records : List ARecord) → records_in_file shape.now ((H.world host.old).disk manager).seen ≡ Ok records
+        → grains.keys ≡ grains_added [] (grains_written records)) }
+    ensures unread { IfErr result (λ e. IsTrue H.tells → IsLogFault shape.now ((H.world host.old).disk manager).seen e) }
+    ensures asked { IsTrue H.tells → OnlyAsked (H.world host.old) (H.world host.new) }
+    ensures calm { OnOk result (NoneFailed (H.faults host.old) (H.faults host.new)) }
+    ensures fault { IfErr result (λ e. ReadFaulted e (H.faults host.old) (H.faults host.new)) }
+    ensures ready { StaysReady (H.is_ready host.old) (H.is_ready host.new) }
+{
+    let mut grains = BTreeSet::new(alloc);
+    let mut gate_at = 15;
+    while let Some((records, behind)) = next_block(alloc, host, shape, gate_at)? {
+        add_grains(&mut grains, records.as_slice())?;
+        gate_at = behind;
+    }
+    Ok(grains)
+}

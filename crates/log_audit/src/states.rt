@@ -1,0 +1,108 @@
+ghost use Rattle.std.specs.Prelude.{◌≡◌, ℕ, List, IsTrue, IfOk, is_ok, string_bytes};
+ghost use Rattle.host_trait.specs.Files.{StaysReady};
+ghost use Rattle.log_reading.specs.Steps.{seen_in};
+ghost use Rattle.script_tree.specs.Programs.{program_tree};
+ghost use Rattle.script_meaning.specs.Play.{found_in};
+ghost use Rattle.silo_opening.specs.Opened.{IsOpenedFrom};
+ghost use Rattle.promise_spec.specs.Words.{Manner};
+ghost use Rattle.promise_spec.specs.Reports.{line_of, show_text};
+ghost use Rattle.promise_spec.specs.Commands.{Reports};
+ghost use Rattle.promise_spec.specs.Endings.{HasFailedAs, BadUse};
+ghost use Rattle.log_audit.specs.Lines.{grain_data, grain_lines};
+ghost use Rattle.log_audit.specs.Writing.{PutsPart};
+ghost use Rattle.log_audit.specs.Endings.{report_ending, reported_as, program_opened, MayEnd};
+
+use crate::faults::{ReportFault, unopened, unread};
+use crate::grains::read_grains;
+use crate::lines::{count_line, grain_line};
+use crate::writing::write_line;
+use base_types::{GrainId, Shape};
+use host_trait::Host;
+use script_meaning::initial;
+use silo_opening::{Opened, open_silo};
+use std::alloc::{AllocError, Global};
+use std::collections::BTreeSet;
+
+// A grain with the state that it has in the opened silo.
+fn state_line(
+    alloc: Global,
+    opened: &Opened,
+    shape: &Shape,
+    grain: GrainId,
+) -> Result<String, AllocError>
+    ensures { IfOk result (λ line. let types = program_tree opened.now.checked in
+        string_bytes line ≡ line_of (grain_data shape.now types grain (found_in types opened.now.store grain))) }
+{
+    let program = opened.checked.program();
+    let types = program.types.as_slice();
+    match opened.store.get(grain) {
+        Some(state) => grain_line(alloc, types, shape, grain, state.as_slice()),
+        None => {
+            let state = initial(alloc, program, grain)?;
+            grain_line(alloc, types, shape, grain, state.as_slice())
+        }
+    }
+}
+
+// Writes a line for each of these grains, in their order.
+fn write_grains<H: Host>(
+    alloc: Global,
+    host: &mut H,
+    opened: &Opened,
+    shape: &Shape,
+    grains: BTreeSet<GrainId>,
+) -> Result<(), ReportFault>
+    ensures puts { IsTrue H.tells → PutsPart (grain_lines shape.now (program_tree opened.now.checked) opened.now.store grains.keys)
+        (is_ok result) (H.world host.old) (H.world host.new) }
+    ensures ended { MayEnd (report_ending result) }
+    ensures exact { HasFailedAs (report_ending result) (H.faults host.old) (H.faults host.new) }
+    ensures ready { StaysReady (H.is_ready host.old) (H.is_ready host.new) }
+{
+    let mut left = grains;
+    while let Some(grain) = left.pop_first() {
+        let line = state_line(alloc, opened, shape, grain)?;
+        write_line(host, line.as_bytes())?;
+    }
+    Ok(())
+}
+
+// Writes the report of an opened silo.
+fn write_show<H: Host>(alloc: Global, host: &mut H, opened: &Opened) -> Result<(), ReportFault>
+    ensures puts { IsTrue H.tells → (o : IsOpenedFrom (seen_in (H.world host.old).disk) opened.now)
+        → PutsPart (show_text (program_opened (seen_in (H.world host.old).disk) opened.now o) o.log) (is_ok result) (H.world host.old) (H.world host.new) }
+    ensures ended { IsTrue H.tells → IsOpenedFrom (seen_in (H.world host.old).disk) opened.now → MayEnd (report_ending result) }
+    ensures exact { HasFailedAs (report_ending result) (H.faults host.old) (H.faults host.new) }
+    ensures ready { StaysReady (H.is_ready host.old) (H.is_ready host.new) }
+{
+    let shape = opened.checked.shape()?;
+    let grains = match read_grains(alloc, host, &shape) {
+        Ok(grains) => grains,
+        Err(fault) => return Err(unread(fault)),
+    };
+    write_grains(alloc, host, opened, &shape, grains)?;
+    let line = count_line(alloc, opened.count)?;
+    write_line(host, line.as_bytes())
+}
+
+/// Writes a line for each grain that the log wrote, in ascending order, with its state, and at last the number of records.
+///
+/// It opens the folder, and reads the log again for the grains; beside the states it keeps them alone. Nothing of the folder
+/// changes.
+///
+/// # Errors
+///
+/// `NotASilo` and `Damaged` as the folder reads; then nothing is written. `DiskFault`, `WriteFault` and `Memory` at any place.
+pub fn show<H: Host>(alloc: Global, host: &mut H) -> Result<(), ReportFault>
+    // What the command promises of any folder.
+    ensures reports { IsTrue H.tells → (manner : Manner) (asked : List (List ℕ)) → Reports show_text
+        (reported_as manner asked (H.world host.old) (H.world host.new) (H.faults host.old) (H.faults host.new) result) }
+    // Exactly the call that the answer names has failed, over any host.
+    ensures exact { HasFailedAs (report_ending result) (H.faults host.old) (H.faults host.new) }
+    ensures good { report_ending result ≡ BadUse → ⊥ }
+    ensures ready { StaysReady (H.is_ready host.old) (H.is_ready host.new) }
+{
+    match open_silo(alloc, host) {
+        Ok(opened) => write_show(alloc, host, &opened),
+        Err(fault) => Err(unopened(fault)),
+    }
+}
