@@ -7,7 +7,7 @@ use Rattle.host_trait.specs.Runs.{OnlyAsked}
 use Rattle.commit_log.specs.declared.records.CommitRecord.{CommitRecord}
 use Rattle.log_reading.specs.Blocks.{records_in_file}
 use Rattle.log_reading.specs.Steps.{next_in}
-use Rattle.log_reading.proofs.Following.{Follows, follows_begins, follows_on, follows_breaks}
+use Rattle.log_reading.proofs.Following.{follows_begins, follows_on, follows_breaks}
 use Rattle.script_tree.specs.Programs.{ProgramTree}
 use Rattle.promise_spec.specs.Reports.{line_of}
 use Rattle.log_audit.specs.declared.faults.ReportFault.{ReportFault}
@@ -15,14 +15,14 @@ use Rattle.log_audit.specs.Lines.{record_data, record_lines}
 use Rattle.log_audit.specs.Unread.{IsBlockFault}
 use Rattle.log_audit.specs.Writing.{PutsOut, PutsPart}
 use Rattle.log_audit.specs.Endings.{report_ending, MayEnd}
-use Rattle.log_audit.proofs.Gathering.{all_read, rest_of}
+use Rattle.log_audit.proofs.Gathering.{FollowsIfClean, clean_of, all_read, rest_of}
 use Rattle.log_audit.proofs.Putting.{none_put, puts_asked, puts_then, part_done, part_all, part_front, part_cut}
 
 module _ (shape : Shape) (types : ProgramTree) (file : List ℕ) where
   -- the lines of the records that were read are written
   pub record HasCopied (gate : ℕ) (old now : World) : Type 0 where
     pub records : List CommitRecord
-    pub follows : Follows shape file records gate
+    pub follows : FollowsIfClean shape file records gate
     pub puts : PutsOut (record_lines shape types records) old now
 
   lines_both : (a b : List CommitRecord) → record_lines shape types (a ++ b) ≡ record_lines shape types a ++ record_lines shape types b
@@ -35,7 +35,7 @@ module _ (shape : Shape) (types : ProgramTree) (file : List ℕ) where
     pub copied_more : (more : List CommitRecord) (behind : ℕ) → next_in shape gate file ≡ Ok (Some (more, behind)) → PutsPart (record_lines shape types more) true read new → HasCopied behind old new
     copied_more more behind step p = record {
       records = h.records ++ more;
-      follows = follows_on shape file h.records gate h.follows more behind step;
+      follows = λ clean. follows_on shape file h.records gate (h.follows clean) more behind step;
       puts = subst (λ (l : List ℕ). PutsOut l old new) (sym (lines_both h.records more))
           (puts_then (record_lines shape types h.records) (record_lines shape types more) old read new (puts_asked (record_lines shape types h.records) old mid read h.puts asked) (part_done (record_lines shape types more) read new p));
     }
@@ -43,7 +43,7 @@ module _ (shape : Shape) (types : ProgramTree) (file : List ℕ) where
     pub copied_cut : (more : List CommitRecord) (behind : ℕ) (ok : Bool) → next_in shape gate file ≡ Ok (Some (more, behind)) → PutsPart (record_lines shape types more) ok read new
         → (records : List CommitRecord) → records_in_file shape file ≡ Ok records → PutsPart (record_lines shape types records) false old new
     copied_cut more behind ok step p records is =
-        let rest = rest_of shape file (h.records ++ more) records behind (follows_on shape file h.records gate h.follows more behind step) is in
+        let rest = rest_of shape file (h.records ++ more) records behind (λ clean. follows_on shape file h.records gate (h.follows clean) more behind step) is in
         let all : record_lines shape types records ≡ record_lines shape types h.records ++ (record_lines shape types more ++ record_lines shape types rest.0) =
         ap (record_lines shape types) rest.1 ∙ lines_both (h.records ++ more) rest.0 ∙ ap (λ (l : List ℕ). l ++ record_lines shape types rest.0) (lines_both h.records more)
         ∙ append_assoc (record_lines shape types h.records) (record_lines shape types more) (record_lines shape types rest.0) in
@@ -63,10 +63,10 @@ module _ (shape : Shape) (types : ProgramTree) (file : List ℕ) where
         (ap (record_lines shape types) rest.1 ∙ lines_both h.records rest.0)
 
   -- a block that couldn't be read ends a report with a part of its text
-  pub block_ends : (gate : ℕ) (done : List CommitRecord) → Follows shape file done gate → (e : ReportFault) → IsBlockFault shape gate file e → (records : List CommitRecord) → records_in_file shape file ≡ Ok records
+  pub block_ends : (gate : ℕ) (done : List CommitRecord) → FollowsIfClean shape file done gate → (e : ReportFault) → IsBlockFault shape gate file e → (records : List CommitRecord) → records_in_file shape file ≡ Ok records
       → MayEnd (report_ending {A = Unit {0}} (Err e))
   block_ends gate done f ReportFault.NotASilo none records is = absurd none
-  block_ends gate done f (ReportFault.Damaged at place) here records is = absurd (let no : Err place ≡ Ok records = sym (follows_breaks shape file done gate f place here) ∙ is in cc)
+  block_ends gate done f (ReportFault.Damaged at place) here records is = absurd (let no : Err place ≡ Ok records = sym (follows_breaks shape file done gate (f (clean_of shape file records is)) place here) ∙ is in cc)
   block_ends gate done f (ReportFault.DiskFault at) here records is = inr tt
   block_ends gate done f ReportFault.WriteFault here records is = inr tt
   block_ends gate done f ReportFault.Memory here records is = inr tt

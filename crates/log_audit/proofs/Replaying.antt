@@ -20,7 +20,7 @@ use Rattle.core_model.specs.Equality.{same_list, same_text, same_value, same_sta
 use Rattle.core_model.proofs.Basics.{same_list-true, same_state-true, same_outcome-true}
 use Rattle.log_reading.specs.Blocks.{records_in_file}
 use Rattle.log_reading.specs.Steps.{next_in}
-use Rattle.log_reading.proofs.Following.{Follows, follows_begins, follows_on}
+use Rattle.log_reading.proofs.Following.{follows_begins, follows_on}
 use Rattle.script_tree.specs.Programs.{ProgramTree}
 use Rattle.script_meaning.specs.Play.{Played, found_in, initial_of, play}
 use Rattle.promise_spec.specs.Records.{Commit, States, written, put_state, after_writes, log_start}
@@ -30,7 +30,7 @@ use Rattle.promise_spec.specs.Logs.{live_slot}
 use Rattle.promise_spec.specs.Openings.{commit_of}
 use Rattle.log_audit.specs.declared.replay.Bad.{Bad}
 use Rattle.log_audit.specs.Replaying.{same_write, agree, as_commits, FailsToReplay, ReplaysTo, FailsFirst, AllReplayTo, IsFirstFailure}
-use Rattle.log_audit.proofs.Gathering.{all_read, rest_of}
+use Rattle.log_audit.proofs.Gathering.{FollowsIfClean, all_read, rest_of}
 
 -- ---- a value is itself, by the tests
 
@@ -203,7 +203,7 @@ module _ (types : ProgramTree) (shape : Shape) (image : Image) (file : List ℕ)
   -- the records that were read replay, and leave these states
   pub record HasAudited (gate : ℕ) (now : States) : Type 0 where
     pub records : List CommitRecord
-    pub follows : Follows shape file records gate
+    pub follows : FollowsIfClean shape file records gate
     pub serial : IsSerial types start (as_commits shape image records)
     pub states : now ≡ states_after start (as_commits shape image records)
 
@@ -216,7 +216,7 @@ module _ (types : ProgramTree) (shape : Shape) (image : Image) (file : List ℕ)
       let seam : as_commits shape image (h.records ++ more) ≡ as_commits shape image h.records ++ as_commits shape image more = map-append (commit_of live_slot shape image) h.records more in
       record {
         records = h.records ++ more;
-        follows = follows_on shape file h.records gate h.follows more behind step;
+        follows = λ clean. follows_on shape file h.records gate (h.follows clean) more behind step;
         serial = subst (λ (l : List Commit). IsSerial types start l) (sym seam)
             (serial_both types start (as_commits shape image h.records) (as_commits shape image more) h.serial (subst (λ (s : States). IsSerial types s (as_commits shape image more)) h.states to.0));
         states = to.1 ∙ ap (λ (s : States). states_after s (as_commits shape image more)) h.states
@@ -226,7 +226,7 @@ module _ (types : ProgramTree) (shape : Shape) (image : Image) (file : List ℕ)
   pub audit_bad : (gate : ℕ) (now : States) (more : List CommitRecord) (behind : ℕ) (bad : Bad) → HasAudited gate now → next_in shape gate file ≡ Ok (Some (more, behind)) → FailsFirst types now (as_commits shape image more) bad
       → (records : List CommitRecord) → records_in_file shape file ≡ Ok records → FailsFirst types start (as_commits shape image records) bad
   audit_bad gate now more behind bad h step f records is =
-      let read = follows_on shape file h.records gate h.follows more behind step in
+      let read : FollowsIfClean shape file (h.records ++ more) behind = (λ clean. follows_on shape file h.records gate (h.follows clean) more behind step) in
       let rest = rest_of shape file (h.records ++ more) records behind read is in
       let made = commit_of live_slot shape image in
       let done : List Commit = map made h.records in

@@ -46,7 +46,8 @@ pub(crate) fn read_grains<H: Host>(
 ) -> Result<BTreeSet<GrainId>, FolderFault>
     ensures found { IfOk result (λ grains. IsTrue H.tells → (records : List ARecord) → records_in_file shape.now ((H.world host.old).disk manager).seen ≡ Ok records
         → grains.keys ≡ grains_added [] (grains_written records)) }
-    ensures unread { IfErr result (λ e. IsTrue H.tells → IsLogFault shape.now ((H.world host.old).disk manager).seen e) }
+    ensures unread { IfErr result (λ e. IsTrue H.tells → (records : List ARecord) → records_in_file shape.now ((H.world host.old).disk manager).seen ≡ Ok records
+        → IsLogFault shape.now ((H.world host.old).disk manager).seen e) }
     ensures asked { IsTrue H.tells → OnlyAsked (H.world host.old) (H.world host.new) }
     ensures calm { OnOk result (NoneFailed (H.faults host.old) (H.faults host.new)) }
     ensures fault { IfErr result (λ e. ReadFaulted e (H.faults host.old) (H.faults host.new)) }

@@ -7,7 +7,7 @@ use Rattle.commit_log.specs.declared.records.CommitRecord.{CommitRecord}
 use Rattle.log_reading.specs.Steps.{manager, next_in}
 use Rattle.log_reading.proofs.Following.{follows_breaks}
 use Rattle.log_audit.specs.Written.{grains_written, grains_added}
-use Rattle.log_audit.proofs.Gathering.{grains_begun, grains_more, grains_ended, log_fault}
+use Rattle.log_audit.proofs.Gathering.{clean_of, grains_begun, grains_more, grains_ended, log_fault}
 use Rattle.log_audit.proofs.grains.read_grains.Goals as goal
 
 pub loop-grains-init : goal.loop-grains-init
@@ -26,12 +26,12 @@ returns-in_err-records-clause-unread g c =
     let shape = c.args.shape.now in
     let gate = c.loop-grains.gate_at in
     let file = ((g.H.Host.world c.args.host.now).disk manager).seen in
-    rw (p.1, p.2) λ told.
+    rw (p.1, p.2) λ told records read.
     log_fault shape file c.in_err-records.field-0.0
     (λ at place is.
     let here = c.in_err-records.ensures.damaged at place is told in
     let there : next_in shape gate file ≡ Err place = subst (λ (d : Disk). next_in shape gate (d manager).seen ≡ Err place) (inv.asked told).disk here in
-    follows_breaks shape file (inv.has told).records gate (inv.has told).follows place there)
+    follows_breaks shape file (inv.has told).records gate ((inv.has told).follows (clean_of shape file records read)) place there)
     (λ at is. c.in_err-records.ensures.failed at is)
 
 pub returns-in_err-records-clause-asked : goal.returns-in_err-records-clause-asked

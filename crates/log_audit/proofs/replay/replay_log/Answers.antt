@@ -12,7 +12,7 @@ use Rattle.script_meaning.specs.Play.{found_in}
 use Rattle.promise_spec.specs.Records.{log_start}
 use Rattle.log_audit.specs.Replaying.{as_commits, AllReplayTo}
 use Rattle.log_audit.specs.Unread.{IsVersionFault}
-use Rattle.log_audit.proofs.Gathering.{log_fault, rest_of}
+use Rattle.log_audit.proofs.Gathering.{clean_of, log_fault, rest_of}
 use Rattle.log_audit.proofs.Refused.{fault_among}
 use Rattle.log_audit.proofs.Replaying.{none_kept, audit_begun, audit_found, audit_next, audit_done}
 use Rattle.log_audit.proofs.replay.replay_log.Goals as goal
@@ -40,7 +40,7 @@ returns-in_err-records-clause-unread g c =
     (λ at place fault.
     let here = c.in_err-records.ensures.damaged at place fault told in
     let there : next_in shape gate file ≡ Err place = subst (λ (d : Disk). next_in shape gate (d manager).seen ≡ Err place) (inv.asked told).disk here in
-    follows_breaks shape file (inv.audited told).records gate (inv.audited told).follows place there)
+    follows_breaks shape file (inv.audited told).records gate ((inv.audited told).follows (clean_of shape file records is)) place there)
     (λ at fault. c.in_err-records.ensures.failed at fault))
 
 pub returns-in_err-records-clause-asked : goal.returns-in_err-records-clause-asked
@@ -61,7 +61,7 @@ returns-in_err-found-clause-unread g c =
     let h = inv.audited told in
     let step : next_in shape gate ((g.H.Host.world c.loop-store.host).disk manager).seen ≡ Ok (Some (more, behind)) = search rules in
     let there = subst (λ (d : Disk). next_in shape gate (d manager).seen ≡ Ok (Some (more, behind))) (inv.asked told).disk step in
-    let rest = rest_of shape file (h.records ++ more) records behind (follows_on shape file h.records gate h.follows more behind there) is in
+    let rest = rest_of shape file (h.records ++ more) records behind (λ clean. follows_on shape file h.records gate (h.follows clean) more behind there) is in
     let mid = asked_then _ _ _ (inv.asked told) (c.next_block.ensures.asked told) in
     let here = subst (λ (d : Disk). IsVersionFault shape (seen_in d) more e) mid.disk
     (subst (λ (l : List CommitRecord). IsVersionFault shape (seen_in (g.H.Host.world c.next_block.new.host).disk) l e) c.as_slice.ensures (c.in_err-found.ensures.unread told)) in

@@ -35,7 +35,7 @@ returns-in-Err-clause-ended g c told o =
     let shape : c.in_ok-shape.shape ≡ shape_in p = (λ i. record { types = c.in_ok-shape.ensures i }) in
     let records = (parts image opened o).records in
     let read : records_in_file c.in_ok-shape.shape (image manager) ≡ Ok records = subst (λ (s : Shape). records_in_file s (image manager) ≡ Ok records) (sym shape) (parts image opened o).read in
-    subst (λ (e : ReportFault). MayEnd (fault_ending e)) (sym c.unread.ensures) (folder_ends c.in_ok-shape.shape (image manager) records read c.in-Err.fault (c.in-Err.ensures.unread told))
+    subst (λ (e : ReportFault). MayEnd (fault_ending e)) (sym c.unread.ensures) (folder_ends c.in_ok-shape.shape (image manager) records read c.in-Err.fault (c.in-Err.ensures.unread told records read))
 
 pub returns-in-Err-clause-exact : goal.returns-in-Err-clause-exact
 returns-in-Err-clause-exact g c = subst (λ (e : ReportFault). HasFailedAs (fault_ending e) (g.H.Host.faults c.args.host.now) (g.H.Host.faults c.read_grains.new.host)) (sym c.unread.ensures) (folder_failed _ _ c.in-Err.fault c.in-Err.ensures.fault)
