@@ -33,7 +33,7 @@ ghost use Rattle.script_meaning.specs.Worked.{bank, at, int, call};
 ghost use Rattle.promise_runs.specs.Transfers.{bank_program, paid_in, moved, balance, version_of_source, version_of_target, transfer_body, bank_folder};
 ghost use Rattle.promise_spec.specs.Loads.{load_calls, transfers_after, summary_text, bank_text};
 ghost use Rattle.request_wire.specs.Names.{names_in};
-ghost use Rattle.promise_runs.specs.Banks.{bank_names};
+ghost use Rattle.bank_load.specs.Banks.{bank_names};
 ghost use Rattle.promise_runs.specs.VoteRuns.{IsVoteRun, vote_course};
 ghost use Rattle.promise_runs.specs.DepositRuns.{IsDepositRun, deposit_course};
 ghost use Rattle.host_trait.specs.World.{Moment, Image, IsImage};

@@ -1,0 +1,5 @@
+pub mod BankText
+pub mod Printed
+pub mod Asked
+pub mod Numbering
+pub mod Said

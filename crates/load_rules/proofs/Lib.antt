@@ -1,0 +1,2 @@
+pub mod LoadImages
+pub mod LoadKept
