@@ -8,7 +8,7 @@ use Rattle.promise_spec.specs.Commands.{MakesSilo}
 use Rattle.promise_spec.specs.Promise.{Promises}
 use Rattle.promise_spec.specs.Calls.{Understands, Obeys, Serves, AnswersAs, GoesOn}
 use Rattle.silo_top.specs.declared.status.Status.{Status}
-use Rattle.silo_top.specs.Answering.{is_built, is_taken, turns_manner, IsMannerOf, observed_call, AnswersRun}
+use Rattle.silo_top.specs.Answering.{is_built, is_taken, turns_manner, IsMannerOf, observed_run, AnswersRun}
 use Rattle.silo_top.proofs.AskedWords.{one_said}
 use Rattle.silo_top.proofs.Counted.{failed_risen, failed_input, failed_output}
 use Rattle.silo_top.proofs.Unopened.{starved_promised, starved_made}
@@ -20,10 +20,10 @@ module _ (texts : List (List ℕ)) where
 
   -- ---- init
 
-  pub made_serves : (m : Manner) (old new : World) (before after : Channel → ℕ) (status : Status) → Understands is_built is_taken texts Init → MakesSilo (observed_call m old new before after status)
-      → Serves is_built is_taken texts (observed_call m old new before after status)
+  pub made_serves : (m : Manner) (old new : World) (before after : Channel → ℕ) (status : Status) → Understands is_built is_taken texts Init → MakesSilo (observed_run m old new before after status)
+      → Serves is_built is_taken texts (observed_run m old new before after status)
   made_serves m old new before after status u makes = record {
-    obeys = λ c v. subst (λ (d : Command). Obeys d (observed_call m old new before after status)) (one_understood Init c u v) makes;
+    obeys = λ c v. subst (λ (d : Command). Obeys d (observed_run m old new before after status)) (one_understood Init c u v) makes;
     refuses = λ none. absurd (none Init u);
   }
 
@@ -41,12 +41,12 @@ module _ (texts : List (List ℕ)) where
 
   module _ (width : ℕ) (picks : List ℕ) (u : Understands is_built is_taken texts (Run (turns_manner width picks))) where
     pub run_serves : (m : Manner) (old new : World) (before after : Channel → ℕ) (status : Status) → IsMannerOf texts m
-        → Promises (turns_manner width picks) (observed_call (turns_manner width picks) old new before after status) → Serves is_built is_taken texts (observed_call m old new before after status)
+        → Promises (turns_manner width picks) (observed_run (turns_manner width picks) old new before after status) → Serves is_built is_taken texts (observed_run m old new before after status)
     run_serves m old new before after status is promises =
         let same : m ≡ turns_manner width picks = is (turns_manner width picks) u in
-        let kept : Promises (turns_manner width picks) (observed_call m old new before after status) = subst (λ (n : Manner). Promises (turns_manner width picks) (observed_call n old new before after status)) (sym same) promises in
+        let kept : Promises (turns_manner width picks) (observed_run m old new before after status) = subst (λ (n : Manner). Promises (turns_manner width picks) (observed_run n old new before after status)) (sym same) promises in
         record {
-          obeys = λ c v. subst (λ (d : Command). Obeys d (observed_call m old new before after status)) (one_understood (Run (turns_manner width picks)) c u v) kept;
+          obeys = λ c v. subst (λ (d : Command). Obeys d (observed_run m old new before after status)) (one_understood (Run (turns_manner width picks)) c u v) kept;
           refuses = λ none. absurd (none (Run (turns_manner width picks)) u);
         }
 
@@ -62,7 +62,7 @@ module _ (texts : List (List ℕ)) where
 
   -- ---- neither
 
-  pub refused_serves : (m : Manner) (w : World) (counts : Channel → ℕ) → ((c : Command) → Understands is_built is_taken texts c → ⊥) → Serves is_built is_taken texts (observed_call m w w counts counts Status.BadUse)
+  pub refused_serves : (m : Manner) (w : World) (counts : Channel → ℕ) → ((c : Command) → Understands is_built is_taken texts c → ⊥) → Serves is_built is_taken texts (observed_run m w w counts counts Status.BadUse)
   refused_serves m w counts none = record {
     obeys = λ c u. absurd (none c u);
     refuses = λ no. record { ending = inl refl; unused = refl; calm = λ c. refl };
@@ -79,15 +79,15 @@ module _ (texts : List (List ℕ)) where
   }
 
   -- where memory is wanting while the words are read
-  pub starved_serves : (m : Manner) (w : World) (counts : Channel → ℕ) → IsMannerOf texts m → Serves is_built is_taken texts (observed_call m w w counts counts Status.Memory)
+  pub starved_serves : (m : Manner) (w : World) (counts : Channel → ℕ) → IsMannerOf texts m → Serves is_built is_taken texts (observed_run m w w counts counts Status.Memory)
   starved_serves m w counts is = record {
     obeys = obeys;
     refuses = λ no. record { ending = inr refl; unused = refl; calm = λ c. refl };
   }
     where
-      obeys : (c : Command) → Understands is_built is_taken texts c → Obeys c (observed_call m w w counts counts Status.Memory)
+      obeys : (c : Command) → Understands is_built is_taken texts c → Obeys c (observed_run m w w counts counts Status.Memory)
       obeys Init u = starved_made m w counts
-      obeys (Run n) u = subst (λ (k : Manner). Promises k (observed_call m w w counts counts Status.Memory)) (is n u) (starved_promised m w counts)
+      obeys (Run n) u = subst (λ (k : Manner). Promises k (observed_run m w w counts counts Status.Memory)) (is n u) (starved_promised m w counts)
       obeys Show u = absurd (true≢false (sym u.1))
       obeys History u = absurd (true≢false (sym u.1))
       obeys Audit u = absurd (true≢false (sym u.1))

@@ -39,7 +39,7 @@ use Rattle.opening_rules.proofs.Behind.{behind}
 use Rattle.silo_opening.specs.declared.open.Opened.{Opened}
 use Rattle.silo_top.specs.declared.status.Status.{Status}
 use Rattle.silo_top.specs.Statuses.{status_ending}
-use Rattle.silo_top.specs.Answering.{turns_manner, observed_call, AnswersRun}
+use Rattle.silo_top.specs.Answering.{turns_manner, observed_run, AnswersRun}
 use Rattle.silo_top.specs.Reading.{PulledOnly}
 use Rattle.silo_top.specs.Serving.{IsBehindOpening}
 use Rattle.interleaver.specs.Beside.{EmitsAs, TurnsBeside}
@@ -122,7 +122,7 @@ module _ {T : Type 0} (width : ℕ) (picks : List ℕ) (x : Opened) (old mid now
   out = record { program = p; asked = lines_of old.input; opening = log; width = width; picks = picks; faults = before; world = mid }
 
   abbrev pub seen : Observed
-  seen = observed_call (turns_manner width picks) old new before after status
+  seen = observed_run (turns_manner width picks) old new before after status
 
   abbrev pub r0 : Run
   r0 = core_from p.types (standing_of p.types log) []

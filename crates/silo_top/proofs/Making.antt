@@ -10,10 +10,10 @@ use Rattle.silo_opening.specs.Inits.{ending_of, ended_with}
 use Rattle.silo_opening.specs.declared.making.InitFault.{InitFault}
 use Rattle.silo_top.specs.declared.status.Status.{Status}
 use Rattle.silo_top.specs.Statuses.{status_ending}
-use Rattle.silo_top.specs.Answering.{observed_call}
+use Rattle.silo_top.specs.Answering.{observed_run}
 
 -- what `init` promises is what the call shows, where its status is the answer's ending
 pub made : {A : Type 0} (m : Manner) (old new : World) (before after : Channel → ℕ) (result : Result A InitFault) (status : Status) → status_ending status ≡ ending_of result
-    → ((manner : Manner) (asked : List (List ℕ)) → MakesSilo (ended_with manner asked old new before after result)) → MakesSilo (observed_call m old new before after status)
+    → ((manner : Manner) (asked : List (List ℕ)) → MakesSilo (ended_with manner asked old new before after result)) → MakesSilo (observed_run m old new before after status)
 made m old new before after result status is makes =
     subst (λ (e : Ending). MakesSilo (record { manner = m; asked = lines_of old.input; old = old; new = new; faults_before = before; faults_after = after; ending = e })) (sym is) (makes m (lines_of old.input))

@@ -26,7 +26,7 @@ use Rattle.silo_opening.specs.declared.open.Opened.{Opened}
 use Rattle.silo_top.specs.declared.status.Status.{Status}
 use Rattle.silo_top.specs.declared.starting.Started.{Started}
 use Rattle.silo_top.specs.Statuses.{status_ending}
-use Rattle.silo_top.specs.Answering.{turns_manner, observed_call}
+use Rattle.silo_top.specs.Answering.{turns_manner, observed_run}
 use Rattle.silo_top.specs.Reading.{PulledOnly, AreReadFrom}
 use Rattle.silo_top.specs.Starting.{IsStartOf}
 use Rattle.silo_top.specs.Serving.{IsBehindOpening}
@@ -61,7 +61,7 @@ module _ {T : Type 0} (width : ℕ) (picks : List ℕ) (x : Opened) (st : Starte
       → ((o : Outset) (b : Books) → IsOutset o (program_tree x.checked) (run_of st.core) lines width picks → CanTurn (run_of st.core) st.settler lines → IsFreshRecord o b (run_of st.core)
       → KeepsRecord true o b (run_of st.core) st.settler between now → RecordGoesOn true o b (run_of st.core) r' st.settler s' after now new result)
       → TurnsBeside true (run_of st.core) r' st.settler s' between after now new result
-      → Promises (turns_manner width picks) (observed_call (turns_manner width picks) old new before after status)
+      → Promises (turns_manner width picks) (observed_run (turns_manner width picks) old new before after status)
   served lines r' s' wide above calm are turns beside =
       let same : run_of st.core ≡ first = start_is (seen_in old.disk) x st is.opened start in
       let base : 0 < first.base = subst (λ (n : ℕ). 0 < n) is.opened.next above in

@@ -24,7 +24,7 @@ use Rattle.silo_opening.specs.Counts.{OpenFaulted}
 use Rattle.silo_opening.specs.declared.faults.OpenFault.{OpenFault}
 use Rattle.silo_top.specs.declared.status.Status.{Status}
 use Rattle.silo_top.specs.Statuses.{status_ending}
-use Rattle.silo_top.specs.Answering.{observed_call}
+use Rattle.silo_top.specs.Answering.{observed_run}
 use Rattle.silo_top.proofs.Counted.{open_failed, failed_risen}
 
 -- ---- nothing but asking
@@ -61,8 +61,8 @@ unopened_promised m r is u = record { manner = is; answers = inl u; over_sound =
 
 -- so does one whose opening answered a fault
 pub refused_promised : (m : Manner) (old new : World) (before after : Channel → ℕ) (e : OpenFault) (status : Status) → status_ending status ≡ ending_of e → RunsOnFile manager Stays 1 old new
-    → IsRefusedBy (seen_in old.disk) (opened_as live_slot (seen_in old.disk)) (ending_of e) → OpenFaulted e before after → Promises m (observed_call m old new before after status)
-refused_promised m old new before after e status is run refused faulted = unopened_promised m (observed_call m old new before after status) refl (record {
+    → IsRefusedBy (seen_in old.disk) (opened_as live_slot (seen_in old.disk)) (ending_of e) → OpenFaulted e before after → Promises m (observed_run m old new before after status)
+refused_promised m old new before after e status is run refused faulted = unopened_promised m (observed_run m old new before after status) refl (record {
   untouched = asked_untouched old new run;
   unread = run.input;
   refused = subst (λ (x : Ending). IsRefusedBy (seen_in old.disk) (opened_as live_slot (seen_in old.disk)) x) (sym is) refused;
@@ -79,15 +79,15 @@ nothing_touched w = record {
 }
 
 -- where memory is wanting before anything was done
-pub starved_promised : (m : Manner) (w : World) (counts : Channel → ℕ) → Promises m (observed_call m w w counts counts Status.Memory)
-starved_promised m w counts = unopened_promised m (observed_call m w w counts counts Status.Memory) refl (record {
+pub starved_promised : (m : Manner) (w : World) (counts : Channel → ℕ) → Promises m (observed_run m w w counts counts Status.Memory)
+starved_promised m w counts = unopened_promised m (observed_run m w w counts counts Status.Memory) refl (record {
   untouched = nothing_touched w;
   unread = refl;
   refused = tt;
   risen = tt;
 })
 
-pub starved_made : (m : Manner) (w : World) (counts : Channel → ℕ) → MakesSilo (observed_call m w w counts counts Status.Memory)
+pub starved_made : (m : Manner) (w : World) (counts : Channel → ℕ) → MakesSilo (observed_run m w w counts counts Status.Memory)
 starved_made m w counts = record {
   beside = started (IsBeside w) w.past;
   beside_now = record { output = refl; others = λ file one two. refl };

@@ -6,7 +6,7 @@ ghost use Rattle.host_trait.specs.declared.channels.Channel.{Channel as AChannel
 ghost use Rattle.log_reading.specs.Sums.{AreNear};
 ghost use Rattle.interleaver.specs.Closing.{turns_ending};
 ghost use Rattle.promise_spec.specs.Promise.{Promises};
-ghost use Rattle.silo_top.specs.Answering.{AnswersRun, turns_manner, observed_call};
+ghost use Rattle.silo_top.specs.Answering.{AnswersRun, turns_manner, observed_run};
 ghost use Rattle.silo_top.specs.Reading.{input_ending};
 ghost use Rattle.silo_top.specs.Serving.{IsBehindOpening};
 ghost use Rattle.silo_top.specs.Statuses.{status_ending};
@@ -67,7 +67,7 @@ pub(crate) fn serve<H: Host, G: Gate>(
     // Behind the opening it keeps the whole promise of a run.
     ensures promises { IsTrue H.tells → (old : World) (before : AChannel → ℕ) → IsBehindOpening old (H.world host.old) opened
         → NoneFailed before (H.faults host.old)
-        → Promises (turns_manner width picks.now) (observed_call (turns_manner width picks.now) old (H.world host.new) before (H.faults host.new) result) }
+        → Promises (turns_manner width picks.now) (observed_run (turns_manner width picks.now) old (H.world host.new) before (H.faults host.new) result) }
     ensures answers { AnswersRun (status_ending result) (H.faults host.old) (H.faults host.new) }
     ensures ready { StaysReady (H.is_ready host.old) (H.is_ready host.new) }
 {

@@ -6,7 +6,7 @@ ghost use Rattle.promise_spec.specs.Endings.{HasFailedAs, BadUse};
 ghost use Rattle.promise_spec.specs.Promise.{Promises};
 ghost use Rattle.promise_spec.specs.Calls.{Serves, AnswersAs};
 ghost use Rattle.command_words.specs.CutParts.{texts_of};
-ghost use Rattle.silo_top.specs.Answering.{AnswersRun, is_built, is_taken, turns_manner, IsMannerOf, observed_call};
+ghost use Rattle.silo_top.specs.Answering.{AnswersRun, is_built, is_taken, turns_manner, IsMannerOf, observed_run};
 ghost use Rattle.silo_top.specs.Statuses.{status_ending};
 
 use crate::asking::{Asked, read_asked};
@@ -21,7 +21,7 @@ use std::alloc::Global;
 
 /// Makes a silo of the program that is the input.
 fn make<H: Host>(alloc: Global, host: &mut H) -> Status
-    ensures makes { IsTrue H.tells → (m : Manner) → MakesSilo (observed_call m (H.world host.old) (H.world host.new) (H.faults host.old) (H.faults host.new) result) }
+    ensures makes { IsTrue H.tells → (m : Manner) → MakesSilo (observed_run m (H.world host.old) (H.world host.new) (H.faults host.old) (H.faults host.new) result) }
     ensures exact { HasFailedAs (status_ending result) (H.faults host.old) (H.faults host.new) }
     ensures good { status_ending result ≡ BadUse → ⊥ }
     ensures ready { StaysReady (H.is_ready host.old) (H.is_ready host.new) }
@@ -47,7 +47,7 @@ fn run<H: Host, G: Gate>(
 ) -> Status
     requires wide { 0 < width }
     ensures promises { IsTrue H.tells → Promises (turns_manner width picks.now)
-        (observed_call (turns_manner width picks.now) (H.world host.old) (H.world host.new) (H.faults host.old) (H.faults host.new) result) }
+        (observed_run (turns_manner width picks.now) (H.world host.old) (H.world host.new) (H.faults host.old) (H.faults host.new) result) }
     ensures answers { AnswersRun (status_ending result) (H.faults host.old) (H.faults host.new) }
     ensures ready { StaysReady (H.is_ready host.old) (H.is_ready host.new) }
 {
@@ -82,7 +82,7 @@ pub fn run_silo<Rt, H: Host, G: Gate + Sync>(
 ) -> Status
     // What the command promises that the words say, of which `init` and `run` are built, and that all other words are bad use.
     ensures serves { IsTrue H.tells → (m : Manner) → IsMannerOf (texts_of words.now) m → Serves is_built is_taken (texts_of words.now)
-        (observed_call m (H.world host.old) (H.world host.new) (H.faults host.old) (H.faults host.new) result) }
+        (observed_run m (H.world host.old) (H.world host.new) (H.faults host.old) (H.faults host.new) result) }
 
     // What the counts of faults say of the answer, over every host.
     ensures answers { AnswersAs is_built is_taken (texts_of words.now) (status_ending result) (H.faults host.old) (H.faults host.new) }

@@ -16,7 +16,7 @@ use Rattle.silo_top.proofs.Answered.{answered}
 use Rattle.silo_top.proofs.OpensWith.{fits_at}
 use Rattle.promise_spec.specs.Endings.{Ending, input_limit}
 use Rattle.silo_top.specs.Reading.{input_ending}
-use Rattle.silo_top.specs.Answering.{turns_manner, observed_call, AnswersRun}
+use Rattle.silo_top.specs.Answering.{turns_manner, observed_run, AnswersRun}
 use Rattle.silo_top.specs.declared.status.Status.{Status}
 use Rattle.silo_top.proofs.Unbegun.{unbegun_promised, EndsUnbegun}
 use Rattle.silo_top.proofs.Unread.{unread_ends, starved_ends}
@@ -25,7 +25,7 @@ use Rattle.silo_top.proofs.carrying.serve.Goals as goal
 
 pub returns-in-Err-clause-promises : goal.returns-in-Err-clause-promises
 returns-in-Err-clause-promises g c = λ told old before behind none.
-    unopened_promised (turns_manner c.args.width c.args.picks.now) (observed_call (turns_manner c.args.width c.args.picks.now) old (g.H.Host.world c.args.host.now) before (g.H.Host.faults c.args.host.now) Status.Memory) refl
+    unopened_promised (turns_manner c.args.width c.args.picks.now) (observed_run (turns_manner c.args.width c.args.picks.now) old (g.H.Host.world c.args.host.now) before (g.H.Host.faults c.args.host.now) Status.Memory) refl
     (record { untouched = asked_untouched old (g.H.Host.world c.args.host.now) behind.run; unread = behind.run.input; refused = tt; risen = tt })
 
 pub returns-in-Err-read_input-clause-promises : goal.returns-in-Err-read_input-clause-promises
