@@ -18,7 +18,7 @@ use Rattle.promise_spec.specs.Outputs.{Grew}
 use Rattle.promise_spec.specs.Cores.{core_from, how_many}
 use Rattle.promise_spec.specs.Causes.{is_vote, is_sealed, syncs_of}
 use Rattle.promise_spec.specs.Journals.{commits_of, entries_of}
-use Rattle.promise_spec.specs.Endings.{Ending, Done, BadUse, WriteFault as Unwritten, Memory as NoMemory, HasRisen, IsBegun, IsCarried, HasLength, IsAllWritten, input_limit}
+use Rattle.promise_spec.specs.Endings.{Ending, Done, BadUse, WriteFault as Unwritten, HasRisen, IsBegun, IsCarried, HasLength, IsAllWritten, input_limit}
 use Rattle.promise_spec.specs.Courses.{Observed, Course, seen_at_entry, core_run}
 use Rattle.promise_spec.specs.Explained.{AreSettled}
 use Rattle.promise_spec.specs.Promise.{IsDone, Promises}
@@ -85,11 +85,11 @@ good_by (Err InDoubt) q = cc q
 good_by (Err WriteFault) q = cc q
 good_by (Err Memory) q = cc q
 
-output_by : {T : Type 0} (result : Result T RunFault) (old mid new : ℕ) → mid ≡ old → EmitsAs result mid new → new ≢ old → (turns_ending result ≡ Unwritten) ⊎ (turns_ending result ≡ NoMemory)
+output_by : {T : Type 0} (result : Result T RunFault) (old mid new : ℕ) → mid ≡ old → EmitsAs result mid new → new ≢ old → turns_ending result ≡ Unwritten
 output_by (Ok done) old mid new calm e other = absurd (other (e ∙ calm))
 output_by (Err InDoubt) old mid new calm e other = absurd (other (e ∙ calm))
-output_by (Err WriteFault) old mid new calm e other = inl refl
-output_by (Err Memory) old mid new calm e other = inr refl
+output_by (Err WriteFault) old mid new calm e other = refl
+output_by (Err Memory) old mid new calm e other = absurd (other (e ∙ calm))
 
 -- over every host
 pub turns_answer : {T : Type 0} (tells : Bool) (o : Outset) (b : Books) (r r' : Run) (s s' : Settler) (mid after : Channel → ℕ) (now now' : World) (result : Result T RunFault) → NoneFailed o.faults mid
@@ -97,8 +97,10 @@ pub turns_answer : {T : Type 0} (tells : Bool) (o : Outset) (b : Books) (r r' : 
 turns_answer tells o b r r' s s' mid after now now' result calm e beside = record {
   good = good_by result;
   risen = risen_by o b r' s' after result e;
-  input = λ other. absurd (other (beside.pulled ∙ calm Input));
-  output = output_by result (o.faults Output) (mid Output) (after Output) (calm Output) beside.emitted;
+  names = record {
+    input = λ other. absurd (other (beside.pulled ∙ calm Input));
+    output = output_by result (o.faults Output) (mid Output) (after Output) (calm Output) beside.emitted;
+  };
   exact = λ unbegun. absurd (unbegun (begun_by result));
 }
 

@@ -1,5 +1,6 @@
 pub mod Still
 pub mod Making
+pub mod Reported
 pub mod Read
 pub mod Beginning
 pub mod AskedWords

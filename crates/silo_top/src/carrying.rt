@@ -8,7 +8,7 @@ ghost use Rattle.interleaver.specs.Closing.{turns_ending};
 ghost use Rattle.promise_spec.specs.Promise.{Promises};
 ghost use Rattle.silo_top.specs.Answering.{AnswersRun, turns_manner, observed_run};
 ghost use Rattle.silo_top.specs.Reading.{input_ending};
-ghost use Rattle.silo_top.specs.Serving.{IsBehindOpening};
+ghost use Rattle.silo_top.specs.Serving.{IsBehindOpening, fault_ending};
 ghost use Rattle.silo_top.specs.Statuses.{status_ending};
 
 use crate::input::{InputFault, read_input};
@@ -25,15 +25,24 @@ use std::alloc::{AllocError, Global};
 /// The file of the log.
 const MANAGER: FileId = FileId::Manager { slot: 0 };
 
+/// The status of a run whose turns ended before each line had its reply.
+pub(crate) fn fault_status(fault: RunFault) -> Status
+    ensures { status_ending result ≡ fault_ending fault }
+{
+    match fault {
+        RunFault::InDoubt => Status::DiskFault { file: MANAGER },
+        RunFault::WriteFault => Status::WriteFault,
+        RunFault::Memory => Status::Memory,
+    }
+}
+
 /// The status of a run whose turns ended so.
 fn turns_status(ended: Result<(), RunFault>) -> Status
     ensures { status_ending result ≡ turns_ending ended }
 {
     match ended {
         Ok(()) => Status::Done,
-        Err(RunFault::InDoubt) => Status::DiskFault { file: MANAGER },
-        Err(RunFault::WriteFault) => Status::WriteFault,
-        Err(RunFault::Memory) => Status::Memory,
+        Err(fault) => fault_status(fault),
     }
 }
 
@@ -71,7 +80,7 @@ pub(crate) fn serve<H: Host, G: Gate>(
     ensures answers { AnswersRun (status_ending result) (H.faults host.old) (H.faults host.new) }
     ensures ready { StaysReady (H.is_ready host.old) (H.is_ready host.new) }
 {
-    let mut started = match start(alloc, opened) {
+    let mut started = match start(alloc, opened, false) {
         Ok(started) => started,
         Err(AllocError) => return Status::Memory,
     };

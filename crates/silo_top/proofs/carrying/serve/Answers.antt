@@ -58,7 +58,7 @@ returns-clause-promises g c = λ told old before behind none.
     let whole : old.input ≡ c.deref.result.now = sym behind.run.input ∙ c.in-Ok-read_input.ensures.whole told ∙ sym c.deref.ensures.value in
     served c.args.width c.args.picks.now c.args.opened c.in-Ok.started old w0 w1 w2 before f1 f2 c.turns_status.result c.run_turns.result behind c.in-Ok.ensures.start (c.read_input.ensures.only told)
     (λ file. g.met.H.Host.seen_may_stay c.args.host.now file told) (λ file. g.met.H.Host.seen_may_stay c.run_turns.new.host file told) (c.in-Ok-read_input.ensures.end told)
-    (omega (arith, ap length whole, c.deref.ensures.len, c.in-Ok-read_input.ensures.within)) c.turns_status.ensures c.in-Ok-read_lines.lines (run_of c.run_turns.new.core) c.run_turns.new.settler c.requires.wide c.requires.above (λ d. c.in-Ok-read_input.ensures.calm d ∙ none d)
+    (omega (arith, ap length whole, c.deref.ensures.len, c.in-Ok-read_input.ensures.within)) c.turns_status.ensures c.in-Ok-read_lines.lines (run_of c.run_turns.new.core) c.run_turns.new.settler c.in-Ok.ensures.quiet c.requires.wide c.requires.above (λ d. c.in-Ok-read_input.ensures.calm d ∙ none d)
     (subst (λ (l : List ℕ). AreReadFrom (program_tree c.args.opened.checked) 0 (lines_of l) c.in-Ok-read_lines.lines) (sym whole)
     (subst (λ (k : ProgramTree). AreReadFrom k 0 (lines_of c.deref.result.now) c.in-Ok-read_lines.lines) (ap program_tree c.in-Ok.ensures.start.checked) c.in-Ok-read_lines.ensures))
     (subst (λ (t : Bool). (o : Outset) (b : Books) → IsOutset o (program_tree c.args.opened.checked) (run_of c.in-Ok.started.core) c.in-Ok-read_lines.lines c.args.width c.args.picks.now
