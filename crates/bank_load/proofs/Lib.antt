@@ -3,3 +3,4 @@ pub mod Printed
 pub mod Asked
 pub mod Numbering
 pub mod Said
+pub mod Bounds

@@ -1,5 +1,6 @@
 -- What a load's summary says: how its lines ended, and the balances by what the core keeps.
-use Rattle.std.specs.Prelude.{ℕ, zero, suc, List, codes, ℤ, pos, ◌+ℤ◌, Option, Some, None, unwrap_or}
+use Rattle.std.specs.Prelude.{ℕ, zero, suc, List, ◌++◌, codes, decimal, ℤ, pos, ◌+ℤ◌, Option, Some, None, unwrap_or}
+use Rattle.std.specs.Fmt.{signed_decimal}
 use Rattle.base_types.specs.declared.calls.Value.{Value}
 use Rattle.base_types.specs.declared.calls.Value.TheVariants.{Int}
 use Rattle.base_types.specs.declared.entries.Entry.{Entry}
@@ -17,6 +18,12 @@ summary_line entries requests total =
     let faulted = counted (codes "faulted") (how_many_lines is_faulted entries) asked in
     let committed = counted (codes "committed") (how_many_lines line_valued entries) faulted in
     line_of (object (counted (codes "aborted") (how_many_lines line_aborted entries) committed))
+
+-- that line, piece by piece
+abbrev pub said_line : ℕ → ℕ → ℕ → ℕ → ℤ → List ℕ
+said_line aborted committed faulted requests total =
+    codes "{\"aborted\":" ++ (decimal aborted ++ (codes ",\"committed\":" ++ (decimal committed ++ (codes ",\"faulted\":" ++ (decimal faulted
+    ++ (codes ",\"requests\":" ++ (decimal requests ++ (codes ",\"total\":" ++ (signed_decimal total ++ codes "}\n")))))))))
 
 -- the balance of an account with this state, or 0 where there is none
 abbrev pub kept_balance : Option (List Value) → ℤ

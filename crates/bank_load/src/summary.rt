@@ -1,9 +1,9 @@
-ghost use Rattle.std.specs.Prelude.{◌≡◌, ◌≤◌, ◌<◌, pos, length, IfOk};
-ghost use Rattle.std.specs.Option.{option_copied};
+ghost use Rattle.std.specs.Prelude.{◌≡◌, ◌^◌, ◌≤ℤ◌, pos, neg_ℤ, IfOk, string_bytes};
 ghost use Rattle.core_model.specs.Legal.{ends};
+ghost use Rattle.history_core.specs.Closing.{last_state};
 ghost use Rattle.history_core.specs.Cores.{run_of};
-ghost use Rattle.promise_spec.specs.Loads.{line_valued, is_faulted, line_aborted, how_many_lines};
-ghost use Rattle.bank_load.specs.Summaries.{summary_line, kept_balance, total_kept};
+ghost use Rattle.promise_spec.specs.Loads.{account, balance_in, line_valued, is_faulted, line_aborted, how_many_lines};
+ghost use Rattle.bank_load.specs.Summaries.{said_line, summary_line, kept_balance, total_kept};
 
 use base_types::{Entry, GrainId, List, Outcome, Settled, State, Value};
 use history_core::Core;
@@ -96,16 +96,27 @@ fn aborted_in(entries: &[Entry]) -> usize
     found
 }
 
-/// The balance of an account with this state, 0 where no committed unit wrote one.
-fn balance(state: Option<&State>) -> i64
-    ensures { result ≡ kept_balance (option_copied state) }
+/// The balance of an account, 0 where no committed unit wrote one.
+fn balance(core: &Core, key: u32) -> i128
+    ensures low { neg_ℤ (pos (2 ^ 63)) ≤ℤ result }
+    ensures high { result ≤ℤ pos (2 ^ 63) }
+    ensures value { result ≡ kept_balance (last_state (ends (run_of core.now)) (account key)) }
 {
-    match state {
-        Some(state) => match state.get(0) {
-            Some(Value::Int(number)) => *number,
-            Some(Value::Text(_)) => 0,
-            None => 0,
-        },
+    match core.last_state(GrainId { kind: 0, key }) {
+        Some(state) => first_number(state),
+        None => 0,
+    }
+}
+
+/// The number that a state has first, or 0.
+fn first_number(state: &State) -> i128
+    ensures low { neg_ℤ (pos (2 ^ 63)) ≤ℤ result }
+    ensures high { result ≤ℤ pos (2 ^ 63) }
+    ensures value { result ≡ balance_in state.now }
+{
+    match state.get(0) {
+        Some(Value::Int(number)) => *number as i128,
+        Some(Value::Text(_)) => 0,
         None => 0,
     }
 }
@@ -114,11 +125,27 @@ fn balance(state: Option<&State>) -> i64
 pub fn total_balance(core: &Core) -> i128
     ensures { result ≡ total_kept (ends (run_of core.now)) 64 }
 {
-    let mut total: i128 = 0;
+    let mut total = 0;
     for key in 0..64u32 {
-        total += i128::from(balance(core.last_state(GrainId { kind: 0, key })));
+        total += balance(core, key);
     }
     total
+}
+
+/// The text of a summary.
+fn summary_text(
+    alloc: Global,
+    aborted: usize,
+    committed: usize,
+    faulted: usize,
+    requests: usize,
+    total: i128,
+) -> Result<String, AllocError>
+    ensures { IfOk result (λ text. string_bytes text ≡ said_line aborted committed faulted requests total) }
+{
+    format!(in alloc;
+        "{{\"aborted\":{aborted},\"committed\":{committed},\"faulted\":{faulted},\"requests\":{requests},\"total\":{total}}}\n"
+    )
 }
 
 /// The one line that a load prints, with its line feed: how its lines ended, how many there are, and the sum of the balances.
@@ -133,6 +160,6 @@ pub fn load_summary(
     let aborted = aborted_in(entries);
     let committed = valued_in(entries);
     let faulted = faulted_in(entries);
-    let text = format!(in alloc; "{{\"aborted\":{aborted},\"committed\":{committed},\"faulted\":{faulted},\"requests\":{requests},\"total\":{total}}}\n")?;
+    let text = summary_text(alloc, aborted, committed, faulted, requests, total)?;
     Ok(List::from_vec(text.into_bytes()))
 }

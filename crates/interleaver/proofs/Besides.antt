@@ -231,12 +231,12 @@ module _ {H : Type 0} (hush tells : Bool) (world : H → World) (faults : H → 
   writes-leave : (quiet : Bool) → quiet ≡ hush → (shape : Shape) (w : CoreState) (before after : BatchWriter) → WritesEntry tells world faults quiet shape w before after old new → LeavesHost hush tells world faults old new
   writes-leave quiet is shape w before after e = by quiet is e.line
     where
+      loud : false ≡ true → ⊥
+      loud q = absurd cc
+
       by : (b : Bool) → b ≡ hush → HasLine tells world faults b shape e.entry old new → LeavesHost hush tells world faults old new
       by true q same = leaves-none same
       by false q line = leaves-calm line.0 (λ t. let out = line.1 t in (out.input, ticks-on (world old) (world new) out.past)) (λ h. absurd (loud (q ∙ h)))
-
-      loud : false ≡ true → ⊥
-      loud q = absurd cc
 
   does-leave : (e : CoreEvent) (quiet : Bool) → quiet ≡ hush → (shape : Shape) (w : CoreState) (before after : BatchWriter) → DoesFor tells world faults e quiet shape w before after old new → LeavesHost hush tells world faults old new
   does-leave (Vote n g said) quiet is shape w before after d = votes-leave n g said (versions_to_write w w.manager.batch g) before after d

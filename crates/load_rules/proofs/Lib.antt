@@ -1,2 +1,3 @@
 pub mod LoadImages
 pub mod LoadKept
+pub mod Totals

@@ -16,3 +16,8 @@ pub mod LastsAtStart
 pub mod AtRest
 pub mod Served
 pub mod Answered
+pub mod LoadLines
+pub mod LoadBegun
+pub mod LoadServed
+pub mod LoadMade
+pub mod LoadAnswered

@@ -1,6 +1,12 @@
 -- What a load does, call by call.
-use Rattle.std.specs.Prelude.{◌≡◌, ◌⊎◌, ◌+◌, ◌≤◌, ℕ, List, [], ◌++◌, ⊤}
+use Rattle.std.specs.Prelude.{◌≡◌, ◌⊎◌, ◌+◌, ◌≤◌, ℕ, List, ◌++◌, length, Some}
+use Rattle.base_types.specs.Stores.{end_in}
+use Rattle.base_types.specs.declared.calls.GrainId.{GrainId}
 use Rattle.core_model.specs.CoreState.{Member}
+use Rattle.host_trait.specs.declared.channels.FileId.TheVariants.{Grain}
+use Rattle.gate_block.specs.Gates.{IsClosedAt}
+use Rattle.silo_opening.specs.declared.faults.CreateFault.{CreateFault}
+use Rattle.silo_opening.specs.declared.open.Opened.{Opened}
 use Rattle.host_trait.specs.World.{World, Moment, Image, IsImage}
 use Rattle.silo_spec.specs.Silos.{manager, IsSilo, IsNewSilo}
 use Rattle.silo_spec.specs.Making.{StaysBeside, IsNewAt, FromFirstSync}
@@ -8,6 +14,8 @@ use Rattle.promise_spec.specs.Programs.{Program, IsChecked}
 use Rattle.promise_spec.specs.Logs.{magic, IsPrefix}
 use Rattle.promise_spec.specs.Endings as ending
 use Rattle.promise_spec.specs.Courses.{Observed, Course}
+use Rattle.interleaver.specs.declared.faults.RunFault.{RunFault}
+use Rattle.interleaver.specs.declared.faults.RunFault.TheVariants.{InDoubt, WriteFault, Memory}
 use Rattle.promise_spec.specs.Refusals.{IsUnopened}
 use Rattle.promise_spec.specs.Loads.{bank_text, KeepsLoad}
 
@@ -48,3 +56,19 @@ pub record SaysSummary (text : List ℕ) (e : ending.Ending) (old new : World) :
   pub told : List Moment
   pub past : new.past ≡ old.past ++ told
   pub left : (m : Moment) → Member m told → m.disk ≡ old.disk
+
+-- how a load ends whose turns ended by this fault: a quiet settler's don't end by the output
+abbrev pub load_ending : RunFault → ending.Ending
+load_ending InDoubt = ending.DiskFault manager
+load_ending WriteFault = ending.Memory
+load_ending Memory = ending.Memory
+
+-- how it ends where its silo wasn't made
+abbrev pub creation_ending : CreateFault → ending.Ending
+creation_ending CreateFault.AlreadyASilo = ending.AlreadyASilo
+creation_ending (CreateFault.DiskFault file) = ending.DiskFault file
+
+-- the ends that were opened lie in the files, and the gate is closed there
+pub record LiesWithin (image : Image) (o : Opened) : Type 0 where
+  pub within : (grain : GrainId) (end : ℕ) → end_in o.ends grain ≡ Some end → end ≤ length (image (Grain 0 grain))
+  pub closed : IsClosedAt o.gate_at (image manager)

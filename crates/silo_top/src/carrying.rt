@@ -23,10 +23,10 @@ use silo_opening::Opened;
 use std::alloc::{AllocError, Global};
 
 /// The file of the log.
-const MANAGER: FileId = FileId::Manager { slot: 0 };
+pub(crate) const MANAGER: FileId = FileId::Manager { slot: 0 };
 
 /// The status of a run whose turns ended before each line had its reply.
-pub(crate) fn fault_status(fault: RunFault) -> Status
+fn fault_status(fault: RunFault) -> Status
     ensures { status_ending result ≡ fault_ending fault }
 {
     match fault {
