@@ -20,4 +20,5 @@ pub mod LoadLines
 pub mod LoadBegun
 pub mod LoadServed
 pub mod LoadMade
+pub mod LoadSaid
 pub mod LoadAnswered

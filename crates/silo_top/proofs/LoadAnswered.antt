@@ -29,6 +29,18 @@ use Rattle.silo_top.proofs.Beginning.{start_run, no_books, starts_kept, starts_q
 use Rattle.silo_top.proofs.LoadServed.{load_risen}
 use Rattle.silo_top.proofs.OpensWith.{many_types}
 
+-- what `run_turns` says of its record
+abbrev pub TurnsSay : {T : Type 0} → Bool → ProgramTree → List ℕ → ℕ → List Line → Run → Run → Settler → Settler → (Channel → ℕ) → (Channel → ℕ) → World → World → Result T RunFault → Type 0
+TurnsSay tells types picks width lines r r' s s' f1 f2 w1 w2 result = (o : Outset) (b : Books) → IsOutset o types r lines width picks → CanTurn r s lines → IsFreshRecord o b r
+    → KeepsRecord tells o b r s f1 w1 → RecordGoesOn tells o b r r' s s' f2 w1 w2 result
+
+-- it is the same for the same program, and without picks
+pub turns_of : {T : Type 0} (tells : Bool) (types others : ProgramTree) (picks : List ℕ) (width : ℕ) (lines : List Line) (r r' : Run) (s s' : Settler) (f1 f2 : Channel → ℕ) (w1 w2 : World) (result : Result T RunFault) → types ≡ others → picks ≡ []
+    → TurnsSay tells types picks width lines r r' s s' f1 f2 w1 w2 result → TurnsSay tells others [] width lines r r' s s' f1 f2 w1 w2 result
+turns_of {T} tells types others picks width lines r r' s s' f1 f2 w1 w2 result same none say =
+    subst (λ (k : ProgramTree). TurnsSay {T} tells k [] width lines r r' s s' f1 f2 w1 w2 result) same
+    (subst (λ (ps : List ℕ). TurnsSay {T} tells types ps width lines r r' s s' f1 f2 w1 w2 result) none say)
+
 -- a load whose turns ended by a fault names it, and nothing of the input or the output failed
 faulted_answers : (fault : RunFault) (old new : Channel → ℕ) → HasRisen (load_ending fault) old new → new Input ≡ old Input → new Output ≡ old Output → AnswersRun (load_ending fault) old new
 faulted_answers fault old new risen pulled calm = record {

@@ -40,6 +40,13 @@ fn picks_of(alloc: Global, turns: Option<Vec<u32>>) -> List<u32>
     }
 }
 
+/// How many lines may be in flight, 1 where it isn't given.
+fn width_of(width: Option<u32>) -> u32
+    ensures { result ≡ unwrap_or width 1 }
+{
+    width.unwrap_or(1)
+}
+
 /// The command that the words ask for. Workers aren't built.
 pub(crate) fn read_asked(alloc: Global, words: &[String]) -> Result<Asked, WordsFault>
     ensures asked { IfOk result (λ asked. Understands is_built is_taken (texts_of words.now) (asked_command asked)) }
@@ -52,7 +59,7 @@ pub(crate) fn read_asked(alloc: Global, words: &[String]) -> Result<Asked, Words
             if options.workers.is_some() {
                 return Err(WordsFault::BadUse);
             }
-            let width = options.width.unwrap_or(1);
+            let width = width_of(options.width);
             let picks = picks_of(alloc, options.turns);
             Ok(Asked::Run { width, picks })
         }
@@ -63,7 +70,7 @@ pub(crate) fn read_asked(alloc: Global, words: &[String]) -> Result<Asked, Words
             if options.workers.is_some() {
                 return Err(WordsFault::BadUse);
             }
-            let width = options.width.unwrap_or(1);
+            let width = width_of(options.width);
             Ok(Asked::Load {
                 transfers: options.transfers,
                 seed: options.seed,

@@ -96,6 +96,7 @@ fn carry_load<H: Host, G: Gate>(
         Ok(lines) => lines,
         Err(AllocError) => return Status::Memory,
     };
+    let picks = List::new(alloc);
     match run_turns(
         alloc,
         &started.checked,
@@ -105,7 +106,7 @@ fn carry_load<H: Host, G: Gate>(
         host,
         gate,
         width,
-        &List::new(alloc),
+        &picks,
     ) {
         Ok(()) => print_summary(alloc, &started.core, lines.len(), host),
         Err(fault) => load_status(fault),

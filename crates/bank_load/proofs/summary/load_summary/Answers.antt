@@ -7,5 +7,5 @@ use Rattle.bank_load.proofs.summary.load_summary.Goals as goal
 pub returns : goal.returns
 returns c =
     c.from_vec.ensures ∙ ap (λ (v : Vec ℕ Global). v.items) c.into_bytes.ensures.value ∙ c.in_ok-text.ensures
-    ∙ (λ i. said_line (c.aborted_in.ensures i) (c.valued_in.ensures i) (c.faulted_in.ensures i) c.args.requests c.args.total)
+    ∙ (λ i. said_line (c.aborted_in-aborted.ensures i) (c.valued_in-committed.ensures i) (c.faulted_in-faulted.ensures i) c.args.requests c.args.total)
     ∙ said c.args.entries.now c.args.requests c.args.total

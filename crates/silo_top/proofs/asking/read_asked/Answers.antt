@@ -7,4 +7,4 @@ pub returns-then-is_some-clause-bad_use : goal.returns-then-is_some-clause-bad_u
 returns-then-is_some-clause-bad_use c = λ is. unbuilt_workers (texts_of c.args.words.now) c.in_ok-read_words.field-0 c.in-Run.options c.in-Run.is c.in_ok-read_words.ensures.said (sym c.is_some.ensures ∙ c.if-is_some.true)
 
 pub returns-else-is_some-clause-bounds : goal.returns-else-is_some-clause-bounds
-returns-else-is_some-clause-bounds c = subst (λ (n : ℕ). 0 < n) (sym c.unwrap_or-width.ensures) (wide_enough (texts_of c.args.words.now) c.in_ok-read_words.field-0 c.in-Run.options c.in-Run.is c.in_ok-read_words.ensures.said)
+returns-else-is_some-clause-bounds c = subst (λ (n : ℕ). 0 < n) (sym c.width_of-width.ensures) (wide_enough (texts_of c.args.words.now) c.in_ok-read_words.field-0 c.in-Run.options c.in-Run.is c.in_ok-read_words.ensures.said)
