@@ -1,3 +1,3 @@
 pub mod LoadImages
 pub mod LoadKept
-pub mod Totals
+pub mod Balances

@@ -56,7 +56,7 @@ use Rattle.bank_load.specs.Requests.{load_texts}
 use Rattle.bank_load.specs.Summaries.{summary_line, total_kept}
 use Rattle.load_rules.specs.Loading.{HasWhole, ShowsLoad}
 use Rattle.load_rules.proofs.LoadKept.{kept_load}
-use Rattle.load_rules.proofs.Totals.{totals_kept}
+use Rattle.load_rules.proofs.Balances.{totals_kept}
 use Rattle.explained_runs.proofs.ShownRuns.{explained}
 use Rattle.silo_top.specs.declared.status.Status.{Status}
 use Rattle.silo_top.specs.Statuses.{status_ending}

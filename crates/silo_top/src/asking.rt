@@ -15,7 +15,10 @@ pub(crate) enum Asked {
     /// To make a silo.
     Init,
     /// To carry the lines of the input: how many may be in flight, and the picks.
-    Run { width: u32, picks: List<u32> },
+    Run {
+        width: u32,
+        picks: List<u32>,
+    },
     /// To write the states.
     Show,
     /// To write the records.

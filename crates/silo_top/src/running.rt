@@ -102,11 +102,13 @@ pub fn run_silo<Rt, H: Host, G: Gate + Sync>(
         Ok(Asked::Show) => show(alloc, host),
         Ok(Asked::History) => history(alloc, host),
         Ok(Asked::Audit) => audit(alloc, host),
-        Ok(Asked::Load {
-            transfers,
-            seed,
-            width,
-        }) => load(alloc, host, gate, transfers, seed, width),
+        Ok(
+            Asked::Load {
+                transfers,
+                seed,
+                width,
+            },
+        ) => load(alloc, host, gate, transfers, seed, width),
         Err(WordsFault::BadUse) => Status::BadUse,
         Err(WordsFault::Memory) => Status::Memory,
     }

@@ -1,4 +1,4 @@
-use Rattle.load_rules.proofs.Totals.{totals_kept}
+use Rattle.load_rules.proofs.Balances.{totals_kept}
 use Rattle.load_rules.proofs.totals.totals_are_kept.Goals as goal
 
 pub returns : goal.returns

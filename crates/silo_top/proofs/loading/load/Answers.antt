@@ -14,3 +14,6 @@ returns-in-Err-clause-loads g c = λ told. record {
       c.in-Err.fault c.creation_status.result c.creation_status.ensures (c.create.ensures.beside told) (c.create.ensures.moments told) c.in-Err.ensures.fault
       (λ is. (c.in-Err.ensures.already is told, c.in-Err.ensures.lasts is told)) (c.in-Err.ensures.silo told) (c.create.ensures.untouched told));
 }
+
+pub returns-in-Err-clause-answers : goal.returns-in-Err-clause-answers
+returns-in-Err-clause-answers g c = uncreated_answers c.in-Err.fault c.creation_status.result (g.H.Host.faults c.args.host.now) (g.H.Host.faults c.create.new.host) c.creation_status.ensures c.in-Err.ensures.fault

@@ -11,12 +11,12 @@ use Rattle.silo_top.proofs.loading.load_made.Goals as goal
 
 pub carry_load-requires-clause-within : goal.carry_load-requires-clause-within
 carry_load-requires-clause-within g c = λ told. lies_within c.in-Ok.opened c.args.bank (g.H.Host.world c.args.host.now) (g.H.Host.world c.open_silo.new.host) (record {
-      opened = c.in-Ok.ensures.opened told;
-      settled = c.in-Ok.ensures.settled told;
-      count = c.in-Ok.ensures.count told;
-      run = c.open_silo.ensures.run told;
-      stays = λ file. g.met.H.Host.seen_may_stay c.args.host.now file told;
-    })
+  opened = c.in-Ok.ensures.opened told;
+  settled = c.in-Ok.ensures.settled told;
+  count = c.in-Ok.ensures.count told;
+  run = c.open_silo.ensures.run told;
+  stays = λ file. g.met.H.Host.seen_may_stay c.args.host.now file told;
+})
 
 pub returns-in-Ok-clause-carries : goal.returns-in-Ok-clause-carries
 returns-in-Ok-clause-carries g c = λ told new. c.carry_load.ensures.carries told (g.H.Host.world c.args.host.now) (g.H.Host.faults c.args.host.now)
