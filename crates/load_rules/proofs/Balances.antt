@@ -58,13 +58,14 @@ last_written : (w : CoreState) (store first : States) (g : GrainId) (us : List U
     → after_all store (map (effect_of w) (filter (λ u. is_committed (w.manager.verdict u)) us)) g ≡ unwrap_or (last_among w.manager.verdict w.manager.writes g us before) (first g)
 unfolding after_all
 last_written w store first g [] before same = same
-last_written w store first g (u ∷ us) before same = by (is_committed (w.manager.verdict u)) refl
+last_written w store first g (u ∷ us) before same = by (is_committed (w.manager.verdict u)) refl (λ s o e. last_written w s first g us o e)
   where
     by : (b : Bool) → is_committed (w.manager.verdict u) ≡ b
+        → ((s : States) (o : Option (List Value)) → s g ≡ unwrap_or o (first g) → after_all s (map (effect_of w) (filter (λ x. is_committed (w.manager.verdict x)) us)) g ≡ unwrap_or (last_among w.manager.verdict w.manager.writes g us o) (first g))
         → after_all store (map (effect_of w) (filter (λ x. is_committed (w.manager.verdict x)) (u ∷ us))) g ≡ unwrap_or (last_among w.manager.verdict w.manager.writes g (u ∷ us) before) (first g)
-    by true q = rw q (last_written w (model.after store (w.manager.writes u)) first g us (or_else (state_written g (w.manager.writes u)) before)
+    by true q later = rw q (later (model.after store (w.manager.writes u)) (or_else (state_written g (w.manager.writes u)) before)
         (ap (λ (s : List Value). unwrap_or (state_written g (w.manager.writes u)) s) same ∙ or_before (state_written g (w.manager.writes u)) before (first g)))
-    by false q = rw q (last_written w store first g us before same)
+    by false q later = rw q (later store before same)
 
 -- those behind the closed ones aren't committed
 none_last : (v : UnitNo → Verdict) (writes : UnitNo → List Write) (g : GrainId) (us : List UnitNo) (before : Option (List Value)) → ((u : UnitNo) → Member u us → is_committed (v u) ≡ false)

@@ -176,7 +176,7 @@ module _ {T : Type 0} (n seed width : ℕ) (x : Opened) (st : Started) (old mid 
   abbrev pub r0 : Run
   r0 = core_from p.types (standing_of p.types log) []
 
-  head : List ℕ
+  abbrev head : List ℕ
   head = take 15 (old.disk manager).seen
 
   -- ---- the turns begin
