@@ -109,7 +109,7 @@ turns_answer tells o b r r' s s' mid after now now' result calm e beside = recor
 pub told : IsTrue true
 told = cc
 
-all_syncs : (new mid old v s : ℕ) → new ≡ mid + (v + 2 * s) → mid ≡ old + 1 → new ≡ old + (1 + (v + 2 * s))
+pub all_syncs : (new mid old v s : ℕ) → new ≡ mid + (v + 2 * s) → mid ≡ old + 1 → new ≡ old + (1 + (v + 2 * s))
 all_syncs new mid old v s a b = omega (arith, a, b)
 
 module _ {T : Type 0} (width : ℕ) (picks : List ℕ) (x : Opened) (old mid now new : World) (before after : Channel → ℕ) (status : Status) (result : Result T RunFault) (is : IsBehindOpening old mid x) (pulled : PulledOnly mid now)

@@ -38,8 +38,8 @@ TurnsSay tells types picks width lines r r' s s' f1 f2 w1 w2 result = (o : Outse
 pub turns_of : {T : Type 0} (tells : Bool) (types others : ProgramTree) (picks : List ℕ) (width : ℕ) (lines : List Line) (r r' : Run) (s s' : Settler) (f1 f2 : Channel → ℕ) (w1 w2 : World) (result : Result T RunFault) → types ≡ others → picks ≡ []
     → TurnsSay tells types picks width lines r r' s s' f1 f2 w1 w2 result → TurnsSay tells others [] width lines r r' s s' f1 f2 w1 w2 result
 turns_of {T} tells types others picks width lines r r' s s' f1 f2 w1 w2 result same none say =
-    subst (λ (k : ProgramTree). TurnsSay {T} tells k [] width lines r r' s s' f1 f2 w1 w2 result) same
-    (subst (λ (ps : List ℕ). TurnsSay {T} tells types ps width lines r r' s s' f1 f2 w1 w2 result) none say)
+    subst (λ (k : ProgramTree). TurnsSay {T = T} tells k [] width lines r r' s s' f1 f2 w1 w2 result) same
+    (subst (λ (ps : List ℕ). TurnsSay {T = T} tells types ps width lines r r' s s' f1 f2 w1 w2 result) none say)
 
 -- a load whose turns ended by a fault names it, and nothing of the input or the output failed
 faulted_answers : (fault : RunFault) (old new : Channel → ℕ) → HasRisen (load_ending fault) old new → new Input ≡ old Input → new Output ≡ old Output → AnswersRun (load_ending fault) old new
@@ -81,7 +81,7 @@ turns_faulted {T} tells width x st texts lines w1 w2 f1 f2 result r' s' start hu
     (subst (λ (r : Run). KeepsRecord tells o no_books r st.settler f1 w1) (sym same) (starts_kept base kinds opening tells o st.settler f1 w1 above (λ c. omega arith)
     start.written start.doubted start.sealing (λ told. (refl, refl)))) in
     let ended : TurnsEndAs o goes.books r' s' f2 {T = T} (Err fault) = subst (TurnsEndAs o goes.books r' s' f2) q goes.ended in
-    faulted_answers fault f1 f2 (load_risen {T = T} o goes.books r' s' f2 fault ended) beside.pulled (beside.calm hush)
+    faulted_answers fault f1 f2 (load_risen T o goes.books r' s' f2 fault ended) beside.pulled (beside.calm hush)
 
 -- where the summary was to be printed
 pub summary_answers : (e : Ending) (old mid new : Channel → ℕ) → MaySaySummary e → HasFailedAs e mid new → mid Input ≡ old Input → mid Output ≡ old Output → AnswersRun e old new

@@ -37,21 +37,28 @@ use Rattle.silo_top.proofs.Counted.{exactly_answers, open_failed, open_good}
 use Rattle.silo_top.proofs.LoadBegun.{bank_of, bank_checked, with_checked}
 use Rattle.silo_top.proofs.Unopened.{asked_untouched, refused_unopened}
 
+-- an answer that is this fault, or none
+abbrev fault_of : (A : Type 0) → CreateFault → Result A CreateFault
+fault_of A e = Err e
+
+abbrev done_of : (A : Type 0) → A → Result A CreateFault
+done_of A done = Ok done
+
 -- ---- it wasn't made
 
 module _ (m : Manner) (asked : List (List ℕ)) (old new : World) (before after : Channel → ℕ) where
   abbrev ended_so : Ending → Observed
   ended_so e = record { manner = m; asked = asked; old = old; new = new; faults_before = before; faults_after = after; ending = e }
 
-  pub uncreated : {A : Type 0} (e : CreateFault) (status : Status) → status_ending status ≡ creation_ending e → StaysBeside old new → CameThisFar magic bank_text old new → CreateFaulted e before after
-      → (Err {A} {CreateFault} e ≡ Err CreateFault.AlreadyASilo → IsSilo magic (old.disk manager).seen × (new.disk manager ≡ settled (old.disk manager).seen))
-      → (IsSilo magic (old.disk manager).seen → (Err {A} {CreateFault} e ≡ Err CreateFault.AlreadyASilo) ⊎ (Err {A} {CreateFault} e ≡ Err (CreateFault.DiskFault manager)))
+  pub uncreated : (A : Type 0) (e : CreateFault) (status : Status) → status_ending status ≡ creation_ending e → StaysBeside old new → CameThisFar magic bank_text old new → CreateFaulted e before after
+      → (fault_of A e ≡ fault_of A CreateFault.AlreadyASilo → IsSilo magic (old.disk manager).seen × (new.disk manager ≡ settled (old.disk manager).seen))
+      → (IsSilo magic (old.disk manager).seen → (fault_of A e ≡ fault_of A CreateFault.AlreadyASilo) ⊎ (fault_of A e ≡ fault_of A (CreateFault.DiskFault manager)))
       → (IsSilo magic (old.disk manager).seen → IsUntouched old new) → IsUnmade (observed_call m asked old new before after status)
-  uncreated {A} e status is beside makes faulted already silo kept = subst (λ (y : Ending). IsUnmade (ended_so y)) (sym is) (by e faulted already silo)
+  uncreated A e status is beside makes faulted already silo kept = subst (λ (y : Ending). IsUnmade (ended_so y)) (sym is) (by e faulted already silo)
     where
       by : (x : CreateFault) → CreateFaulted x before after
-          → (Err {A} {CreateFault} x ≡ Err CreateFault.AlreadyASilo → IsSilo magic (old.disk manager).seen × (new.disk manager ≡ settled (old.disk manager).seen))
-          → (IsSilo magic (old.disk manager).seen → (Err {A} {CreateFault} x ≡ Err CreateFault.AlreadyASilo) ⊎ (Err {A} {CreateFault} x ≡ Err (CreateFault.DiskFault manager)))
+          → (fault_of A x ≡ fault_of A CreateFault.AlreadyASilo → IsSilo magic (old.disk manager).seen × (new.disk manager ≡ settled (old.disk manager).seen))
+          → (IsSilo magic (old.disk manager).seen → (fault_of A x ≡ fault_of A CreateFault.AlreadyASilo) ⊎ (fault_of A x ≡ fault_of A (CreateFault.DiskFault manager)))
           → IsUnmade (ended_so (creation_ending x))
       by CreateFault.AlreadyASilo f a s = record {
         beside = beside;
@@ -75,9 +82,9 @@ uncreated_answers e status before after is faulted = subst (λ (y : Ending). Ans
 
 -- ---- it was made
 
-pub made_from : {A : Type 0} (old new : World) (done : A) → (IsSilo magic (old.disk manager).seen → (Ok {A} {CreateFault} done ≡ Err CreateFault.AlreadyASilo) ⊎ (Ok {A} {CreateFault} done ≡ Err (CreateFault.DiskFault manager)))
+pub made_from : (A : Type 0) (old new : World) (done : A) → (IsSilo magic (old.disk manager).seen → (done_of A done ≡ fault_of A CreateFault.AlreadyASilo) ⊎ (done_of A done ≡ fault_of A (CreateFault.DiskFault manager)))
     → StaysBeside old new → CameThisFar magic bank_text old new → IsNewBank new → IsMade magic bank_text new.disk → ReadsMayStay new → old.syncs + 4 ≤ new.syncs → new.syncs ≤ old.syncs + 5 → IsMadeFrom old new
-made_from old new done silo beside makes images files stay least most = record {
+made_from A old new done silo beside makes images files stay least most = record {
   absent = absent;
   beside = beside;
   makes = by makes;

@@ -147,10 +147,10 @@ load_file InDoubt file t = t
 load_file WriteFault file t = absurd (cc t)
 load_file Memory file t = absurd (cc t)
 
-pub load_risen : {T : Type 0} (o : Outset) (b : Books) (r : Run) (s : Settler) (counts : Channel → ℕ) (fault : RunFault) → TurnsEndAs o b r s counts {T = T} (Err fault) → HasRisen (load_ending fault) o.faults counts
-load_risen o b r s counts InDoubt e = e.0.rose
-load_risen o b r s counts WriteFault e = tt
-load_risen o b r s counts Memory e = tt
+pub load_risen : (T : Type 0) (o : Outset) (b : Books) (r : Run) (s : Settler) (counts : Channel → ℕ) (fault : RunFault) → TurnsEndAs o b r s counts {T = T} (Err fault) → HasRisen (load_ending fault) o.faults counts
+load_risen T o b r s counts InDoubt e = e.0.rose
+load_risen T o b r s counts WriteFault e = tt
+load_risen T o b r s counts Memory e = tt
 
 module _ {T : Type 0} (n seed width : ℕ) (x : Opened) (st : Started) (old mid new : World) (before between after : Channel → ℕ) (result : Result T RunFault) (is : IsBehindOpening old mid x) (start : IsStartOf x st)
     (reads : program_in bank_text ≡ Ok (program_tree x.checked)) (bank : IsNewBank old) (stay_mid : ReadsMayStay mid) (stay_new : ReadsMayStay new) (hush : st.settler.quiet ≡ true) where
@@ -378,7 +378,7 @@ module _ {T : Type 0} (n seed width : ℕ) (x : Opened) (st : Started) (old mid 
         (record { added = []; output = same_output ∙ sym (append-nil old.output); front = (_, refl); whole = λ t. absurd (load_undone fault (sym ends_as ∙ t)); none = inl refl })
         (λ one other. same_output)
         (subst IsBegun (sym ends_as) (load_begun fault))
-        (subst (λ (y : Ending). HasRisen y before after) (sym ends_as) (load_risen {T = T} out b r' s' after fault ended))
+        (subst (λ (y : Ending). HasRisen y before after) (sym ends_as) (load_risen T out b r' s' after fault ended))
         (λ which. elim which [ inl t ↦ absurd (load_undone fault (sym ends_as ∙ t)) | inr t ↦ absurd (load_unwritten fault (sym ends_as ∙ t)) ])
         (λ t d. load_unwritten fault (sym ends_as ∙ t))
         (λ calm t. absurd (load_undone fault (sym ends_as ∙ t))))

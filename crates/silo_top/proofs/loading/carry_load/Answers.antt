@@ -29,8 +29,8 @@ returns-in-Err-load_lines-clause-carries g c = λ told old before behind bank no
 pub run_turns-requires-clause-fits : goal.run_turns-requires-clause-fits
 run_turns-requires-clause-fits g c = λ told. fits_within c.args.opened c.in-Ok.started (g.H.Host.world c.args.host.now).disk (c.requires.within told) c.in-Ok.ensures.start
 
-pub returns-in-Err-run_turns-clause-carries : goal.returns-in-Err-run_turns-clause-carries
-returns-in-Err-run_turns-clause-carries g c = λ told old before behind bank none.
+pub returns-clause-carries : goal.returns-clause-carries
+returns-clause-carries g c = λ told old before behind bank none.
     let types : ProgramTree = program_tree c.args.opened.checked in
     let read : AreReadBy types (load_calls c.args.transfers c.args.seed) = load_read (bank_of types) c.args.transfers c.args.seed (bank_checked types c.requires.bank) refl in
     let are : AreReadFrom types 0 (load_texts c.args.transfers c.args.seed) c.in-Ok-load_lines.lines =
@@ -43,10 +43,10 @@ returns-in-Err-run_turns-clause-carries g c = λ told old before behind bank non
     (g.H.Host.faults c.args.host.now) (g.H.Host.faults c.run_turns.new.host) (g.H.Host.world c.args.host.now) (g.H.Host.world c.run_turns.new.host) c.run_turns.result) told c.run_turns.ensures.beside in
     failed_carries {T = Unit {0}} c.args.transfers c.args.seed c.args.width c.args.opened c.in-Ok.started old (g.H.Host.world c.args.host.now) (g.H.Host.world c.run_turns.new.host) before (g.H.Host.faults c.args.host.now) (g.H.Host.faults c.run_turns.new.host)
     c.run_turns.result behind c.in-Ok.ensures.start c.requires.bank bank (λ file. g.met.H.Host.seen_may_stay c.args.host.now file told) (λ file. g.met.H.Host.seen_may_stay c.run_turns.new.host file told) c.in-Ok.ensures.quiet
-    c.in-Ok-load_lines.lines are c.requires.wide c.requires.above none (run_of c.run_turns.new.core) c.run_turns.new.settler say_told beside_told (texts_ask types c.args.transfers c.args.seed read) c.in-Err-run_turns.fault c.in-Err-run_turns.was c.load_status.result c.load_status.ensures
+    c.in-Ok-load_lines.lines are c.requires.wide c.requires.above none (run_of c.run_turns.new.core) c.run_turns.new.settler say_told beside_told (texts_ask types c.args.transfers c.args.seed read) c.in-Err-run_turns.fault c.in-Err-run_turns.is c.load_status.result c.load_status.ensures
 
-pub returns-in-Err-run_turns-clause-answers : goal.returns-in-Err-run_turns-clause-answers
-returns-in-Err-run_turns-clause-answers g c =
+pub returns-clause-answers : goal.returns-clause-answers
+returns-clause-answers g c =
     let types : ProgramTree = program_tree c.args.opened.checked in
     let read : AreReadBy types (load_calls c.args.transfers c.args.seed) = load_read (bank_of types) c.args.transfers c.args.seed (bank_checked types c.requires.bank) refl in
     let are : AreReadFrom types 0 (load_texts c.args.transfers c.args.seed) c.in-Ok-load_lines.lines =
@@ -56,7 +56,7 @@ returns-in-Err-run_turns-clause-answers g c =
     subst (λ (e : Ending). AnswersRun e (g.H.Host.faults c.args.host.now) (g.H.Host.faults c.run_turns.new.host)) (sym c.load_status.ensures)
     (turns_faulted {T = Unit {0}} g.H.Host.tells c.args.width c.args.opened c.in-Ok.started (load_texts c.args.transfers c.args.seed) c.in-Ok-load_lines.lines (g.H.Host.world c.args.host.now) (g.H.Host.world c.run_turns.new.host)
     (g.H.Host.faults c.args.host.now) (g.H.Host.faults c.run_turns.new.host) c.run_turns.result (run_of c.run_turns.new.core) c.run_turns.new.settler c.in-Ok.ensures.start c.in-Ok.ensures.quiet c.requires.wide c.requires.above are say c.run_turns.ensures.beside
-    c.in-Err-run_turns.fault c.in-Err-run_turns.was)
+    c.in-Err-run_turns.fault c.in-Err-run_turns.is)
 
 pub returns-in-Ok-run_turns-clause-carries : goal.returns-in-Ok-run_turns-clause-carries
 returns-in-Ok-run_turns-clause-carries g c = λ told old before behind bank none.
@@ -72,7 +72,7 @@ returns-in-Ok-run_turns-clause-carries g c = λ told old before behind bank none
     (g.H.Host.faults c.args.host.now) (g.H.Host.faults c.run_turns.new.host) (g.H.Host.world c.args.host.now) (g.H.Host.world c.run_turns.new.host) c.run_turns.result) told c.run_turns.ensures.beside in
     summed_carries {T = Unit {0}} c.args.transfers c.args.seed c.args.width c.args.opened c.in-Ok.started old (g.H.Host.world c.args.host.now) (g.H.Host.world c.run_turns.new.host) before (g.H.Host.faults c.args.host.now) (g.H.Host.faults c.run_turns.new.host)
     c.run_turns.result behind c.in-Ok.ensures.start c.requires.bank bank (λ file. g.met.H.Host.seen_may_stay c.args.host.now file told) (λ file. g.met.H.Host.seen_may_stay c.run_turns.new.host file told) c.in-Ok.ensures.quiet
-    c.in-Ok-load_lines.lines are c.requires.wide c.requires.above none (run_of c.run_turns.new.core) c.run_turns.new.settler say_told beside_told (texts_ask types c.args.transfers c.args.seed read) tt c.in-Ok-run_turns.was c.print_summary.result (g.H.Host.world c.print_summary.new.host) (g.H.Host.faults c.print_summary.new.host)
+    c.in-Ok-load_lines.lines are c.requires.wide c.requires.above none (run_of c.run_turns.new.core) c.run_turns.new.settler say_told beside_told (texts_ask types c.args.transfers c.args.seed read) tt c.in-Ok-run_turns.is c.print_summary.result (g.H.Host.world c.print_summary.new.host) (g.H.Host.faults c.print_summary.new.host)
     (ap length c.in-Ok-load_lines.ensures ∙ numbered_many 0 (load_calls c.args.transfers c.args.seed)) (c.print_summary.ensures.says told) c.print_summary.ensures.exact c.print_summary.ensures.may
 
 pub returns-in-Ok-run_turns-clause-answers : goal.returns-in-Ok-run_turns-clause-answers

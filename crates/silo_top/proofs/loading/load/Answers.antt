@@ -10,7 +10,7 @@ use Rattle.silo_top.proofs.loading.load.Goals as goal
 pub returns-in-Err-clause-loads : goal.returns-in-Err-clause-loads
 returns-in-Err-clause-loads g c = λ told. record {
   manner = refl;
-  answers = inl (uncreated (turns_manner c.args.width []) (load_texts c.args.transfers c.args.seed) (g.H.Host.world c.args.host.now) (g.H.Host.world c.create.new.host) (g.H.Host.faults c.args.host.now) (g.H.Host.faults c.create.new.host) {A = Unit {0}}
+  answers = inl (uncreated (turns_manner c.args.width []) (load_texts c.args.transfers c.args.seed) (g.H.Host.world c.args.host.now) (g.H.Host.world c.create.new.host) (g.H.Host.faults c.args.host.now) (g.H.Host.faults c.create.new.host) (Unit {0})
       c.in-Err.fault c.creation_status.result c.creation_status.ensures (c.create.ensures.beside told) (c.create.ensures.moments told) c.in-Err.ensures.fault
       (λ is. (c.in-Err.ensures.already is told, c.in-Err.ensures.lasts is told)) (c.in-Err.ensures.silo told) (c.create.ensures.untouched told));
 }

@@ -80,9 +80,6 @@ returns-in-Ok-Load-clause-names g c = c.load.ensures.answers.names
 pub returns-in-Ok-Load-clause-answers : goal.returns-in-Ok-Load-clause-answers
 returns-in-Ok-Load-clause-answers g c = run_answers (texts_of c.args.words.now) (Load c.in-Ok-Load.transfers c.in-Ok-Load.seed (turns_manner c.in-Ok-Load.width [])) (understood (texts_of c.args.words.now) c.in-Ok-Load.field-0 (Asked.Load c.in-Ok-Load.transfers c.in-Ok-Load.seed c.in-Ok-Load.width) c.in-Ok-Load.field-0-is c.in-Ok-Load.ensures.asked) (g.H.Host.faults c.args.host.now) (g.H.Host.faults c.load.new.host) (status_ending c.load.result) (λ begun. begun) c.load.ensures.answers
 
-pub run-requires-clause-wide : goal.run-requires-clause-wide
-run-requires-clause-wide g c = subst MayBeCarried c.in-Ok-Run.field-0-is c.in-Ok-Run.ensures.bounds
-
 pub load-requires-clause-wide : goal.load-requires-clause-wide
 load-requires-clause-wide g c = (subst MayBeCarried c.in-Ok-Load.field-0-is c.in-Ok-Load.ensures.bounds).0
 
