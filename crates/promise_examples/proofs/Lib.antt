@@ -26,5 +26,4 @@ pub mod WrittenRefusal
 pub mod Transfer
 pub mod Load
 pub mod WrongAnswers
-pub mod BankText
 pub mod WrittenInit

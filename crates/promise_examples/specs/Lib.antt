@@ -13,4 +13,3 @@ pub mod WrittenBatch
 pub mod Readings
 pub mod WrittenRefusal
 pub mod WrittenInit
-pub mod Banks

@@ -68,8 +68,8 @@ fn other_words_are_bad_use(rt: HostRuntime) -> Result<(), Fail> {
         &["run", "--workers", "2"],
         &["run", "now"],
         &["init", "now"],
-        &["show"],
-        &["load", "1", "1"],
+        &["show", "now"],
+        &["load", "0", "1"],
         &["help"],
     ];
     for words in lists {

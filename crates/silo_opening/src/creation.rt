@@ -77,6 +77,10 @@ pub fn create<H: Host>(host: &mut H, program: &[u8]) -> Result<(), CreateFault>
     // No other file changes, and no output or input.
     ensures beside { IsTrue H.tells → StaysBeside (H.world host.old) (H.world host.new) }
 
+    // Four syncs were asked, and one more where the header of a file with bytes was closed first.
+    ensures least { OnOk result (IsTrue H.tells → (H.world host.old).syncs + 4 ≤ (H.world host.new).syncs) }
+    ensures most { OnOk result (IsTrue H.tells → (H.world host.new).syncs ≤ (H.world host.old).syncs + 5) }
+
     // `DiskFault` is answered exactly where a call on the file, one of the two, failed: its count rose then, and no other
     // changed. With another answer no count has changed.
     ensures calm { OnOk result (NoneFailed (H.faults host.old) (H.faults host.new)) }
@@ -93,6 +97,8 @@ pub fn create<H: Host>(host: &mut H, program: &[u8]) -> Result<(), CreateFault>
 fn prepare<H: Host>(host: &mut H) -> Result<(), CreateFault>
     ensures first { OnOk result (IsTrue H.tells → FromFirstSync (HasNoSilo magic) (H.world host.old) (H.world host.new)) }
     ensures shut { OnOk result (IsTrue H.tells → IsShut ((H.world host.new).disk manager)) }
+    ensures least { OnOk result (IsTrue H.tells → (H.world host.old).syncs + 1 ≤ (H.world host.new).syncs) }
+    ensures most { OnOk result (IsTrue H.tells → (H.world host.new).syncs ≤ (H.world host.old).syncs + 2) }
     ensures silo { IsTrue H.tells → IsSilo magic ((H.world host.old).disk manager).seen
         → (IsErrOf result CreateFault.AlreadyASilo) ⊎ (IsErrOf result (CreateFault.DiskFault manager)) }
     ensures untouched { IsTrue H.tells → IsSilo magic ((H.world host.old).disk manager).seen
@@ -129,6 +135,8 @@ fn look<H: Host>(host: &mut H) -> Result<Front, Failed>
     ensures looks { IsTrue H.tells → Looks (H.world host.old) (H.world host.new) }
     ensures shows { IfOk result (λ front. IsTrue H.tells → ShowsFront magic front ((H.world host.old).disk manager).seen) }
     ensures syncs { IfOk result (λ front. IsTrue H.tells → SyncsFor front (H.world host.old) (H.world host.new)) }
+    ensures unsynced { IfOk result (λ front. IsTrue H.tells → front ≡ Front.Empty → (H.world host.new).syncs ≡ (H.world host.old).syncs) }
+    ensures synced { IfOk result (λ front. IsTrue H.tells → front ≢ Front.Empty → (H.world host.new).syncs ≡ (H.world host.old).syncs + 1) }
     ensures faults { Counted (File manager) result (H.faults host.old) (H.faults host.new) }
     ensures ready { StaysReady (H.is_ready host.old) (H.is_ready host.new) }
 {
@@ -168,6 +176,7 @@ fn close_header<H: Host>(host: &mut H) -> Result<(), Failed>
     ensures ok { OnOk result (IsTrue H.tells
         → (H.world host.new).disk manager ≡ settled (overlaid ((H.world host.old).disk manager).seen 0 (0 ∷ []))) }
     ensures synced { OnOk result (IsTrue H.tells → ClosesBy true (H.world host.old) (H.world host.new)) }
+    ensures count { OnOk result (IsTrue H.tells → (H.world host.new).syncs ≡ (H.world host.old).syncs + 1) }
     ensures tried { IsTrue H.tells → MayClose (H.world host.old) (H.world host.new) }
     ensures faults { Counted (File manager) result (H.faults host.old) (H.faults host.new) }
     ensures ready { StaysReady (H.is_ready host.old) (H.is_ready host.new) }
@@ -186,6 +195,7 @@ fn fill<H: Host>(host: &mut H, program: &[u8]) -> Result<(), CreateFault>
         → Passes (IsNewAt magic program.now) (H.world host.old).past (H.world host.new).past }
     ensures now { IsTrue H.tells → IsNewAt magic program.now (moment_of (H.world host.new)) }
     ensures beside { IsTrue H.tells → StaysBeside (H.world host.old) (H.world host.new) }
+    ensures count { OnOk result (IsTrue H.tells → (H.world host.new).syncs ≡ (H.world host.old).syncs + 3) }
     ensures already { IsErrOf result CreateFault.AlreadyASilo → ⊥ }
     ensures calm { OnOk result (NoneFailed (H.faults host.old) (H.faults host.new)) }
     ensures fault { IfErr result (λ e. CreateFaulted e (H.faults host.old) (H.faults host.new)) }
@@ -203,6 +213,7 @@ fn write_program<H: Host>(host: &mut H, program: &[u8]) -> Result<(), Failed>
     ensures run { IsTrue H.tells → RunsOnFile program_file (Tears 0 (4 + length program.now)) 1 (H.world host.old) (H.world host.new) }
     ensures ok { OnOk result (IsTrue H.tells → (H.world host.new).disk program_file
         ≡ settled (overlaid ((H.world host.old).disk program_file).seen 0 (to_le_bytes w32 (length program.now) ++ program.now))) }
+    ensures count { OnOk result (IsTrue H.tells → (H.world host.new).syncs ≡ (H.world host.old).syncs + 1) }
     ensures faults { Counted (File program_file) result (H.faults host.old) (H.faults host.new) }
     ensures ready { StaysReady (H.is_ready host.old) (H.is_ready host.new) }
 {

@@ -44,5 +44,5 @@ answered {T} tells width picks x st input lines w0 w1 w2 f0 f1 f2 result r' s' s
     (subst (λ (r : Run). CanTurn r st.settler lines) (sym same) (starts_quiet base kinds opening types (lines_of input) lines st.settler are start.doubted start.written))
     (subst (λ (r : Run). IsFreshRecord o no_books r) (sym same) (starts_fresh base kinds opening o))
     (subst (λ (r : Run). KeepsRecord tells o no_books r st.settler f1 w1) (sym same) (starts_kept base kinds opening tells o st.settler f1 w1 above (λ c. let e = calm c in omega (arith, e))
-    start.loud start.written start.doubted start.sealing (λ told. ((pulled told).output, (pulled told).syncs)))) in
+    start.written start.doubted start.sealing (λ told. ((pulled told).output, (pulled told).syncs)))) in
     turns_answer tells o goes.books (run_of st.core) r' st.settler s' f1 f2 w1 w2 result calm goes.ended beside

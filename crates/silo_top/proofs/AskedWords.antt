@@ -1,11 +1,12 @@
--- What words ask for, where the commands that are built are `init` and `run` on one thread.
-use Rattle.std.proofs.Common.{◌≡◌, ℕ, ◌<◌, Bool, true, false, List, [], ◌∷◌, ◌++◌, refl, sym, ◌∙◌, ap, subst, arith, true≢false, unwrap_or}
+-- What words ask for, where all commands are built, and workers aren't.
+use Rattle.std.proofs.Common.{◌≡◌, ℕ, ◌<◌, ◌≤◌, Bool, true, false, List, [], ◌∷◌, ◌++◌, refl, sym, ◌∙◌, ap, subst, arith, true≢false, unwrap_or}
 use Rattle.std.specs.Prelude.{is_some}
 use Rattle.std.specs.List.{list_all, AllByRecursion}
-use Rattle.promise_spec.specs.Words.{Choice, Width, Turns, Workers, GivenOption, Manner, manner_of, with_choice, IsWithin, AreOptions, Command, Init, Run, Show, History, Audit, Load, Say, SpellsRun}
+use Rattle.promise_spec.specs.Words.{Choice, Width, Turns, Workers, GivenOption, Manner, manner_of, with_choice, IsWithin, AreOptions, Command, Init, Run, Show, History, Audit, Load, Say, SpellsRun, SpellsLoad}
 use Rattle.promise_spec.specs.Calls.{Understands}
 use Rattle.promise_spec.proofs.Words.{one_command}
-use Rattle.command_words.specs.Options.{chosen_manner, run_chosen, command_of, has_option}
+use Rattle.command_words.specs.Options.{chosen_manner, run_chosen, load_chosen, command_of, has_option}
+use Rattle.command_words.specs.declared.words.LoadOptions.{LoadOptions}
 use Rattle.command_words.specs.declared.words.RunOptions.{RunOptions}
 use Rattle.command_words.specs.declared.words.Words.{Words}
 use Rattle.command_words.specs.declared.words.Words.TheVariants as words
@@ -87,3 +88,22 @@ module _ (texts : Texts) (said : Words) (o : RunOptions) (is : said ≡ words.Ru
   -- a run may have a line in flight
   pub wide_enough : 0 < unwrap_or o.width 1
   wide_enough = subst (λ (m : Manner). 0 < m.width) (sym spelled.manner) (wide_by spelled.options spelled.are.within)
+
+module _ (texts : Texts) (said : Words) (o : LoadOptions) (is : said ≡ words.Load o) (say : Say (λ (g : GivenOption). has_option said g) texts (command_of said)) where
+  load_spelled : SpellsLoad (λ (g : GivenOption). has_option (words.Load o) g) texts o.transfers o.seed (chosen_manner (load_chosen o))
+  load_spelled = subst (λ (w : Words). Say (λ (g : GivenOption). has_option w g) texts (command_of w)) is say
+
+  -- nor are workers for a load
+  pub unbuilt_load : is_some o.workers ≡ true → (c : Command) → Understands is_built is_taken texts c → ⊥
+  unbuilt_load some c u =
+      let d : Command = Load o.transfers o.seed (chosen_manner (load_chosen o)) in
+      let same : c ≡ d = one_said is_taken (λ (g : GivenOption). has_option (words.Load o) g) texts c d u.0 load_spelled in
+      let k : SpellsLoad is_taken texts o.transfers o.seed (chosen_manner (load_chosen o)) = subst (λ (e : Command). Say is_taken texts e) same u.0 in
+      true≢false (sym some ∙ ap (λ (m : Manner). m.threaded) k.manner ∙ no_workers (k.before ++ (k.between ++ k.behind)) k.are.taken)
+
+  -- a line may be in flight, and the transfers are few enough
+  pub load_wide : 0 < unwrap_or o.width 1
+  load_wide = subst (λ (m : Manner). 0 < m.width) (sym load_spelled.manner) (wide_by (load_spelled.before ++ (load_spelled.between ++ load_spelled.behind)) load_spelled.are.within)
+
+  pub load_few : o.transfers ≤ 100000
+  load_few = load_spelled.many.1

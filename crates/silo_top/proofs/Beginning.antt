@@ -1,5 +1,5 @@
 -- Where the turns of a run begin: there is no event yet, and nothing is settled.
-use Rattle.std.proofs.Common.{◌≡◌, inl, ℕ, ◌+◌, ◌*◌, ◌-◌, ◌^◌, ◌<◌, ◌≤◌, Bool, false, List, [], length, None, IsTrue, refl, sym, ◌∙◌, ap, subst, arith, append-nil}
+use Rattle.std.proofs.Common.{◌≡◌, inl, ℕ, ◌+◌, ◌*◌, ◌-◌, ◌^◌, ◌<◌, ◌≤◌, Bool, true, false, List, [], length, None, IsTrue, refl, sym, ◌∙◌, ap, subst, arith, append-nil}
 use Rattle.std.proofs.Math.Nat.{min-le_left}
 use Rattle.host_trait.specs.declared.channels.Channel.{Channel}
 use Rattle.host_trait.specs.declared.channels.Channel.TheVariants.{File}
@@ -55,11 +55,16 @@ module _ (base kinds : ℕ) (opening : GrainId → List Value) where
   pub starts_unloaded : NoneLoads (own_sight r).mine
   starts_unloaded e there = absurd there
 
+  -- nothing was put out
+  none_put : (quiet : Bool) → IsPutOut quiet no_books (ends r)
+  none_put true = refl
+  none_put false = inl refl
+
   -- the record holds
   pub starts_kept : (tells : Bool) (o : Outset) (s : Settler) (counts : Channel → ℕ) (now : World) → 0 < base → ((c : Channel) → o.faults c ≤ counts c)
-      → s.quiet ≡ false → s.written ≡ 0 → s.doubted ≡ false → s.writer.in_doubt ≡ false
+      → s.written ≡ 0 → s.doubted ≡ false → s.writer.in_doubt ≡ false
       → (IsTrue tells → (now.output ≡ o.world.output) × (now.syncs ≡ o.world.syncs)) → KeepsRecord tells o no_books r s counts now
-  starts_kept tells o s counts now above later loud written sure sealing outside = record {
+  starts_kept tells o s counts now above later written sure sealing outside = record {
     above = above;
     units = λ at e a. absurd (none_applies base kinds opening at e a);
     turns = λ at e a. absurd (none_applies base kinds opening at e a);
@@ -70,7 +75,7 @@ module _ (base kinds : ℕ) (opening : GrainId → List Value) where
       };
       later = later;
       booked = record { commits = tt; entries = refl; doubted = tt };
-      said = subst (λ (quiet : Bool). IsPutOut quiet no_books (ends r)) (sym loud) (inl refl);
+      said = none_put s.quiet;
       cut = inl refl;
       doubt = sure;
       unsure = sealing ∙ sym sure;

@@ -1,5 +1,5 @@
 -- What the counts of faults say of an answer.
-use Rattle.std.proofs.Common.{◌≡◌, ◌≢◌, ◌⊎◌, inl, inr, ℕ, refl, sym, subst}
+use Rattle.std.proofs.Common.{◌≡◌, ◌≢◌, ℕ, refl, sym, subst}
 use Rattle.host_trait.specs.declared.channels.Channel.{Channel}
 use Rattle.host_trait.specs.declared.channels.Channel.TheVariants.{Input, Output, File}
 use Rattle.host_trait.specs.declared.channels.FileId.{FileId}
@@ -8,7 +8,7 @@ use Rattle.promise_spec.specs.Endings.{Ending, Done, BadUse, Memory, ReadFault, 
 use Rattle.silo_opening.specs.Counts.{OpenFaulted}
 use Rattle.silo_opening.specs.Opened.{ending_of}
 use Rattle.silo_opening.specs.declared.faults.OpenFault.{OpenFault}
-use Rattle.silo_top.specs.Answering.{AnswersRun}
+use Rattle.silo_top.specs.Answering.{AnswersRun, NamesFaults}
 
 abbrev Counts : Type 0
 Counts = Channel → ℕ
@@ -39,11 +39,11 @@ module _ (old new : Counts) where
   failed_risen (InputTooLong line) f = tt
 
   -- a failed call on the input is named
-  pub failed_input : (e : Ending) → HasFailedAs e old new → new Input ≢ old Input → (e ≡ ReadFault) ⊎ (e ≡ Memory)
+  pub failed_input : (e : Ending) → HasFailedAs e old new → new Input ≢ old Input → e ≡ ReadFault
   failed_input Done f other = absurd (other (f Input))
   failed_input BadUse f other = absurd (other (f Input))
-  failed_input Memory f other = inr refl
-  failed_input ReadFault f other = inl refl
+  failed_input Memory f other = absurd (other (f Input))
+  failed_input ReadFault f other = refl
   failed_input WriteFault f other = absurd (other (f.counts.others Input input_is_no_output))
   failed_input (DiskFault file) f other = absurd (other (f.counts.others Input (input_is_no_file file)))
   failed_input NotASilo f other = absurd (other (f Input))
@@ -53,12 +53,12 @@ module _ (old new : Counts) where
   failed_input (InputTooLong line) f other = absurd (other (f Input))
 
   -- and so is one on the output
-  pub failed_output : (e : Ending) → HasFailedAs e old new → new Output ≢ old Output → (e ≡ WriteFault) ⊎ (e ≡ Memory)
+  pub failed_output : (e : Ending) → HasFailedAs e old new → new Output ≢ old Output → e ≡ WriteFault
   failed_output Done f other = absurd (other (f Output))
   failed_output BadUse f other = absurd (other (f Output))
-  failed_output Memory f other = inr refl
+  failed_output Memory f other = absurd (other (f Output))
   failed_output ReadFault f other = absurd (other (f.counts.others Output (λ e. input_is_no_output (sym e))))
-  failed_output WriteFault f other = inl refl
+  failed_output WriteFault f other = refl
   failed_output (DiskFault file) f other = absurd (other (f.counts.others Output (output_is_no_file file)))
   failed_output NotASilo f other = absurd (other (f Output))
   failed_output AlreadyASilo f other = absurd (other (f Output))
@@ -66,13 +66,15 @@ module _ (old new : Counts) where
   failed_output (BadProgram fault) f other = absurd (other (f Output))
   failed_output (InputTooLong line) f other = absurd (other (f Output))
 
+  pub failed_names : (e : Ending) → HasFailedAs e old new → NamesFaults e old new
+  failed_names e f = record { input = failed_input e f; output = failed_output e f }
+
   -- so a run that names exactly the call that failed answers as a run does
   pub exactly_answers : (e : Ending) → e ≢ BadUse → HasFailedAs e old new → AnswersRun e old new
   exactly_answers e good f = record {
     good = good;
     risen = failed_risen e f;
-    input = failed_input e f;
-    output = failed_output e f;
+    names = failed_names e f;
     exact = λ unbegun. f;
   }
 

@@ -18,7 +18,7 @@ use Rattle.promise_spec.specs.Outputs.{Grew}
 use Rattle.promise_spec.specs.Cores.{core_from, how_many}
 use Rattle.promise_spec.specs.Causes.{is_vote, is_sealed, syncs_of}
 use Rattle.promise_spec.specs.Journals.{commits_of, entries_of}
-use Rattle.promise_spec.specs.Endings.{Ending, Done, BadUse, WriteFault as Unwritten, Memory as NoMemory, HasRisen, IsBegun, IsCarried, HasLength, IsAllWritten, input_limit}
+use Rattle.promise_spec.specs.Endings.{Ending, Done, BadUse, WriteFault as Unwritten, HasRisen, IsBegun, IsCarried, HasLength, IsAllWritten, input_limit}
 use Rattle.promise_spec.specs.Courses.{Observed, Course, seen_at_entry, core_run}
 use Rattle.promise_spec.specs.Explained.{AreSettled}
 use Rattle.promise_spec.specs.Promise.{IsDone, Promises}
@@ -39,7 +39,7 @@ use Rattle.opening_rules.proofs.Behind.{behind}
 use Rattle.silo_opening.specs.declared.open.Opened.{Opened}
 use Rattle.silo_top.specs.declared.status.Status.{Status}
 use Rattle.silo_top.specs.Statuses.{status_ending}
-use Rattle.silo_top.specs.Answering.{turns_manner, observed_call, AnswersRun}
+use Rattle.silo_top.specs.Answering.{turns_manner, observed_run, AnswersRun}
 use Rattle.silo_top.specs.Reading.{PulledOnly}
 use Rattle.silo_top.specs.Serving.{IsBehindOpening}
 use Rattle.interleaver.specs.Beside.{EmitsAs, TurnsBeside}
@@ -85,11 +85,11 @@ good_by (Err InDoubt) q = cc q
 good_by (Err WriteFault) q = cc q
 good_by (Err Memory) q = cc q
 
-output_by : {T : Type 0} (result : Result T RunFault) (old mid new : ℕ) → mid ≡ old → EmitsAs result mid new → new ≢ old → (turns_ending result ≡ Unwritten) ⊎ (turns_ending result ≡ NoMemory)
+output_by : {T : Type 0} (result : Result T RunFault) (old mid new : ℕ) → mid ≡ old → EmitsAs result mid new → new ≢ old → turns_ending result ≡ Unwritten
 output_by (Ok done) old mid new calm e other = absurd (other (e ∙ calm))
 output_by (Err InDoubt) old mid new calm e other = absurd (other (e ∙ calm))
-output_by (Err WriteFault) old mid new calm e other = inl refl
-output_by (Err Memory) old mid new calm e other = inr refl
+output_by (Err WriteFault) old mid new calm e other = refl
+output_by (Err Memory) old mid new calm e other = absurd (other (e ∙ calm))
 
 -- over every host
 pub turns_answer : {T : Type 0} (tells : Bool) (o : Outset) (b : Books) (r r' : Run) (s s' : Settler) (mid after : Channel → ℕ) (now now' : World) (result : Result T RunFault) → NoneFailed o.faults mid
@@ -97,8 +97,10 @@ pub turns_answer : {T : Type 0} (tells : Bool) (o : Outset) (b : Books) (r r' : 
 turns_answer tells o b r r' s s' mid after now now' result calm e beside = record {
   good = good_by result;
   risen = risen_by o b r' s' after result e;
-  input = λ other. absurd (other (beside.pulled ∙ calm Input));
-  output = output_by result (o.faults Output) (mid Output) (after Output) (calm Output) beside.emitted;
+  names = record {
+    input = λ other. absurd (other (beside.pulled ∙ calm Input));
+    output = output_by result (o.faults Output) (mid Output) (after Output) (calm Output) beside.emitted;
+  };
   exact = λ unbegun. absurd (unbegun (begun_by result));
 }
 
@@ -107,7 +109,7 @@ turns_answer tells o b r r' s s' mid after now now' result calm e beside = recor
 pub told : IsTrue true
 told = cc
 
-all_syncs : (new mid old v s : ℕ) → new ≡ mid + (v + 2 * s) → mid ≡ old + 1 → new ≡ old + (1 + (v + 2 * s))
+pub all_syncs : (new mid old v s : ℕ) → new ≡ mid + (v + 2 * s) → mid ≡ old + 1 → new ≡ old + (1 + (v + 2 * s))
 all_syncs new mid old v s a b = omega (arith, a, b)
 
 module _ {T : Type 0} (width : ℕ) (picks : List ℕ) (x : Opened) (old mid now new : World) (before after : Channel → ℕ) (status : Status) (result : Result T RunFault) (is : IsBehindOpening old mid x) (pulled : PulledOnly mid now)
@@ -122,7 +124,7 @@ module _ {T : Type 0} (width : ℕ) (picks : List ℕ) (x : Opened) (old mid now
   out = record { program = p; asked = lines_of old.input; opening = log; width = width; picks = picks; faults = before; world = mid }
 
   abbrev pub seen : Observed
-  seen = observed_call (turns_manner width picks) old new before after status
+  seen = observed_run (turns_manner width picks) old new before after status
 
   abbrev pub r0 : Run
   r0 = core_from p.types (standing_of p.types log) []

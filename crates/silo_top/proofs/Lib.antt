@@ -1,5 +1,6 @@
 pub mod Still
 pub mod Making
+pub mod Reported
 pub mod Read
 pub mod Beginning
 pub mod AskedWords
@@ -15,3 +16,9 @@ pub mod LastsAtStart
 pub mod AtRest
 pub mod Served
 pub mod Answered
+pub mod LoadLines
+pub mod LoadBegun
+pub mod LoadServed
+pub mod LoadMade
+pub mod LoadSaid
+pub mod LoadAnswered

@@ -21,6 +21,8 @@ use Rattle.promise_spec.specs.Cores.{core_from}
 use Rattle.history_core.specs.Cores.{run_of}
 use Rattle.silo_opening.specs.Opened.{IsOpenedFrom}
 use Rattle.silo_opening.specs.declared.open.Opened.{Opened}
+use Rattle.log_reading.specs.Steps.{seen_in}
+use Rattle.silo_top.specs.Loading.{LiesWithin}
 use Rattle.silo_top.specs.Starting.{IsStartOf}
 use Rattle.silo_top.specs.declared.starting.Started.{Started}
 
@@ -73,3 +75,15 @@ fits_at image o s disk is start seen = record {
   kept = subst (λ (vs : List Voted). AllByRecursion (λ (v : Voted). write_end v.write ≤ length (disk (grain_file v.write.grain)).seen) vs) (sym start.kept) tt;
   closed = λ sure. subst (λ (gate : ℕ). IsClosedAt gate (disk manager).seen) (sym start.gate) (subst (IsClosedAt o.gate_at) (sym (seen manager)) is.closed);
 }
+
+-- the same, of files as they read
+pub fits_within : (o : Opened) (s : Started) (disk : Disk) → LiesWithin (seen_in disk) o → IsStartOf o s → FitsDisk s.settler.writer disk
+fits_within o s disk lies start = record {
+  long = λ g. subst (λ (n : ℕ). n ≤ length (disk (grain_file g)).seen) (sym (start.ends g)) (by g (end_in o.ends g) refl);
+  kept = subst (λ (vs : List Voted). AllByRecursion (λ (v : Voted). write_end v.write ≤ length (disk (grain_file v.write.grain)).seen) vs) (sym start.kept) tt;
+  closed = λ sure. subst (λ (gate : ℕ). IsClosedAt gate (disk manager).seen) (sym start.gate) lies.closed;
+}
+  where
+    by : (g : GrainId) (end : Option ℕ) → end_in o.ends g ≡ end → unwrap_or end 0 ≤ length (disk (grain_file g)).seen
+    by g None e = omega arith
+    by g (Some end) e = lies.within g end e

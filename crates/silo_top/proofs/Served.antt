@@ -1,5 +1,5 @@
 -- A run from its opening to its end.
-use Rattle.std.proofs.Common.{◌≡◌, ℕ, ◌<◌, ◌≤◌, true, List, [], length, Result, refl, sym, ◌∙◌, ap, subst, arith}
+use Rattle.std.proofs.Common.{◌≡◌, ℕ, ◌<◌, ◌≤◌, true, false, List, [], length, Result, refl, sym, ◌∙◌, ap, subst, arith}
 use Rattle.std.specs.Prelude.{take}
 use Rattle.host_trait.specs.declared.channels.Channel.{Channel}
 use Rattle.host_trait.specs.Faults.{NoneFailed}
@@ -26,7 +26,7 @@ use Rattle.silo_opening.specs.declared.open.Opened.{Opened}
 use Rattle.silo_top.specs.declared.status.Status.{Status}
 use Rattle.silo_top.specs.declared.starting.Started.{Started}
 use Rattle.silo_top.specs.Statuses.{status_ending}
-use Rattle.silo_top.specs.Answering.{turns_manner, observed_call}
+use Rattle.silo_top.specs.Answering.{turns_manner, observed_run}
 use Rattle.silo_top.specs.Reading.{PulledOnly, AreReadFrom}
 use Rattle.silo_top.specs.Starting.{IsStartOf}
 use Rattle.silo_top.specs.Serving.{IsBehindOpening}
@@ -49,7 +49,7 @@ module _ {T : Type 0} (width : ℕ) (picks : List ℕ) (x : Opened) (st : Starte
   -- the record that holds where the turns begin
   kept : 0 < x.next_unit.0 → NoneFailed before between → KeepsRecord true outset no_books first st.settler between now
   kept above calm = starts_kept first.base first.kinds first.opening true outset st.settler between now (subst (λ (n : ℕ). 0 < n) is.opened.next above) (λ c. let e = calm c in omega (arith, e))
-      start.loud start.written start.doubted start.sealing (λ told. (pulled.output, pulled.syncs))
+      start.written start.doubted start.sealing (λ told. (pulled.output, pulled.syncs))
 
   -- what was read is an image still
   seen_left : IsImage now.disk (seen_in old.disk)
@@ -57,12 +57,12 @@ module _ {T : Type 0} (width : ℕ) (picks : List ℕ) (x : Opened) (st : Starte
       (λ file. subst (MayLeave (mid.disk file)) ((asked_untouched old mid is.run).seen file) (stay_mid file))
 
   -- So the run keeps its promise by what `run_turns` ensures, and by what it leaves beside that.
-  pub served : (lines : List Line) (r' : Run) (s' : Settler) → 0 < width → 0 < x.next_unit.0 → NoneFailed before between → AreReadFrom (program_tree x.checked) 0 (lines_of old.input) lines
+  pub served : (lines : List Line) (r' : Run) (s' : Settler) → st.settler.quiet ≡ false → 0 < width → 0 < x.next_unit.0 → NoneFailed before between → AreReadFrom (program_tree x.checked) 0 (lines_of old.input) lines
       → ((o : Outset) (b : Books) → IsOutset o (program_tree x.checked) (run_of st.core) lines width picks → CanTurn (run_of st.core) st.settler lines → IsFreshRecord o b (run_of st.core)
       → KeepsRecord true o b (run_of st.core) st.settler between now → RecordGoesOn true o b (run_of st.core) r' st.settler s' after now new result)
       → TurnsBeside true (run_of st.core) r' st.settler s' between after now new result
-      → Promises (turns_manner width picks) (observed_call (turns_manner width picks) old new before after status)
-  served lines r' s' wide above calm are turns beside =
+      → Promises (turns_manner width picks) (observed_run (turns_manner width picks) old new before after status)
+  served lines r' s' loud wide above calm are turns beside =
       let same : run_of st.core ≡ first = start_is (seen_in old.disk) x st is.opened start in
       let base : 0 < first.base = subst (λ (n : ℕ). 0 < n) is.opened.next above in
       let goes : RecordGoesOn true outset no_books (run_of st.core) r' st.settler s' after now new result = turns outset no_books
@@ -72,8 +72,8 @@ module _ {T : Type 0} (width : ℕ) (picks : List ℕ) (x : Opened) (st : Starte
       (subst (λ (r : Run). KeepsRecord true outset no_books r st.settler between now) (sym same) (kept above calm)) in
       let went : RecordGoesOn true outset no_books first r' st.settler s' after now new result = subst (λ (r : Run). RecordGoesOn true outset no_books r r' st.settler s' after now new result) same goes in
       let left : TurnsBeside true first r' st.settler s' between after now new result = subst (λ (r : Run). TurnsBeside true r r' st.settler s' between after now new result) same beside in
-      let behind = stands width picks x old mid now new before after status result is pulled stay_mid stay_new end short ends_as r' st.settler s' between went left start.loud in
-      turns_promised width picks x old mid now new before after status result is pulled stay_mid stay_new end short ends_as r' st.settler s' between went left start.loud
+      let behind = stands width picks x old mid now new before after status result is pulled stay_mid stay_new end short ends_as r' st.settler s' between went left loud in
+      turns_promised width picks x old mid now new before after status result is pulled stay_mid stay_new end short ends_as r' st.settler s' between went left loud
       (λ opens. (let all : AllLog outset.program outset.opening mid.disk = subst (λ (m : Moment). AllLog outset.program outset.opening m.disk) behind.last opens.opened in
       starts_lasting outset (take 15 (old.disk manager).seen) first.base first.kinds first.opening st.settler.writer now pulled all base
       (λ image image_is. ap (take 15) (settled_only (old.disk manager).seen (image manager) (subst (λ (f : FileState). MayLeave f (image manager)) is.settled (image_is manager))))

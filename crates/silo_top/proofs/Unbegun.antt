@@ -31,7 +31,7 @@ use Rattle.opening_rules.proofs.Behind.{behind}
 use Rattle.silo_opening.specs.declared.open.Opened.{Opened}
 use Rattle.silo_top.specs.declared.status.Status.{Status}
 use Rattle.silo_top.specs.Statuses.{status_ending}
-use Rattle.silo_top.specs.Answering.{observed_call}
+use Rattle.silo_top.specs.Answering.{observed_run}
 use Rattle.silo_top.specs.Reading.{PulledOnly}
 use Rattle.silo_top.specs.Serving.{IsBehindOpening}
 use Rattle.silo_top.proofs.Beginning.{none_applies, rose_none}
@@ -60,7 +60,7 @@ module _ (m : Manner) (o : Opened) (old mid new : World) (before after : Channel
   p = program_of is.opened
 
   abbrev r : Observed
-  r = observed_call m old new before after status
+  r = observed_run m old new before after status
 
   abbrev c : Course
   c = record { opening = is.opened.log; added = []; early = is.run.clock.more; late = pulled.moments.more; events = []; entries = []; rest = [] }

@@ -17,6 +17,7 @@ use Rattle.promise_spec.specs.Endings.{Ending, Memory, HasRisen}
 use Rattle.promise_spec.specs.Openings.{opened_as}
 use Rattle.promise_spec.specs.Courses.{Observed}
 use Rattle.promise_spec.specs.Commands.{MakesSilo}
+use Rattle.promise_spec.specs.Loads.{IsUnmade}
 use Rattle.promise_spec.specs.Refusals.{IsRefusedBy, IsUnopened}
 use Rattle.promise_spec.specs.Promise.{Promises}
 use Rattle.silo_opening.specs.Opened.{Stays, ending_of}
@@ -24,7 +25,7 @@ use Rattle.silo_opening.specs.Counts.{OpenFaulted}
 use Rattle.silo_opening.specs.declared.faults.OpenFault.{OpenFault}
 use Rattle.silo_top.specs.declared.status.Status.{Status}
 use Rattle.silo_top.specs.Statuses.{status_ending}
-use Rattle.silo_top.specs.Answering.{observed_call}
+use Rattle.silo_top.specs.Answering.{observed_call, observed_run}
 use Rattle.silo_top.proofs.Counted.{open_failed, failed_risen}
 
 -- ---- nothing but asking
@@ -61,8 +62,8 @@ unopened_promised m r is u = record { manner = is; answers = inl u; over_sound =
 
 -- so does one whose opening answered a fault
 pub refused_promised : (m : Manner) (old new : World) (before after : Channel → ℕ) (e : OpenFault) (status : Status) → status_ending status ≡ ending_of e → RunsOnFile manager Stays 1 old new
-    → IsRefusedBy (seen_in old.disk) (opened_as live_slot (seen_in old.disk)) (ending_of e) → OpenFaulted e before after → Promises m (observed_call m old new before after status)
-refused_promised m old new before after e status is run refused faulted = unopened_promised m (observed_call m old new before after status) refl (record {
+    → IsRefusedBy (seen_in old.disk) (opened_as live_slot (seen_in old.disk)) (ending_of e) → OpenFaulted e before after → Promises m (observed_run m old new before after status)
+refused_promised m old new before after e status is run refused faulted = unopened_promised m (observed_run m old new before after status) refl (record {
   untouched = asked_untouched old new run;
   unread = run.input;
   refused = subst (λ (x : Ending). IsRefusedBy (seen_in old.disk) (opened_as live_slot (seen_in old.disk)) x) (sym is) refused;
@@ -79,19 +80,42 @@ nothing_touched w = record {
 }
 
 -- where memory is wanting before anything was done
-pub starved_promised : (m : Manner) (w : World) (counts : Channel → ℕ) → Promises m (observed_call m w w counts counts Status.Memory)
-starved_promised m w counts = unopened_promised m (observed_call m w w counts counts Status.Memory) refl (record {
+pub starved_unopened : (m : Manner) (asked : List (List ℕ)) (w : World) (counts : Channel → ℕ) → IsUnopened (observed_call m asked w w counts counts Status.Memory)
+starved_unopened m asked w counts = record {
   untouched = nothing_touched w;
   unread = refl;
   refused = tt;
   risen = tt;
-})
+}
 
-pub starved_made : (m : Manner) (w : World) (counts : Channel → ℕ) → MakesSilo (observed_call m w w counts counts Status.Memory)
-starved_made m w counts = record {
+pub starved_promised : (m : Manner) (asked : List (List ℕ)) (w : World) (counts : Channel → ℕ) → Promises m (observed_call m asked w w counts counts Status.Memory)
+starved_promised m asked w counts = unopened_promised m (observed_call m asked w w counts counts Status.Memory) refl (starved_unopened m asked w counts)
+
+pub starved_made : (m : Manner) (asked : List (List ℕ)) (w : World) (counts : Channel → ℕ) → MakesSilo (observed_call m asked w w counts counts Status.Memory)
+starved_made m asked w counts = record {
   beside = started (IsBeside w) w.past;
   beside_now = record { output = refl; others = λ file one two. refl };
   makes = inl (nothing_touched w);
   ended = nothing_touched w;
   risen = tt;
+}
+
+pub starved_unmade : (m : Manner) (asked : List (List ℕ)) (w : World) (counts : Channel → ℕ) → IsUnmade (observed_call m asked w w counts counts Status.Memory)
+starved_unmade m asked w counts = record {
+  beside = record { input = refl; moments = started (IsBeside w) w.past; now = record { output = refl; others = λ file one two. refl } };
+  makes = inl (nothing_touched w);
+  ended = nothing_touched w;
+  risen = tt;
+}
+
+-- ---- any command
+
+-- a folder that wasn't opened, whatever the call was to do
+pub refused_unopened : (m : Manner) (asked : List (List ℕ)) (old new : World) (before after : Channel → ℕ) (e : OpenFault) (status : Status) → status_ending status ≡ ending_of e → RunsOnFile manager Stays 1 old new
+    → IsRefusedBy (seen_in old.disk) (opened_as live_slot (seen_in old.disk)) (ending_of e) → OpenFaulted e before after → IsUnopened (observed_call m asked old new before after status)
+refused_unopened m asked old new before after e status is run refused faulted = record {
+  untouched = asked_untouched old new run;
+  unread = run.input;
+  refused = subst (λ (x : Ending). IsRefusedBy (seen_in old.disk) (opened_as live_slot (seen_in old.disk)) x) (sym is) refused;
+  risen = subst (λ (x : Ending). HasRisen x before after) (sym is) (failed_risen before after (ending_of e) (open_failed before after e faulted));
 }

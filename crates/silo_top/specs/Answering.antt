@@ -1,24 +1,20 @@
--- What a call of `run` answers over any host, and what a call shows.
-use Rattle.std.specs.Prelude.{◌≡◌, ◌≢◌, ◌⊎◌, ℕ, Bool, true, false, not, List}
+-- What a call answers over any host, what it is asked, and what it shows.
+use Rattle.std.specs.Prelude.{◌≡◌, ◌≢◌, ℕ, Bool, true, false, not, List, ⊤}
 use Rattle.host_trait.specs.declared.channels.Channel.{Channel}
 use Rattle.host_trait.specs.declared.channels.Channel.TheVariants.{Input, Output}
 use Rattle.host_trait.specs.World.{World}
 use Rattle.request_wire.specs.Lines.{lines_of}
 use Rattle.promise_spec.specs.Words.{GivenOption, Manner, Command, Init, Run, Show, History, Audit, Load, is_workers}
-use Rattle.promise_spec.specs.Endings.{Ending, BadUse, Memory, ReadFault, WriteFault, HasRisen, HasFailedAs, IsBegun}
+use Rattle.promise_spec.specs.Endings.{Ending, BadUse, ReadFault, WriteFault, HasRisen, HasFailedAs, IsBegun}
 use Rattle.promise_spec.specs.Courses.{Observed}
 use Rattle.promise_spec.specs.Calls.{Understands}
+use Rattle.bank_load.specs.Requests.{load_texts}
 use Rattle.silo_top.specs.declared.status.Status.{Status}
 use Rattle.silo_top.specs.Statuses.{status_ending}
 
--- the commands that are built
+-- the commands that are built: all
 abbrev pub is_built : Command → Bool
-is_built Init = true
-is_built (Run m) = true
-is_built Show = false
-is_built History = false
-is_built Audit = false
-is_built (Load n seed m) = false
+is_built c = true
 
 -- and the options of these: all but workers
 abbrev pub is_taken : GivenOption → Bool
@@ -28,15 +24,25 @@ is_taken g = not (is_workers g.what)
 abbrev pub turns_manner : ℕ → List ℕ → Manner
 turns_manner width picks = record { threaded = false; width = width; picks = picks }
 
--- where the words are those of a run, it is carried in this manner
-abbrev pub IsMannerOf : List (List ℕ) → Manner → Type 0
-IsMannerOf words m = (n : Manner) → Understands is_built is_taken words (Run n) → m ≡ n
+-- In what manner a command is carried over an input, and what lines it is asked: a run has those of the input, and a load those
+-- that it draws.
+abbrev pub AsksFor : Command → List ℕ → Manner → List (List ℕ) → Type 0
+AsksFor Init input m asked = ⊤
+AsksFor (Run n) input m asked = (m ≡ n) × (asked ≡ lines_of input)
+AsksFor Show input m asked = ⊤
+AsksFor History input m asked = ⊤
+AsksFor Audit input m asked = ⊤
+AsksFor (Load transfers seed n) input m asked = (m ≡ n) × (asked ≡ load_texts transfers seed)
+
+-- the call is carried so, and is asked so, as its words say
+abbrev pub IsAsked : List (List ℕ) → World → Manner → List (List ℕ) → Type 0
+IsAsked words old m asked = (c : Command) → Understands is_built is_taken words c → AsksFor c old.input m asked
 
 -- what a call shows that ended with this status
-abbrev pub observed_call : Manner → World → World → (Channel → ℕ) → (Channel → ℕ) → Status → Observed
-observed_call m old new before after status = record {
+abbrev pub observed_call : Manner → List (List ℕ) → World → World → (Channel → ℕ) → (Channel → ℕ) → Status → Observed
+observed_call m asked old new before after status = record {
   manner = m;
-  asked = lines_of old.input;
+  asked = asked;
   old = old;
   new = new;
   faults_before = before;
@@ -44,11 +50,19 @@ observed_call m old new before after status = record {
   ending = status_ending status;
 }
 
--- What a run answers over any host: never bad use, and a fault is shown by its count; no failed call on the input or the output is
--- passed over, but for want of memory; and an ending that no line has begun before names exactly the call that failed.
+-- what a run shows, which is asked the lines of its input
+abbrev pub observed_run : Manner → World → World → (Channel → ℕ) → (Channel → ℕ) → Status → Observed
+observed_run m old new before after status = observed_call m (lines_of old.input) old new before after status
+
+-- No failed call on the input or the output is passed over, by want of memory neither.
+pub record NamesFaults (e : Ending) (old new : Channel → ℕ) : Type 0 where
+  pub input : new Input ≢ old Input → e ≡ ReadFault
+  pub output : new Output ≢ old Output → e ≡ WriteFault
+
+-- What a run or a load answers over any host: never bad use, and a fault is shown by its count; no failed call on the input or the
+-- output is passed over; and an ending that no line has begun before names exactly the call that failed.
 pub record AnswersRun (e : Ending) (old new : Channel → ℕ) : Type 0 where
   pub good : e ≢ BadUse
   pub risen : HasRisen e old new
-  pub input : new Input ≢ old Input → (e ≡ ReadFault) ⊎ (e ≡ Memory)
-  pub output : new Output ≢ old Output → (e ≡ WriteFault) ⊎ (e ≡ Memory)
+  pub names : NamesFaults e old new
   pub exact : (IsBegun e → ⊥) → HasFailedAs e old new

@@ -4,3 +4,4 @@ pub mod Asking
 pub mod Reading
 pub mod Starting
 pub mod Serving
+pub mod Loading

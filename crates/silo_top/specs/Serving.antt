@@ -1,10 +1,13 @@
 -- How a run goes on behind the opening.
-use Rattle.std.specs.Prelude.{◌≡◌, ◌+◌}
+use Rattle.std.specs.Prelude.{◌≡◌, ◌+◌, Err}
 use Rattle.host_trait.specs.Disk.{settled}
 use Rattle.host_trait.specs.Runs.{RunsOnFile}
 use Rattle.host_trait.specs.World.{World}
 use Rattle.log_reading.specs.Steps.{seen_in, manager}
 use Rattle.promise_laws.specs.Closings.{ReadsMayStay}
+use Rattle.interleaver.specs.declared.faults.RunFault.{RunFault}
+use Rattle.interleaver.specs.Closing.{turns_ending}
+use Rattle.promise_spec.specs.Endings.{Ending}
 use Rattle.silo_opening.specs.Opened.{Stays, IsOpenedFrom}
 use Rattle.silo_opening.specs.declared.open.Opened.{Opened}
 
@@ -15,3 +18,7 @@ pub record IsBehindOpening (old mid : World) (o : Opened) : Type 0 where
   pub count : mid.syncs ≡ old.syncs + 1
   pub run : RunsOnFile manager Stays 1 old mid
   pub stays : ReadsMayStay old
+
+-- how a run ends whose turns ended by this fault
+abbrev pub fault_ending : RunFault → Ending
+fault_ending fault = turns_ending {T = Unit {0}} (Err fault)

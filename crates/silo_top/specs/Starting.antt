@@ -11,7 +11,7 @@ use Rattle.silo_opening.specs.declared.open.Opened.{Opened}
 use Rattle.silo_top.specs.declared.starting.Started.{Started}
 
 -- The program is the opened silo's. The core has no events; its units are numbered from the next one on, and its grains are those of
--- the store. The settler goes on at the log's gate and at the ends that the log names, writes replies, and has written none.
+-- the store. The settler goes on at the log's gate and at the ends that the log names, and has written no replies.
 pub record IsStartOf (o : Opened) (s : Started) : Type 0 where
   pub checked : s.checked ≡ o.checked
   pub run : run_of s.core ≡ record {
@@ -25,6 +25,5 @@ pub record IsStartOf (o : Opened) (s : Started) : Type 0 where
   pub ends : (g : GrainId) → file_end s.settler.writer g ≡ unwrap_or (end_in o.ends g) 0
   pub kept : kept_of s.settler.writer ≡ []
   pub sealing : s.settler.writer.in_doubt ≡ false
-  pub loud : s.settler.quiet ≡ false
   pub written : s.settler.written ≡ 0
   pub doubted : s.settler.doubted ≡ false

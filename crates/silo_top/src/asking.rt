@@ -3,7 +3,7 @@ ghost use Rattle.promise_spec.specs.Words.{Command};
 ghost use Rattle.promise_spec.specs.Calls.{Understands};
 ghost use Rattle.command_words.specs.CutParts.{texts_of};
 ghost use Rattle.silo_top.specs.Answering.{is_built, is_taken};
-ghost use Rattle.silo_top.specs.Asking.{asked_command, IsWide};
+ghost use Rattle.silo_top.specs.Asking.{asked_command, MayBeCarried};
 
 use base_types::List;
 use command_words::{Words, WordsFault, read_words};
@@ -15,7 +15,22 @@ pub(crate) enum Asked {
     /// To make a silo.
     Init,
     /// To carry the lines of the input: how many may be in flight, and the picks.
-    Run { width: u32, picks: List<u32> },
+    Run {
+        width: u32,
+        picks: List<u32>,
+    },
+    /// To write the states.
+    Show,
+    /// To write the records.
+    History,
+    /// To play the log again.
+    Audit,
+    /// To make a silo and carry a load: how many transfers are drawn from which seed, and how many lines may be in flight.
+    Load {
+        transfers: u32,
+        seed: u64,
+        width: u32,
+    },
 }
 
 /// The picks of an option, none where it isn't given.
@@ -28,10 +43,17 @@ fn picks_of(alloc: Global, turns: Option<Vec<u32>>) -> List<u32>
     }
 }
 
-/// The command that the words ask for, where it is built. Workers aren't.
+/// How many lines may be in flight, 1 where it isn't given.
+fn width_of(width: Option<u32>) -> u32
+    ensures { result ≡ unwrap_or width 1 }
+{
+    width.unwrap_or(1)
+}
+
+/// The command that the words ask for. Workers aren't built.
 pub(crate) fn read_asked(alloc: Global, words: &[String]) -> Result<Asked, WordsFault>
     ensures asked { IfOk result (λ asked. Understands is_built is_taken (texts_of words.now) (asked_command asked)) }
-    ensures wide { IfOk result IsWide }
+    ensures bounds { IfOk result MayBeCarried }
     ensures bad_use { result ≡ Err WordsFault.BadUse → (c : Command) → Understands is_built is_taken (texts_of words.now) c → ⊥ }
 {
     match read_words(alloc, words)? {
@@ -40,10 +62,23 @@ pub(crate) fn read_asked(alloc: Global, words: &[String]) -> Result<Asked, Words
             if options.workers.is_some() {
                 return Err(WordsFault::BadUse);
             }
-            let width = options.width.unwrap_or(1);
+            let width = width_of(options.width);
             let picks = picks_of(alloc, options.turns);
             Ok(Asked::Run { width, picks })
         }
-        _ => Err(WordsFault::BadUse),
+        Words::Show => Ok(Asked::Show),
+        Words::History => Ok(Asked::History),
+        Words::Audit => Ok(Asked::Audit),
+        Words::Load(options) => {
+            if options.workers.is_some() {
+                return Err(WordsFault::BadUse);
+            }
+            let width = width_of(options.width);
+            Ok(Asked::Load {
+                transfers: options.transfers,
+                seed: options.seed,
+                width,
+            })
+        }
     }
 }

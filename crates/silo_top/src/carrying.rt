@@ -6,9 +6,9 @@ ghost use Rattle.host_trait.specs.declared.channels.Channel.{Channel as AChannel
 ghost use Rattle.log_reading.specs.Sums.{AreNear};
 ghost use Rattle.interleaver.specs.Closing.{turns_ending};
 ghost use Rattle.promise_spec.specs.Promise.{Promises};
-ghost use Rattle.silo_top.specs.Answering.{AnswersRun, turns_manner, observed_call};
+ghost use Rattle.silo_top.specs.Answering.{AnswersRun, turns_manner, observed_run};
 ghost use Rattle.silo_top.specs.Reading.{input_ending};
-ghost use Rattle.silo_top.specs.Serving.{IsBehindOpening};
+ghost use Rattle.silo_top.specs.Serving.{IsBehindOpening, fault_ending};
 ghost use Rattle.silo_top.specs.Statuses.{status_ending};
 
 use crate::input::{InputFault, read_input};
@@ -23,7 +23,18 @@ use silo_opening::Opened;
 use std::alloc::{AllocError, Global};
 
 /// The file of the log.
-const MANAGER: FileId = FileId::Manager { slot: 0 };
+pub(crate) const MANAGER: FileId = FileId::Manager { slot: 0 };
+
+/// The status of a run whose turns ended before each line had its reply.
+fn fault_status(fault: RunFault) -> Status
+    ensures { status_ending result ≡ fault_ending fault }
+{
+    match fault {
+        RunFault::InDoubt => Status::DiskFault { file: MANAGER },
+        RunFault::WriteFault => Status::WriteFault,
+        RunFault::Memory => Status::Memory,
+    }
+}
 
 /// The status of a run whose turns ended so.
 fn turns_status(ended: Result<(), RunFault>) -> Status
@@ -31,9 +42,7 @@ fn turns_status(ended: Result<(), RunFault>) -> Status
 {
     match ended {
         Ok(()) => Status::Done,
-        Err(RunFault::InDoubt) => Status::DiskFault { file: MANAGER },
-        Err(RunFault::WriteFault) => Status::WriteFault,
-        Err(RunFault::Memory) => Status::Memory,
+        Err(fault) => fault_status(fault),
     }
 }
 
@@ -67,11 +76,11 @@ pub(crate) fn serve<H: Host, G: Gate>(
     // Behind the opening it keeps the whole promise of a run.
     ensures promises { IsTrue H.tells → (old : World) (before : AChannel → ℕ) → IsBehindOpening old (H.world host.old) opened
         → NoneFailed before (H.faults host.old)
-        → Promises (turns_manner width picks.now) (observed_call (turns_manner width picks.now) old (H.world host.new) before (H.faults host.new) result) }
+        → Promises (turns_manner width picks.now) (observed_run (turns_manner width picks.now) old (H.world host.new) before (H.faults host.new) result) }
     ensures answers { AnswersRun (status_ending result) (H.faults host.old) (H.faults host.new) }
     ensures ready { StaysReady (H.is_ready host.old) (H.is_ready host.new) }
 {
-    let mut started = match start(alloc, opened) {
+    let mut started = match start(alloc, opened, false) {
         Ok(started) => started,
         Err(AllocError) => return Status::Memory,
     };

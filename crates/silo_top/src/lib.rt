@@ -1,14 +1,16 @@
-//! The commands `init` and `run` of a silo of any program: [`run_silo`] does all that a call does.
+//! The commands of a silo: [`run_silo`] does all that a call does.
 //!
 //! `asking` says which command the words ask for, `input` reads the input and `lines` its lines, `starting` makes a core and a
-//! settler of an opened silo, `carrying` carries the lines over them, and `running` puts these together. `Promised` is what a call
-//! promises, in the words of `promise_spec`.
+//! settler of an opened silo, `carrying` carries the lines over them, `loading` makes a silo and carries drawn lines, `reporting`
+//! tells of a folder, and `running` puts these together. What a call promises is told in the words of `promise_spec`.
 #![tactic(auto)]
 
 mod asking;
 mod carrying;
 mod input;
 mod lines;
+mod loading;
+mod reporting;
 mod running;
 mod starting;
 mod status;

@@ -1,4 +1,4 @@
-ghost use Rattle.std.specs.Prelude.{◌≡◌, ◌<◌, IsTrue};
+ghost use Rattle.std.specs.Prelude.{◌≡◌, ◌<◌, ℕ, List as AList, IsTrue};
 ghost use Rattle.host_trait.specs.Files.{StaysReady};
 ghost use Rattle.promise_spec.specs.Words.{Manner};
 ghost use Rattle.promise_spec.specs.Commands.{MakesSilo};
@@ -6,11 +6,13 @@ ghost use Rattle.promise_spec.specs.Endings.{HasFailedAs, BadUse};
 ghost use Rattle.promise_spec.specs.Promise.{Promises};
 ghost use Rattle.promise_spec.specs.Calls.{Serves, AnswersAs};
 ghost use Rattle.command_words.specs.CutParts.{texts_of};
-ghost use Rattle.silo_top.specs.Answering.{AnswersRun, is_built, is_taken, turns_manner, IsMannerOf, observed_call};
+ghost use Rattle.silo_top.specs.Answering.{AnswersRun, NamesFaults, is_built, is_taken, turns_manner, IsAsked, observed_call, observed_run};
 ghost use Rattle.silo_top.specs.Statuses.{status_ending};
 
 use crate::asking::{Asked, read_asked};
 use crate::carrying::serve;
+use crate::loading::load;
+use crate::reporting::{audit, history, show};
 use crate::status::Status;
 use base_types::List;
 use command_words::WordsFault;
@@ -21,7 +23,7 @@ use std::alloc::Global;
 
 /// Makes a silo of the program that is the input.
 fn make<H: Host>(alloc: Global, host: &mut H) -> Status
-    ensures makes { IsTrue H.tells → (m : Manner) → MakesSilo (observed_call m (H.world host.old) (H.world host.new) (H.faults host.old) (H.faults host.new) result) }
+    ensures makes { IsTrue H.tells → (m : Manner) (asked : AList (AList ℕ)) → MakesSilo (observed_call m asked (H.world host.old) (H.world host.new) (H.faults host.old) (H.faults host.new) result) }
     ensures exact { HasFailedAs (status_ending result) (H.faults host.old) (H.faults host.new) }
     ensures good { status_ending result ≡ BadUse → ⊥ }
     ensures ready { StaysReady (H.is_ready host.old) (H.is_ready host.new) }
@@ -47,7 +49,7 @@ fn run<H: Host, G: Gate>(
 ) -> Status
     requires wide { 0 < width }
     ensures promises { IsTrue H.tells → Promises (turns_manner width picks.now)
-        (observed_call (turns_manner width picks.now) (H.world host.old) (H.world host.new) (H.faults host.old) (H.faults host.new) result) }
+        (observed_run (turns_manner width picks.now) (H.world host.old) (H.world host.new) (H.faults host.old) (H.faults host.new) result) }
     ensures answers { AnswersRun (status_ending result) (H.faults host.old) (H.faults host.new) }
     ensures ready { StaysReady (H.is_ready host.old) (H.is_ready host.new) }
 {
@@ -62,17 +64,22 @@ fn run<H: Host, G: Gate>(
 
 /// Does all that the program does, and answers how it ended.
 ///
-/// `words` are those of the command line after the folder: `init`, or `run` with a width and picks. All else is `BadUse`, and
-/// nothing is done then.
+/// `words` are those of the command line after the folder: `init`, `run` with a width and picks, `show`, `history`, `audit`, or
+/// `load` with two numbers and a width. All else is `BadUse`, and nothing is done then.
 ///
 /// `init` reads a program's text from the input, and makes the folder a silo of it with an empty log.
 ///
 /// `run` opens the silo, reads the input to its end, and carries its lines as calls of the silo's program: it answers each with a
 /// reply line, and each that commits has its record in the log before.
 ///
+/// `show` writes the state of each grain that the log wrote, `history` each record, and `audit` the first record that doesn't
+/// replay. They leave the folder as it is.
+///
+/// `load` makes the folder a silo of the bank program, carries lines that it draws from a seed, and prints one summary line.
+///
 /// What each of them promises, at each moment and at its end, is `Serves`, over a host that tells what it holds. Over any host
-/// a fault is answered only where a call on its channel failed, and no failed call on the input or the output is passed over, but
-/// for want of memory: `AnswersAs`.
+/// a fault is answered only where a call on its channel failed (`AnswersAs`), and no failed call on the input or the output is
+/// passed over (`NamesFaults`).
 pub fn run_silo<Rt, H: Host, G: Gate + Sync>(
     _rt: &Rt,
     alloc: Global,
@@ -80,17 +87,28 @@ pub fn run_silo<Rt, H: Host, G: Gate + Sync>(
     host: &mut H,
     gate: &G,
 ) -> Status
-    // What the command promises that the words say, of which `init` and `run` are built, and that all other words are bad use.
-    ensures serves { IsTrue H.tells → (m : Manner) → IsMannerOf (texts_of words.now) m → Serves is_built is_taken (texts_of words.now)
-        (observed_call m (H.world host.old) (H.world host.new) (H.faults host.old) (H.faults host.new) result) }
+    // What the command promises that the words say, all but workers, and that all other words are bad use.
+    ensures serves { IsTrue H.tells → (m : Manner) (asked : AList (AList ℕ)) → IsAsked (texts_of words.now) (H.world host.old) m asked → Serves is_built is_taken (texts_of words.now)
+        (observed_call m asked (H.world host.old) (H.world host.new) (H.faults host.old) (H.faults host.new) result) }
 
     // What the counts of faults say of the answer, over every host.
+    ensures names { NamesFaults (status_ending result) (H.faults host.old) (H.faults host.new) }
     ensures answers { AnswersAs is_built is_taken (texts_of words.now) (status_ending result) (H.faults host.old) (H.faults host.new) }
     ensures ready { StaysReady (H.is_ready host.old) (H.is_ready host.new) }
 {
     match read_asked(alloc, words) {
         Ok(Asked::Init) => make(alloc, host),
         Ok(Asked::Run { width, picks }) => run(alloc, host, gate, width, &picks),
+        Ok(Asked::Show) => show(alloc, host),
+        Ok(Asked::History) => history(alloc, host),
+        Ok(Asked::Audit) => audit(alloc, host),
+        Ok(
+            Asked::Load {
+                transfers,
+                seed,
+                width,
+            },
+        ) => load(alloc, host, gate, transfers, seed, width),
         Err(WordsFault::BadUse) => Status::BadUse,
         Err(WordsFault::Memory) => Status::Memory,
     }

@@ -1,4 +1,4 @@
-ghost use Rattle.std.specs.Prelude.{◌^◌, ◌<◌, ◌≤◌, false, IfOk};
+ghost use Rattle.std.specs.Prelude.{◌≡◌, ◌^◌, ◌<◌, ◌≤◌, IfOk};
 ghost use Rattle.log_reading.specs.Sums.{AreNear};
 ghost use Rattle.batch_disk.specs.Writers.{IsInBounds};
 ghost use Rattle.silo_top.specs.Starting.{IsStartOf};
@@ -17,13 +17,14 @@ pub(crate) struct Started {
     pub(crate) settler: Settler,
 }
 
-/// A core and a settler of an opened silo.
-pub(crate) fn start(alloc: Global, opened: Opened) -> Result<Started, AllocError>
+/// A core and a settler of an opened silo. A quiet settler writes no replies.
+pub(crate) fn start(alloc: Global, opened: Opened, quiet: bool) -> Result<Started, AllocError>
     requires gate { opened.gate_at < 2 ^ 63 }
     requires above { 0 < opened.next_unit.0 }
     requires few { opened.next_unit.0 ≤ 2 ^ 63 }
     requires near { AreNear opened.ends }
     ensures start { IfOk result (λ started. IsStartOf opened started) }
+    ensures quiet { IfOk result (λ started. started.settler.quiet ≡ quiet) }
     ensures bounds { IfOk result (λ started. IsInBounds started.settler.writer) }
 {
     let shape = opened.checked.shape()?;
@@ -35,7 +36,7 @@ pub(crate) fn start(alloc: Global, opened: Opened) -> Result<Started, AllocError
             next_unit: opened.next_unit,
         },
     );
-    let settler = Settler::new(alloc, opened.gate_at, opened.ends, false)?;
+    let settler = Settler::new(alloc, opened.gate_at, opened.ends, quiet)?;
     Ok(Started {
         checked: opened.checked,
         core,

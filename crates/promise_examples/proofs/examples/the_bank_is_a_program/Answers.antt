@@ -1,4 +1,4 @@
-use Rattle.promise_examples.proofs.BankText.{bank_is_checked, bank_is_named}
+use Rattle.bank_load.proofs.BankText.{bank_is_checked, bank_is_named}
 use Rattle.promise_examples.proofs.examples.the_bank_is_a_program.Goals as goal
 
 pub returns-clause-checked : goal.returns-clause-checked

@@ -16,7 +16,7 @@ use Rattle.silo_top.proofs.Answered.{answered}
 use Rattle.silo_top.proofs.OpensWith.{fits_at}
 use Rattle.promise_spec.specs.Endings.{Ending, input_limit}
 use Rattle.silo_top.specs.Reading.{input_ending}
-use Rattle.silo_top.specs.Answering.{turns_manner, observed_call, AnswersRun}
+use Rattle.silo_top.specs.Answering.{turns_manner, observed_run, AnswersRun}
 use Rattle.silo_top.specs.declared.status.Status.{Status}
 use Rattle.silo_top.proofs.Unbegun.{unbegun_promised, EndsUnbegun}
 use Rattle.silo_top.proofs.Unread.{unread_ends, starved_ends}
@@ -25,7 +25,7 @@ use Rattle.silo_top.proofs.carrying.serve.Goals as goal
 
 pub returns-in-Err-clause-promises : goal.returns-in-Err-clause-promises
 returns-in-Err-clause-promises g c = λ told old before behind none.
-    unopened_promised (turns_manner c.args.width c.args.picks.now) (observed_call (turns_manner c.args.width c.args.picks.now) old (g.H.Host.world c.args.host.now) before (g.H.Host.faults c.args.host.now) Status.Memory) refl
+    unopened_promised (turns_manner c.args.width c.args.picks.now) (observed_run (turns_manner c.args.width c.args.picks.now) old (g.H.Host.world c.args.host.now) before (g.H.Host.faults c.args.host.now) Status.Memory) refl
     (record { untouched = asked_untouched old (g.H.Host.world c.args.host.now) behind.run; unread = behind.run.input; refused = tt; risen = tt })
 
 pub returns-in-Err-read_input-clause-promises : goal.returns-in-Err-read_input-clause-promises
@@ -58,7 +58,7 @@ returns-clause-promises g c = λ told old before behind none.
     let whole : old.input ≡ c.deref.result.now = sym behind.run.input ∙ c.in-Ok-read_input.ensures.whole told ∙ sym c.deref.ensures.value in
     served c.args.width c.args.picks.now c.args.opened c.in-Ok.started old w0 w1 w2 before f1 f2 c.turns_status.result c.run_turns.result behind c.in-Ok.ensures.start (c.read_input.ensures.only told)
     (λ file. g.met.H.Host.seen_may_stay c.args.host.now file told) (λ file. g.met.H.Host.seen_may_stay c.run_turns.new.host file told) (c.in-Ok-read_input.ensures.end told)
-    (omega (arith, ap length whole, c.deref.ensures.len, c.in-Ok-read_input.ensures.within)) c.turns_status.ensures c.in-Ok-read_lines.lines (run_of c.run_turns.new.core) c.run_turns.new.settler c.requires.wide c.requires.above (λ d. c.in-Ok-read_input.ensures.calm d ∙ none d)
+    (omega (arith, ap length whole, c.deref.ensures.len, c.in-Ok-read_input.ensures.within)) c.turns_status.ensures c.in-Ok-read_lines.lines (run_of c.run_turns.new.core) c.run_turns.new.settler c.in-Ok.ensures.quiet c.requires.wide c.requires.above (λ d. c.in-Ok-read_input.ensures.calm d ∙ none d)
     (subst (λ (l : List ℕ). AreReadFrom (program_tree c.args.opened.checked) 0 (lines_of l) c.in-Ok-read_lines.lines) (sym whole)
     (subst (λ (k : ProgramTree). AreReadFrom k 0 (lines_of c.deref.result.now) c.in-Ok-read_lines.lines) (ap program_tree c.in-Ok.ensures.start.checked) c.in-Ok-read_lines.ensures))
     (subst (λ (t : Bool). (o : Outset) (b : Books) → IsOutset o (program_tree c.args.opened.checked) (run_of c.in-Ok.started.core) c.in-Ok-read_lines.lines c.args.width c.args.picks.now

@@ -1,6 +1,6 @@
 -- The bank program of a load is a checked one: its text read as tokens, the tokens as types, and the types checked.
-use Rattle.std.proofs.Common.{◌≡◌, ℕ, List, [], take, Ok, Err, None, Result, true, refl, ◌∙◌, ap, sym, lit<}
-use Rattle.std.specs.Prelude.{Bool, false, is_none, length}
+use Rattle.std.proofs.Common.{◌≡◌, ℕ, List, [], ◌∷◌, take, Ok, Err, None, Result, true, refl, ◌∙◌, ap, sym, lit<}
+use Rattle.std.specs.Prelude.{Bool, false, is_none, length, slice_get, pos}
 use Rattle.std.specs.Str.Lossy.{utf8_valid_len}
 use Rattle.std.proofs.lemmas.Str.{utf8_valid_len-IsUtf8}
 use Rattle.json.proofs.Printed.Utf8.{IsUtf8-are_ascii}
@@ -9,7 +9,7 @@ use Rattle.script_lexer.specs.declared.faults.ParseFault.TheVariants.{Unexpected
 use Rattle.script_lexer.specs.Lexemes.{name_lexeme, number_lexeme, text_lexeme, symbol_lexeme, lexeme}
 use Rattle.script_lexer.specs.Lexing.{TokensAndStop, lex, lexed, end_of}
 use Rattle.script_tree.specs.Programs.{ProgramTree}
-use Rattle.script_expressions.specs.Tokens.{expected, expected_word, name_at, spelling_at, taken, taken_word}
+use Rattle.script_expressions.specs.Tokens.{expected, expected_word, name_at, text_at, taken, taken_word}
 use Rattle.script_expressions.specs.Calls.{parenthesised, place_at, listed, arguments, call_at}
 use Rattle.script_expressions.specs.Expressions.{operator_at, operand_chain, tiers, expression_over, enclosed_over, operand, expression, enclosed}
 use Rattle.script_parser.specs.Statements.{source_at, let_at, assign_at, set_at, call_statement_at, return_at, fail_at, else_at, if_at, while_at, attempt_at, statement_over, statements, block}
@@ -22,8 +22,12 @@ use Rattle.script_check.specs.Programs.{each_fault, program_fault}
 use Rattle.request_wire.specs.Names.{TypeNames, names_in}
 use Rattle.script_parser.specs.Programs.{program_of}
 use Rattle.promise_spec.specs.Programs.{Program, IsChecked}
-use Rattle.promise_spec.specs.Loads.{bank_text}
-use Rattle.promise_examples.specs.Banks.{bank_names}
+use Rattle.base_types.specs.declared.calls.Value.{Value}
+use Rattle.base_types.specs.declared.calls.Value.TheVariants.{Int}
+use Rattle.script_meaning.specs.Play.{initial_of}
+use Rattle.promise_spec.specs.Records.{new_silo}
+use Rattle.promise_spec.specs.Loads.{account, bank_text}
+use Rattle.bank_load.specs.Banks.{bank_names}
 use Rattle.core_model.proofs.Decoded.{none-true}
 
 size_is : length bank_text ≡ 1130
@@ -47,7 +51,7 @@ unfolding lexed
 text_lexed = ap (λ (n : ℕ). lex (end_of 1130 n) 0 0 (take n bank_text)) all_text
 
 all_good : is_good (program_over lexed_so.1 lexed_so.0) ≡ true
-unfolding is_good lex lexeme name_lexeme number_lexeme text_lexeme symbol_lexeme program_over repeated type_at field_at initial_at number_at method_at option_at kind_at params_at listed block statements statement_over source_at let_at assign_at set_at call_statement_at return_at fail_at else_at if_at while_at attempt_at expression operand expression_over enclosed_over enclosed tiers operand_chain operator_at expected expected_word name_at spelling_at taken taken_word parenthesised place_at arguments call_at program_fault each_fault expression_fault arguments_fault call_fault source_fault statement_fault block_fault
+unfolding is_good lex lexeme name_lexeme number_lexeme text_lexeme symbol_lexeme program_over repeated type_at field_at initial_at number_at method_at option_at kind_at params_at listed block statements statement_over source_at let_at assign_at set_at call_statement_at return_at fail_at else_at if_at while_at attempt_at expression operand expression_over enclosed_over enclosed tiers operand_chain operator_at expected expected_word name_at text_at taken taken_word parenthesised place_at arguments call_at program_fault each_fault expression_fault arguments_fault call_fault source_fault statement_fault block_fault
 all_good = refl
 
 -- the names of the types that were read
@@ -56,7 +60,7 @@ names_or_none (Ok types) = names_in types
 names_or_none (Err fault) = []
 
 all_names : names_or_none (program_over lexed_so.1 lexed_so.0) ≡ bank_names
-unfolding names_or_none lex lexeme name_lexeme number_lexeme text_lexeme symbol_lexeme program_over repeated type_at field_at initial_at number_at method_at option_at kind_at params_at listed block statements statement_over source_at let_at assign_at set_at call_statement_at return_at fail_at else_at if_at while_at attempt_at expression operand expression_over enclosed_over enclosed tiers operand_chain operator_at expected expected_word name_at spelling_at taken taken_word parenthesised place_at arguments call_at program_fault each_fault expression_fault arguments_fault call_fault source_fault statement_fault block_fault
+unfolding names_or_none lex lexeme name_lexeme number_lexeme text_lexeme symbol_lexeme program_over repeated type_at field_at initial_at number_at method_at option_at kind_at params_at listed block statements statement_over source_at let_at assign_at set_at call_statement_at return_at fail_at else_at if_at while_at attempt_at expression operand expression_over enclosed_over enclosed tiers operand_chain operator_at expected expected_word name_at text_at taken taken_word parenthesised place_at arguments call_at program_fault each_fault expression_fault arguments_fault call_fault source_fault statement_fault block_fault
 all_names = refl
 
 -- what was read without a fault is a program
@@ -80,3 +84,19 @@ unfolding names_or_none
 bank_is_named p checked same =
     let read : program_over lexed_so.1 lexed_so.0 ≡ Ok p.types = sym text_read ∙ ap program_of (sym same) ∙ checked.parsed in
     sym (ap names_or_none read) ∙ all_names
+
+-- the initial fields of its first type
+initial_or_none : Result ProgramTree ParseFault → List Value
+initial_or_none (Ok types) = initial_of (slice_get types 0)
+initial_or_none (Err fault) = []
+
+first_initial : initial_or_none (program_over lexed_so.1 lexed_so.0) ≡ Int (pos 0) ∷ []
+unfolding initial_or_none lex lexeme name_lexeme number_lexeme text_lexeme symbol_lexeme program_over repeated type_at field_at initial_at number_at method_at option_at kind_at params_at listed block statements statement_over source_at let_at assign_at set_at call_statement_at return_at fail_at else_at if_at while_at attempt_at expression operand expression_over enclosed_over enclosed tiers operand_chain operator_at expected expected_word name_at text_at taken taken_word parenthesised place_at arguments call_at
+first_initial = refl
+
+-- so an account of a new silo is empty
+pub bank_is_empty : (p : Program) (k : ℕ) → IsChecked p → p.text ≡ bank_text → (new_silo p.types).states (account k) ≡ Int (pos 0) ∷ []
+unfolding initial_or_none
+bank_is_empty p k checked same =
+    let read : program_over lexed_so.1 lexed_so.0 ≡ Ok p.types = sym text_read ∙ ap program_of (sym same) ∙ checked.parsed in
+    sym (ap initial_or_none read) ∙ first_initial

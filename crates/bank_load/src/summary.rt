@@ -1,0 +1,165 @@
+ghost use Rattle.std.specs.Prelude.{◌≡◌, ◌^◌, ◌≤ℤ◌, pos, neg_ℤ, IfOk, string_bytes};
+ghost use Rattle.core_model.specs.Legal.{ends};
+ghost use Rattle.history_core.specs.Closing.{last_state};
+ghost use Rattle.history_core.specs.Cores.{run_of};
+ghost use Rattle.promise_spec.specs.Loads.{account, balance_in, line_valued, is_faulted, line_aborted, how_many_lines};
+ghost use Rattle.bank_load.specs.Summaries.{said_line, summary_line, kept_balance, total_kept};
+
+use base_types::{Entry, GrainId, List, Outcome, Settled, State, Value};
+use history_core::Core;
+use std::alloc::{AllocError, Global};
+
+fn is_valued(what: &Settled) -> bool
+    ensures { result ≡ line_valued what.now }
+{
+    match what {
+        Settled::Done(Outcome::Value(_)) => true,
+        Settled::Done(Outcome::Fault(_)) => false,
+        Settled::Done(Outcome::Aborted) => false,
+        Settled::Lock { .. } => false,
+        Settled::Vote { .. } => false,
+        Settled::Dependency { .. } => false,
+        Settled::Disk => false,
+        Settled::InDoubt => false,
+        Settled::Bad(_) => false,
+    }
+}
+
+fn is_faulted(what: &Settled) -> bool
+    ensures { result ≡ is_faulted what.now }
+{
+    match what {
+        Settled::Done(Outcome::Value(_)) => false,
+        Settled::Done(Outcome::Fault(_)) => true,
+        Settled::Done(Outcome::Aborted) => false,
+        Settled::Lock { .. } => false,
+        Settled::Vote { .. } => false,
+        Settled::Dependency { .. } => false,
+        Settled::Disk => false,
+        Settled::InDoubt => false,
+        Settled::Bad(_) => false,
+    }
+}
+
+fn is_aborted(what: &Settled) -> bool
+    ensures { result ≡ line_aborted what.now }
+{
+    match what {
+        Settled::Done(Outcome::Value(_)) => false,
+        Settled::Done(Outcome::Fault(_)) => false,
+        Settled::Done(Outcome::Aborted) => false,
+        Settled::Lock { .. } => true,
+        Settled::Vote { .. } => true,
+        Settled::Dependency { .. } => true,
+        Settled::Disk => true,
+        Settled::InDoubt => false,
+        Settled::Bad(_) => false,
+    }
+}
+
+#[tactic(auto, using(std::proofs::lemmas::List::Sums::count_by_more_yes, std::proofs::lemmas::List::Sums::count_by_more_no))]
+fn valued_in(entries: &[Entry]) -> usize
+    ensures { result ≡ how_many_lines line_valued entries.now }
+{
+    let mut found = 0usize;
+    for entry in entries {
+        if is_valued(&entry.what) {
+            found += 1;
+        }
+    }
+    found
+}
+
+#[tactic(auto, using(std::proofs::lemmas::List::Sums::count_by_more_yes, std::proofs::lemmas::List::Sums::count_by_more_no))]
+fn faulted_in(entries: &[Entry]) -> usize
+    ensures { result ≡ how_many_lines is_faulted entries.now }
+{
+    let mut found = 0usize;
+    for entry in entries {
+        if is_faulted(&entry.what) {
+            found += 1;
+        }
+    }
+    found
+}
+
+#[tactic(auto, using(std::proofs::lemmas::List::Sums::count_by_more_yes, std::proofs::lemmas::List::Sums::count_by_more_no))]
+fn aborted_in(entries: &[Entry]) -> usize
+    ensures { result ≡ how_many_lines line_aborted entries.now }
+{
+    let mut found = 0usize;
+    for entry in entries {
+        if is_aborted(&entry.what) {
+            found += 1;
+        }
+    }
+    found
+}
+
+/// The balance of an account, 0 where no committed unit wrote one.
+fn balance(core: &Core, key: u32) -> i128
+    ensures low { neg_ℤ (pos (2 ^ 63)) ≤ℤ result }
+    ensures high { result ≤ℤ pos (2 ^ 63) }
+    ensures value { result ≡ kept_balance (last_state (ends (run_of core.now)) (account key)) }
+{
+    match core.last_state(GrainId { kind: 0, key }) {
+        Some(state) => first_number(state),
+        None => 0,
+    }
+}
+
+/// The number that a state has first, or 0.
+fn first_number(state: &State) -> i128
+    ensures low { neg_ℤ (pos (2 ^ 63)) ≤ℤ result }
+    ensures high { result ≤ℤ pos (2 ^ 63) }
+    ensures value { result ≡ balance_in state.now }
+{
+    match state.get(0) {
+        Some(Value::Int(number)) => *number as i128,
+        Some(Value::Text(_)) => 0,
+        None => 0,
+    }
+}
+
+/// The sum of the balances of the 64 accounts, as the last committed units left them.
+pub fn total_balance(core: &Core) -> i128
+    ensures { result ≡ total_kept (ends (run_of core.now)) 64 }
+{
+    let mut total = 0;
+    for key in 0..64u32 {
+        total += balance(core, key);
+    }
+    total
+}
+
+/// The text of a summary.
+fn summary_text(
+    alloc: Global,
+    aborted: usize,
+    committed: usize,
+    faulted: usize,
+    requests: usize,
+    total: i128,
+) -> Result<String, AllocError>
+    ensures { IfOk result (λ text. string_bytes text ≡ said_line aborted committed faulted requests total) }
+{
+    format!(in alloc;
+        "{{\"aborted\":{aborted},\"committed\":{committed},\"faulted\":{faulted},\"requests\":{requests},\"total\":{total}}}\n"
+    )
+}
+
+/// The one line that a load prints, with its line feed: how its lines ended, how many there are, and the sum of the balances.
+pub fn load_summary(
+    alloc: Global,
+    entries: &[Entry],
+    requests: usize,
+    total: i128,
+) -> Result<List<u8>, AllocError>
+    ensures { IfOk result (λ text. text ≡ summary_line entries.now requests total) }
+{
+    let aborted = aborted_in(entries);
+    let committed = valued_in(entries);
+    let faulted = faulted_in(entries);
+    let text = summary_text(alloc, aborted, committed, faulted, requests, total)?;
+    Ok(List::from_vec(text.into_bytes()))
+}

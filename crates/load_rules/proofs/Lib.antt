@@ -1,0 +1,3 @@
+pub mod LoadImages
+pub mod LoadKept
+pub mod Balances

@@ -1,0 +1,93 @@
+-- What a load begins with: a silo of the bank program with an empty log.
+use Rattle.std.proofs.Common.{◌≡◌, ◌≢◌, ℕ, ◌≤◌, List, [], length, Ok, slice_index, refl, sym, ap, ◌∙◌, subst, arith, lit≤, get_or-take, unwrap_or}
+use Rattle.base_types.specs.Stores.{state_in}
+use Rattle.base_types.specs.declared.calls.GrainId.{GrainId}
+use Rattle.host_trait.specs.World.{World, Image, IsImage}
+use Rattle.gate_block.specs.Log.{first_gate}
+use Rattle.gate_block.proofs.Logs.{no_blocks}
+use Rattle.log_reading.specs.Steps.{seen_in}
+use Rattle.program_file.specs.Programs.{text_limit, program_in}
+use Rattle.script_tree.specs.Programs.{ProgramTree, program_tree}
+use Rattle.silo_spec.specs.Silos.{manager, program_file, HasProgram, IsNewSilo}
+use Rattle.promise_spec.specs.Programs.{Program, IsChecked, shape_in}
+use Rattle.promise_spec.specs.Records.{Commit, new_silo, standing_of}
+use Rattle.promise_spec.specs.Logs.{magic, live_slot, IsLog}
+use Rattle.promise_spec.specs.Openings.{Reads, opened_as}
+use Rattle.promise_spec.specs.Promise.{IsSoundFolder}
+use Rattle.promise_spec.specs.Loads.{bank_text}
+use Rattle.promise_spec.proofs.Openings.{program_checked, log_is_read, reads_is}
+use Rattle.promise_spec.proofs.SoundFolders.{new_folder}
+use Rattle.promise_laws.specs.Closings.{ReadsMayStay}
+use Rattle.opening_rules.specs.Behind.{program_of}
+use Rattle.script_tree.specs.declared.programs.Program.{Program as Tree}
+use Rattle.silo_opening.specs.Opened.{IsOpenedFrom}
+use Rattle.silo_opening.specs.declared.open.Opened.{Opened}
+use Rattle.silo_top.specs.Loading.{IsNewBank}
+use Rattle.silo_top.specs.Serving.{IsBehindOpening}
+
+-- a new silo has the empty log
+new_log : (p : Program) (image : Image) → IsNewSilo magic p.text image → IsLog live_slot (shape_in p) image []
+new_log p image new = record {
+  silo = new.silo;
+  batches = [];
+  gate = first_gate;
+  blocks = record { blocks = no_blocks (image manager) (omega (arith, new.silo.long)); closed = shut };
+  sizes = tt;
+  commits = refl;
+  kept = tt;
+}
+  where
+    byte : slice_index (image manager) 15 ≡ 0
+    byte = sym (get_or-take 16 (image manager) 15 0 (omega arith)) ∙ ap (λ (l : List ℕ). slice_index l 15) new.header
+
+    -- its gate isn't open
+    shut : slice_index (image manager) 15 ≢ 1
+    shut open_gate = omega (arith, byte, open_gate)
+
+-- the bank program with these types
+abbrev pub bank_of : ProgramTree → Program
+bank_of types = record { text = bank_text; types = types }
+
+module _ (types : ProgramTree) (reads : program_in bank_text ≡ Ok types) where
+  pub bank_checked : IsChecked (bank_of types)
+  bank_checked = program_checked bank_text types (lit≤ tt) reads
+
+  -- a new silo of it reads as it, with no record
+  pub reads_new : (seen : Image) → IsNewSilo magic bank_text seen → opened_as live_slot seen ≡ Reads (bank_of types) []
+  reads_new seen new = log_is_read seen (bank_of types) [] bank_checked new.program (new_log (bank_of types) seen new)
+
+  pub bank_sound : (w : World) → IsNewBank w → IsSoundFolder (bank_of types) w
+  bank_sound w new = new_folder (bank_of types) w (λ image left silo. new image left)
+
+  -- what was opened is it
+  pub opened_same : (x : Opened) (seen : Image) → IsNewSilo magic bank_text seen → (is : IsOpenedFrom seen x) → (program_of is ≡ bank_of types) × (is.log ≡ [])
+  opened_same x seen new is = reads_is (program_of is) (bank_of types) is.log [] (sym is.reads ∙ reads_new seen new)
+
+-- ---- with the program that was accepted
+
+-- an opened silo, with another copy of its program
+abbrev pub with_checked : Opened → Tree → Opened
+with_checked x bank = record { checked = bank; count = x.count; store = x.store; ends = x.ends; next_unit = x.next_unit; gate_at = x.gate_at }
+
+pub same_opened : (x : Opened) (bank : Tree) (seen : Image) → program_tree x.checked ≡ program_tree bank → IsOpenedFrom seen x → IsOpenedFrom seen (with_checked x bank)
+same_opened x bank seen same is = record {
+  text = is.text;
+  log = is.log;
+  reads = is.reads ∙ ap (λ (t : ProgramTree). Reads (record { text = is.text; types = t }) is.log) same;
+  count = is.count ∙ ap (λ (t : ProgramTree). (standing_of t is.log).count) same;
+  next = is.next ∙ ap (λ (t : ProgramTree). (standing_of t is.log).next) same;
+  states = subst (λ (t : ProgramTree). (grain : GrainId) → unwrap_or (state_in x.store grain) ((new_silo t).states grain) ≡ (standing_of t is.log).states grain) same is.states;
+  ends = is.ends;
+  within = is.within;
+  gate = is.gate;
+  closed = is.closed;
+}
+
+pub same_behind : (x : Opened) (bank : Tree) (old mid : World) → program_in bank_text ≡ Ok (program_tree bank) → IsNewBank old → ReadsMayStay old → IsBehindOpening old mid x → IsBehindOpening old mid (with_checked x bank)
+same_behind x bank old mid reads new stay is = record {
+  opened = same_opened x bank (seen_in old.disk) (ap (λ (p : Program). p.types) (opened_same (program_tree bank) reads x (seen_in old.disk) (new (seen_in old.disk) stay) is.opened).0) is.opened;
+  settled = is.settled;
+  count = is.count;
+  run = is.run;
+  stays = is.stays;
+}
