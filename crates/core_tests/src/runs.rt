@@ -1,0 +1,166 @@
+ghost use Rattle.std.specs.Prelude.{◌<◌, ◌≤◌, ◌^◌};
+
+use crate::drafts::Draft;
+use crate::events::{Kind, kind_of, made, refusal};
+use crate::numbers::{Numbers, natural, short, three_numbers};
+use crate::openings::opening;
+use crate::shared::{is_object, next_line, spoil};
+use crate::surveys::{Wanted, sum_of, survey};
+use crate::texts::{add_entries, add_reply};
+use crate::verbs::{Look, Verb, verb_of};
+use core_model::{CoreEvent, CoreReply};
+use history_core::Core;
+use std::alloc::{AllocError, Global};
+
+// The greatest number that a core's first unit may have.
+const LAST_BASE: u64 = 1 << 63;
+
+/// A core, and what is said to the line that it carried last.
+#[derive(Drop)]
+pub struct Run {
+    alloc: Global,
+    core: Core,
+    draft: Draft,
+    pub said: String,
+    // What the core answered last, and to which questions, where no event came since.
+    answered: String,
+    wanted: Option<Wanted>,
+}
+
+impl Run {
+    /// A core without events, whose first unit has the number 1.
+    pub fn new(alloc: Global) -> Result<Run, AllocError> {
+        Ok(Run {
+            alloc,
+            core: Core::new(alloc, opening(alloc, 1)?),
+            draft: Draft::new(alloc),
+            said: String::new(alloc),
+            answered: String::new(alloc),
+            wanted: None,
+        })
+    }
+
+    /// Carries a line. What is said to it is a line of its own, or nothing.
+    pub fn carry(&mut self, line: &str) -> Result<(), AllocError> {
+        self.said.clear();
+        if let Some(title) = line.strip_prefix("title ") {
+            self.said.push_str(title)?;
+            return self.said.push_str("\n");
+        }
+        let mut words = line.split_whitespace();
+        let verb = verb_of(words.next().unwrap_or(""));
+        match (verb, three_numbers(&mut words)) {
+            (Some(verb), Some(numbers)) => self.obey(verb, numbers),
+            _ => self.said.push_str("no such line\n"),
+        }
+    }
+
+    fn obey(&mut self, verb: Verb, numbers: Numbers) -> Result<(), AllocError> {
+        match verb {
+            Verb::Note(note) => return self.draft.note(note, numbers),
+            Verb::Event(event) => {
+                let event = made(&mut self.draft, event, numbers);
+                self.put(event)?;
+            }
+            Verb::Look(look) => self.look(look, numbers)?,
+        }
+        self.said.push_str("\n")
+    }
+
+    // Puts an event.
+    fn put(&mut self, event: CoreEvent) -> Result<(), AllocError> {
+        match self.core.step(event) {
+            Ok(reply) => {
+                self.wanted = None;
+                add_reply(&mut self.said, &reply)
+            }
+            Err((_error, back)) => self.put_again(back),
+        }
+    }
+
+    // Puts an event that came back, since memory was wanting: all is answered as before it, and mostly memory is there now.
+    fn put_again(&mut self, back: CoreEvent) -> Result<(), AllocError> {
+        let kind = kind_of(&back);
+        let is_as_before = self.is_as_before();
+        self.wanted = None;
+        match self.core.step(back) {
+            Ok(reply) => self.tell_again(kind, is_as_before, &reply),
+            Err(_) => self.said.push_str(refusal(kind)),
+        }
+    }
+
+    // Says the reply to an event that came back once.
+    fn tell_again(
+        &mut self,
+        kind: Kind,
+        is_as_before: Result<bool, AllocError>,
+        reply: &CoreReply,
+    ) -> Result<(), AllocError> {
+        if !is_as_before? {
+            return self.said.push_str("want of memory changed the answers");
+        }
+        match kind {
+            Kind::Spared => self.said.push_str("it wanted memory whose room was made"),
+            _ => add_reply(&mut self.said, reply),
+        }
+    }
+
+    // Whether the core answers as it answered last, if no event came since.
+    fn is_as_before(&mut self) -> Result<bool, AllocError> {
+        let Some(wanted) = self.wanted else {
+            return Ok(true);
+        };
+        let before = sum_of(self.answered.as_str());
+        survey(&mut self.answered, &self.core, wanted)?;
+        Ok(sum_of(self.answered.as_str()) == before)
+    }
+
+    fn ask(&mut self, numbers: Numbers) -> Result<(), AllocError> {
+        let wanted = Wanted {
+            whole: numbers.first == 1,
+            below: natural(numbers.second),
+        };
+        survey(&mut self.answered, &self.core, wanted)?;
+        self.wanted = Some(wanted);
+        Ok(())
+    }
+
+    // A new core, whose first unit has that number.
+    fn open(&mut self, base: u64) -> Result<(), AllocError> {
+        if base == 0 || base > LAST_BASE {
+            return self.said.push_str("no such number");
+        }
+        self.core = Core::new(self.alloc, opening(self.alloc, base)?);
+        self.wanted = None;
+        self.said.push_str("opened")
+    }
+
+    // What a line asks that puts no event, but for a spoilt line.
+    fn look(&mut self, look: Look, numbers: Numbers) -> Result<(), AllocError> {
+        match look {
+            Look::Open => self.open(natural(numbers.first)),
+            Look::Sum => {
+                self.ask(numbers)?;
+                let sum = sum_of(self.answered.as_str());
+                write!(self.said, "{sum}")
+            }
+            Look::Tell => {
+                self.ask(numbers)?;
+                self.said.push_str(self.answered.as_str())
+            }
+            Look::Entries => add_entries(&mut self.said, self.core.settled()),
+            Look::See => {
+                let line = next_line(&mut self.core)?;
+                write!(self.said, "{line}")
+            }
+            Look::Spoil => {
+                let done = spoil(&mut self.core, short(numbers.first));
+                self.said.push_str(if done { "done" } else { "no" })
+            }
+            Look::Object => {
+                let is_object = is_object(&self.core);
+                self.said.push_str(if is_object { "yes" } else { "no" })
+            }
+        }
+    }
+}
