@@ -110,3 +110,8 @@ pub fn count(calls: &[(CallKind, FileId)], kind: CallKind, file: FileId) -> u64 
     }
     found
 }
+
+/// The bytes of a file, none where it isn't there.
+pub fn bytes_in(host: &MemoryHost, file: FileId) -> &[u8] {
+    host.file(file).unwrap_or(b"")
+}

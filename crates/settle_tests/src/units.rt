@@ -4,19 +4,11 @@ use base_types::{
 };
 use core_model::{CoreEvent, CoreReply, Effect, Read};
 use history_core::{Core, Opening};
-use host_trait::FileId;
 use std::alloc::{AllocError, Global};
-use std::test::Fail;
 
-fn account(key: u32) -> GrainId {
+/// An account.
+pub fn account(key: u32) -> GrainId {
     GrainId { kind: 0, key }
-}
-
-pub fn account_file(key: u32) -> FileId {
-    FileId::Grain {
-        slot: 0,
-        grain: account(key),
-    }
 }
 
 fn number_state(alloc: Global, number: i64) -> Result<State, AllocError> {
@@ -25,12 +17,14 @@ fn number_state(alloc: Global, number: i64) -> Result<State, AllocError> {
     Ok(state)
 }
 
-// A program of accounts: one field, 0 at first, and one method with one parameter.
-pub fn new_shape(alloc: Global) -> Result<Shape, Fail> {
-    let name = Text::new(alloc, "account")?.ok_or("long")?;
+/// A program of accounts: one field, 0 at first, and one method with one parameter.
+pub fn new_shape(alloc: Global) -> Result<Shape, AllocError> {
+    let Some(name) = Text::new(alloc, "account")? else {
+        return Err(AllocError);
+    };
+    let initial = number_state(alloc, 0)?;
     let mut params = List::new(alloc);
     params.push(1)?;
-    let initial = number_state(alloc, 0)?;
     let mut types = List::new(alloc);
     types.push(TypeShape {
         name,
@@ -40,8 +34,8 @@ pub fn new_shape(alloc: Global) -> Result<Shape, Fail> {
     Ok(Shape { types })
 }
 
-// Its core, whose next unit is 1.
-pub fn new_core(alloc: Global) -> Result<Core, Fail> {
+/// Its core, whose next unit is 1.
+pub fn new_core(alloc: Global) -> Result<Core, AllocError> {
     let shape = new_shape(alloc)?;
     Ok(Core::new(
         alloc,
@@ -53,47 +47,59 @@ pub fn new_core(alloc: Global) -> Result<Core, Fail> {
     ))
 }
 
-fn put(core: &mut Core, event: CoreEvent) -> Result<CoreReply, Fail> {
+fn put(core: &mut Core, event: CoreEvent) -> Result<CoreReply, AllocError> {
     match core.step(event) {
         Ok(reply) => Ok(reply),
-        Err(_) => Err(Fail::from("no memory")),
+        Err((error, _back)) => Err(error),
     }
 }
 
-fn call_on(alloc: Global, key: u32, number: i64) -> Result<Call, AllocError> {
+// A call that adds a number to an account.
+fn call_on(alloc: Global, add: Add) -> Result<Call, AllocError> {
     let mut args = List::new(alloc);
-    args.push(Value::Int(number))?;
+    args.push(Value::Int(add.number))?;
     Ok(Call {
-        grain: account(key),
+        grain: account(add.key),
         method: 0,
         args,
     })
 }
 
-// A unit for the next line, with this call.
-fn begin(core: &mut Core, line: u32, call: Call) -> Result<UnitNo, Fail> {
+/// A number that a unit adds to an account, or a read of it, where that is 0.
+#[derive(Clone, Copy)]
+pub struct Add {
+    pub key: u32,
+    pub number: i64,
+}
+
+// A unit for the next line, called to make this addition; none where it doesn't begin.
+fn begin(
+    alloc: Global,
+    core: &mut Core,
+    line: u32,
+    add: Add,
+) -> Result<Option<UnitNo>, AllocError> {
     let event = CoreEvent::Begin {
         origin: Origin::Line(line),
-        call,
+        call: call_on(alloc, add)?,
         plain: false,
     };
     match put(core, event)? {
-        CoreReply::Began { unit } => Ok(unit),
-        _ => Err(Fail::from("not begun")),
+        CoreReply::Began { unit } => Ok(Some(unit)),
+        _ => Ok(None),
     }
 }
 
-// Locks an account.
-fn grant(core: &mut Core, unit: UnitNo, key: u32) -> Result<Read, Fail> {
-    let grain = account(key);
+// Locks an account; none where it isn't granted.
+fn grant(core: &mut Core, unit: UnitNo, grain: GrainId) -> Result<Option<Read>, AllocError> {
     let mode = Mode::Update;
     match put(core, CoreEvent::Grant { unit, grain, mode })? {
-        CoreReply::Granted { state, source } => Ok(Read {
+        CoreReply::Granted { state, source } => Ok(Some(Read {
             grain,
             state,
             source,
-        }),
-        _ => Err(Fail::from("not granted")),
+        })),
+        _ => Ok(None),
     }
 }
 
@@ -104,95 +110,101 @@ fn number_in(read: &Read) -> i64 {
     }
 }
 
-// What a unit has read and written so far.
-#[derive(Drop)]
-struct Played {
-    reads: List<Read>,
-    writes: List<(GrainId, State)>,
-    first: Option<i64>,
-}
-
-// The unit adds a number to an account, or reads it, where that is 0.
-fn add(
-    alloc: Global,
-    core: &mut Core,
-    unit: UnitNo,
-    one: (u32, i64),
-    played: &mut Played,
-) -> Result<(), Fail> {
-    let read = grant(core, unit, one.0)?;
-    let number = number_in(&read).wrapping_add(one.1);
-    played.reads.push(read)?;
-    if played.first.is_none() {
-        played.first = Some(number);
-    }
-    if one.1 != 0 {
-        let state = number_state(alloc, number)?;
-        played.writes.push((account(one.0), state))?;
-    }
-    Ok(())
-}
-
-// All its additions.
-fn add_all(
-    alloc: Global,
-    core: &mut Core,
-    unit: UnitNo,
-    adds: &[(u32, i64)],
-) -> Result<Played, Fail> {
-    let mut played = Played {
-        reads: List::new(alloc),
-        writes: List::new(alloc),
-        first: None,
-    };
-    for one in adds {
-        add(alloc, core, unit, *one, &mut played)?;
-    }
-    Ok(played)
-}
-
-// The unit ends, and answers what its first account has then.
-fn finish(
-    alloc: Global,
-    core: &mut Core,
-    unit: UnitNo,
-    origin: Origin,
-    call: Call,
-    played: Played,
-) -> Result<(), Fail> {
-    let effect = Effect {
+// The effect of a unit that has done nothing yet.
+fn empty_effect(alloc: Global, line: u32, unit: UnitNo, call: Call) -> Effect {
+    Effect {
         unit,
-        origin,
+        origin: Origin::Line(line),
         call,
         answers: List::new(alloc),
-        reads: played.reads,
-        writes: played.writes,
-        result: Outcome::Value(Value::Int(played.first.unwrap_or(0))),
-    };
-    put(core, CoreEvent::Finish { unit, effect })?;
-    Ok(())
+        reads: List::new(alloc),
+        writes: List::new(alloc),
+        result: Outcome::Aborted,
+    }
 }
 
-fn release(core: &mut Core, unit: UnitNo, adds: &[(u32, i64)]) -> Result<(), Fail> {
-    for one in adds {
-        let grain = account(one.0);
-        put(core, CoreEvent::Release { unit, grain })?;
+// The unit makes an addition, and what it did has that. Its result is what the first account has then.
+fn make(alloc: Global, effect: &mut Effect, add: Add, read: Read) -> Result<(), AllocError> {
+    let number = number_in(&read).wrapping_add(add.number);
+    if effect.reads.is_empty() {
+        effect.result = Outcome::Value(Value::Int(number));
+    }
+    effect.reads.push(read)?;
+    if add.number != 0 {
+        let state = number_state(alloc, number)?;
+        effect.writes.push((account(add.key), state))?;
     }
     Ok(())
 }
 
-// The next line's unit adds a number to each of these accounts, and ends. It is called on the first of them. A number of 0 is
-// a read.
+// All its additions, where each lock is granted.
+fn make_all(
+    alloc: Global,
+    core: &mut Core,
+    effect: &mut Effect,
+    adds: &[Add],
+) -> Result<bool, AllocError> {
+    for add in adds {
+        match grant(core, effect.unit, account(add.key))? {
+            Some(read) => make(alloc, effect, *add, read)?,
+            None => return Ok(false),
+        }
+    }
+    Ok(true)
+}
+
+fn is_done(reply: &CoreReply) -> bool {
+    match reply {
+        CoreReply::Done => true,
+        _ => false,
+    }
+}
+
+// The unit ends.
+fn finish(core: &mut Core, effect: Effect) -> Result<bool, AllocError> {
+    let unit = effect.unit;
+    let reply = put(core, CoreEvent::Finish { unit, effect })?;
+    Ok(is_done(&reply))
+}
+
+fn release_all(core: &mut Core, unit: UnitNo, adds: &[Add]) -> Result<bool, AllocError> {
+    for add in adds {
+        let grain = account(add.key);
+        let reply = put(core, CoreEvent::Release { unit, grain })?;
+        if !is_done(&reply) {
+            return Ok(false);
+        }
+    }
+    Ok(true)
+}
+
+// The unit makes these additions, ends and releases.
+fn run(
+    alloc: Global,
+    core: &mut Core,
+    mut effect: Effect,
+    adds: &[Add],
+) -> Result<bool, AllocError> {
+    let unit = effect.unit;
+    if !make_all(alloc, core, &mut effect, adds)? || !finish(core, effect)? {
+        return Ok(false);
+    }
+    release_all(core, unit, adds)
+}
+
+/// The next line's unit makes these additions, and ends. It is called for the first of them. Whether each event applied.
 pub fn carry_out(
     alloc: Global,
     core: &mut Core,
     line: u32,
-    adds: &[(u32, i64)],
-) -> Result<(), Fail> {
-    let first = adds.first().copied().unwrap_or((0, 0));
-    let unit = begin(core, line, call_on(alloc, first.0, first.1)?)?;
-    let played = add_all(alloc, core, unit, adds)?;
-    let call = call_on(alloc, first.0, first.1)?;
-    finish(alloc, core, unit, Origin::Line(line), call, played)?;
-    release(core, unit, adds)
+    first: Add,
+    adds: &[Add],
+) -> Result<bool, AllocError> {
+    match begin(alloc, core, line, first)? {
+        Some(unit) => {
+            let call = call_on(alloc, first)?;
+            run(alloc, core, empty_effect(alloc, line, unit, call), adds)
+        }
+        None => Ok(false),
+    }
 }

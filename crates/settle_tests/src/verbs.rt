@@ -1,0 +1,145 @@
+use std::str::SplitWhitespace;
+
+/// The first word of a line.
+#[derive(Clone, Copy)]
+pub enum Verb {
+    /// A new bench; a quiet settler where the number is 1.
+    Open,
+    /// The nth call of this kind fails: a file, -1 for the manager's or an account's number, and n.
+    FailWrite,
+    FailSync,
+    FailRead,
+    /// The same, on the output and the input: n.
+    FailEmit,
+    FailPull,
+    /// After so many further calls every call fails.
+    StopAfter,
+    /// The next emit puts out so many bytes, or all, and fails.
+    CutEmit,
+    /// The unit of a line adds a number to an account, or reads it where that is 0.
+    Add,
+    /// The unit of a line moves 1 from an account to another one.
+    Transfer,
+    /// One step of the settler; all of them, up to a stop.
+    Step,
+    Settle,
+    Look(Look),
+}
+
+/// A look at what there is.
+#[derive(Clone, Copy)]
+pub enum Look {
+    /// Whether the settler has something to do.
+    Applies,
+    /// How many calls of the host there were, and how many entries were written.
+    Calls,
+    /// How many writes and syncs there were.
+    Noted,
+    /// Whether a batch is in doubt.
+    Doubt,
+    Output,
+    /// Of each block of the log, how many records it has; whose the first one is.
+    Counts,
+    Units,
+    /// How many writes and syncs an account's file had, or the manager's where the number is -1; and how many bytes it has.
+    File,
+    Bytes,
+    /// In how many of sixteen images that a crash after so many calls may leave, or within the next one, the log has no block,
+    /// where the second number is 1, or one block, of the third number's count of records, or whose first record is that unit's.
+    ImageCounts,
+    ImageUnits,
+    /// Whether none, some or all of them have a block.
+    Spread,
+}
+
+/// What a word stands for.
+pub fn verb_of(word: &str) -> Option<Verb> {
+    match word {
+        "open" => Some(Verb::Open),
+        "fail_write" => Some(Verb::FailWrite),
+        "fail_sync" => Some(Verb::FailSync),
+        "fail_read" => Some(Verb::FailRead),
+        "fail_emit" => Some(Verb::FailEmit),
+        "fail_pull" => Some(Verb::FailPull),
+        "stop_after" => Some(Verb::StopAfter),
+        "cut_emit" => Some(Verb::CutEmit),
+        _ => act(word),
+    }
+}
+
+// Something that is done, or another word.
+fn act(word: &str) -> Option<Verb> {
+    match word {
+        "add" => Some(Verb::Add),
+        "transfer" => Some(Verb::Transfer),
+        "step" => Some(Verb::Step),
+        "settle" => Some(Verb::Settle),
+        _ => look_of(word),
+    }
+}
+
+fn look_of(word: &str) -> Option<Verb> {
+    match word {
+        "applies" => Some(Verb::Look(Look::Applies)),
+        "calls" => Some(Verb::Look(Look::Calls)),
+        "noted" => Some(Verb::Look(Look::Noted)),
+        "doubt" => Some(Verb::Look(Look::Doubt)),
+        "output" => Some(Verb::Look(Look::Output)),
+        "counts" => Some(Verb::Look(Look::Counts)),
+        _ => look_behind(word),
+    }
+}
+
+// A look at files or images.
+fn look_behind(word: &str) -> Option<Verb> {
+    match word {
+        "units" => Some(Verb::Look(Look::Units)),
+        "file" => Some(Verb::Look(Look::File)),
+        "bytes" => Some(Verb::Look(Look::Bytes)),
+        "image_counts" => Some(Verb::Look(Look::ImageCounts)),
+        "image_units" => Some(Verb::Look(Look::ImageUnits)),
+        "spread" => Some(Verb::Look(Look::Spread)),
+        _ => None,
+    }
+}
+
+/// The numbers of a line, 0 where there is none.
+#[derive(Clone, Copy)]
+pub struct Numbers {
+    pub first: i64,
+    pub second: i64,
+    pub third: i64,
+}
+
+// The next number, 0 behind the last word; nothing where the word is no number.
+fn next_number(words: &mut SplitWhitespace<'_>) -> Option<i64> {
+    match words.next() {
+        None => Some(0),
+        Some(word) => word.parse::<i64>().ok(),
+    }
+}
+
+/// The next three numbers, where these words are numbers and no more than three.
+pub fn three_numbers(words: &mut SplitWhitespace<'_>) -> Option<Numbers> {
+    let first = next_number(words)?;
+    let second = next_number(words)?;
+    let third = next_number(words)?;
+    if words.next().is_some() {
+        return None;
+    }
+    Some(Numbers {
+        first,
+        second,
+        third,
+    })
+}
+
+/// The number, 0 where it is below that.
+pub fn natural(number: i64) -> u64 {
+    u64::try_from(number).unwrap_or(0)
+}
+
+/// The number, 0 where it hasn't 32 bits.
+pub fn short(number: i64) -> u32 {
+    u32::try_from(number).unwrap_or(0)
+}
