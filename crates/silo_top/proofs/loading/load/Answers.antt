@@ -5,6 +5,8 @@ use Rattle.silo_spec.specs.Making.{CameThisFar, IsMade}
 use Rattle.silo_top.specs.Answering.{turns_manner}
 use Rattle.silo_top.specs.Statuses.{status_ending}
 use Rattle.bank_load.specs.Requests.{load_texts}
+use Rattle.promise_spec.specs.Logs.{magic}
+use Rattle.promise_spec.specs.Loads.{bank_text}
 use Rattle.silo_top.proofs.Counted.{answers_behind}
 use Rattle.silo_top.proofs.LoadMade.{uncreated, uncreated_answers, made_from, made_loads}
 use Rattle.silo_top.proofs.Unopened.{starved_unmade}
