@@ -384,17 +384,17 @@ module _ {T : Type 0} (n seed width : ℕ) (x : Opened) (st : Started) (old mid 
         (λ calm t. absurd (load_undone fault (sym ends_as ∙ t))))
 
     -- all lines are carried, and the summary was to be printed
-    pub summed_carries : AskFor (program_tree x.checked) (load_texts n seed) (load_calls n seed) → (done : T) → result ≡ Ok done → (status : Status) (last : World) (final : Channel → ℕ) → length lines ≡ length (load_texts n seed)
-        → SaysSummary (summary_line (ends r').manager.settled (length lines) (total_kept (ends r') 64)) (status_ending status) new last → HasFailedAs (status_ending status) after final → MaySaySummary (status_ending status)
+    pub summed_carries : AskFor (program_tree x.checked) (load_texts n seed) (load_calls n seed) → (done : T) → result ≡ Ok done → (status : Status) (last : World) (final : Channel → ℕ) (requests : ℕ) → requests ≡ length (load_texts n seed)
+        → SaysSummary (summary_line (ends r').manager.settled requests (total_kept (ends r') 64)) (status_ending status) new last → HasFailedAs (status_ending status) after final → MaySaySummary (status_ending status)
         → CarriesLoad n seed (observed_call (turns_manner width []) (load_texts n seed) old last before final status)
-    summed_carries asks done q status last final many says failed may =
+    summed_carries asks done q status last final requests many says failed may =
         let ended : HasCarriedAll out r' s' = (subst (TurnsEndAs out b r' s' after) q goes.ended).0 in
         let same_files : (file : FileId) → final (File file) ≡ after (File file) = files_same (status_ending status) after final may failed in
         let sure : HasDoubt (core_run p c0) → ⊥ = λ d. ended.never (subst HasDoubt run_is d) in
         let explains_r = explains_at asks last final status says.told says.past says.disk says.left says.input same_files (λ file t. absurd (summary_no_file (status_ending status) may file t)) (λ d. absurd (sure d)) in
         let rr : Observed = observed_call (turns_manner width []) (load_texts n seed) old last before final status in
         let cc0 : Course = record c0 { late = later.0 ++ says.told; entries = (core_end p c0).manager.settled } in
-        let text_is : summary_line (ends r').manager.settled (length lines) (total_kept (ends r') 64) ≡ summary_text p rr cc0 =
+        let text_is : summary_line (ends r').manager.settled requests (total_kept (ends r') 64) ≡ summary_text p rr cc0 =
         (λ i. summary_line (ends (run_is' i)).manager.settled (many i) (total_kept (ends (run_is' i)) 64))
         ∙ ap (λ z. summary_line (core_end p c0).manager.settled (length (load_texts n seed)) z) (sym (totals_kept p rr cc0 (explained p rr cc0 explains_r) checked text same.1 sure)) in
         carries asks last final status says.told says.past says.disk says.left says.input same_files

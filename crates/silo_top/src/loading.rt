@@ -96,6 +96,7 @@ fn carry_load<H: Host, G: Gate>(
         Ok(lines) => lines,
         Err(AllocError) => return Status::Memory,
     };
+    let requests = lines.len();
     let picks = List::new(alloc);
     match run_turns(
         alloc,
@@ -108,7 +109,7 @@ fn carry_load<H: Host, G: Gate>(
         width,
         &picks,
     ) {
-        Ok(()) => print_summary(alloc, &started.core, lines.len(), host),
+        Ok(()) => print_summary(alloc, &started.core, requests, host),
         Err(fault) => load_status(fault),
     }
 }

@@ -72,8 +72,8 @@ returns-in-Ok-run_turns-clause-carries g c = λ told old before behind bank none
     (g.H.Host.faults c.args.host.now) (g.H.Host.faults c.run_turns.new.host) (g.H.Host.world c.args.host.now) (g.H.Host.world c.run_turns.new.host) c.run_turns.result) told c.run_turns.ensures.beside in
     summed_carries {T = Unit {0}} c.args.transfers c.args.seed c.args.width c.args.opened c.in-Ok.started old (g.H.Host.world c.args.host.now) (g.H.Host.world c.run_turns.new.host) before (g.H.Host.faults c.args.host.now) (g.H.Host.faults c.run_turns.new.host)
     c.run_turns.result behind c.in-Ok.ensures.start c.requires.bank bank (λ file. g.met.H.Host.seen_may_stay c.args.host.now file told) (λ file. g.met.H.Host.seen_may_stay c.run_turns.new.host file told) c.in-Ok.ensures.quiet
-    c.in-Ok-load_lines.lines are c.requires.wide c.requires.above none (run_of c.run_turns.new.core) c.run_turns.new.settler say_told beside_told (texts_ask types c.args.transfers c.args.seed read) tt c.in-Ok-run_turns.is c.print_summary.result (g.H.Host.world c.print_summary.new.host) (g.H.Host.faults c.print_summary.new.host)
-    (ap length c.in-Ok-load_lines.ensures ∙ numbered_many 0 (load_calls c.args.transfers c.args.seed)) (c.print_summary.ensures.says told) c.print_summary.ensures.exact c.print_summary.ensures.may
+    c.in-Ok-load_lines.lines are c.requires.wide c.requires.above none (run_of c.run_turns.new.core) c.run_turns.new.settler say_told beside_told (texts_ask types c.args.transfers c.args.seed read) tt c.in-Ok-run_turns.is c.print_summary.result (g.H.Host.world c.print_summary.new.host) (g.H.Host.faults c.print_summary.new.host) c.len-requests.result
+    (c.len-requests.ensures ∙ ap length c.in-Ok-load_lines.ensures ∙ numbered_many 0 (load_calls c.args.transfers c.args.seed)) (c.print_summary.ensures.says told) c.print_summary.ensures.exact c.print_summary.ensures.may
 
 pub returns-in-Ok-run_turns-clause-answers : goal.returns-in-Ok-run_turns-clause-answers
 returns-in-Ok-run_turns-clause-answers g c =
