@@ -1,14 +1,15 @@
 -- What a load begins with: a silo of the bank program with an empty log.
-use Rattle.std.proofs.Common.{◌≡◌, ◌≢◌, ℕ, ◌≤◌, List, [], length, Ok, slice_index, refl, sym, ap, ◌∙◌, subst, arith, lit≤, get_or-take, unwrap_or}
+use Rattle.std.proofs.Common.{◌≡◌, ◌≢◌, ℕ, ◌<◌, ◌≤◌, List, [], length, None, Ok, slice_index, refl, sym, ap, ◌∙◌, subst, arith, lit≤, get_or-take, unwrap_or}
 use Rattle.base_types.specs.Stores.{state_in}
 use Rattle.base_types.specs.declared.calls.GrainId.{GrainId}
 use Rattle.host_trait.specs.World.{World, Image, IsImage}
 use Rattle.gate_block.specs.Log.{first_gate}
 use Rattle.gate_block.proofs.Logs.{no_blocks}
+use Rattle.log_reading.specs.Blocks.{header_damage}
 use Rattle.log_reading.specs.Steps.{seen_in}
 use Rattle.program_file.specs.Programs.{text_limit, program_in}
 use Rattle.script_tree.specs.Programs.{ProgramTree, program_tree}
-use Rattle.silo_spec.specs.Silos.{manager, program_file, HasProgram, IsNewSilo}
+use Rattle.silo_spec.specs.Silos.{manager, program_file, HasProgram, IsNewSilo, new_header}
 use Rattle.promise_spec.specs.Programs.{Program, IsChecked, shape_in}
 use Rattle.promise_spec.specs.Records.{Commit, new_silo, standing_of}
 use Rattle.promise_spec.specs.Logs.{magic, live_slot, IsLog}
@@ -29,6 +30,7 @@ use Rattle.silo_top.specs.Serving.{IsBehindOpening}
 new_log : (p : Program) (image : Image) → IsNewSilo magic p.text image → IsLog live_slot (shape_in p) image []
 new_log p image new = record {
   silo = new.silo;
+  header = whole;
   batches = [];
   gate = first_gate;
   blocks = record { blocks = no_blocks (image manager) (omega (arith, new.silo.long)); closed = shut };
@@ -37,8 +39,16 @@ new_log p image new = record {
   kept = tt;
 }
   where
+    -- the bytes of its header are a new header's
+    byte_of : (i : ℕ) → i < 16 → slice_index (image manager) i ≡ slice_index (new_header magic) i
+    byte_of i low = sym (get_or-take 16 (image manager) i 0 low) ∙ ap (λ (l : List ℕ). slice_index l i) new.header
+
+    -- of which bytes 13 and 14 are zero
+    whole : header_damage (image manager) ≡ None
+    whole = rw (byte_of 13 (omega arith), byte_of 14 (omega arith)) refl
+
     byte : slice_index (image manager) 15 ≡ 0
-    byte = sym (get_or-take 16 (image manager) 15 0 (omega arith)) ∙ ap (λ (l : List ℕ). slice_index l 15) new.header
+    byte = byte_of 15 (omega arith)
 
     -- its gate isn't open
     shut : slice_index (image manager) 15 ≢ 1
