@@ -1,9 +1,10 @@
 #!/usr/bin/env python3
-"""Writes the cases of crates/opening_tests and what must come out:  checks/opening_cases.py
+"""Writes the cases of crates/opening_tests and what must come out, or looks whether those there are these:  checks/opening_cases.py [--check]
 
 Most rows are worked out by hand from docs/FORMATS.md. A folder of 20 records over 5 grains, changed byte by byte and cut at each
 length, is answered by the second reader below: plain walks by the tables of docs/FORMATS.md."""
 import pathlib
+import sys
 
 CASES, TOLD = [], []
 TEXT = ("type account { field balance = 0; method deposit(n) createorjoin update "
@@ -507,5 +508,9 @@ makings()
 pieces()
 changes()
 crate = pathlib.Path(__file__).resolve().parent.parent / "crates" / "opening_tests"
-(crate / "stdin").write_text("\n".join(CASES) + "\n")
-(crate / "stdout").write_text("\n".join(TOLD) + "\n")
+for name, lines in (("stdin", CASES), ("stdout", TOLD)):
+    text = "\n".join(lines) + "\n"
+    if "--check" not in sys.argv[1:]:
+        (crate / name).write_text(text)
+    elif (crate / name).read_text() != text:
+        sys.exit(f"opening_cases: {name} isn't what is made here")
