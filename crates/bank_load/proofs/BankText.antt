@@ -9,7 +9,7 @@ use Rattle.script_lexer.specs.declared.faults.ParseFault.TheVariants.{Unexpected
 use Rattle.script_lexer.specs.Lexemes.{name_lexeme, number_lexeme, text_lexeme, symbol_lexeme, lexeme}
 use Rattle.script_lexer.specs.Lexing.{TokensAndStop, lex, lexed, end_of}
 use Rattle.script_tree.specs.Programs.{ProgramTree}
-use Rattle.script_expressions.specs.Tokens.{expected, expected_word, name_at, text_at, taken, taken_word}
+use Rattle.script_expressions.specs.Tokens.{expected, expected_word, name_at, spelling_at, taken, taken_word}
 use Rattle.script_expressions.specs.Calls.{parenthesised, place_at, listed, arguments, call_at}
 use Rattle.script_expressions.specs.Expressions.{operator_at, operand_chain, tiers, expression_over, enclosed_over, operand, expression, enclosed}
 use Rattle.script_parser.specs.Statements.{source_at, let_at, assign_at, set_at, call_statement_at, return_at, fail_at, else_at, if_at, while_at, attempt_at, statement_over, statements, block}
@@ -51,7 +51,7 @@ unfolding lexed
 text_lexed = ap (λ (n : ℕ). lex (end_of 1130 n) 0 0 (take n bank_text)) all_text
 
 all_good : is_good (program_over lexed_so.1 lexed_so.0) ≡ true
-unfolding is_good lex lexeme name_lexeme number_lexeme text_lexeme symbol_lexeme program_over repeated type_at field_at initial_at number_at method_at option_at kind_at params_at listed block statements statement_over source_at let_at assign_at set_at call_statement_at return_at fail_at else_at if_at while_at attempt_at expression operand expression_over enclosed_over enclosed tiers operand_chain operator_at expected expected_word name_at text_at taken taken_word parenthesised place_at arguments call_at program_fault each_fault expression_fault arguments_fault call_fault source_fault statement_fault block_fault
+unfolding is_good lex lexeme name_lexeme number_lexeme text_lexeme symbol_lexeme program_over repeated type_at field_at initial_at number_at method_at option_at kind_at params_at listed block statements statement_over source_at let_at assign_at set_at call_statement_at return_at fail_at else_at if_at while_at attempt_at expression operand expression_over enclosed_over enclosed tiers operand_chain operator_at expected expected_word name_at spelling_at taken taken_word parenthesised place_at arguments call_at program_fault each_fault expression_fault arguments_fault call_fault source_fault statement_fault block_fault
 all_good = refl
 
 -- the names of the types that were read
@@ -60,7 +60,7 @@ names_or_none (Ok types) = names_in types
 names_or_none (Err fault) = []
 
 all_names : names_or_none (program_over lexed_so.1 lexed_so.0) ≡ bank_names
-unfolding names_or_none lex lexeme name_lexeme number_lexeme text_lexeme symbol_lexeme program_over repeated type_at field_at initial_at number_at method_at option_at kind_at params_at listed block statements statement_over source_at let_at assign_at set_at call_statement_at return_at fail_at else_at if_at while_at attempt_at expression operand expression_over enclosed_over enclosed tiers operand_chain operator_at expected expected_word name_at text_at taken taken_word parenthesised place_at arguments call_at program_fault each_fault expression_fault arguments_fault call_fault source_fault statement_fault block_fault
+unfolding names_or_none lex lexeme name_lexeme number_lexeme text_lexeme symbol_lexeme program_over repeated type_at field_at initial_at number_at method_at option_at kind_at params_at listed block statements statement_over source_at let_at assign_at set_at call_statement_at return_at fail_at else_at if_at while_at attempt_at expression operand expression_over enclosed_over enclosed tiers operand_chain operator_at expected expected_word name_at spelling_at taken taken_word parenthesised place_at arguments call_at program_fault each_fault expression_fault arguments_fault call_fault source_fault statement_fault block_fault
 all_names = refl
 
 -- what was read without a fault is a program
@@ -91,7 +91,7 @@ initial_or_none (Ok types) = initial_of (slice_get types 0)
 initial_or_none (Err fault) = []
 
 first_initial : initial_or_none (program_over lexed_so.1 lexed_so.0) ≡ Int (pos 0) ∷ []
-unfolding initial_or_none lex lexeme name_lexeme number_lexeme text_lexeme symbol_lexeme program_over repeated type_at field_at initial_at number_at method_at option_at kind_at params_at listed block statements statement_over source_at let_at assign_at set_at call_statement_at return_at fail_at else_at if_at while_at attempt_at expression operand expression_over enclosed_over enclosed tiers operand_chain operator_at expected expected_word name_at text_at taken taken_word parenthesised place_at arguments call_at
+unfolding initial_or_none lex lexeme name_lexeme number_lexeme text_lexeme symbol_lexeme program_over repeated type_at field_at initial_at number_at method_at option_at kind_at params_at listed block statements statement_over source_at let_at assign_at set_at call_statement_at return_at fail_at else_at if_at while_at attempt_at expression operand expression_over enclosed_over enclosed tiers operand_chain operator_at expected expected_word name_at spelling_at taken taken_word parenthesised place_at arguments call_at
 first_initial = refl
 
 -- so an account of a new silo is empty
