@@ -215,6 +215,11 @@ pub fn folders_read_so()
     ensures other_magic { (name : List ℕ) → length name ≡ 8 → name ≢ magic
         → opened_as live_slot (log_folder (1 ∷ (name ++ drop 9 (manager_bytes 1)))) ≡ NoSilo }
 
+    // a header that has another byte than 0 in front of the first gate, which comes before any block
+    ensures header_byte { (byte : ℕ) → byte ≢ 0 → opened_as live_slot (log_changed 13 byte) ≡ DamagedAt manager 13 }
+    ensures next_header_byte { (byte : ℕ) → byte ≢ 0 → opened_as live_slot (log_changed 14 byte) ≡ DamagedAt manager 14 }
+    ensures header_first { opened_as live_slot (log_folder (changed 14 1 (take 80 (manager_bytes 1)))) ≡ DamagedAt manager 14 }
+
     // a block that isn't whole
     ensures torn { opened_as live_slot (torn_folder 80) ≡ DamagedAt manager 16 }
     ensures cut { opened_as live_slot (torn_folder 16) ≡ DamagedAt manager 16 }
@@ -279,6 +284,8 @@ pub fn folders_read_so()
     // several files: that the folder is no silo comes first, then the program file, the manager file and the grains' files
     ensures silo_first { opened_as live_slot (folder_of (take 3 program_bytes) (take 15 (manager_bytes 1)) grain_bytes) ≡ NoSilo }
     ensures program_first { opened_as live_slot (folder_of (take 3 program_bytes) (take 80 (manager_bytes 1)) (take 10 grain_bytes))
+        ≡ DamagedAt program_file 3 }
+    ensures program_before_header { opened_as live_slot (folder_of (take 3 program_bytes) (changed 13 255 (manager_bytes 1)) grain_bytes)
         ≡ DamagedAt program_file 3 }
     ensures block_first { opened_as live_slot (folder_of program_bytes (take 80 (manager_bytes 1)) (take 10 grain_bytes))
         ≡ DamagedAt manager 16 }
