@@ -1,0 +1,89 @@
+"""Reports and loads over real folders: their lines, worked out by hand from docs/FORMATS.md, and their numbers."""
+import os
+import tempfile
+
+from harness import BANK, Ended, Rows, deposit, run
+
+rows = Rows("reports")
+MEMORY = "/dev/shm" if os.path.isdir("/dev/shm") else None
+
+SUMMARY = b'{"aborted":%d,"committed":%d,"faulted":%d,"requests":%d,"total":64000}\n'
+
+
+def silent(output=b""):
+    return Ended(0, output, b"")
+
+
+def says(number, text):
+    return Ended(number, b"", b"silo: " + text + b"\n")
+
+
+def line(call, *args):
+    listed = ",".join(str(arg) for arg in args)
+    return f'{{"args":[{listed}],"call":"{call}"}}\n'.encode()
+
+
+def number_in(summary, key):
+    """A number of a summary's line."""
+    return int(summary.split(b'"%s":' % key)[1].split(b",")[0].rstrip(b"}\n"))
+
+
+with tempfile.TemporaryDirectory(dir=MEMORY) as room:
+
+    def folder(name, program=None):
+        path = os.path.join(room, name)
+        os.mkdir(path)
+        if program is not None:
+            rows.row(f"init of {name}", run(path, "init", given=program), silent())
+        return path
+
+    # A silo of one deposit, and one whose reply couldn't be written.
+    one = folder("one", BANK)
+    rows.row("an empty silo", run(one, "show"), silent(b'{"count":0}\n'))
+    run(one, "run", given=deposit(5))
+    cut = folder("cut", BANK)
+    rows.row("a failed reply", run(cut, "run", given=deposit(5), closed=(1,)), says(5, b"write fault"))
+    for silo in (one, cut):
+        name = os.path.basename(silo)
+        rows.row(f"show of {name}", run(silo, "show"), silent(b'{"fields":{"balance":5},"grain":"account/1"}\n{"count":1}\n'))
+        rows.row(f"history of {name}", run(silo, "history"), silent(b'{"args":[5],"call":"account/1.deposit","n":1,"reply":5,"unit":1}\n'))
+        rows.row(f"audit of {name}", run(silo, "audit"), silent(b'{"count":1,"first_bad":null}\n'))
+    rows.row("a report that can't be written", run(one, "show", closed=(1,)), says(5, b"write fault"))
+
+    # The log of a deposit, with a byte changed or cut.
+    log = os.path.join(one, "manager-0.otx")
+    with open(log, "rb") as file:
+        whole = file.read()
+    for what, content, command, wanted in [
+        ("another result", whole[:60] + b"\6" + whole[61:], "audit", silent(b'{"count":1,"first_bad":1}\n')),
+        ("a cut log", whole[:50], "show", says(9, b"damaged manager-0.otx at 16")),
+        ("another tag", whole[:47] + b"\3" + whole[48:], "show", says(9, b"damaged manager-0.otx at 47")),
+        ("a closed gate of another byte", whole[:88] + b"\7", "show", silent(b'{"fields":{"balance":5},"grain":"account/1"}\n{"count":1}\n')),
+        ("a header byte", whole[:13] + b"\xff" + whole[14:], "show", says(9, b"damaged manager-0.otx at 13")),
+    ]:
+        with open(log, "wb") as file:
+            file.write(content)
+        rows.row(f"{command} with {what}", run(one, command), wanted)
+
+    # Loads: what a load of this number and seed sums up to, in two folders alike.
+    rows.row("a load of four", run(folder("four"), "load", "4", "7"), silent(SUMMARY % (0, 68, 0, 68)))
+    least = run(folder("greatest"), "load", "1", "18446744073709551615").output
+    rows.row("the greatest seed", (number_in(least, b"requests"), number_in(least, b"total")), (65, 64000))
+    many = [run(folder(f"many{n}"), "load", "20000", "7", "--width", "8") for n in (1, 2)]
+    rows.row("many, twice", many[0], many[1])
+    rows.row("many", (many[0].number, number_in(many[0].output, b"requests"), number_in(many[0].output, b"total")), (0, 20064, 64000))
+    rows.row("an audit of many", run(os.path.join(room, "many1"), "audit").output.endswith(b'"first_bad":null}\n'), True)
+    rows.row("a load where a silo is", run(one, "load", "1", "7"), says(8, b"already a silo"))
+    for words in (["0", "7"], ["100001", "7"], ["1", "18446744073709551616"], ["1"], ["1", "7", "--turns", "0"], ["01", "7"]):
+        rows.row(f"load {words}", run(room, "load", *words), says(2, b"bad use"))
+
+    # The options of calls, in a silo of the program that loads carry.
+    with open(os.path.join(room, "four", "program-0.otx"), "rb") as file:
+        program = file.read()[4:]
+    probes = folder("probes", program)
+    run(probes, "run", given=line("probe/0.needs") + line("probe/0.calls_lone") + line("probe/0.lone"))
+    rows.row("history of options", run(probes, "history"), silent(b'{"args":[],"call":"probe/0.calls_lone","fault":"not allowed","n":2,"unit":2}\n'))
+    run(probes, "run", given=line("probe/3.outer"))
+    rows.row("history of a child that was refused", run(probes, "history").output.split(b"\n")[1:], [b'{"args":[],"call":"probe/3.outer","n":1,"reply":11,"unit":3}', b""])
+
+rows.end()
