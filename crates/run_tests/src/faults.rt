@@ -38,7 +38,7 @@ const LOG_FAULT: Status = Status::DiskFault { file: MANAGER };
 // from the first to the last of two numbers, and the status where one of them fails.
 const ROWS: [(CallKind, Channel, u64, u64, Status); 24] = [
     (CallKind::Length, LOG, 1, 4, LOG_FAULT),
-    (CallKind::Read, LOG, 1, 11, LOG_FAULT),
+    (CallKind::Read, LOG, 1, 13, LOG_FAULT),
     (CallKind::Sync, LOG, 1, 1, LOG_FAULT),
     (
         CallKind::Length,
