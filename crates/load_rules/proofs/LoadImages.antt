@@ -32,7 +32,7 @@ use Rattle.promise_laws.proofs.TrueReplies.{known_of}
 use Rattle.promise_laws.proofs.ShownOrder.{order_serial, order_numbered}
 use Rattle.promise_laws.proofs.ShownRuns.{explained, at_entry}
 use Rattle.promise_laws.proofs.Doubted.{doubt-rose, doubt-told}
-use Rattle.load_rules.specs.Loading.{turned, turned_course, ShowsLoad}
+use Rattle.load_rules.specs.Loading.{at_turns_end, turned_course, ShowsLoad}
 
 -- one of these moments has the disk of this one
 pub record HasDiskIn (moments : List Moment) (m : Moment) : Type 0 where
@@ -54,7 +54,7 @@ with_program image other (Grain slot grain) = image (Grain slot grain)
 
 module _ (p : Program) (n seed : ℕ) (r : Observed) (c : Course) (mid : World) (counts : Channel → ℕ) (turns_end : Ending) (turns told : List Moment) (s : ShowsLoad p n seed r c mid counts turns_end turns told) where
   abbrev then_seen : Observed
-  then_seen = turned r mid counts turns_end
+  then_seen = at_turns_end r mid counts turns_end
 
   abbrev then_course : Course
   then_course = turned_course c turns

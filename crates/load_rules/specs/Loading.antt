@@ -14,8 +14,8 @@ use Rattle.promise_spec.specs.Loads.{load_calls, AskFor, summary_text}
 use Rattle.promise_laws.specs.Obligations.{ExplainsEvents, Lasts}
 
 -- the load up to the end of its turns, with these counts of faults and as if it had ended so there
-abbrev pub turned : Observed → World → (Channel → ℕ) → ending.Ending → Observed
-turned r mid counts e = record r { new = mid; faults_after = counts; ending = e }
+abbrev pub at_turns_end : Observed → World → (Channel → ℕ) → ending.Ending → Observed
+at_turns_end r mid counts e = record r { new = mid; faults_after = counts; ending = e }
 
 -- and its course up to there, which has written nothing
 abbrev pub turned_course : Course → List Moment → Course
@@ -35,7 +35,7 @@ MayPrint p r c told = ((told ≡ []) × (r.new.output ≡ r.old.output)) ⊎ (Ha
 -- files stayed, and the summary was printed or not. Its entries are those that the core settled.
 pub record ShowsLoad (p : Program) (n seed : ℕ) (r : Observed) (c : Course) (mid : World) (counts : Channel → ℕ) (turns_end : ending.Ending) (turns told : List Moment) : Type 0 where
   pub asked : AskFor p.types (lines r) (load_calls n seed)
-  pub lasts : Lasts p (turned r mid counts turns_end) (turned_course c turns)
+  pub lasts : Lasts p (at_turns_end r mid counts turns_end) (turned_course c turns)
   pub whole : HasWhole p c mid
   pub hushed : (m : Moment) → Member m turns → m.output ≡ r.old.output
   pub late : c.late ≡ turns ++ told

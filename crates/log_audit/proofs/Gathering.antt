@@ -12,7 +12,7 @@ use Rattle.log_reading.specs.Steps.{next_in, manager, records_from, with_records
 use Rattle.log_reading.specs.declared.faults.FolderFault.{FolderFault}
 use Rattle.log_reading.proofs.Following.{Follows, follows_begins, follows_on, follows_ends}
 use Rattle.log_reading.proofs.Errors.{failed}
-use Rattle.log_audit.specs.Written.{grains_written, grains_added}
+use Rattle.log_audit.specs.Written.{grains_recorded, grains_added}
 use Rattle.log_audit.specs.Unread.{IsLogFault}
 use Rattle.log_audit.proofs.Growing.{grains_added-append}
 
@@ -44,24 +44,24 @@ rest_of shape file done records gate f is = by (records_from shape (f (clean_of 
 pub record HasGrains (shape : Shape) (file : List ℕ) (gate : ℕ) (kept : List GrainId) : Type 0 where
   pub records : List CommitRecord
   pub follows : FollowsIfClean shape file records gate
-  pub are : kept ≡ grains_added [] (grains_written records)
+  pub are : kept ≡ grains_added [] (grains_recorded records)
 
 module _ (shape : Shape) (file : List ℕ) where
   pub grains_begun : (kept : List GrainId) → kept ≡ [] → HasGrains shape file first_gate kept
   grains_begun kept none = record { records = []; follows = follows_begins shape file; are = none }
 
-  pub grains_more : (gate : ℕ) (kept : List GrainId) → HasGrains shape file gate kept → (more : List CommitRecord) (behind : ℕ) (new : List GrainId) → new ≡ grains_added kept (grains_written more)
+  pub grains_more : (gate : ℕ) (kept : List GrainId) → HasGrains shape file gate kept → (more : List CommitRecord) (behind : ℕ) (new : List GrainId) → new ≡ grains_added kept (grains_recorded more)
       → next_in shape gate file ≡ Ok (Some (more, behind)) → HasGrains shape file behind new
   grains_more gate kept h more behind new put step = record {
     records = h.records ++ more;
     follows = λ clean. follows_on shape file h.records gate (h.follows clean) more behind step;
     are =
-        put ∙ ap (λ (l : List GrainId). grains_added l (grains_written more)) h.are ∙ sym (grains_added-append [] (grains_written h.records) (grains_written more))
+        put ∙ ap (λ (l : List GrainId). grains_added l (grains_recorded more)) h.are ∙ sym (grains_added-append [] (grains_recorded h.records) (grains_recorded more))
         ∙ ap (grains_added []) (sym (flat_map-append (λ (r : CommitRecord). map (λ (w : Written). w.grain) r.writes) h.records more));
   }
 
-  pub grains_ended : (gate : ℕ) (kept : List GrainId) → HasGrains shape file gate kept → next_in shape gate file ≡ Ok None → (records : List CommitRecord) → records_in_file shape file ≡ Ok records → kept ≡ grains_added [] (grains_written records)
-  grains_ended gate kept h end records is = h.are ∙ ap (λ (l : List CommitRecord). grains_added [] (grains_written l)) (all_read shape file h.records gate h.follows end records is)
+  pub grains_ended : (gate : ℕ) (kept : List GrainId) → HasGrains shape file gate kept → next_in shape gate file ≡ Ok None → (records : List CommitRecord) → records_in_file shape file ≡ Ok records → kept ≡ grains_added [] (grains_recorded records)
+  grains_ended gate kept h end records is = h.are ∙ ap (λ (l : List CommitRecord). grains_added [] (grains_recorded l)) (all_read shape file h.records gate h.follows end records is)
 
   -- a fault of reading the log
   pub log_fault : {A : Type 0} (e : FolderFault) → ((at : FileId) (place : ℕ) → failed {A = A} e ≡ failed (FolderFault.Damaged at place) → records_in_file shape file ≡ Err place)

@@ -13,7 +13,7 @@ use Rattle.base_types.specs.Stores.{grain_cmp}
 use Rattle.commit_log.specs.declared.records.CommitRecord.{CommitRecord}
 use Rattle.commit_log.specs.declared.records.Written.{Written}
 use Rattle.log_reading.specs.Versions.{ascending_with, ascending}
-use Rattle.log_audit.specs.Written.{grains_written, grains_added}
+use Rattle.log_audit.specs.Written.{grains_recorded, grains_added}
 
 -- ---- two keys that are added to others, in either order
 
@@ -173,10 +173,10 @@ writes_all left kept whole none so_far = sym (ap (λ (l : List Written). grains_
 
 -- one record more
 pub record_more : (r : CommitRecord) (more left : List CommitRecord) (kept new whole : List GrainId) → left ≡ r ∷ more → new ≡ grains_added kept (of_writes r.writes)
-    → grains_added kept (grains_written left) ≡ whole → grains_added new (grains_written more) ≡ whole
+    → grains_added kept (grains_recorded left) ≡ whole → grains_added new (grains_recorded more) ≡ whole
 record_more r more left kept new whole next put so_far =
-    ap (λ (l : List GrainId). grains_added l (grains_written more)) put ∙ sym (grains_added-append kept (of_writes r.writes) (grains_written more))
-    ∙ sym (ap (λ (l : List CommitRecord). grains_added kept (grains_written l)) next) ∙ so_far
+    ap (λ (l : List GrainId). grains_added l (grains_recorded more)) put ∙ sym (grains_added-append kept (of_writes r.writes) (grains_recorded more))
+    ∙ sym (ap (λ (l : List CommitRecord). grains_added kept (grains_recorded l)) next) ∙ so_far
 
-pub records_all : (left : List CommitRecord) (kept whole : List GrainId) → left ≡ [] → grains_added kept (grains_written left) ≡ whole → kept ≡ whole
-records_all left kept whole none so_far = sym (ap (λ (l : List CommitRecord). grains_added kept (grains_written l)) none) ∙ so_far
+pub records_all : (left : List CommitRecord) (kept whole : List GrainId) → left ≡ [] → grains_added kept (grains_recorded left) ≡ whole → kept ≡ whole
+records_all left kept whole none so_far = sym (ap (λ (l : List CommitRecord). grains_added kept (grains_recorded l)) none) ∙ so_far

@@ -18,7 +18,7 @@ use Rattle.promise_spec.specs.Logs.{live_slot}
 use Rattle.promise_spec.specs.Openings.{commit_of}
 use Rattle.promise_spec.specs.Reports.{line_of, grains_in, grain_line, show_text, history_text}
 use Rattle.log_audit.specs.Lines.{grain_data, grain_lines, count_data, record_data, record_lines}
-use Rattle.log_audit.specs.Written.{grains_written, grains_added}
+use Rattle.log_audit.specs.Written.{grains_recorded, grains_added}
 use Rattle.log_audit.specs.Endings.{program_opened}
 use Rattle.log_audit.proofs.Growing.{are_ascending}
 use Rattle.log_audit.proofs.Reported.{HasParts, parts_of}
@@ -36,12 +36,12 @@ module _ (shape : Shape) (image : Image) where
   commits records = map (commit_of live_slot shape image) records
 
   -- the grains of commits are those that their records wrote
-  wrote_same : (records : List CommitRecord) → flat_map (λ (c : Commit). map (λ (w : Written). w.grain) c.logged.writes) (commits records) ≡ grains_written records
+  wrote_same : (records : List CommitRecord) → flat_map (λ (c : Commit). map (λ (w : Written). w.grain) c.logged.writes) (commits records) ≡ grains_recorded records
   wrote_same [] = refl
   wrote_same (r ∷ records) = ap (λ (l : List GrainId). map (λ (w : Written). w.grain) r.writes ++ l) (wrote_same records)
 
-  pub grains_same : (records : List CommitRecord) → grains_in (commits records) ≡ grains_added [] (grains_written records)
-  grains_same records = ap ascending (wrote_same records) ∙ sym (are_ascending (grains_written records))
+  pub grains_same : (records : List CommitRecord) → grains_in (commits records) ≡ grains_added [] (grains_recorded records)
+  grains_same records = ap ascending (wrote_same records) ∙ sym (are_ascending (grains_recorded records))
 
 pub history_same : (p : Program) (image : Image) (records : List CommitRecord) → history_text p (map (commit_of live_slot (shape_in p) image) records) ≡ record_lines (shape_in p) p.types records
 history_same p image [] = refl
@@ -61,7 +61,7 @@ module _ (image : Image) (o : Opened) (is : IsOpenedFrom image o) where
   line_same : (g : GrainId) → grain_line p is.log g ≡ line_of (grain_data (shape_in p) p.types g (found_in p.types o.store g))
   line_same g = ap (λ (s : List Value). line_of (grain_data (shape_in p) p.types g s)) (sym (is.states g))
 
-  pub show_opened : (kept : List GrainId) → kept ≡ grains_added [] (grains_written parts.records) → show_text p is.log ≡ grain_lines (shape_in p) p.types o.store kept ++ line_of (count_data o.count)
+  pub show_opened : (kept : List GrainId) → kept ≡ grains_added [] (grains_recorded parts.records) → show_text p is.log ≡ grain_lines (shape_in p) p.types o.store kept ++ line_of (count_data o.count)
   show_opened kept are =
       let grains : grains_in is.log ≡ kept = ap grains_in (sym parts.commits) ∙ grains_same (shape_in p) image parts.records ∙ sym are in
       let count : length is.log ≡ o.count = sym (is.count ∙ count_of p.types is.log) in

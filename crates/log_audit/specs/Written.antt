@@ -6,8 +6,8 @@ use Rattle.commit_log.specs.declared.records.CommitRecord.{CommitRecord}
 use Rattle.log_reading.specs.Versions.{ascending_with}
 
 -- the grains that records wrote, in the log's order
-abbrev pub grains_written : List CommitRecord → List GrainId
-grains_written records = flat_map (λ r. map (λ w. w.grain) r.writes) records
+abbrev pub grains_recorded : List CommitRecord → List GrainId
+grains_recorded records = flat_map (λ r. map (λ w. w.grain) r.writes) records
 
 -- these grains, one after another, among others that ascend
 abbrev pub grains_added : List GrainId → List GrainId → List GrainId

@@ -9,7 +9,7 @@ ghost use Rattle.log_reading.specs.Blocks.{records_in_file};
 ghost use Rattle.log_reading.specs.Counts.{ReadFaulted};
 ghost use Rattle.log_reading.specs.Steps.{manager};
 ghost use Rattle.log_audit.specs.Unread.{IsLogFault};
-ghost use Rattle.log_audit.specs.Written.{grains_written, grains_added};
+ghost use Rattle.log_audit.specs.Written.{grains_recorded, grains_added};
 
 use base_types::{GrainId, Shape};
 use commit_log::{CommitRecord, Written};
@@ -30,7 +30,7 @@ fn add_written(grains: &mut BTreeSet<GrainId>, writes: &[Written]) -> Result<(),
 
 // Adds the grains that these records wrote.
 fn add_grains(grains: &mut BTreeSet<GrainId>, records: &[CommitRecord]) -> Result<(), AllocError>
-    ensures { OnOk result (grains.new.keys ≡ grains_added grains.old.keys (grains_written records.now)) }
+    ensures { OnOk result (grains.new.keys ≡ grains_added grains.old.keys (grains_recorded records.now)) }
 {
     for entry in records {
         add_written(grains, entry.writes.as_slice())?;
@@ -45,7 +45,7 @@ pub(crate) fn read_grains<H: Host>(
     shape: &Shape,
 ) -> Result<BTreeSet<GrainId>, FolderFault>
     ensures found { IfOk result (λ grains. IsTrue H.tells → (records : List ARecord) → records_in_file shape.now ((H.world host.old).disk manager).seen ≡ Ok records
-        → grains.keys ≡ grains_added [] (grains_written records)) }
+        → grains.keys ≡ grains_added [] (grains_recorded records)) }
     ensures unread { IfErr result (λ e. IsTrue H.tells → (records : List ARecord) → records_in_file shape.now ((H.world host.old).disk manager).seen ≡ Ok records
         → IsLogFault shape.now ((H.world host.old).disk manager).seen e) }
     ensures asked { IsTrue H.tells → OnlyAsked (H.world host.old) (H.world host.new) }

@@ -20,5 +20,5 @@ pub record IsBehindOpening (old mid : World) (o : Opened) : Type 0 where
   pub stays : ReadsMayStay old
 
 -- how a run ends whose turns ended by this fault
-abbrev pub fault_ending : RunFault → Ending
-fault_ending fault = turns_ending {T = Unit {0}} (Err fault)
+abbrev pub ending_by_turns : RunFault → Ending
+ending_by_turns fault = turns_ending {T = Unit {0}} (Err fault)

@@ -8,7 +8,7 @@ ghost use Rattle.interleaver.specs.Closing.{turns_ending};
 ghost use Rattle.promise_spec.specs.Promise.{Promises};
 ghost use Rattle.silo_top.specs.Answering.{AnswersRun, turns_manner, observed_run};
 ghost use Rattle.silo_top.specs.Reading.{input_ending};
-ghost use Rattle.silo_top.specs.Serving.{IsBehindOpening, fault_ending};
+ghost use Rattle.silo_top.specs.Serving.{IsBehindOpening, ending_by_turns};
 ghost use Rattle.silo_top.specs.Statuses.{status_ending};
 
 use crate::input::{InputFault, read_input};
@@ -27,7 +27,7 @@ pub(crate) const MANAGER: FileId = FileId::Manager { slot: 0 };
 
 /// The status of a run whose turns ended before each line had its reply.
 fn fault_status(fault: RunFault) -> Status
-    ensures { status_ending result ≡ fault_ending fault }
+    ensures { status_ending result ≡ ending_by_turns fault }
 {
     match fault {
         RunFault::InDoubt => Status::DiskFault { file: MANAGER },

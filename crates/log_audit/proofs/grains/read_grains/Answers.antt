@@ -6,7 +6,7 @@ use Rattle.host_trait.proofs.Counts.{none_then}
 use Rattle.commit_log.specs.declared.records.CommitRecord.{CommitRecord}
 use Rattle.log_reading.specs.Steps.{manager, next_in}
 use Rattle.log_reading.proofs.Following.{follows_breaks}
-use Rattle.log_audit.specs.Written.{grains_written, grains_added}
+use Rattle.log_audit.specs.Written.{grains_recorded, grains_added}
 use Rattle.log_audit.proofs.Gathering.{clean_of, grains_begun, grains_more, grains_ended, log_fault}
 use Rattle.log_audit.proofs.grains.read_grains.Goals as goal
 
@@ -55,7 +55,7 @@ loop-grains-preserved g c =
           let here : next_in shape gate ((g.H.Host.world c.loop-grains.host).disk manager).seen ≡ Ok (Some (more, behind)) = search rules in
           let there : next_in shape gate file ≡ Ok (Some (more, behind)) = subst (λ (d : Disk). next_in shape gate (d manager).seen ≡ Ok (Some (more, behind))) (inv.asked told).disk here in
           grains_more shape file gate c.loop-grains.grains.keys (inv.has told) more behind _
-          (c.in_ok-add_grains.ensures ∙ ap (λ (l : List CommitRecord). grains_added c.loop-grains.grains.keys (grains_written l)) c.as_slice.ensures) there;
+          (c.in_ok-add_grains.ensures ∙ ap (λ (l : List CommitRecord). grains_added c.loop-grains.grains.keys (grains_recorded l)) c.as_slice.ensures) there;
       asked = λ told. asked_then _ _ _ (inv.asked told) (c.next_block.ensures.asked told);
       calm = none_then _ _ _ inv.calm c.in_ok-records.ensures.calm;
       ready = λ at was. c.next_block.ensures.ready at (inv.ready at was);
