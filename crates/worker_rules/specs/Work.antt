@@ -1,0 +1,20 @@
+-- Which events are a worker's: those of lines and of units.
+use Rattle.std.specs.Prelude.{◌≡◌, Bool, true, false, List}
+use Rattle.core_model.specs.declared.events.CoreEvent.{CoreEvent}
+use Rattle.promise_spec.specs.TurnRule.{Mover, OfLine, OfUnit, OfSettler, mover_of}
+use Rattle.turn_cell.specs.History.{In}
+use Rattle.core_access.specs.Histories.{Told}
+
+-- the move of a line or of a unit
+abbrev pub is_of_worker : Mover → Bool
+is_of_worker OfLine = true
+is_of_worker (OfUnit u) = true
+is_of_worker OfSettler = false
+
+-- an event that a worker puts: of a line, or of a unit
+abbrev pub is_work : CoreEvent → Bool
+is_work e = is_of_worker (mover_of e)
+
+-- each of these entries is of such an event
+abbrev pub OnlyWorks : List Told → Type 0
+OnlyWorks mine = (e : Told) → In e mine → is_work e.event ≡ true
