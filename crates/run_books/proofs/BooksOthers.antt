@@ -68,16 +68,11 @@ answers-none (Want u g) other = refl
 answers-none (Load g u state) other = refl
 
 module _ (tells : Bool) (o : Outset) (b : Books) (r : Run) (e : CoreEvent) (settler : Settler) (counts : Channel → ℕ) (now : World)
-    (above : 0 < r.base) (units : KeepsUnitRule (basis_of o) r) (after : KeepsUnitRule (basis_of o) (extended r (e ∷ []))) (other : is_settling e ≡ false)
+    (above : 0 < r.base) (units : KeepsUnitRule (basis_of o) r) (after : KeepsUnitRule (basis_of o) (extended r (e ∷ [])))
+    (leaves : LeavesBatches (ends r) (ends (extended r (e ∷ [])))) (answers : file_answer e ≡ NoAnswer)
     (even : AreEven settler.quiet b (ends r)) (k : KeepsBooks tells o b r settler counts now) where
   abbrev r' : Run
   r' = extended r (e ∷ [])
-
-  leaves : LeavesBatches (ends r) (ends r')
-  leaves = others-leave r e other
-
-  answers : file_answer e ≡ NoAnswer
-  answers = answers-none e other
 
   -- what is settled more
   added : (more : List Entry) × ((ends r').manager.settled ≡ (ends r).manager.settled ++ more)
@@ -200,4 +195,22 @@ module _ (tells : Bool) (o : Outset) (b : Books) (r : Run) (e : CoreEvent) (sett
 
 -- an event that isn't the settler's keeps the books
 pub others-keep : OthersKeep
-others-keep tells o b r e settler counts now above units after other even k = go-on tells o b r e settler counts now above units after other even k
+others-keep tells o b r e settler counts now above units after other even k =
+    go-on tells o b r e settler counts now above units after (others-leave r e other) (answers-none e other) even k
+
+-- one that no file answers, and that doesn't apply, keeps them too
+pub unapplied-keeps : (tells : Bool) (o : Outset) (b : Books) (r : Run) (e : CoreEvent) (settler : Settler) (counts : Channel → ℕ) (now : World)
+    → 0 < r.base → KeepsUnitRule (basis_of o) r → KeepsUnitRule (basis_of o) (extended r (e ∷ [])) → applies (ends r) e ≡ false → file_answer e ≡ NoAnswer
+    → AreEven settler.quiet b (ends r) → KeepsBooks tells o b r settler counts now
+    → (g : BooksGoOn tells o b r (extended r (e ∷ [])) settler settler counts now now) × AreEven settler.quiet g.books (ends (extended r (e ∷ [])))
+unapplied-keeps tells o b r e settler counts now above units after unapplied answers even k =
+    let same : ends (extended r (e ∷ [])) ≡ ends r = unapplied-run r e unapplied in
+    let leaves : LeavesBatches (ends r) (ends (extended r (e ∷ []))) = record {
+      batches = ap (λ (w : CoreState). w.manager.batches) same;
+      batch = ap (λ (w : CoreState). w.manager.batch) same;
+      past = ap (λ (w : CoreState). w.manager.past) same;
+      closed = ap (λ (w : CoreState). w.manager.closed) same;
+      doubt = ap (λ (w : CoreState). w.manager.doubt) same;
+      emitted = ap (λ (w : CoreState). w.manager.emitted) same;
+    } in
+    go-on tells o b r e settler counts now above units after leaves answers even k
