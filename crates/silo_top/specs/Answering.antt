@@ -1,10 +1,10 @@
 -- What a call answers over any host, what it is asked, and what it shows.
-use Rattle.std.specs.Prelude.{◌≡◌, ◌≢◌, ℕ, Bool, true, false, not, List, ⊤}
+use Rattle.std.specs.Prelude.{◌≡◌, ◌≢◌, ℕ, Bool, true, false, List, [], ⊤}
 use Rattle.host_trait.specs.declared.channels.Channel.{Channel}
 use Rattle.host_trait.specs.declared.channels.Channel.TheVariants.{Input, Output}
 use Rattle.host_trait.specs.World.{World}
 use Rattle.request_wire.specs.Lines.{lines_of}
-use Rattle.promise_spec.specs.Words.{GivenOption, Manner, Command, Init, Run, Show, History, Audit, Load, is_workers}
+use Rattle.promise_spec.specs.Words.{GivenOption, Manner, Command, Init, Run, Show, History, Audit, Load}
 use Rattle.promise_spec.specs.Endings.{Ending, BadUse, ReadFault, WriteFault, HasRisen, HasFailedAs, IsBegun}
 use Rattle.promise_spec.specs.Courses.{Observed}
 use Rattle.promise_spec.specs.Calls.{Understands}
@@ -16,13 +16,17 @@ use Rattle.silo_top.specs.Statuses.{status_ending}
 abbrev pub is_built : Command → Bool
 is_built c = true
 
--- and the options of these: all but workers
+-- and all options of these
 abbrev pub is_taken : GivenOption → Bool
-is_taken g = not (is_workers g.what)
+is_taken g = true
 
 -- on one thread, so many lines in flight, with these picks
 abbrev pub turns_manner : ℕ → List ℕ → Manner
 turns_manner width picks = record { threaded = false; width = width; picks = picks }
+
+-- by workers, of which no width is told and no picks
+abbrev pub workers_manner : Manner
+workers_manner = record { threaded = true; width = 1; picks = [] }
 
 -- In what manner a command is carried over an input, and what lines it is asked: a run has those of the input, and a load those
 -- that it draws.

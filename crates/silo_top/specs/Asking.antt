@@ -1,24 +1,50 @@
 -- What the words ask for.
-use Rattle.std.specs.Prelude.{◌<◌, ◌≤◌, [], ⊤}
-use Rattle.promise_spec.specs.Words.{Command, Init as MakesOne, Run as CarriesLines, Show as TellsStates, History as TellsRecords, Audit as PlaysAgain, Load as CarriesLoad}
-use Rattle.silo_top.specs.Answering.{turns_manner}
+use Rattle.std.specs.Prelude.{◌<◌, ◌≤◌, ℕ, List, [], Option, None, Some, unwrap_or, ⊤}
+use Rattle.promise_spec.specs.Words.{Manner, Command, Init as MakesOne, Run as CarriesLines, Show as TellsStates, History as TellsRecords, Audit as PlaysAgain, Load as CarriesLoad}
+use Rattle.command_words.specs.Options.{Chosen}
+use Rattle.silo_top.specs.Answering.{turns_manner, workers_manner}
+use Rattle.silo_top.specs.declared.asking.Carriage.{Carriage}
+use Rattle.silo_top.specs.declared.asking.Carriage.TheVariants.{Turns, Workers}
 use Rattle.silo_top.specs.declared.asking.Asked.{Asked}
 use Rattle.silo_top.specs.declared.asking.Asked.TheVariants.{Init, Run, Show, History, Audit, Load}
+
+-- ---- how lines are carried
+
+-- in this manner
+abbrev pub carriage_manner : Carriage → Manner
+carriage_manner (Turns width picks) = turns_manner width picks
+carriage_manner (Workers n) = workers_manner
+
+-- a line may be in flight; and there are from 1 to 16 workers
+abbrev pub IsCarriage : Carriage → Type 0
+IsCarriage (Turns width picks) = 0 < width
+IsCarriage (Workers n) = (1 ≤ n) × (n ≤ 16)
+
+-- by workers, where some are asked for, else on one thread
+abbrev pub carriage_by : Option ℕ → ℕ → List ℕ → Carriage
+carriage_by None width picks = Turns width picks
+carriage_by (Some n) width picks = Workers n
+
+-- what the options choose
+abbrev pub carriage_of : Chosen → Carriage
+carriage_of chosen = carriage_by chosen.workers (unwrap_or chosen.width 1) (unwrap_or chosen.turns [])
+
+-- ---- commands
 
 -- the command that is asked for
 abbrev pub asked_command : Asked → Command
 asked_command Init = MakesOne
-asked_command (Run width picks) = CarriesLines (turns_manner width picks)
+asked_command (Run how) = CarriesLines (carriage_manner how)
 asked_command Show = TellsStates
 asked_command History = TellsRecords
 asked_command Audit = PlaysAgain
-asked_command (Load transfers seed width) = CarriesLoad transfers seed (turns_manner width [])
+asked_command (Load transfers seed how) = CarriesLoad transfers seed (carriage_manner how)
 
--- a line may be in flight, and a load has so many transfers at most
+-- lines can be carried so, and a load has so many transfers at most
 abbrev pub MayBeCarried : Asked → Type 0
 MayBeCarried Init = ⊤
-MayBeCarried (Run width picks) = 0 < width
+MayBeCarried (Run how) = IsCarriage how
 MayBeCarried Show = ⊤
 MayBeCarried History = ⊤
 MayBeCarried Audit = ⊤
-MayBeCarried (Load transfers seed width) = (0 < width) × (transfers ≤ 100000)
+MayBeCarried (Load transfers seed how) = IsCarriage how × (transfers ≤ 100000)

@@ -9,7 +9,7 @@ ghost use Rattle.command_words.specs.CutParts.{texts_of};
 ghost use Rattle.silo_top.specs.Answering.{AnswersRun, NamesFaults, is_built, is_taken, turns_manner, IsAsked, observed_call, observed_run};
 ghost use Rattle.silo_top.specs.Statuses.{status_ending};
 
-use crate::asking::{Asked, read_asked};
+use crate::asking::{Asked, Carriage, read_asked};
 use crate::carrying::serve;
 use crate::loading::load;
 use crate::reporting::{audit, history, show};
@@ -98,17 +98,13 @@ pub fn run_silo<Rt, H: Host, G: Gate + Sync>(
 {
     match read_asked(alloc, words) {
         Ok(Asked::Init) => make(alloc, host),
-        Ok(Asked::Run { width, picks }) => run(alloc, host, gate, width, &picks),
+        Ok(Asked::Run(Carriage::Turns { width, picks })) => run(alloc, host, gate, width, &picks),
+        Ok(Asked::Run(Carriage::Workers(_workers))) => Status::Memory,
         Ok(Asked::Show) => show(alloc, host),
         Ok(Asked::History) => history(alloc, host),
         Ok(Asked::Audit) => audit(alloc, host),
-        Ok(
-            Asked::Load {
-                transfers,
-                seed,
-                width,
-            },
-        ) => load(alloc, host, gate, transfers, seed, width),
+        Ok(Asked::Load { transfers, seed, how: Carriage::Turns { width, picks: _picks } }) => load(alloc, host, gate, transfers, seed, width),
+        Ok(Asked::Load { transfers: _transfers, seed: _seed, how: Carriage::Workers(_workers) }) => Status::Memory,
         Err(WordsFault::BadUse) => Status::BadUse,
         Err(WordsFault::Memory) => Status::Memory,
     }

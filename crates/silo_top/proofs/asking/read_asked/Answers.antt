@@ -1,19 +1,28 @@
-use Rattle.std.proofs.Common.{◌<◌, sym, ◌∙◌, subst, ℕ}
+use Rattle.std.proofs.Common.{◌≤◌, sym, subst}
+use Rattle.promise_spec.specs.Words.{Run, Load}
+use Rattle.promise_spec.specs.Calls.{Understands}
 use Rattle.command_words.specs.CutParts.{texts_of}
-use Rattle.silo_top.proofs.AskedWords.{unbuilt_workers, wide_enough, unbuilt_load, load_wide, load_few}
+use Rattle.silo_top.specs.Answering.{is_built, is_taken}
+use Rattle.silo_top.specs.Asking.{carriage_manner, IsCarriage}
+use Rattle.silo_top.specs.declared.asking.Carriage.{Carriage}
+use Rattle.silo_top.proofs.AskedWords.{run_understood, run_can, load_understood, load_can}
 use Rattle.silo_top.proofs.asking.read_asked.Goals as goal
 
-pub returns-then-is_some-clause-bad_use : goal.returns-then-is_some-clause-bad_use
-returns-then-is_some-clause-bad_use c = λ is. unbuilt_workers (texts_of c.args.words.now) c.in_ok-read_words.field-0 c.in-Run.options c.in-Run.is c.in_ok-read_words.ensures.said (sym c.is_some.ensures ∙ c.if-is_some.true)
+pub returns-in-Run-clause-asked : goal.returns-in-Run-clause-asked
+returns-in-Run-clause-asked c =
+    subst (λ (how : Carriage). Understands is_built is_taken (texts_of c.args.words.now) (Run (carriage_manner how))) (sym c.run_carriage-how.ensures)
+    (run_understood (texts_of c.args.words.now) c.in_ok-read_words.field-0 c.in-Run.options c.in-Run.is c.in_ok-read_words.ensures.said)
 
-pub returns-else-is_some-clause-bounds : goal.returns-else-is_some-clause-bounds
-returns-else-is_some-clause-bounds c = subst (λ (n : ℕ). 0 < n) (sym c.width_of-width.ensures) (wide_enough (texts_of c.args.words.now) c.in_ok-read_words.field-0 c.in-Run.options c.in-Run.is c.in_ok-read_words.ensures.said)
+pub returns-in-Run-clause-bounds : goal.returns-in-Run-clause-bounds
+returns-in-Run-clause-bounds c =
+    subst IsCarriage (sym c.run_carriage-how.ensures) (run_can (texts_of c.args.words.now) c.in_ok-read_words.field-0 c.in-Run.options c.in-Run.is c.in_ok-read_words.ensures.said)
 
-pub returns-then-is_some-2-clause-bad_use : goal.returns-then-is_some-2-clause-bad_use
-returns-then-is_some-2-clause-bad_use c = λ is. unbuilt_load (texts_of c.args.words.now) c.in_ok-read_words.field-0 c.in-Load.options c.in-Load.is c.in_ok-read_words.ensures.said (sym c.is_some-in-Load.ensures ∙ c.if-is_some-2.true)
+pub returns-in-Load-clause-asked : goal.returns-in-Load-clause-asked
+returns-in-Load-clause-asked c =
+    subst (λ (how : Carriage). Understands is_built is_taken (texts_of c.args.words.now) (Load c.in-Load.options.transfers c.in-Load.options.seed (carriage_manner how))) (sym c.load_carriage-how.ensures)
+    (load_understood (texts_of c.args.words.now) c.in_ok-read_words.field-0 c.in-Load.options c.in-Load.is c.in_ok-read_words.ensures.said)
 
-pub returns-else-is_some-2-clause-bounds : goal.returns-else-is_some-2-clause-bounds
-returns-else-is_some-2-clause-bounds c = (
-  subst (λ (n : ℕ). 0 < n) (sym c.width_of-width-in-Load.ensures) (load_wide (texts_of c.args.words.now) c.in_ok-read_words.field-0 c.in-Load.options c.in-Load.is c.in_ok-read_words.ensures.said),
-  load_few (texts_of c.args.words.now) c.in_ok-read_words.field-0 c.in-Load.options c.in-Load.is c.in_ok-read_words.ensures.said,
-)
+pub returns-in-Load-clause-bounds : goal.returns-in-Load-clause-bounds
+returns-in-Load-clause-bounds c =
+    let can = load_can (texts_of c.args.words.now) c.in_ok-read_words.field-0 c.in-Load.options c.in-Load.is c.in_ok-read_words.ensures.said in
+    (subst IsCarriage (sym c.load_carriage-how.ensures) can.0, can.1)
