@@ -188,7 +188,7 @@ sees-put x mid e p q = subst (SeesOn x) (sym q) (record {
 })
 
 -- a look behind the event, or none
-looks-behind : (may : CoreEvent → Bool) (x : Bool) (mid t : Sight) → LooksOn may x mid t → Looks may mid t
+pub looks-behind : (may : CoreEvent → Bool) (x : Bool) (mid t : Sight) → LooksOn may x mid t → Looks may mid t
 looks-behind may true mid t l = l.0
 looks-behind may false mid t l = subst (Looks may mid) (sym l) (looks-none may mid)
 
