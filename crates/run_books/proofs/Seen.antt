@@ -1,10 +1,10 @@
 -- Each step of a settler sees on; and who alone could stop the run.
-use Rattle.std.proofs.Common.{◌≡◌, ◌⊎◌, inl, inr, ⊎_elim, ℕ, List, [], ◌∷◌, Bool, true, false, refl, sym, ap, ◌∙◌, subst}
+use Rattle.std.proofs.Common.{◌≡◌, inl, inr, ⊎_elim, ℕ, List, [], ◌∷◌, Bool, true, false, refl, sym, ap, ◌∙◌, subst}
 use Rattle.std.specs.Prelude.{Result, Ok, Err, ◌&&◌}
 use Rattle.base_types.specs.declared.shapes.Shape.{Shape}
 use Rattle.host_trait.specs.declared.channels.Channel.{Channel}
 use Rattle.host_trait.specs.World.{World}
-use Rattle.turn_cell.specs.History.{In, entries_of}
+use Rattle.turn_cell.specs.History.{In}
 use Rattle.turn_cell.proofs.Histories.{in_entries}
 use Rattle.core_model.specs.declared.events.CoreEvent.{CoreEvent}
 use Rattle.core_model.specs.declared.events.CoreEvent.TheVariants.{Halt}
@@ -17,7 +17,7 @@ use Rattle.core_access.specs.Sights.{Sight, run_seen, Looks, Tells, IsAlone}
 use Rattle.worker_rules.specs.Work.{is_work}
 use Rattle.worker_rules.proofs.Workers.{work-stops}
 use Rattle.settle_loop.specs.Works.{has_applied}
-use Rattle.settle_loop.specs.Turning.{LooksOn, PutsNext, TurnsAs}
+use Rattle.settle_loop.specs.Turning.{TurnsAs}
 use Rattle.settle_loop.specs.declared.settler.Settler.{Settler}
 use Rattle.settle_loop.specs.declared.settler.Turned.{Turned}
 use Rattle.settle_loop.specs.declared.settler.Turned.TheVariants.{Stepped, Nothing, Stop}
