@@ -26,3 +26,4 @@ pub mod Fronts
 pub mod Relying
 pub mod Staying
 pub mod BooksShared
+pub mod Seen
