@@ -12,37 +12,44 @@ use Rattle.core_model.specs.Legal.{Run}
 use Rattle.history_core.specs.Cores.{run_of}
 use Rattle.settle_loop.specs.declared.settler.Settler.{Settler}
 use Rattle.run_books.specs.declared.faults.RunFault.{RunFault}
-use Rattle.run_books.specs.Beginnings.{Outset, IsOutset, CanTurn}
+use Rattle.run_books.specs.Beginnings.{Outset}
 use Rattle.run_books.specs.Beside.{TurnsBeside}
-use Rattle.run_books.specs.Books.{Books}
 use Rattle.run_books.specs.Closing.{turns_ending}
-use Rattle.interleaver.specs.Turns.{KeepsTurns, IsFreshRecord, TurnsGoOn}
 use Rattle.silo_opening.specs.declared.open.Opened.{Opened}
 use Rattle.silo_top.specs.declared.starting.Started.{Started}
+use Rattle.promise_spec.specs.Words.{Manner}
 use Rattle.silo_top.specs.Answering.{AnswersRun}
+use Rattle.silo_top.specs.Carrying.{StartsRun, CarriedOn, CarriesOn}
 use Rattle.silo_top.specs.Reading.{PulledOnly, AreReadFrom}
 use Rattle.silo_top.specs.Starting.{IsStartOf}
-use Rattle.silo_top.proofs.Beginning.{start_run, no_books, starts_kept, starts_quiet, starts_fresh, starts_outset}
+use Rattle.silo_top.proofs.Beginning.{no_books, starts_kept, starts_quiet, starts_fresh, starts_outset}
 use Rattle.silo_top.proofs.Ended.{turns_answer}
 use Rattle.silo_top.proofs.OpensWith.{many_types}
 
-pub answered : {T : Type 0} (tells : Bool) (width : ℕ) (picks : List ℕ) (x : Opened) (st : Started) (input : List ℕ) (lines : List Line) (w0 w1 w2 : World) (f0 f1 f2 : Channel → ℕ) (result : Result T RunFault) (r' : Run) (s' : Settler)
-    → IsStartOf x st → (IsTrue tells → PulledOnly w0 w1) → NoneFailed f0 f1 → 0 < width → 0 < x.next_unit.0 → AreReadFrom (program_tree x.checked) 0 (lines_of input) lines
-    → ((o : Outset) (b : Books) → IsOutset o (program_tree x.checked) (run_of st.core) lines width picks → CanTurn (run_of st.core) st.settler lines → IsFreshRecord o b (run_of st.core)
-    → KeepsTurns tells o b (run_of st.core) st.settler f1 w1 → TurnsGoOn tells o b (run_of st.core) r' st.settler s' f2 w1 w2 result)
-    → TurnsBeside tells (run_of st.core) r' st.settler s' f1 f2 w1 w2 result → AnswersRun (turns_ending result) f0 f2
-answered {T} tells width picks x st input lines w0 w1 w2 f0 f1 f2 result r' s' start pulled calm wide above are turns beside =
+-- a core without events, and a settler that has written nothing: lines can be carried, whatever log the outset is told of
+pub start_fresh : (tells : Bool) (m : Manner) (x : Opened) (st : Started) (texts : List (List ℕ)) (lines : List Line) (w0 w1 : World) (f0 f1 : Channel → ℕ)
+    → IsStartOf x st → (IsTrue tells → (w1.output ≡ w0.output) × (w1.syncs ≡ w0.syncs)) → ((c : Channel) → f0 c ≤ f1 c) → 0 < m.width → 0 < x.next_unit.0 → AreReadFrom (program_tree x.checked) 0 texts lines
+    → StartsRun tells m (record { program = record { text = []; types = program_tree x.checked }; asked = texts; opening = []; width = m.width; picks = m.picks; faults = f0; world = w0 }) no_books (program_tree x.checked)
+    (run_of st.core) st.settler lines f1 w1
+start_fresh tells m x st texts lines w0 w1 f0 f1 start still later wide above are =
     let types : ProgramTree = program_tree x.checked in
-    let o : Outset = record { program = record { text = []; types = types }; asked = lines_of input; opening = []; width = width; picks = picks; faults = f0; world = w0 } in
+    let o : Outset = record { program = record { text = []; types = types }; asked = texts; opening = []; width = m.width; picks = m.picks; faults = f0; world = w0 } in
     let base : ℕ = x.next_unit.0 in
     let kinds : ℕ = length (type_shapes types) in
     let opening = opening_state (record { types = type_shapes types }) x.store in
-    let first : Run = start_run base kinds opening in
-    let same : run_of st.core ≡ first = start.run in
-    let goes : TurnsGoOn {T = T} tells o no_books (run_of st.core) r' st.settler s' f2 w1 w2 result = turns o no_books
-    (subst (λ (r : Run). IsOutset o types r lines width picks) (sym same) (starts_outset base kinds opening o types (lines_of input) lines width picks are (many_types types) refl refl refl wide refl))
-    (subst (λ (r : Run). CanTurn r st.settler lines) (sym same) (starts_quiet base kinds opening types (lines_of input) lines st.settler are start.doubted start.written))
-    (subst (λ (r : Run). IsFreshRecord o no_books r) (sym same) (starts_fresh base kinds opening o))
-    (subst (λ (r : Run). KeepsTurns tells o no_books r st.settler f1 w1) (sym same) (starts_kept base kinds opening tells o st.settler f1 w1 above (λ c. let e = calm c in omega (arith, e))
-    start.written start.doubted start.sealing (λ told. ((pulled told).output, (pulled told).syncs)))) in
-    turns_answer tells o goes.books (run_of st.core) r' st.settler s' f1 f2 w1 w2 result calm goes.ended beside
+    subst (λ (r : Run). StartsRun tells m o no_books types r st.settler lines f1 w1) (sym start.run) (record {
+      outset = starts_outset base kinds opening o types texts lines m.width m.picks are (many_types types) refl refl refl wide refl;
+      can = starts_quiet base kinds opening types texts lines st.settler are start.doubted start.written;
+      fresh = starts_fresh base kinds opening o;
+      kept = starts_kept base kinds opening tells o st.settler f1 w1 above later start.written start.doubted start.sealing still;
+    })
+
+pub answered : {T : Type 0} (tells : Bool) (m : Manner) (x : Opened) (st : Started) (input : List ℕ) (lines : List Line) (w0 w1 w2 : World) (f0 f1 f2 : Channel → ℕ) (result : Result T RunFault) (r' : Run) (s' : Settler)
+    → IsStartOf x st → (IsTrue tells → PulledOnly w0 w1) → NoneFailed f0 f1 → 0 < m.width → 0 < x.next_unit.0 → AreReadFrom (program_tree x.checked) 0 (lines_of input) lines
+    → CarriesOn tells m (program_tree x.checked) lines (run_of st.core) r' st.settler s' f1 f2 w1 w2 result
+    → TurnsBeside tells (run_of st.core) r' st.settler s' f1 f2 w1 w2 result → AnswersRun (turns_ending result) f0 f2
+answered {T} tells m x st input lines w0 w1 w2 f0 f1 f2 result r' s' start pulled calm wide above are carries beside =
+    let o : Outset = record { program = record { text = []; types = program_tree x.checked }; asked = lines_of input; opening = []; width = m.width; picks = m.picks; faults = f0; world = w0 } in
+    let goes : CarriedOn {T = T} tells m o no_books (run_of st.core) r' st.settler s' f2 w1 w2 result =
+    carries o no_books (start_fresh tells m x st (lines_of input) lines w0 w1 f0 f1 start (λ told. ((pulled told).output, (pulled told).syncs)) (λ c. let e = calm c in omega (arith, e)) wide above are) in
+    turns_answer tells o goes.on.books (run_of st.core) r' st.settler s' f1 f2 w1 w2 result calm goes.on.ended beside

@@ -11,7 +11,7 @@ use Rattle.promise_spec.specs.Loads.{Loads}
 use Rattle.promise_spec.specs.Calls.{Understands, Obeys, Serves, AnswersAs, GoesOn}
 use Rattle.bank_load.specs.Requests.{load_texts}
 use Rattle.silo_top.specs.declared.status.Status.{Status}
-use Rattle.silo_top.specs.Answering.{is_built, is_taken, turns_manner, IsAsked, AsksFor, observed_call, observed_run, AnswersRun}
+use Rattle.silo_top.specs.Answering.{is_built, is_taken, IsAsked, AsksFor, observed_call, observed_run, AnswersRun}
 use Rattle.silo_top.proofs.AskedWords.{one_said}
 use Rattle.silo_top.proofs.Counted.{failed_risen, failed_input, failed_output}
 use Rattle.silo_top.proofs.Unopened.{starved_promised, starved_made, starved_unopened, starved_unmade}
@@ -54,21 +54,19 @@ module _ (texts : List (List ℕ)) where
     }
 
   -- a run, in its manner and with the lines of its input
-  pub run_serves : (width : ℕ) (picks : List ℕ) → Understands is_built is_taken texts (Run (turns_manner width picks)) → (m : Manner) (asked : List (List ℕ)) (old new : World) (before after : Channel → ℕ) (status : Status)
-      → IsAsked texts old m asked → Promises (turns_manner width picks) (observed_run (turns_manner width picks) old new before after status) → Serves is_built is_taken texts (observed_call m asked old new before after status)
-  run_serves width picks u m asked old new before after status is promises =
-      let n : Manner = turns_manner width picks in
+  pub run_serves : (n : Manner) → Understands is_built is_taken texts (Run n) → (m : Manner) (asked : List (List ℕ)) (old new : World) (before after : Channel → ℕ) (status : Status)
+      → IsAsked texts old m asked → Promises n (observed_run n old new before after status) → Serves is_built is_taken texts (observed_call m asked old new before after status)
+  run_serves n u m asked old new before after status is promises =
       let so : AsksFor (Run n) old.input m asked = is (Run n) u in
       obeyed_serves (Run n) u (observed_call m asked old new before after status)
       (subst (λ (k : Manner). Promises n (observed_call k asked old new before after status)) (sym so.0)
       (subst (λ (a : List (List ℕ)). Promises n (observed_call n a old new before after status)) (sym so.1) promises))
 
   -- a load, in its manner and with the lines that it draws
-  pub load_serves : (transfers seed width : ℕ) → Understands is_built is_taken texts (Load transfers seed (turns_manner width [])) → (m : Manner) (asked : List (List ℕ)) (old new : World) (before after : Channel → ℕ) (status : Status)
-      → IsAsked texts old m asked → Loads transfers seed (turns_manner width []) (observed_call (turns_manner width []) (load_texts transfers seed) old new before after status)
+  pub load_serves : (transfers seed : ℕ) (n : Manner) → Understands is_built is_taken texts (Load transfers seed n) → (m : Manner) (asked : List (List ℕ)) (old new : World) (before after : Channel → ℕ) (status : Status)
+      → IsAsked texts old m asked → Loads transfers seed n (observed_call n (load_texts transfers seed) old new before after status)
       → Serves is_built is_taken texts (observed_call m asked old new before after status)
-  load_serves transfers seed width u m asked old new before after status is loads =
-      let n : Manner = turns_manner width [] in
+  load_serves transfers seed n u m asked old new before after status is loads =
       let so : AsksFor (Load transfers seed n) old.input m asked = is (Load transfers seed n) u in
       obeyed_serves (Load transfers seed n) u (observed_call m asked old new before after status)
       (subst (λ (k : Manner). Loads transfers seed n (observed_call k asked old new before after status)) (sym so.0)

@@ -32,8 +32,6 @@ use Rattle.run_books.specs.Books.{Books, booked_journal}
 use Rattle.run_books.specs.Closing.{IsCourseOf, turns_ending}
 use Rattle.run_books.specs.Images.{LastsSo}
 use Rattle.run_books.specs.Records.{TurnsEndAs}
-use Rattle.interleaver.specs.Turns.{TurnsGoOn}
-use Rattle.interleaver.proofs.Unstopped.{turns-record}
 use Rattle.run_books.proofs.Showing.{explains, settled}
 use Rattle.run_books.proofs.Lasting.{lasts}
 use Rattle.opening_rules.specs.Behind.{program_of, FollowsOpening}
@@ -41,7 +39,9 @@ use Rattle.opening_rules.proofs.Behind.{behind}
 use Rattle.silo_opening.specs.declared.open.Opened.{Opened}
 use Rattle.silo_top.specs.declared.status.Status.{Status}
 use Rattle.silo_top.specs.Statuses.{status_ending}
-use Rattle.silo_top.specs.Answering.{turns_manner, observed_run, AnswersRun}
+use Rattle.promise_spec.specs.Words.{Manner}
+use Rattle.silo_top.specs.Answering.{observed_run, AnswersRun}
+use Rattle.silo_top.specs.Carrying.{CarriedOn}
 use Rattle.silo_top.specs.Reading.{PulledOnly}
 use Rattle.silo_top.specs.Serving.{IsBehindOpening}
 use Rattle.run_books.specs.Beside.{EmitsAs, TurnsBeside}
@@ -112,7 +112,7 @@ told = cc
 pub all_syncs : (new mid old v s : ℕ) → new ≡ mid + (v + 2 * s) → mid ≡ old + 1 → new ≡ old + (1 + (v + 2 * s))
 all_syncs new mid old v s a b = omega (arith, a, b)
 
-module _ {T : Type 0} (width : ℕ) (picks : List ℕ) (x : Opened) (old mid now new : World) (before after : Channel → ℕ) (status : Status) (result : Result T RunFault) (is : IsBehindOpening old mid x) (pulled : PulledOnly mid now)
+module _ {T : Type 0} (m : Manner) (x : Opened) (old mid now new : World) (before after : Channel → ℕ) (status : Status) (result : Result T RunFault) (is : IsBehindOpening old mid x) (pulled : PulledOnly mid now)
     (stay_mid : ReadsMayStay mid) (stay_new : ReadsMayStay new) (end : now.input ≡ []) (short : length old.input ≤ input_limit) (ends_as : status_ending status ≡ turns_ending result) where
   abbrev pub p : Program
   p = program_of is.opened
@@ -121,18 +121,18 @@ module _ {T : Type 0} (width : ℕ) (picks : List ℕ) (x : Opened) (old mid now
   log = is.opened.log
 
   abbrev pub out : Outset
-  out = record { program = p; asked = lines_of old.input; opening = log; width = width; picks = picks; faults = before; world = mid }
+  out = record { program = p; asked = lines_of old.input; opening = log; width = m.width; picks = m.picks; faults = before; world = mid }
 
   abbrev pub seen : Observed
-  seen = observed_run (turns_manner width picks) old new before after status
+  seen = observed_run m old new before after status
 
   abbrev pub r0 : Run
   r0 = core_from p.types (standing_of p.types log) []
 
   -- the turns went on from the start, and what the images keep held there, where the folder is sound
-  module _ (r' : Run) (s s' : Settler) (mid_faults : Channel → ℕ) (goes : TurnsGoOn true out no_books r0 r' s s' after now new result) (beside : TurnsBeside true r0 r' s s' mid_faults after now new result) (loud : s.quiet ≡ false) where
+  module _ (r' : Run) (s s' : Settler) (mid_faults : Channel → ℕ) (goes : CarriedOn true m out no_books r0 r' s s' after now new result) (beside : TurnsBeside true r0 r' s s' mid_faults after now new result) (loud : s.quiet ≡ false) where
     abbrev pub b : Books
-    b = goes.books
+    b = goes.on.books
 
     pub later : (l : List Moment) × (new.past ≡ now.past ++ l)
     later = beside.past told
@@ -170,7 +170,7 @@ module _ {T : Type 0} (width : ℕ) (picks : List ℕ) (x : Opened) (old mid now
     stands = behind x seen c mid is.opened follows
 
     are_settled : AreSettled p seen c
-    are_settled = settled true out b r' s' seen c result (beside.quiet ∙ loud) (turns-record goes.record_kept) goes.ended ends_as course
+    are_settled = settled true out b r' s' seen c result (beside.quiet ∙ loud) goes.on.record_kept goes.on.ended ends_as course
 
     is_done : (answer : Result T RunFault) → TurnsEndAs out b r' s' after answer → turns_ending answer ≡ Done → (e : c.entries ≡ (ends r').manager.settled) → IsDone seen c
     is_done (Ok done) e q all = record {
@@ -183,19 +183,19 @@ module _ {T : Type 0} (width : ℕ) (picks : List ℕ) (x : Opened) (old mid now
 
     answers : ShowsAnywhere p seen c
     answers = record {
-      explains = explains true out b r' s' seen c result (turns-record goes.record_kept) goes.ended ends_as (λ one. goes.record_kept.turns) course;
+      explains = explains true out b r' s' seen c result goes.on.record_kept goes.on.ended ends_as goes.turns course;
       settled = are_settled;
-      output = subst (λ (l : List ℕ). Grew (shape_in p) l new.output (entries_of b.said) b.rest) is.run.now.output (goes.record_kept.books.outside told).output;
-      whole = λ other. rest_by out b r' s' after result goes.ended (λ q. other (ends_as ∙ q));
+      output = subst (λ (l : List ℕ). Grew (shape_in p) l new.output (entries_of b.said) b.rest) is.run.now.output (goes.on.record_kept.books.outside told).output;
+      whole = λ other. rest_by out b r' s' after result goes.on.ended (λ q. other (ends_as ∙ q));
       ends = record {
         given = refl;
-        risen = subst (λ (e : Ending). HasRisen e before after) (sym ends_as) (risen_by out b r' s' after result goes.ended);
+        risen = subst (λ (e : Ending). HasRisen e before after) (sym ends_as) (risen_by out b r' s' after result goes.on.ended);
         carried = subst IsCarried (sym ends_as) (carried_by result);
         long = subst (λ (e : Ending). HasLength e (length old.input)) (sym ends_as) (long_by result (length old.input) short);
         begun = inr (record { ending = subst IsBegun (sym ends_as) (begun_by result); input = beside.input told ∙ end; short = short });
-        done = λ q. is_done result goes.ended (sym ends_as ∙ q) (are_settled.all (inl (written q)) ∙ ap (λ (r : Run). (ends r).manager.settled) run_is);
+        done = λ q. is_done result goes.on.ended (sym ends_as ∙ q) (are_settled.all (inl (written q)) ∙ ap (λ (r : Run). (ends r).manager.settled) run_is);
         syncs = λ none counts. subst (λ (r : Run). new.syncs ≡ old.syncs + syncs_of r) (sym run_is)
-            (all_syncs new.syncs mid.syncs old.syncs (how_many is_vote r') (how_many is_sealed r') ((goes.record_kept.books.outside told).syncs none) is.count);
+            (all_syncs new.syncs mid.syncs old.syncs (how_many is_vote r') (how_many is_sealed r') ((goes.on.record_kept.books.outside told).syncs none) is.count);
       };
     }
       where
@@ -203,6 +203,6 @@ module _ {T : Type 0} (width : ℕ) (picks : List ℕ) (x : Opened) (old mid now
         written q = subst IsAllWritten (sym q) tt
 
     -- so the run keeps its promise, where it is known what the images keep at the start of the turns
-    pub turns_promised : (Opens p seen c → LastsSo out (take 15 (seen_at_entry seen manager)) no_books r0 s.writer now) → Promises (turns_manner width picks) seen
-    turns_promised start = behind_promised p seen c mid stands is.stays stay_mid (turns_manner width picks) refl answers
-        (λ opens. lasts true out (take 15 (seen_at_entry seen manager)) b r' s' seen c refl (turns-record goes.record_kept) (goes.lasts told (take 15 (seen_at_entry seen manager)) (start opens)) course refl stands opens stay_new)
+    pub turns_promised : (Opens p seen c → LastsSo out (take 15 (seen_at_entry seen manager)) no_books r0 s.writer now) → Promises m seen
+    turns_promised start = behind_promised p seen c mid stands is.stays stay_mid m refl answers
+        (λ opens. lasts true out (take 15 (seen_at_entry seen manager)) b r' s' seen c refl goes.on.record_kept (goes.on.lasts told (take 15 (seen_at_entry seen manager)) (start opens)) course refl stands opens stay_new)

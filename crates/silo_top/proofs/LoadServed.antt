@@ -41,14 +41,15 @@ use Rattle.settle_loop.specs.declared.settler.Settler.{Settler}
 use Rattle.batch_disk.specs.Resting.{SomeImage}
 use Rattle.run_books.specs.declared.faults.RunFault.{RunFault}
 use Rattle.run_books.specs.declared.faults.RunFault.TheVariants.{InDoubt, WriteFault, Memory}
-use Rattle.run_books.specs.Beginnings.{Outset, IsOutset, CanTurn}
+use Rattle.run_books.specs.Beginnings.{Outset}
 use Rattle.run_books.specs.Beside.{IsHushed, TurnsBeside}
 use Rattle.run_books.specs.Books.{Books, booked_journal, IsPutOut}
 use Rattle.run_books.specs.Closing.{IsCourseOf, turns_ending}
 use Rattle.run_books.specs.Images.{LastsSo}
 use Rattle.run_books.specs.Records.{TurnsEndAs, HasCarriedAll}
-use Rattle.interleaver.specs.Turns.{KeepsTurns, IsFreshRecord, TurnsGoOn}
-use Rattle.interleaver.proofs.Unstopped.{turns-record}
+use Rattle.interleaver.specs.Turns.{KeepsTurns}
+use Rattle.promise_spec.specs.Words.{Manner}
+use Rattle.silo_top.specs.Carrying.{StartsRun, CarriedOn, CarriesOn}
 use Rattle.run_books.proofs.Showing.{explains}
 use Rattle.run_books.proofs.Lasting.{lasts}
 use Rattle.opening_rules.specs.Behind.{program_of, FollowsOpening}
@@ -63,7 +64,7 @@ use Rattle.promise_laws.proofs.ShownRuns.{explained}
 use Rattle.silo_top.specs.declared.status.Status.{Status}
 use Rattle.silo_top.specs.Statuses.{status_ending}
 use Rattle.silo_top.specs.declared.starting.Started.{Started}
-use Rattle.silo_top.specs.Answering.{turns_manner, observed_call}
+use Rattle.silo_top.specs.Answering.{observed_call}
 use Rattle.silo_top.specs.Reading.{AreReadFrom}
 use Rattle.silo_top.specs.Starting.{IsStartOf}
 use Rattle.silo_top.specs.Serving.{IsBehindOpening}
@@ -154,7 +155,7 @@ load_risen T o b r s counts InDoubt e = e.0.rose
 load_risen T o b r s counts WriteFault e = tt
 load_risen T o b r s counts Memory e = tt
 
-module _ {T : Type 0} (n seed width : ℕ) (x : Opened) (st : Started) (old mid new : World) (before between after : Channel → ℕ) (result : Result T RunFault) (is : IsBehindOpening old mid x) (start : IsStartOf x st)
+module _ {T : Type 0} (n seed : ℕ) (m : Manner) (x : Opened) (st : Started) (old mid new : World) (before between after : Channel → ℕ) (result : Result T RunFault) (is : IsBehindOpening old mid x) (start : IsStartOf x st)
     (reads : program_in bank_text ≡ Ok (program_tree x.checked)) (bank : IsNewBank old) (stay_mid : ReadsMayStay mid) (stay_new : ReadsMayStay new) (hush : st.settler.quiet ≡ true) where
   abbrev pub p : Program
   p = program_of is.opened
@@ -173,7 +174,7 @@ module _ {T : Type 0} (n seed width : ℕ) (x : Opened) (st : Started) (old mid 
   text = ap (λ (q : Program). q.text) same.0
 
   abbrev pub out : Outset
-  out = record { program = p; asked = load_texts n seed; opening = log; width = width; picks = []; faults = before; world = mid }
+  out = record { program = p; asked = load_texts n seed; opening = log; width = m.width; picks = m.picks; faults = before; world = mid }
 
   abbrev pub r0 : Run
   r0 = core_from p.types (standing_of p.types log) []
@@ -183,9 +184,8 @@ module _ {T : Type 0} (n seed width : ℕ) (x : Opened) (st : Started) (old mid 
 
   -- ---- the turns begin
 
-  module _ (lines : List Line) (are : AreReadFrom (program_tree x.checked) 0 (load_texts n seed) lines) (wide : 0 < width) (above : 0 < x.next_unit.0) (none : NoneFailed before between) (r' : Run) (s' : Settler)
-      (turns : (o : Outset) (b : Books) → IsOutset o (program_tree x.checked) (run_of st.core) lines width [] → CanTurn (run_of st.core) st.settler lines → IsFreshRecord o b (run_of st.core)
-      → KeepsTurns true o b (run_of st.core) st.settler between mid → TurnsGoOn true o b (run_of st.core) r' st.settler s' after mid new result)
+  module _ (lines : List Line) (are : AreReadFrom (program_tree x.checked) 0 (load_texts n seed) lines) (wide : 0 < m.width) (above : 0 < x.next_unit.0) (none : NoneFailed before between) (r' : Run) (s' : Settler)
+      (carried : CarriesOn true m (program_tree x.checked) lines (run_of st.core) r' st.settler s' between after mid new result)
       (aside : TurnsBeside true (run_of st.core) r' st.settler s' between after mid new result) where
     began : run_of st.core ≡ r0
     began = start_is (seen_in old.disk) x st is.opened start
@@ -196,12 +196,17 @@ module _ {T : Type 0} (n seed width : ℕ) (x : Opened) (st : Started) (old mid 
     kept_first : KeepsTurns true out no_books r0 st.settler between mid
     kept_first = starts_kept r0.base r0.kinds r0.opening true out st.settler between mid base (λ c. let e = none c in omega (arith, e)) start.written start.doubted start.sealing (λ told. (refl, refl))
 
-    pub goes : TurnsGoOn true out no_books r0 r' st.settler s' after mid new result
-    goes = subst (λ (r : Run). TurnsGoOn true out no_books r r' st.settler s' after mid new result) began (turns out no_books
-        (subst (λ (r : Run). IsOutset out (program_tree x.checked) r lines width []) (sym began) (starts_outset r0.base r0.kinds r0.opening out (program_tree x.checked) (load_texts n seed) lines width [] are refl refl refl refl wide refl))
-        (subst (λ (r : Run). CanTurn r st.settler lines) (sym began) (starts_quiet r0.base r0.kinds r0.opening (program_tree x.checked) (load_texts n seed) lines st.settler are start.doubted start.written))
-        (subst (λ (r : Run). IsFreshRecord out no_books r) (sym began) (starts_fresh r0.base r0.kinds r0.opening out))
-        (subst (λ (r : Run). KeepsTurns true out no_books r st.settler between mid) (sym began) kept_first))
+    first : StartsRun true m out no_books (program_tree x.checked) r0 st.settler lines between mid
+    first = record {
+      outset = starts_outset r0.base r0.kinds r0.opening out (program_tree x.checked) (load_texts n seed) lines m.width m.picks are refl refl refl refl wide refl;
+      can = starts_quiet r0.base r0.kinds r0.opening (program_tree x.checked) (load_texts n seed) lines st.settler are start.doubted start.written;
+      fresh = starts_fresh r0.base r0.kinds r0.opening out;
+      kept = kept_first;
+    }
+
+    pub goes : CarriedOn true m out no_books r0 r' st.settler s' after mid new result
+    goes = subst (λ (r : Run). CarriedOn true m out no_books r r' st.settler s' after mid new result) began
+        (carried out no_books (subst (λ (r : Run). StartsRun true m out no_books (program_tree x.checked) r st.settler lines between mid) (sym began) first))
 
     pub beside : TurnsBeside true r0 r' st.settler s' between after mid new result
     beside = subst (λ (r : Run). TurnsBeside true r r' st.settler s' between after mid new result) began aside
@@ -209,7 +214,7 @@ module _ {T : Type 0} (n seed width : ℕ) (x : Opened) (st : Started) (old mid 
     -- ---- what they wrote: nothing
 
     abbrev pub b : Books
-    b = goes.books
+    b = goes.on.books
 
     told : IsTrue true
     told = cc
@@ -229,10 +234,10 @@ module _ {T : Type 0} (n seed width : ℕ) (x : Opened) (st : Started) (old mid 
         each_of (λ (y : Moment). y.output ≡ mid.output) hushed.moments.more m hushed.moments.each (subst (Member m) moments there) ∙ is.run.now.output
 
     said_none : b.said ≡ []
-    said_none = subst (λ (quiet : Bool). IsPutOut quiet b (ends r')) (beside.quiet ∙ hush) goes.record_kept.books.said
+    said_none = subst (λ (quiet : Bool). IsPutOut quiet b (ends r')) (beside.quiet ∙ hush) goes.on.record_kept.books.said
 
     rest_none : b.rest ≡ []
-    rest_none = rest_by b mid new (subst (λ (s : List Settlement). new.output ≡ mid.output ++ (reply_lines (shape_in p) (entries_of s) ++ b.rest)) said_none (goes.record_kept.books.outside told).output.output) hushed.output
+    rest_none = rest_by b mid new (subst (λ (s : List Settlement). new.output ≡ mid.output ++ (reply_lines (shape_in p) (entries_of s) ++ b.rest)) said_none (goes.on.record_kept.books.outside told).output.output) hushed.output
 
     -- ---- the course of the turns
 
@@ -240,7 +245,7 @@ module _ {T : Type 0} (n seed width : ℕ) (x : Opened) (st : Started) (old mid 
     c0 = record { opening = log; added = commits_of (booked_journal b); early = is.run.clock.more; late = later.0; events = r'.events; entries = []; rest = [] }
 
     abbrev pub seen : Observed
-    seen = record { manner = turns_manner width []; asked = load_texts n seed; old = old; new = new; faults_before = before; faults_after = after; ending = turns_ending result }
+    seen = record { manner = m; asked = load_texts n seed; old = old; new = new; faults_before = before; faults_after = after; ending = turns_ending result }
 
     pub run_is : core_run p c0 ≡ r'
     run_is = ap (λ (es : List CoreEvent). core_from p.types (standing_of p.types log) es) (ap (λ (r : Run). r.events) beside.core) ∙ sym beside.core
@@ -277,12 +282,12 @@ module _ {T : Type 0} (n seed width : ℕ) (x : Opened) (st : Started) (old mid 
     seen_left file = subst (MayLeave (mid.disk file)) ((asked_untouched old mid is.run).seen file) (stay_mid file)
 
     lasting : LastsSo out head b r' s'.writer new
-    lasting = goes.lasts told head (starts_lasting out head r0.base r0.kinds r0.opening st.settler.writer mid (still_none mid) all base
+    lasting = goes.on.lasts told head (starts_lasting out head r0.base r0.kinds r0.opening st.settler.writer mid (still_none mid) all base
         (λ image image_is. ap (take 15) (settled_only (old.disk manager).seen (image manager) (subst (λ (f : FileState). MayLeave f (image manager)) is.settled (image_is manager))))
         (λ sure. starts_resting out x st (seen_in old.disk) is.opened start refl r0 mid.disk is.settled seen_left all))
 
     pub lasts_so : Lasts p seen c0
-    lasts_so = lasts true out head b r' s' seen c0 refl (turns-record goes.record_kept) lasting course refl stands opens stay_new
+    lasts_so = lasts true out head b r' s' seen c0 refl goes.on.record_kept lasting course refl stands opens stay_new
 
     -- an image at the end has the whole order
     pub has_whole : HasWhole p c0 new
@@ -308,7 +313,7 @@ module _ {T : Type 0} (n seed width : ℕ) (x : Opened) (st : Started) (old mid 
             is_some y ys t = absurd cc
 
     pub explains_so : ExplainsEvents p seen c0
-    explains_so = explains true out b r' s' seen c0 result (turns-record goes.record_kept) goes.ended refl (λ one. goes.record_kept.turns) course
+    explains_so = explains true out b r' s' seen c0 result goes.on.record_kept goes.on.ended refl goes.turns course
 
     -- ---- a load that ends so
 
@@ -318,7 +323,7 @@ module _ {T : Type 0} (n seed width : ℕ) (x : Opened) (st : Started) (old mid 
       e = status_ending status
 
       abbrev pub r : Observed
-      r = observed_call (turns_manner width []) (load_texts n seed) old last before final status
+      r = observed_call (m) (load_texts n seed) old last before final status
 
       abbrev pub c : Course
       c = record c0 { late = later.0 ++ behind_turns; entries = (core_end p c0).manager.settled }
@@ -368,9 +373,9 @@ module _ {T : Type 0} (n seed width : ℕ) (x : Opened) (st : Started) (old mid 
 
     -- the turns ended by a fault
     pub failed_carries : AskFor (program_tree x.checked) (load_texts n seed) (load_calls n seed) → (fault : RunFault) → result ≡ Err fault → (status : Status) → status_ending status ≡ load_ending fault
-        → CarriesLoad n seed (observed_call (turns_manner width []) (load_texts n seed) old new before after status)
+        → CarriesLoad n seed (observed_call (m) (load_texts n seed) old new before after status)
     failed_carries asks fault q status ends_as =
-        let ended : TurnsEndAs out b r' s' after {T = T} (Err fault) = subst (TurnsEndAs out b r' s' after) q goes.ended in
+        let ended : TurnsEndAs out b r' s' after {T = T} (Err fault) = subst (TurnsEndAs out b r' s' after) q goes.on.ended in
         let past : new.past ≡ new.past ++ [] = sym (append-nil new.past) in
         carries asks new after status [] past refl (λ m there. absurd there) refl (λ file. refl)
         (shows asks new after status [] past refl (λ m there. absurd there) refl (λ file. refl)
@@ -388,13 +393,13 @@ module _ {T : Type 0} (n seed width : ℕ) (x : Opened) (st : Started) (old mid 
     -- all lines are carried, and the summary was to be printed
     pub summed_carries : AskFor (program_tree x.checked) (load_texts n seed) (load_calls n seed) → (done : T) → result ≡ Ok done → (status : Status) (last : World) (final : Channel → ℕ) (requests : ℕ) → requests ≡ length (load_texts n seed)
         → SaysSummary (summary_line (ends r').manager.settled requests (total_kept (ends r') 64)) (status_ending status) new last → HasFailedAs (status_ending status) after final → MaySaySummary (status_ending status)
-        → CarriesLoad n seed (observed_call (turns_manner width []) (load_texts n seed) old last before final status)
+        → CarriesLoad n seed (observed_call (m) (load_texts n seed) old last before final status)
     summed_carries asks done q status last final requests many says failed may =
-        let ended : HasCarriedAll out r' s' = (subst (TurnsEndAs out b r' s' after) q goes.ended).0 in
+        let ended : HasCarriedAll out r' s' = (subst (TurnsEndAs out b r' s' after) q goes.on.ended).0 in
         let same_files : (file : FileId) → final (File file) ≡ after (File file) = files_same (status_ending status) after final may failed in
         let sure : HasDoubt (core_run p c0) → ⊥ = λ d. ended.never (subst HasDoubt run_is d) in
         let explains_r = explains_at asks last final status says.told says.past says.disk says.left says.input same_files (λ file t. absurd (summary_no_file (status_ending status) may file t)) (λ d. absurd (sure d)) in
-        let rr : Observed = observed_call (turns_manner width []) (load_texts n seed) old last before final status in
+        let rr : Observed = observed_call (m) (load_texts n seed) old last before final status in
         let cc0 : Course = record c0 { late = later.0 ++ says.told; entries = (core_end p c0).manager.settled } in
         let text_is : summary_line (ends r').manager.settled requests (total_kept (ends r') 64) ≡ summary_text p rr cc0 =
         (λ i. summary_line (ends (run_is' i)).manager.settled (many i) (total_kept (ends (run_is' i)) 64))
@@ -417,7 +422,7 @@ module _ {T : Type 0} (n seed width : ℕ) (x : Opened) (st : Started) (old mid 
         (λ t d. sure d)
         (λ calm t. says.syncs ∙ subst (λ (y : Run). new.syncs ≡ old.syncs + syncs_of y) (sym run_is)
         (all_syncs new.syncs mid.syncs old.syncs (how_many is_vote r') (how_many is_sealed r')
-        ((goes.record_kept.books.outside told).syncs (λ ch. (let a = calm ch in let f = (subst (λ (y : Ending). HasFailedAs y after final) t failed) ch in (sym f ∙ a.0, a.1))))
+        ((goes.on.record_kept.books.outside told).syncs (λ ch. (let a = calm ch in let f = (subst (λ (y : Ending). HasFailedAs y after final) t failed) ch in (sym f ∙ a.0, a.1))))
         is.count)))
       where
         run_is' : r' ≡ core_run p c0

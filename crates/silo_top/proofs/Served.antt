@@ -18,15 +18,16 @@ use Rattle.promise_spec.specs.Promise.{Promises}
 use Rattle.promise_laws.specs.Closings.{ReadsMayStay}
 use Rattle.settle_loop.specs.declared.settler.Settler.{Settler}
 use Rattle.run_books.specs.declared.faults.RunFault.{RunFault}
-use Rattle.run_books.specs.Beginnings.{Outset, IsOutset, CanTurn}
-use Rattle.run_books.specs.Books.{Books}
+use Rattle.run_books.specs.Beginnings.{Outset}
 use Rattle.run_books.specs.Closing.{turns_ending}
-use Rattle.interleaver.specs.Turns.{KeepsTurns, IsFreshRecord, TurnsGoOn}
+use Rattle.interleaver.specs.Turns.{KeepsTurns}
 use Rattle.silo_opening.specs.declared.open.Opened.{Opened}
 use Rattle.silo_top.specs.declared.status.Status.{Status}
 use Rattle.silo_top.specs.declared.starting.Started.{Started}
 use Rattle.silo_top.specs.Statuses.{status_ending}
-use Rattle.silo_top.specs.Answering.{turns_manner, observed_run}
+use Rattle.silo_top.specs.Answering.{observed_run}
+use Rattle.silo_top.specs.Carrying.{StartsRun, CarriedOn, CarriesOn}
+use Rattle.promise_spec.specs.Words.{Manner}
 use Rattle.silo_top.specs.Reading.{PulledOnly, AreReadFrom}
 use Rattle.silo_top.specs.Starting.{IsStartOf}
 use Rattle.silo_top.specs.Serving.{IsBehindOpening}
@@ -38,13 +39,13 @@ use Rattle.silo_top.proofs.AtRest.{starts_resting}
 use Rattle.silo_top.proofs.Unopened.{asked_untouched}
 use Rattle.silo_top.proofs.OpensWith.{start_is}
 
-module _ {T : Type 0} (width : ℕ) (picks : List ℕ) (x : Opened) (st : Started) (old mid now new : World) (before between after : Channel → ℕ) (status : Status) (result : Result T RunFault) (is : IsBehindOpening old mid x) (start : IsStartOf x st)
+module _ {T : Type 0} (m : Manner) (x : Opened) (st : Started) (old mid now new : World) (before between after : Channel → ℕ) (status : Status) (result : Result T RunFault) (is : IsBehindOpening old mid x) (start : IsStartOf x st)
     (pulled : PulledOnly mid now) (stay_mid : ReadsMayStay mid) (stay_new : ReadsMayStay new) (end : now.input ≡ []) (short : length old.input ≤ input_limit) (ends_as : status_ending status ≡ turns_ending result) where
   abbrev outset : Outset
-  outset = out width picks x old mid now new before after status result is pulled stay_mid stay_new end short ends_as
+  outset = out m x old mid now new before after status result is pulled stay_mid stay_new end short ends_as
 
   abbrev first : Run
-  first = r0 width picks x old mid now new before after status result is pulled stay_mid stay_new end short ends_as
+  first = r0 m x old mid now new before after status result is pulled stay_mid stay_new end short ends_as
 
   -- the record that holds where the turns begin
   kept : 0 < x.next_unit.0 → NoneFailed before between → KeepsTurns true outset no_books first st.settler between now
@@ -56,24 +57,30 @@ module _ {T : Type 0} (width : ℕ) (picks : List ℕ) (x : Opened) (st : Starte
   seen_left = subst (λ (d : Disk). IsImage d (seen_in old.disk)) (sym pulled.disk)
       (λ file. subst (MayLeave (mid.disk file)) ((asked_untouched old mid is.run).seen file) (stay_mid file))
 
-  -- So the run keeps its promise by what `run_turns` ensures, and by what it leaves beside that.
-  pub served : (lines : List Line) (r' : Run) (s' : Settler) → st.settler.quiet ≡ false → 0 < width → 0 < x.next_unit.0 → NoneFailed before between → AreReadFrom (program_tree x.checked) 0 (lines_of old.input) lines
-      → ((o : Outset) (b : Books) → IsOutset o (program_tree x.checked) (run_of st.core) lines width picks → CanTurn (run_of st.core) st.settler lines → IsFreshRecord o b (run_of st.core)
-      → KeepsTurns true o b (run_of st.core) st.settler between now → TurnsGoOn true o b (run_of st.core) r' st.settler s' after now new result)
+  -- where the lines begin to be carried
+  starts : (lines : List Line) → 0 < m.width → 0 < x.next_unit.0 → NoneFailed before between → AreReadFrom (program_tree x.checked) 0 (lines_of old.input) lines
+      → StartsRun true m outset no_books (program_tree x.checked) first st.settler lines between now
+  starts lines wide above calm are = record {
+    outset = starts_outset first.base first.kinds first.opening outset (program_tree x.checked) (lines_of old.input) lines m.width m.picks are refl refl refl refl wide refl;
+    can = starts_quiet first.base first.kinds first.opening (program_tree x.checked) (lines_of old.input) lines st.settler are start.doubted start.written;
+    fresh = starts_fresh first.base first.kinds first.opening outset;
+    kept = kept above calm;
+  }
+
+  -- So the run keeps its promise by what carrying its lines ensures, and by what that leaves beside the record.
+  pub served : (lines : List Line) (r' : Run) (s' : Settler) → st.settler.quiet ≡ false → 0 < m.width → 0 < x.next_unit.0 → NoneFailed before between → AreReadFrom (program_tree x.checked) 0 (lines_of old.input) lines
+      → CarriesOn true m (program_tree x.checked) lines (run_of st.core) r' st.settler s' between after now new result
       → TurnsBeside true (run_of st.core) r' st.settler s' between after now new result
-      → Promises (turns_manner width picks) (observed_run (turns_manner width picks) old new before after status)
-  served lines r' s' loud wide above calm are turns beside =
+      → Promises m (observed_run m old new before after status)
+  served lines r' s' loud wide above calm are carries beside =
       let same : run_of st.core ≡ first = start_is (seen_in old.disk) x st is.opened start in
       let base : 0 < first.base = subst (λ (n : ℕ). 0 < n) is.opened.next above in
-      let goes : TurnsGoOn true outset no_books (run_of st.core) r' st.settler s' after now new result = turns outset no_books
-      (subst (λ (r : Run). IsOutset outset (program_tree x.checked) r lines width picks) (sym same) (starts_outset first.base first.kinds first.opening outset (program_tree x.checked) (lines_of old.input) lines width picks are refl refl refl refl wide refl))
-      (subst (λ (r : Run). CanTurn r st.settler lines) (sym same) (starts_quiet first.base first.kinds first.opening (program_tree x.checked) (lines_of old.input) lines st.settler are start.doubted start.written))
-      (subst (λ (r : Run). IsFreshRecord outset no_books r) (sym same) (starts_fresh first.base first.kinds first.opening outset))
-      (subst (λ (r : Run). KeepsTurns true outset no_books r st.settler between now) (sym same) (kept above calm)) in
-      let went : TurnsGoOn true outset no_books first r' st.settler s' after now new result = subst (λ (r : Run). TurnsGoOn true outset no_books r r' st.settler s' after now new result) same goes in
+      let goes : CarriedOn true m outset no_books (run_of st.core) r' st.settler s' after now new result = carries outset no_books
+      (subst (λ (r : Run). StartsRun true m outset no_books (program_tree x.checked) r st.settler lines between now) (sym same) (starts lines wide above calm are)) in
+      let went : CarriedOn true m outset no_books first r' st.settler s' after now new result = subst (λ (r : Run). CarriedOn true m outset no_books r r' st.settler s' after now new result) same goes in
       let left : TurnsBeside true first r' st.settler s' between after now new result = subst (λ (r : Run). TurnsBeside true r r' st.settler s' between after now new result) same beside in
-      let behind = stands width picks x old mid now new before after status result is pulled stay_mid stay_new end short ends_as r' st.settler s' between went left loud in
-      turns_promised width picks x old mid now new before after status result is pulled stay_mid stay_new end short ends_as r' st.settler s' between went left loud
+      let behind = stands m x old mid now new before after status result is pulled stay_mid stay_new end short ends_as r' st.settler s' between went left loud in
+      turns_promised m x old mid now new before after status result is pulled stay_mid stay_new end short ends_as r' st.settler s' between went left loud
       (λ opens. (let all : AllLog outset.program outset.opening mid.disk = subst (λ (m : Moment). AllLog outset.program outset.opening m.disk) behind.last opens.opened in
       starts_lasting outset (take 15 (old.disk manager).seen) first.base first.kinds first.opening st.settler.writer now pulled all base
       (λ image image_is. ap (take 15) (settled_only (old.disk manager).seen (image manager) (subst (λ (f : FileState). MayLeave f (image manager)) is.settled (image_is manager))))

@@ -4,4 +4,5 @@ pub mod Asking
 pub mod Reading
 pub mod Starting
 pub mod Serving
+pub mod Carrying
 pub mod Loading

@@ -1,0 +1,32 @@
+-- How the lines of a run are carried, in whichever manner: what holds where that begins, and what it leaves.
+use Rattle.std.specs.Prelude.{◌≡◌, ℕ, Bool, false, IsTrue, List, length, Result}
+use Rattle.host_trait.specs.declared.channels.Channel.{Channel}
+use Rattle.host_trait.specs.World.{World}
+use Rattle.request_wire.specs.declared.requests.Line.{Line}
+use Rattle.script_tree.specs.Programs.{ProgramTree}
+use Rattle.core_model.specs.Legal.{Run}
+use Rattle.promise_spec.specs.TurnRule.{KeepsTurnRule}
+use Rattle.promise_spec.specs.Words.{Manner}
+use Rattle.settle_loop.specs.declared.settler.Settler.{Settler}
+use Rattle.run_books.specs.declared.faults.RunFault.{RunFault}
+use Rattle.run_books.specs.Beginnings.{Outset, IsOutset, CanTurn}
+use Rattle.run_books.specs.Books.{Books}
+use Rattle.run_books.specs.Records.{RecordGoesOn}
+use Rattle.interleaver.specs.Turns.{KeepsTurns, IsFreshRecord}
+
+-- The lines can be carried in this manner: nothing is under way, and the record is kept so far.
+pub record StartsRun (tells : Bool) (m : Manner) (o : Outset) (b : Books) (types : ProgramTree) (r : Run) (settler : Settler) (lines : List Line) (counts : Channel → ℕ) (now : World) : Type 0 where
+  pub outset : IsOutset o types r lines m.width m.picks
+  pub can : CanTurn r settler lines
+  pub fresh : IsFreshRecord o b r
+  pub kept : KeepsTurns tells o b r settler counts now
+
+-- The record went on, however it ended; on one thread the run keeps the turn rule too.
+pub record CarriedOn {T : Type 0} (tells : Bool) (m : Manner) (o : Outset) (b : Books) (r r' : Run) (settler settler' : Settler) (counts' : Channel → ℕ) (now now' : World) (result : Result T RunFault) : Type 0 where
+  pub on : RecordGoesOn tells o b r r' settler settler' counts' now now' result
+  pub turns : m.threaded ≡ false → KeepsTurnRule o.program.types (length o.asked) o.width o.picks r'
+
+-- wherever it can be carried so, it was
+abbrev pub CarriesOn : {T : Type 0} → Bool → Manner → ProgramTree → List Line → Run → Run → Settler → Settler → (Channel → ℕ) → (Channel → ℕ) → World → World → Result T RunFault → Type 0
+CarriesOn tells m types lines r r' settler settler' counts counts' now now' result =
+    (o : Outset) (b : Books) → StartsRun tells m o b types r settler lines counts now → CarriedOn tells m o b r r' settler settler' counts' now now' result
