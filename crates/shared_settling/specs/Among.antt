@@ -1,5 +1,5 @@
 -- A settler over a core that others have too: what it puts itself, and what it keeps of a run's books.
-use Rattle.std.specs.Prelude.{◌≡◌, ◌⊎◌, ◌<◌, ◌≤◌, ◌^◌, ℕ, Bool, false, [], length, Result, Ok, Err}
+use Rattle.std.specs.Prelude.{◌≡◌, ◌⊎◌, ◌<◌, ◌≤◌, ◌^◌, ◌++◌, ℕ, Bool, false, List, [], length, Result, Ok, Err}
 use Rattle.base_types.specs.declared.shapes.Shape.{Shape}
 use Rattle.host_trait.specs.declared.channels.Channel.{Channel}
 use Rattle.host_trait.specs.declared.channels.Channel.TheVariants.{Output}
@@ -9,6 +9,7 @@ use Rattle.core_model.specs.Legal.{Run, ends}
 use Rattle.core_model.specs.declared.events.CoreEvent.{CoreEvent}
 use Rattle.core_model.specs.declared.events.CoreEvent.TheVariants.{Halt}
 use Rattle.core_model.specs.declared.events.CoreReply.{CoreReply}
+use Rattle.core_access.specs.Histories.{Told}
 use Rattle.core_access.specs.Settling.{is_settling}
 use Rattle.core_access.specs.Sights.{Sight, run_seen, AllPass, Tells}
 use Rattle.script_check.specs.Accepted.{IsAcceptedProgram}
@@ -26,7 +27,9 @@ use Rattle.run_books.specs.Sharing.{SeesOn, CanShare}
 -- More was seen, and what was put oneself is of the settler's events.
 pub record SettlesAmong (s t : Sight) : Type 0 where
   pub on : SeesOn s t
-  pub settling : AllPass is_settling on.own
+  pub own : List Told
+  pub mine : t.mine ≡ s.mine ++ own
+  pub settling : AllPass is_settling own
 
 -- So it was up to a place, and there a stop was put.
 pub record StopsAmong (may_come : CoreEvent → Bool) (s t : Sight) : Type 0 where

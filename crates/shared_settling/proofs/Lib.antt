@@ -1,0 +1,6 @@
+pub mod Leaving
+pub mod Passing
+pub mod Keeping
+pub mod StepsBeside
+pub mod OthersStill
+pub mod Relied
