@@ -70,7 +70,7 @@ module _ {H : Type 0} (tells : Bool) (world : H → World) (faults : H → Chann
 
   -- ---- a doubt
 
-  module _ (n : ℕ) (does : SealsUnits tells world faults n (event.Doubt n) (to_commit (ends r) (ends r).manager.batch) before.writer after.writer old new) (c : Counted (event.Doubt n)) where
+  module _ (n : ℕ) (makes : MakesEvent (settler_step (ends r)) (event.Doubt n)) (does : SealsUnits tells world faults n (event.Doubt n) (to_commit (ends r) (ends r).manager.batch) before.writer after.writer old new) (c : Counted (event.Doubt n)) where
     abbrev e : CoreEvent
     e = event.Doubt n
 
@@ -127,7 +127,7 @@ module _ {H : Type 0} (tells : Bool) (world : H → World) (faults : H → Chann
 
     doubt-of : (t : IsTrue tells) (head : List ℕ) (f : KeepsFolder o head b r before.writer (world old).disk) → DoubtsBatch o.program head f.batches before.writer after.writer (world old) (world new) before.writer.gate_at effects batch
     doubt-of t head f =
-        let fair = (is-fair o r before.writer can.above can.units can.kinds can.accepted can.numbers f.votes).seal n (seals-step n (settler_step (ends r)) c.makes) in
+        let fair = (is-fair o r before.writer can.above can.units can.kinds can.accepted can.numbers f.votes).seal n (seals-step n (settler_step (ends r)) makes) in
         as-doubt t head f does.answer does.event (does.seals t (shape_in o.program) head f.batches fair.0 fair.1 f.keeps)
 
     module _ (t : IsTrue tells) (head : List ℕ) (l : LastsSo o head b r before.writer (world old)) where
@@ -199,7 +199,7 @@ module _ {H : Type 0} (tells : Bool) (world : H → World) (faults : H → Chann
     doubt-done : Done (event.Doubt n)
     doubt-done = record { books = grown b m.more [] (doubted_by may effects does.work.records); kept = kept; even_again = again; lasts = λ t head l. lasts t head l }
 
-  pub by-doubt : (n : ℕ) → SealsUnits tells world faults n (event.Doubt n) (to_commit (ends r) (ends r).manager.batch) before.writer after.writer old new ⊎ DoubtsAgain tells world faults before.writer after.writer old new
+  pub by-doubt : (n : ℕ) → MakesEvent (settler_step (ends r)) (event.Doubt n) → SealsUnits tells world faults n (event.Doubt n) (to_commit (ends r) (ends r).manager.batch) before.writer after.writer old new ⊎ DoubtsAgain tells world faults before.writer after.writer old new
       → Counted (event.Doubt n) → Done (event.Doubt n)
-  by-doubt n (inl does) c = doubt-done n does c
-  by-doubt n (inr does) c = absurd (not-again tells world faults o b r before after old new can.above can.units k n c.applied does)
+  by-doubt n makes (inl does) c = doubt-done n makes does c
+  by-doubt n makes (inr does) c = absurd (not-again tells world faults o b r before after old new can.above can.units k n c.applied does)

@@ -130,16 +130,10 @@ cut-more p opening old said unsaid more rest now none c =
     record { output = c.output; unended = c.unended; log = on.log; moments = on.moments }
 
 module _ (tells : Bool) (o : Outset) (b : Books) (r : Run) (e : CoreEvent) (settler : Settler) (counts : Channel → ℕ) (now : World)
-    (above : 0 < r.base) (units : KeepsUnitRule (basis_of o) r) (after : KeepsUnitRule (basis_of o) (extended r (e ∷ []))) (other : is_settling e ≡ false)
-    (k : KeepsBooks tells o b r settler counts now) where
+    (above : 0 < r.base) (units : KeepsUnitRule (basis_of o) r) (after : KeepsUnitRule (basis_of o) (extended r (e ∷ [])))
+    (leaves : LeavesBatches (ends r) (ends (extended r (e ∷ [])))) (answers : file_answer e ≡ NoAnswer) (k : KeepsBooks tells o b r settler counts now) where
   abbrev r' : Run
   r' = extended r (e ∷ [])
-
-  leaves : LeavesBatches (ends r) (ends r')
-  leaves = others-leave r e other
-
-  answers : file_answer e ≡ NoAnswer
-  answers = answers-none e other
 
   -- what is settled more
   added : (more : List Entry) × ((ends r').manager.settled ≡ (ends r).manager.settled ++ more)
@@ -262,11 +256,29 @@ module _ (tells : Bool) (o : Outset) (b : Books) (r : Run) (e : CoreEvent) (sett
 pub others-still : (tells : Bool) (o : Outset) (b : Books) (r : Run) (e : CoreEvent) (settler : Settler) (counts : Channel → ℕ) (now : World)
     → 0 < r.base → KeepsUnitRule (basis_of o) r → KeepsUnitRule (basis_of o) (extended r (e ∷ [])) → is_settling e ≡ false → KeepsBooks tells o b r settler counts now
     → (g : BooksGoOn tells o b r (extended r (e ∷ [])) settler settler counts now now) × (g.books.rest ≡ b.rest)
-others-still tells o b r e settler counts now above units after other k = (go-on tells o b r e settler counts now above units after other k, refl)
+others-still tells o b r e settler counts now above units after other k =
+    (go-on tells o b r e settler counts now above units after (others-leave r e other) (answers-none e other) k, refl)
 
 -- and where none is, so it stays
 pub others-keep : OthersKeep
 others-keep tells o b r e settler counts now above units after other even k = (
-  go-on tells o b r e settler counts now above units after other k,
-  still-even tells o b r e settler counts now above units after other k even,
+  go-on tells o b r e settler counts now above units after (others-leave r e other) (answers-none e other) k,
+  still-even tells o b r e settler counts now above units after (others-leave r e other) (answers-none e other) k even,
 )
+
+-- one that no file answers, and that doesn't apply, keeps them too
+pub unapplied-keeps : (tells : Bool) (o : Outset) (b : Books) (r : Run) (e : CoreEvent) (settler : Settler) (counts : Channel → ℕ) (now : World)
+    → 0 < r.base → KeepsUnitRule (basis_of o) r → KeepsUnitRule (basis_of o) (extended r (e ∷ [])) → applies (ends r) e ≡ false → file_answer e ≡ NoAnswer
+    → AreEven settler.quiet b (ends r) → KeepsBooks tells o b r settler counts now
+    → (g : BooksGoOn tells o b r (extended r (e ∷ [])) settler settler counts now now) × AreEven settler.quiet g.books (ends (extended r (e ∷ [])))
+unapplied-keeps tells o b r e settler counts now above units after unapplied answers even k =
+    let same : ends (extended r (e ∷ [])) ≡ ends r = unapplied-run r e unapplied in
+    let leaves : LeavesBatches (ends r) (ends (extended r (e ∷ []))) = record {
+      batches = ap (λ (w : CoreState). w.manager.batches) same;
+      batch = ap (λ (w : CoreState). w.manager.batch) same;
+      past = ap (λ (w : CoreState). w.manager.past) same;
+      closed = ap (λ (w : CoreState). w.manager.closed) same;
+      doubt = ap (λ (w : CoreState). w.manager.doubt) same;
+      emitted = ap (λ (w : CoreState). w.manager.emitted) same;
+    } in
+    (go-on tells o b r e settler counts now above units after leaves answers k, still-even tells o b r e settler counts now above units after leaves answers k even)

@@ -3,6 +3,7 @@ use Rattle.std.proofs.Common.{◌≡◌, inl, inr, ℕ, zero, suc, ◌≤◌, Li
 use Rattle.std.specs.Prelude.{IsTrue, Result, Ok, Err, if◌then◌else◌}
 use Rattle.std.specs.List.{AllByRecursion}
 use Rattle.std.proofs.lemmas.Bool.{cases_lt}
+use Rattle.base_types.specs.declared.calls.GrainId.{GrainId}
 use Rattle.base_types.specs.declared.entries.Entry.{Entry}
 use Rattle.base_types.specs.declared.shapes.Shape.{Shape}
 use Rattle.host_trait.specs.declared.channels.Channel.{Channel}
@@ -56,6 +57,16 @@ use Rattle.run_books.proofs.BooksEnd.{by-doubt}
 use Rattle.run_books.proofs.BooksFaults.{NoneFell, calm-later, faults-same, fell-both, rose-back}
 use Rattle.run_books.proofs.BooksFair.{is-fair, votes-same}
 use Rattle.run_books.proofs.BooksStated.{SettledKeep}
+
+-- a step of the open batch
+abbrev pub is_of_batch : Step → Bool
+is_of_batch (Votes n g) = true
+is_of_batch (Decides n) = true
+is_of_batch (SealStep n) = true
+is_of_batch (Learns u g) = false
+is_of_batch Writes = false
+is_of_batch Takes = false
+is_of_batch Rests = false
 
 some-true : {A : Type 0} (x : Option A) → is_some x ≡ true → (a : A) × (x ≡ Some a)
 some-true None q = absurd (let z : false ≡ true = q in cc)
@@ -120,19 +131,23 @@ module _ {H : Type 0} (tells : Bool) (world : H → World) (faults : H → Chann
 
   -- ---- whichever event it is
 
-  abbrev Todo : CoreEvent → Type 0
+  made : (s : Step) (e : CoreEvent) → settler_step (ends r) ≡ s → MakesEvent s e → MakesEvent (settler_step (ends r)) e
+  made s e q m = subst (λ (x : Step). MakesEvent x e) (sym q) m
+
+  abbrev pub Todo : CoreEvent → Type 0
   Todo e = DoesFor tells world faults e before.quiet (shape_in o.program) (ends r) before.writer after.writer old new → Counted e → Done e
 
-  done : (s : Step) (e : CoreEvent) → MakesEvent s e → Todo e
-  done (Votes n g) e m = subst Todo (sym m.1) (λ does c. by-vote tells world faults o b r before after old new can even k n g m.0 does c)
-  done (Decides n) e m = subst Todo (sym m) (λ does c. by-decide tells world faults o b r before after old new can even k n does c)
-  done (SealStep n) e (inl m) = subst Todo (sym m) (λ does c. by-sealed tells world faults o b r before after old new can even k n does c)
-  done (SealStep n) e (inr (inl m)) = subst Todo (sym m) (λ does c. by-unsealed tells world faults o b r before after old new can even k n does c)
-  done (SealStep n) e (inr (inr m)) = subst Todo (sym m) (λ does c. by-doubt tells world faults o b r before after old new can even k n does c)
-  done (Learns u g) e m = subst Todo (sym m) (λ does c. by-learn tells world faults o b r before after old new can even k u g does c)
-  done Writes e m = subst Todo (sym m) (λ does c. by-write before.quiet refl does c)
-  done Takes e m = subst Todo (sym m) (λ does c. by-take tells world faults o b r before after old new can even k does c)
-  done Rests e m = absurd m
+  -- by a step that is the settler's, where it is one of the open batch
+  pub done : (s : Step) (e : CoreEvent) → (is_of_batch s ≡ true → settler_step (ends r) ≡ s) → MakesEvent s e → Todo e
+  done (Votes n g) e q m = subst Todo (sym m.1) (λ does c. by-vote tells world faults o b r before after old new can even k n g m.0 (made (Votes n g) (event.Vote n g m.0) (q refl) (m.0, refl)) does c)
+  done (Decides n) e q m = subst Todo (sym m) (λ does c. by-decide tells world faults o b r before after old new can even k n does c)
+  done (SealStep n) e q (inl m) = subst Todo (sym m) (λ does c. by-sealed tells world faults o b r before after old new can even k n (made (SealStep n) (event.Sealed n) (q refl) (inl refl)) does c)
+  done (SealStep n) e q (inr (inl m)) = subst Todo (sym m) (λ does c. by-unsealed tells world faults o b r before after old new can even k n (made (SealStep n) (event.NotSealed n) (q refl) (inr (inl refl))) does c)
+  done (SealStep n) e q (inr (inr m)) = subst Todo (sym m) (λ does c. by-doubt tells world faults o b r before after old new can even k n (made (SealStep n) (event.Doubt n) (q refl) (inr (inr refl))) does c)
+  done (Learns u g) e q m = subst Todo (sym m) (λ does c. by-learn tells world faults o b r before after old new can even k u g does c)
+  done Writes e q m = subst Todo (sym m) (λ does c. by-write before.quiet refl does c)
+  done Takes e q m = subst Todo (sym m) (λ does c. by-take tells world faults o b r before after old new can even k does c)
+  done Rests e q m = absurd m
 
   -- ---- an event that was put
 
@@ -164,7 +179,6 @@ module _ {H : Type 0} (tells : Bool) (world : H → World) (faults : H → Chann
     counted : Counted e
     counted = record {
       applied = applied;
-      makes = makes;
       quiet = ap (λ (s : Settler). s.quiet) put.counts;
       written = ap (λ (s : Settler). s.written) put.counts ∙ ap (λ (x : Bool). if x then counted_up before.written else before.written) (and-so (tells_entry e) (has_applied p) said-so);
       doubted = ap (λ (s : Settler). s.doubted) put.counts ∙ ap (λ (x : Bool). before.doubted || x) (and-so (tells_doubt e) (has_applied p) said-so);
@@ -172,7 +186,7 @@ module _ {H : Type 0} (tells : Bool) (world : H → World) (faults : H → Chann
     }
 
     pub put-done : Done e
-    put-done = done (settler_step (ends r)) e makes does counted
+    put-done = done (settler_step (ends r)) e (λ q. refl) makes does counted
 
 -- the run behind an event that was put
 put-run : {H : Type 0} (tells : Bool) (world : H → World) (faults : H → Channel → ℕ) (shape : Shape) (r r' : Run) (before after : Settler) (old new : H) (e : CoreEvent) (p : CoreReply) (mid : Sight)
@@ -192,16 +206,16 @@ looked-on false mid t looked = looked
 module _ {H : Type 0} (tells : Bool) (world : H → World) (faults : H → Channel → ℕ) (o : Outset) (b : Books) (r : Run) (before : Settler) (old : H)
     (can : CanSettle o (shape_in o.program) r) (even : AreEven before.quiet b (ends r)) (k : KeepsBooks tells o b r before (faults old) (world old)) where
   -- the books went on, and are even
-  abbrev WentOn : Run → Settler → H → Type 0
+  abbrev pub WentOn : Run → Settler → H → Type 0
   WentOn x s h = (g : BooksGoOn tells o b r x before s (faults h) (world old) (world h)) × AreEven s.quiet g.books (ends x)
 
-  unchanged : (r' : Run) (after : Settler) (new : H) → r' ≡ r → after ≡ before → new ≡ old → WentOn r' after new
+  pub unchanged : (r' : Run) (after : Settler) (new : H) → r' ≡ r → after ≡ before → new ≡ old → WentOn r' after new
   unchanged r' after new run settler host =
       subst (λ (x : Run). WentOn x after new) (sym run)
       (subst (λ (s : Settler). WentOn r s new) (sym settler)
       (subst (λ (h : H). WentOn r before h) (sym host) (record { books = b; kept = k; lasts = λ t head l. l }, even)))
 
-  went : (r' : Run) (after : Settler) (new : H) (e : CoreEvent) → r' ≡ extended r (e ∷ []) → StepDone tells world faults o b r before after old new can even k e → WentOn r' after new
+  pub went : (r' : Run) (after : Settler) (new : H) (e : CoreEvent) → r' ≡ extended r (e ∷ []) → StepDone tells world faults o b r before after old new can even k e → WentOn r' after new
   went r' after new e run d =
       subst (λ (x : Run). WentOn x after new) (sym run) (record { books = d.books; kept = d.kept; lasts = d.lasts }, d.even_again)
 
@@ -212,7 +226,7 @@ module _ {H : Type 0} (tells : Bool) (world : H → World) (faults : H → Chann
       went r' after new e run (put-done tells world faults o b r before after old new can even k e p mid put (subst (KeepsUnitRule (basis_of o)) run units))
 
   -- a doubt that ends the run
-  in-doubt : (r' : Run) (after : Settler) (new : H) (g : WentOn r' after new) → after.doubted ≡ true → has_unwritten (ends r') ≡ false → HasDoubted o r' (faults new) × (g.0.books.rest ≡ [])
+  pub in-doubt : (r' : Run) (after : Settler) (new : H) (g : WentOn r' after new) → after.doubted ≡ true → has_unwritten (ends r') ≡ false → HasDoubted o r' (faults new) × (g.0.books.rest ≡ [])
   in-doubt r' after new g doubted written =
       let left = some-true (ends r').manager.doubt (sym g.0.kept.doubt ∙ doubted) in
       let doubt = doubt_left r' left.0 left.1 in (
@@ -225,7 +239,7 @@ module _ {H : Type 0} (tells : Bool) (world : H → World) (faults : H → Chann
       )
 
   -- an event that the core didn't take made no host call
-  spared : (s : Step) (e : CoreEvent) → MakesEvent s e → has_room e ≡ false → e ≡ event.Take
+  pub spared : (s : Step) (e : CoreEvent) → MakesEvent s e → has_room e ≡ false → e ≡ event.Take
   spared (Votes n g) e m q = absurd (let z : true ≡ false = sym (ap has_room m.1) ∙ q in cc)
   spared (Decides n) e m q = absurd (let z : true ≡ false = sym (ap has_room m) ∙ q in cc)
   spared (SealStep n) e (inl m) q = absurd (let z : true ≡ false = sym (ap has_room m) ∙ q in cc)
@@ -257,18 +271,14 @@ module _ {H : Type 0} (tells : Bool) (world : H → World) (faults : H → Chann
       subst (λ (y : CoreEvent). DoesFor tells world faults y before.quiet (shape_in o.program) (state_shown x.acts.seen) before.writer after.writer old new) take x.acts.does in
       unchanged r' after new same (x.settler ∙ ap (λ w. record before { writer = w }) does.writer) does.host
 
-  -- no memory for a vote's versions
-  lacks-vote : (r' : Run) (after : Settler) (new : H) → LacksForVote tells world faults none_comes (shape_in o.program) before after (own_sight r) (own_sight r') old new → WentOn r' after new
-  lacks-vote r' after new x =
-      let same : r' ≡ r = same-run r r' (own_sight r) x.looked refl in
-      let here : run_seen (own_sight r') ≡ r = own-run r' ∙ same in
-      let votes : settler_step (ends r) ≡ Votes x.n x.g = sym (ap (λ (y : Run). settler_step (ends y)) here) ∙ x.votes in
-      let lacks : LacksRoom tells world faults x.n x.g (versions_to_write (ends r) (ends r).manager.batch x.g) before.writer after.writer old new =
-      subst (λ (y : Run). LacksRoom tells world faults x.n x.g (versions_to_write (ends y) (ends y).manager.batch x.g) before.writer after.writer old new) here x.lacks in
+  -- no memory for a vote's versions, in a run
+  pub lacks-at : (after : Settler) (new : H) (n : ℕ) (g : GrainId) → settler_step (ends r) ≡ Votes n g
+      → LacksRoom tells world faults n g (versions_to_write (ends r) (ends r).manager.batch g) before.writer after.writer old new → after ≡ record before { writer = after.writer } → WentOn r after new
+  lacks-at after new n g votes lacks settler =
       let later : NoneFell (faults old) (faults new) = calm-later (faults old) (faults new) lacks.calm in
-      let doubted : after.doubted ≡ before.doubted = ap (λ (s : Settler). s.doubted) x.settler in
-      let quiet : after.quiet ≡ before.quiet = ap (λ (s : Settler). s.quiet) x.settler in
-      subst (λ (y : Run). WentOn y after new) (sym same) (
+      let doubted : after.doubted ≡ before.doubted = ap (λ (s : Settler). s.doubted) settler in
+      let quiet : after.quiet ≡ before.quiet = ap (λ (s : Settler). s.quiet) settler in
+      (
         record {
           books = b;
           kept = record {
@@ -279,7 +289,7 @@ module _ {H : Type 0} (tells : Bool) (world : H → World) (faults : H → Chann
             cut = k.cut;
             doubt = doubted ∙ k.doubt;
             unsure = lacks.same.doubt ∙ k.unsure ∙ sym doubted;
-            written = ap (λ (s : Settler). s.written) x.settler ∙ k.written;
+            written = ap (λ (s : Settler). s.written) settler ∙ k.written;
             outside = λ t. record {
               output = subst (λ (w : World). Grew (shape_in o.program) o.world.output w.output (entries_of b.said) b.rest) (sym (lacks.world_is t)) (k.outside t).output;
               syncs = λ none. ap (λ (w : World). w.syncs) (lacks.world_is t) ∙ (k.outside t).syncs (rose-back o.faults (faults old) (faults new) k.later later none);
@@ -296,18 +306,28 @@ module _ {H : Type 0} (tells : Bool) (world : H → World) (faults : H → Chann
             block = l.block;
             folder = λ q. (
                 let f = l.folder (sym lacks.same.doubt ∙ q) in
-                let fair = (is-fair o r before.writer can.above can.units can.kinds can.accepted can.numbers f.votes).vote x.n x.g votes in
+                let fair = (is-fair o r before.writer can.above can.units can.kinds can.accepted can.numbers f.votes).vote n g votes in
                 record {
                   batches = f.batches;
                   log = f.log;
                   keeps = subst (λ (w : World). KeepsDisk (shape_in o.program) head f.batches after.writer w.disk) (lacks.world_is t)
                       ((lacks.images t).keeps (shape_in o.program) head f.batches fair.0 fair.1 f.keeps);
-                  votes = votes-same r x.n before.writer after.writer lacks.batch lacks.kept f.votes;
+                  votes = votes-same r n before.writer after.writer lacks.batch lacks.kept f.votes;
                 });
           });
         },
         subst (λ (q : Bool). AreEven q b (ends r)) (sym quiet) even,
       )
+
+  -- and where one looked alone
+  lacks-vote : (r' : Run) (after : Settler) (new : H) → LacksForVote tells world faults none_comes (shape_in o.program) before after (own_sight r) (own_sight r') old new → WentOn r' after new
+  lacks-vote r' after new x =
+      let same : r' ≡ r = same-run r r' (own_sight r) x.looked refl in
+      let here : run_seen (own_sight r') ≡ r = own-run r' ∙ same in
+      let votes : settler_step (ends r) ≡ Votes x.n x.g = sym (ap (λ (y : Run). settler_step (ends y)) here) ∙ x.votes in
+      let lacks : LacksRoom tells world faults x.n x.g (versions_to_write (ends r) (ends r).manager.batch x.g) before.writer after.writer old new =
+      subst (λ (y : Run). LacksRoom tells world faults x.n x.g (versions_to_write (ends y) (ends y).manager.batch x.g) before.writer after.writer old new) here x.lacks in
+      subst (λ (y : Run). WentOn y after new) (sym same) (lacks-at after new x.n x.g votes lacks x.settler)
 
   -- ---- the output failed
 
@@ -321,13 +341,13 @@ module _ {H : Type 0} (tells : Bool) (world : H → World) (faults : H → Chann
       (output-lasts o head b c r [] before.writer before.writer (world old) (world new) can.above (subst (KeepsUnitRule (basis_of o)) (sym none-more) can.units) l front doubted refl line.disk
       (ap (λ (y : Run). (ends y).manager.doubt) none-more) (λ P here p. both P p (one P (world old) (world new) line.past here)) journal)
 
-  abbrev Cut : H → Type 0
+  abbrev pub Cut : H → Type 0
   Cut new = (g : BooksGoOn tells o b r r before before (faults new) (world old) (world new)) × Rose (o.faults Output) (faults new Output)
 
   rose-from : (x y z : ℕ) → x ≤ y → Rose y z → Rose x z
   rose-from x y z le rose = omega (arith, le, rose)
 
-  cut-by : (q : Bool) → tells ≡ q → (new : H) → CutsEntry tells world faults before.quiet (shape_in o.program) (ends r) before.writer before.writer old new → Cut new
+  pub cut-by : (q : Bool) → tells ≡ q → (new : H) → CutsEntry tells world faults before.quiet (shape_in o.program) (ends r) before.writer before.writer old new → Cut new
   cut-by false mute new x =
       let even' : AreEven false b (ends r) = subst (λ (q : Bool). AreEven q b (ends r)) x.loud even in
       let untold : tells ≡ true → ⊥ = (λ t. let z : false ≡ true = sym mute ∙ t in cc) in (

@@ -5,6 +5,7 @@ use Rattle.base_types.specs.declared.calls.GrainId.{GrainId}
 use Rattle.base_types.specs.declared.entries.Entry.{Entry}
 use Rattle.host_trait.specs.declared.channels.Channel.{Channel}
 use Rattle.host_trait.specs.World.{World, Passes, moment_of}
+use Rattle.host_trait.proofs.Moments.{started}
 use Rattle.core_model.specs.CoreState.{UnitNo, CoreState, Member}
 use Rattle.core_model.specs.declared.effects.Effect.{Effect}
 use Rattle.core_model.specs.declared.events.CoreEvent.{CoreEvent}
@@ -20,7 +21,7 @@ use Rattle.promise_spec.specs.Crashes.{Acknowledges}
 use Rattle.promise_spec.specs.UnitRule.{KeepsUnitRule}
 use Rattle.promise_spec.specs.Journals.{Settlement, Seals, commits_of}
 use Rattle.batch_disk.specs.Resting.{Voted, log_of}
-use Rattle.batch_disk.specs.Moments.{LeavesRest}
+use Rattle.batch_disk.specs.Moments.{LeavesRest, KeepsLog}
 use Rattle.batch_disk.specs.Records.{commits_by}
 use Rattle.batch_disk.specs.Seals.{WriterAfter}
 use Rattle.batch_disk.specs.Writers.{KeepsDisk, kept_of, voted_of}
@@ -34,7 +35,7 @@ use Rattle.settle_loop.specs.Works.{event_of, tells_entry, tells_doubt, counted_
 use Rattle.settle_loop.specs.HostSteps.{MakesNoCall, VotesOn, SealsUnits, DoesFor, batch_made}
 use Rattle.settle_loop.specs.Journaling.{as_settled, LeavesLogs, JournalsAs}
 use Rattle.settle_loop.specs.declared.settler.Settler.{Settler}
-use Rattle.settle_loop.proofs.Journaled.{journals}
+use Rattle.settle_loop.proofs.Journaled.{journals, leaves}
 use Rattle.run_books.specs.Beginnings.{Outset, basis_of}
 use Rattle.run_books.specs.Books.{Books, AreInDoubt, AreBooked}
 use Rattle.run_books.specs.Images.{KeepsFolder, LastsSo}
@@ -68,7 +69,6 @@ module _ {H : Type 0} (tells : Bool) (world : H → World) (faults : H → Chann
   -- what becomes of the settler, and that the event applies
   pub record IsCounted (e : CoreEvent) : Type 0 where
     pub applied : applies (ends r) e ≡ true
-    pub makes : MakesEvent (settler_step (ends r)) e
     pub quiet : after.quiet ≡ before.quiet
     pub written : after.written ≡ (if tells_entry e then counted_up before.written else before.written)
     pub doubted : after.doubted ≡ (before.doubted || tells_doubt e)
@@ -130,12 +130,22 @@ module _ {H : Type 0} (tells : Bool) (world : H → World) (faults : H → Chann
         kept : KeepsBooks tells o (grown b m.more batch b.doubted) (extended r (e ∷ [])) after (faults new) (world new)
         kept = books-kept tells o b r e before after (faults old) (faults new) (world old) (world new) batch b.doubted can.above can.units even k m entry adds
 
-    -- what the journal law says of it
-    journal-of : (t : IsTrue tells) (head : List ℕ) (f : KeepsFolder o head b r before.writer (world old).disk) (does : DoesFor tells world faults e before.quiet (shape_in o.program) (ends r) before.writer after.writer old new)
+    -- what the journal law says of it, where it is the settler's step
+    journal-of : MakesEvent (settler_step (ends r)) e → (t : IsTrue tells) (head : List ℕ) (f : KeepsFolder o head b r before.writer (world old).disk) (does : DoesFor tells world faults e before.quiet (shape_in o.program) (ends r) before.writer after.writer old new)
         → JournalsAs o.program head f.batches before.writer after.writer (world old) (world new) e before.quiet (ends r) (batch_made tells world faults e before.quiet (shape_in o.program) (ends r) before.writer after.writer old new does)
-    journal-of t head f does =
+    journal-of makes t head f does =
         journals tells t world faults o.program head f.batches (ends r) before.writer after.writer old new f.keeps
-        (is-fair o r before.writer can.above can.units can.kinds can.accepted can.numbers f.votes) before.quiet (settler_step (ends r)) e refl c.makes does
+        (is-fair o r before.writer can.above can.units can.kinds can.accepted can.numbers f.votes) before.quiet (settler_step (ends r)) e refl makes does
+
+    -- without a host call no log changes
+    no-call : (head : List ℕ) (f : KeepsFolder o head b r before.writer (world old).disk) → MakesNoCall tells world faults before.writer after.writer old new
+        → LeavesLogs o.program head f.batches before.writer after.writer (world old) (world new)
+    no-call head f none =
+        let same : LeavesLogs o.program head f.batches before.writer before.writer (world old) (world old) =
+        leaves o.program head f.batches before.writer before.writer (world old) (world old) f.keeps refl (record { more = []; past = sym (append-nil (world old).past); last = refl })
+        (started (KeepsLog (shape_in o.program) head (log_of f.batches) (world old)) (world old).past) f.keeps in
+        subst (λ (x : BatchWriter). LeavesLogs o.program head f.batches before.writer x (world old) (world new)) (sym none.writer)
+        (subst (λ (h : H). LeavesLogs o.program head f.batches before.writer before.writer (world old) (world h)) (sym none.host) same)
 
     -- no log changes
     leaves-disk : (head : List ℕ) (f : KeepsFolder o head b r before.writer (world old).disk) → LeavesLogs o.program head f.batches before.writer after.writer (world old) (world new) → AreOfVotes (extended r (e ∷ [])) after.writer
@@ -169,29 +179,29 @@ module _ {H : Type 0} (tells : Bool) (world : H → World) (faults : H → Chann
       let e : CoreEvent = event.Decide n in
       plain-done e c refl refl refl []
       (adds-none tells world faults o b r before after old new can.above can.units k e c.applied (moves-run r e c.applied) c.quiet c.written refl (c.doubted ∙ or-none before.doubted) (λ g. refl) refl refl refl does)
-      (λ t head f. leaves-disk e c refl refl head f (journal-of e c refl refl t head f does) (votes-still e c refl refl f.votes does.writer)) no-older
+      (λ t head f. leaves-disk e c refl refl head f (no-call e c refl refl head f does) (votes-still e c refl refl f.votes does.writer)) no-older
 
   pub by-learn : (u : UnitNo) (g : GrainId) → MakesNoCall tells world faults before.writer after.writer old new → IsCounted (event.Learn u g) → StepDone (event.Learn u g)
   by-learn u g does c =
       let e : CoreEvent = event.Learn u g in
       plain-done e c refl refl refl []
       (adds-none tells world faults o b r before after old new can.above can.units k e c.applied (moves-run r e c.applied) c.quiet c.written refl (c.doubted ∙ or-none before.doubted) (λ h. refl) refl refl refl does)
-      (λ t head f. leaves-disk e c refl refl head f (journal-of e c refl refl t head f does) (votes-still e c refl refl f.votes does.writer)) no-older
+      (λ t head f. leaves-disk e c refl refl head f (no-call e c refl refl head f does) (votes-still e c refl refl f.votes does.writer)) no-older
 
   pub by-take : MakesNoCall tells world faults before.writer after.writer old new → IsCounted event.Take → StepDone event.Take
   by-take does c =
       let e : CoreEvent = event.Take in
       plain-done e c refl refl refl []
       (adds-none tells world faults o b r before after old new can.above can.units k e c.applied (moves-run r e c.applied) c.quiet c.written refl (c.doubted ∙ or-none before.doubted) (λ g. refl) refl refl refl does)
-      (λ t head f. leaves-disk e c refl refl head f (journal-of e c refl refl t head f does) (votes-still e c refl refl f.votes does.writer)) no-older
+      (λ t head f. leaves-disk e c refl refl head f (no-call e c refl refl head f does) (votes-still e c refl refl f.votes does.writer)) no-older
 
   -- a vote
-  pub by-vote : (n : ℕ) (g : GrainId) (said : Bool) → VotesOn tells world faults n g said (versions_to_write (ends r) (ends r).manager.batch g) before.writer after.writer old new → IsCounted (event.Vote n g said) → StepDone (event.Vote n g said)
-  by-vote n g said does c =
+  pub by-vote : (n : ℕ) (g : GrainId) (said : Bool) → MakesEvent (settler_step (ends r)) (event.Vote n g said) → VotesOn tells world faults n g said (versions_to_write (ends r) (ends r).manager.batch g) before.writer after.writer old new → IsCounted (event.Vote n g said) → StepDone (event.Vote n g said)
+  by-vote n g said makes does c =
       let e : CoreEvent = event.Vote n g said in
       plain-done e c refl refl refl []
       (adds-vote tells world faults o b r before after old new can.above can.units k n g said c.applied (moves-run r e c.applied) c.quiet c.written (c.doubted ∙ or-none before.doubted) does)
-      (λ t head f. leaves-disk e c refl refl head f (journal-of e c refl refl t head f does) (votes-after r n g said before.writer after.writer can.above c.applied does.batch does.kept f.votes)) no-older
+      (λ t head f. leaves-disk e c refl refl head f (journal-of e c refl refl makes t head f does) (votes-after r n g said before.writer after.writer can.above c.applied does.batch does.kept f.votes)) no-older
 
   -- a batch on disk, or not
   sealed-gone : (n : ℕ) (x : Sealing) (made : List CommitRecord) (v w : BatchWriter) → event.Sealed n ≡ event_of n x → WriterAfter x made v w → kept_of w ≡ []
@@ -204,16 +214,16 @@ module _ {H : Type 0} (tells : Bool) (world : H → World) (faults : H → Chann
   unsealed-gone n sealing.NotSealed made v w q is = is.1
   unsealed-gone n sealing.InDoubt made v w q is = absurd (cc q)
 
-  pub by-unsealed : (n : ℕ) → SealsUnits tells world faults n (event.NotSealed n) (to_commit (ends r) (ends r).manager.batch) before.writer after.writer old new → IsCounted (event.NotSealed n) → StepDone (event.NotSealed n)
-  by-unsealed n does c =
+  pub by-unsealed : (n : ℕ) → MakesEvent (settler_step (ends r)) (event.NotSealed n) → SealsUnits tells world faults n (event.NotSealed n) (to_commit (ends r) (ends r).manager.batch) before.writer after.writer old new → IsCounted (event.NotSealed n) → StepDone (event.NotSealed n)
+  by-unsealed n makes does c =
       let e : CoreEvent = event.NotSealed n in
       plain-done e c refl refl refl []
       (adds-unsealed tells world faults o b r before after old new can.above can.units k n c.applied (moves-run r e c.applied) c.quiet c.written (c.doubted ∙ or-none before.doubted) does)
-      (λ t head f. leaves-disk e c refl refl head f (journal-of e c refl refl t head f does)
+      (λ t head f. leaves-disk e c refl refl head f (journal-of e c refl refl makes t head f does)
       (votes-gone e c refl refl (unsealed-gone n does.answer does.work.records before.writer after.writer does.event does.after_is))) no-older
 
-  pub by-sealed : (n : ℕ) → SealsUnits tells world faults n (event.Sealed n) (to_commit (ends r) (ends r).manager.batch) before.writer after.writer old new → IsCounted (event.Sealed n) → StepDone (event.Sealed n)
-  by-sealed n does c =
+  pub by-sealed : (n : ℕ) → MakesEvent (settler_step (ends r)) (event.Sealed n) → SealsUnits tells world faults n (event.Sealed n) (to_commit (ends r) (ends r).manager.batch) before.writer after.writer old new → IsCounted (event.Sealed n) → StepDone (event.Sealed n)
+  by-sealed n makes does c =
       let e : CoreEvent = event.Sealed n in
       let effects : List Effect = to_commit (ends r) (ends r).manager.batch in
       let batch : List Commit = commits_by effects does.work.records in
@@ -222,7 +232,7 @@ module _ {H : Type 0} (tells : Bool) (world : H → World) (faults : H → Chann
       let kept = books-kept tells o b r e before after (faults old) (faults new) (world old) (world new) (as_settled batch ∷ []) b.doubted can.above can.units even k m refl adds in
       plain-done e c refl refl refl (as_settled batch ∷ []) adds
       (λ t head f. (
-      let s = journal-of e c refl refl t head f does in
+      let s = journal-of e c refl refl makes t head f does in
       record {
         batches = f.batches ++ batch ∷ [];
         log = flat_push f.batches batch ∙ ap (λ (x : List Commit). log_of f.batches ++ x) (sym (append-nil batch));

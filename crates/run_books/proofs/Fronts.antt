@@ -20,7 +20,7 @@ use Rattle.settler_rules.proofs.Standing.{ends-more}
 
 -- ---- the rule
 
-get-front : {A : Type 0} (xs ys : List A) (at : ℕ) (x : A) → slice_get xs at ≡ Some x → (slice_get (xs ++ ys) at ≡ Some x) × (at ≤ length xs)
+pub get-front : {A : Type 0} (xs ys : List A) (at : ℕ) (x : A) → slice_get xs at ≡ Some x → (slice_get (xs ++ ys) at ≡ Some x) × (at ≤ length xs)
 get-front [] ys at x there = absurd cc
 get-front (z ∷ xs) ys zero x there = (there, omega arith)
 get-front (z ∷ xs) ys (suc at) x there = (let t = get-front xs ys at x there in (t.0, omega (arith, t.1)))

@@ -24,3 +24,5 @@ pub mod Lasting
 pub mod ShownVersions
 pub mod Fronts
 pub mod Relying
+pub mod Staying
+pub mod BooksShared

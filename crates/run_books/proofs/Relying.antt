@@ -40,7 +40,7 @@ sees-none s = record {
 }
 
 -- by a look
-pub sees-look : (may : CoreEvent → Bool) (s t : Sight) → Looks may s t → SeesOn s t
+abbrev pub sees-look : (may : CoreEvent → Bool) (s t : Sight) → Looks may s t → SeesOn s t
 sees-look may s t l = record {
   first = ap (λ (x : Sight). x.first) l.sight;
   number = ap (λ (x : Sight). x.number) l.sight;
