@@ -251,6 +251,10 @@ module _ (tells : Bool) (r r' : Run) (settler settler' : Settler) (faults faults
       by WriteFault e = e
       by Memory e = e
 
+-- a run that stays goes on by no event
+pub run-stays : (r : Run) → r ≡ extended r []
+run-stays r = ap (λ (es : List CoreEvent). record r { events = es }) (sym (append-nil r.events))
+
 -- a run that went on, and nothing else
 pub core-beside : {T : Type 0} (tells : Bool) (r r' : Run) (settler : Settler) (faults : Channel → ℕ) (now : World) (result : Result T RunFault) (more : List CoreEvent) → r' ≡ extended r more
     → TurnsBeside {T = T} tells r r' settler settler faults faults now now result

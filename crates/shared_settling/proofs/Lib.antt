@@ -3,4 +3,5 @@ pub mod Passing
 pub mod Keeping
 pub mod StepsBeside
 pub mod OthersStill
-pub mod Relied
+pub mod Alone
+pub mod Going

@@ -14,15 +14,11 @@ use Rattle.core_model.specs.Legal.{Run, ends}
 use Rattle.core_model.specs.Settler.{MakesEvent, Step, Votes, Decides, Seals, Learns, Writes, Takes, Rests, settler_step}
 use Rattle.turn_cell.specs.History.{In, entry}
 use Rattle.core_access.specs.Histories.{Told, run_after}
-use Rattle.core_access.specs.OneHolder.{none_comes}
 use Rattle.core_access.specs.Settling.{is_settling}
 use Rattle.core_access.specs.Sights.{Sight, run_seen, saw, told, AllPass, Looks, Tells, Counts, IsAlone}
 use Rattle.core_access.proofs.Entries.{run-on}
-use Rattle.core_access.proofs.Sights.{looks-before, tells-before, looks-counts, tells-counts, pass-append, run-told, looks-alone, run-alone}
-use Rattle.promise_spec.specs.UnitRule.{Basis, KeepsUnitRule}
-use Rattle.promise_spec.specs.Gotten.{got_in}
-use Rattle.turn_rules.proofs.Growth.{unit-grows}
-use Rattle.turn_rules.proofs.Settlers.{settlers-due}
+use Rattle.core_access.proofs.Sights.{looks-before, tells-before, looks-counts, tells-counts, pass-append, run-told}
+use Rattle.promise_spec.specs.UnitRule.{Basis}
 use Rattle.worker_rules.specs.Stories.{is_load}
 use Rattle.worker_rules.specs.Sharing.{KeepsPromise}
 use Rattle.worker_rules.specs.Work.{is_work}
@@ -89,8 +85,12 @@ module _ (s t u : Sight) where
     settling = pass-append is_settling a.own b.own a.settling b.settling;
   }
 
+-- so far is seen
+pub among-seen : (s t u : Sight) → SettlesAmong s t → SettlesAmong t u → SeesOn s u
+among-seen s t u a b = sees-both s t u a.on b.on
+
 -- by a look
-among-look : (may : CoreEvent → Bool) (s t : Sight) → Looks may s t → SettlesAmong s t
+pub among-look : (may : CoreEvent → Bool) (s t : Sight) → Looks may s t → SettlesAmong s t
 among-look may s t l = record { on = sees-look may s t l; own = []; mine = ap (λ (x : Sight). x.mine) l.sight ∙ sym (append-nil s.mine); settling = λ x i. absurd i }
 
 -- by an event of the settler's
@@ -152,15 +152,6 @@ goes-tell may s t e r l q p = (
       ∙ ap (λ (x : Run). (ends x).units.halt) (run-saw s l.rest) ∙ going-on l.rest (run_seen s) was.1 ∙ p.1 was.0,
 )
 
--- ---- the unit rule, where nobody else is
-
-rule-look : (b : Basis) (s t : Sight) → Looks none_comes s t → KeepsUnitRule b (run_seen s) → KeepsUnitRule b (run_seen t)
-rule-look b s t l k = subst (λ (x : Sight). KeepsUnitRule b (run_seen x)) (sym (looks-alone s t l)) k
-
-rule-tell : (b : Basis) (s t : Sight) (e : CoreEvent) (r : CoreReply) → Tells none_comes s e r t → MakesEvent (settler_step (state_shown s)) e → KeepsUnitRule b (run_seen s) → KeepsUnitRule b (run_seen t)
-rule-tell b s t e r l m k =
-    subst (KeepsUnitRule b) (sym (run-alone s t e r l)) (unit-grows b (run_seen s) e k (λ a. settlers-due b (ends (run_seen s)) (got_in (run_seen s)) (settler_step (state_shown s)) e m))
-
 -- ---- a step
 
 module _ {H E : Type 0} (told_world : Bool) (world : H → World) (faults : H → Channel → ℕ) (may : CoreEvent → Bool) (shape : Shape) (before after : Settler) (s t : Sight) (old new : H)
@@ -182,12 +173,6 @@ module _ {H E : Type 0} (told_world : Bool) (world : H → World) (faults : H �
   step-going counts going alone =
       (turns-keep may GoesAlone (λ x y l p. goes-look may x y l p) (λ x y e r l m p. goes-tell may x y e r l (makes-settling (settler_step (state_shown x)) e m) p)
       told_world world faults shape before after s old new (counts, λ a. going) t result turns).1 alone
-
--- alone it keeps the unit rule
-pub step-rule : {H E : Type 0} (told_world : Bool) (world : H → World) (faults : H → Channel → ℕ) (shape : Shape) (before after : Settler) (s t : Sight) (old new : H)
-    (result : Result Turned E) → TurnsAs told_world world faults none_comes shape before after s t old new result → (b : Basis) → KeepsUnitRule b (run_seen s) → KeepsUnitRule b (run_seen t)
-step-rule told_world world faults shape before after s t old new result turns b k =
-    turns-keep none_comes (λ x. KeepsUnitRule b (run_seen x)) (λ x y l p. rule-look b x y l p) (λ x y e r l m p. rule-tell b x y e r l m p) told_world world faults shape before after s old new k t result turns
 
 -- ---- a stop
 

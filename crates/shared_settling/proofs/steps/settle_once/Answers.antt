@@ -4,9 +4,9 @@ use Rattle.std.proofs.lemmas.Result.{err_from_is_err_and}
 use Rattle.settle_loop.specs.declared.settler.Turned.TheVariants.{Stepped, Nothing, Stop}
 use Rattle.settle_loop.specs.declared.settler.StopCause.TheVariants as cause
 use Rattle.run_books.specs.declared.faults.RunFault.TheVariants.{InDoubt, WriteFault}
+use Rattle.run_books.proofs.BooksShared.{shared-keep}
 use Rattle.shared_settling.proofs.Keeping.{on-stepped, on-idle, on-idle-doubt, on-doubt, on-cut, on-lack}
 use Rattle.shared_settling.proofs.Passing.{step-among, step-promise}
-use Rattle.shared_settling.proofs.Relied.{shared-steps}
 use Rattle.shared_settling.proofs.StepsBeside.{step-leaves}
 use Rattle.shared_settling.proofs.steps.settle_once.Goals as goal
 
@@ -18,7 +18,7 @@ returns-in_err-step-clause-promise g c = λ basis. step-promise g.H.Host.tells g
 
 pub returns-in_err-step-clause-books : goal.returns-in_err-step-clause-books
 returns-in_err-step-clause-books g c = λ o b can rely.
-    on-lack g.H.Host.tells g.H.Host.world g.H.Host.faults (shared-steps _ _ g.H.Host.tells g.H.Host.world g.H.Host.faults) g.A.Access.may_come c.args.shape.now (g.A.Access.sight c.args.access.now) (g.A.Access.sight c.step.new.access) c.args.settler.now c.step.new.self c.args.host.now c.step.new.host
+    on-lack g.H.Host.tells g.H.Host.world g.H.Host.faults (shared-keep _ _ g.H.Host.tells g.H.Host.world g.H.Host.faults) g.A.Access.may_come c.args.shape.now (g.A.Access.sight c.args.access.now) (g.A.Access.sight c.step.new.access) c.args.settler.now c.step.new.self c.args.host.now c.step.new.host
     c.step.result c.step.ensures.turns o b can rely c.in_err-step.field-0.0 c.in_err-step.was c.from_residual.result (let p = err_from_is_err_and c.from_residual.result c.from_residual.ensures.1 in p.1 ∙ ap Err p.2)
 
 pub returns-in_err-step-clause-beside : goal.returns-in_err-step-clause-beside
@@ -34,7 +34,7 @@ returns-then-doubted-clause-promise g c = λ basis. step-promise g.H.Host.tells 
 
 pub returns-then-doubted-clause-books : goal.returns-then-doubted-clause-books
 returns-then-doubted-clause-books g c = λ o b can rely.
-    on-idle-doubt g.H.Host.tells g.H.Host.world g.H.Host.faults (shared-steps _ _ g.H.Host.tells g.H.Host.world g.H.Host.faults) g.A.Access.may_come c.args.shape.now (g.A.Access.sight c.args.access.now) (g.A.Access.sight c.step.new.access) c.args.settler.now c.step.new.self c.args.host.now c.step.new.host
+    on-idle-doubt g.H.Host.tells g.H.Host.world g.H.Host.faults (shared-keep _ _ g.H.Host.tells g.H.Host.world g.H.Host.faults) g.A.Access.may_come c.args.shape.now (g.A.Access.sight c.args.access.now) (g.A.Access.sight c.step.new.access) c.args.settler.now c.step.new.self c.args.host.now c.step.new.host
     c.step.result c.step.ensures.turns o b can rely Bool (c.in_ok-step.was ∙ ap Ok c.in-Nothing.is) (sym c.doubted.ensures ∙ c.if-doubted.true)
 
 pub returns-then-doubted-clause-beside : goal.returns-then-doubted-clause-beside
@@ -50,7 +50,7 @@ returns-in-Stepped-clause-promise g c = λ basis. step-promise g.H.Host.tells g.
 
 pub returns-in-Stepped-clause-books : goal.returns-in-Stepped-clause-books
 returns-in-Stepped-clause-books g c = λ o b can rely.
-    on-stepped g.H.Host.tells g.H.Host.world g.H.Host.faults (shared-steps _ _ g.H.Host.tells g.H.Host.world g.H.Host.faults) g.A.Access.may_come c.args.shape.now (g.A.Access.sight c.args.access.now) (g.A.Access.sight c.step.new.access) c.args.settler.now c.step.new.self c.args.host.now c.step.new.host
+    on-stepped g.H.Host.tells g.H.Host.world g.H.Host.faults (shared-keep _ _ g.H.Host.tells g.H.Host.world g.H.Host.faults) g.A.Access.may_come c.args.shape.now (g.A.Access.sight c.args.access.now) (g.A.Access.sight c.step.new.access) c.args.settler.now c.step.new.self c.args.host.now c.step.new.host
     c.step.result c.step.ensures.turns o b can rely (c.in_ok-step.was ∙ ap Ok c.in-Stepped.is) true
 
 pub returns-in-Stepped-clause-beside : goal.returns-in-Stepped-clause-beside
@@ -66,7 +66,7 @@ returns-else-doubted-clause-promise g c = λ basis. step-promise g.H.Host.tells 
 
 pub returns-else-doubted-clause-books : goal.returns-else-doubted-clause-books
 returns-else-doubted-clause-books g c = λ o b can rely.
-    on-idle g.H.Host.tells g.H.Host.world g.H.Host.faults (shared-steps _ _ g.H.Host.tells g.H.Host.world g.H.Host.faults) g.A.Access.may_come c.args.shape.now (g.A.Access.sight c.args.access.now) (g.A.Access.sight c.step.new.access) c.args.settler.now c.step.new.self c.args.host.now c.step.new.host
+    on-idle g.H.Host.tells g.H.Host.world g.H.Host.faults (shared-keep _ _ g.H.Host.tells g.H.Host.world g.H.Host.faults) g.A.Access.may_come c.args.shape.now (g.A.Access.sight c.args.access.now) (g.A.Access.sight c.step.new.access) c.args.settler.now c.step.new.self c.args.host.now c.step.new.host
     c.step.result c.step.ensures.turns o b can rely (c.in_ok-step.was ∙ ap Ok c.in-Nothing.is) false
 
 pub returns-else-doubted-clause-beside : goal.returns-else-doubted-clause-beside
@@ -82,7 +82,7 @@ returns-in-Stop-InDoubt-clause-promise g c = λ basis. step-promise g.H.Host.tel
 
 pub returns-in-Stop-InDoubt-clause-books : goal.returns-in-Stop-InDoubt-clause-books
 returns-in-Stop-InDoubt-clause-books g c = λ o b can rely.
-    on-doubt g.H.Host.tells g.H.Host.world g.H.Host.faults (shared-steps _ _ g.H.Host.tells g.H.Host.world g.H.Host.faults) g.A.Access.may_come c.args.shape.now (g.A.Access.sight c.args.access.now) (g.A.Access.sight c.step.new.access) c.args.settler.now c.step.new.self c.args.host.now c.step.new.host
+    on-doubt g.H.Host.tells g.H.Host.world g.H.Host.faults (shared-keep _ _ g.H.Host.tells g.H.Host.world g.H.Host.faults) g.A.Access.may_come c.args.shape.now (g.A.Access.sight c.args.access.now) (g.A.Access.sight c.step.new.access) c.args.settler.now c.step.new.self c.args.host.now c.step.new.host
     c.step.result c.step.ensures.turns o b can rely Bool (c.in_ok-step.was ∙ ap Ok (c.in-Stop-InDoubt.is ∙ ap Stop c.in-Stop-InDoubt.field-0-is))
 
 pub returns-in-Stop-InDoubt-clause-beside : goal.returns-in-Stop-InDoubt-clause-beside
@@ -98,7 +98,7 @@ returns-in-Stop-WriteFault-clause-promise g c = λ basis. step-promise g.H.Host.
 
 pub returns-in-Stop-WriteFault-clause-books : goal.returns-in-Stop-WriteFault-clause-books
 returns-in-Stop-WriteFault-clause-books g c = λ o b can rely.
-    on-cut g.H.Host.tells g.H.Host.world g.H.Host.faults (shared-steps _ _ g.H.Host.tells g.H.Host.world g.H.Host.faults) g.A.Access.may_come c.args.shape.now (g.A.Access.sight c.args.access.now) (g.A.Access.sight c.step.new.access) c.args.settler.now c.step.new.self c.args.host.now c.step.new.host
+    on-cut g.H.Host.tells g.H.Host.world g.H.Host.faults (shared-keep _ _ g.H.Host.tells g.H.Host.world g.H.Host.faults) g.A.Access.may_come c.args.shape.now (g.A.Access.sight c.args.access.now) (g.A.Access.sight c.step.new.access) c.args.settler.now c.step.new.self c.args.host.now c.step.new.host
     c.step.result c.step.ensures.turns o b can rely Bool (c.in_ok-step.was ∙ ap Ok (c.in-Stop-WriteFault.is ∙ ap Stop c.in-Stop-WriteFault.field-0-is))
 
 pub returns-in-Stop-WriteFault-clause-beside : goal.returns-in-Stop-WriteFault-clause-beside
