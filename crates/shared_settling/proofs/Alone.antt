@@ -100,9 +100,9 @@ alike-step w e o = cond_both (applies w e) (swept (does w e)) w (CountsAlike w)
 -- ---- entries of the settler's
 
 -- units and lines are as many, from one run to another
-pub record LeavesCounts (r r' : Run) : Type 0 where
-  pub next : (ends r').units.next ≡ (ends r).units.next
-  pub lines : (ends r').units.lines ≡ (ends r).units.lines
+record LeavesCounts (r r' : Run) : Type 0 where
+  next : (ends r').units.next ≡ (ends r).units.next
+  lines : (ends r').units.lines ≡ (ends r).units.lines
 
 counts-after : (rest : List Told) (r : Run) → AllPass is_settling rest → LeavesCounts r (run_after r rest)
 counts-after [] r all = record { next = refl; lines = refl }
@@ -139,16 +139,8 @@ module _ (r r' : Run) (among : SettlesAmong (own_sight r) (own_sight r')) where
   pub alone-rule : (b : Basis) → KeepsUnitRule b r → KeepsUnitRule b r'
   alone-rule b k = subst (KeepsUnitRule b) (sym run-own) (rule-after b among.own r among.settling k)
 
-  pub alone-counts : LeavesCounts r r'
+  alone-counts : LeavesCounts r r'
   alone-counts = subst (LeavesCounts r) (sym run-own) (counts-after among.own r among.settling)
-
--- as many, and again as many
-pub counts-again : (r r' r'' : Run) → LeavesCounts r r' → LeavesCounts r' r'' → LeavesCounts r r''
-counts-again r r' r'' one other = record { next = other.next ∙ one.next; lines = other.lines ∙ one.lines }
-
--- no step was made
-pub counts-none : (r : Run) → LeavesCounts r r
-counts-none r = record { next = refl; lines = refl }
 
 -- ---- the same as among others
 
@@ -163,10 +155,10 @@ module _ (tells : Bool) (o : Outset) (b : Books) (shape : Shape) (r : Run) (sett
   }
 
 -- what may be relied on, behind steps of its own
-pub rely-alone : (o : Outset) (shape : Shape) (r r' : Run) → CanSettleRest o shape r → KeepsUnitRule (basis_of o) r' → LeavesCounts r r' → MayRely o (own_sight r')
-rely-alone o shape r r' can units counts = record {
+pub rely-alone : (o : Outset) (shape : Shape) (r r' : Run) → CanSettleRest o shape r → SettlesAmong (own_sight r) (own_sight r') → MayRely o (own_sight r')
+rely-alone o shape r r' can among = let counts = alone-counts r r' among in record {
   alone = own-alone is_work r';
-  units = subst (KeepsUnitRule (basis_of o)) (sym (own-run r')) units;
+  units = subst (KeepsUnitRule (basis_of o)) (sym (own-run r')) (alone-rule r r' among (basis_of o) can.units);
   few = subst (λ (x : Run). (ends x).units.next ≤ 2 ^ 63) (sym (own-run r')) (subst (λ (n : ℕ). n ≤ 2 ^ 63) (sym counts.next) can.few);
   small = subst (λ (x : Run). (ends x).units.lines < 2 ^ 32) (sym (own-run r')) (subst (λ (n : ℕ). n < 2 ^ 32) (sym counts.lines) can.small);
 }

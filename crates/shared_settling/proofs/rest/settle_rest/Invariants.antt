@@ -1,28 +1,19 @@
-use Rattle.std.proofs.Common.{◌≡◌}
 use Rattle.std.specs.Prelude.{IsTrue, Bool, true, Ok}
 use Rattle.host_trait.specs.Files.{StaysReady}
-use Rattle.core_model.specs.Legal.{ends}
 use Rattle.core_access.specs.OneHolder.{own_sight}
 use Rattle.core_access.specs.Sights.{run_seen}
 use Rattle.history_core.specs.Cores.{run_of}
-use Rattle.promise_spec.specs.UnitRule.{Basis, KeepsUnitRule}
 use Rattle.batch_disk.specs.Writers.{IsInBounds, FitsDisk}
-use Rattle.run_books.specs.Beginnings.{Outset}
 use Rattle.run_books.specs.Beside.{TurnsBeside}
-use Rattle.run_books.specs.Books.{Books}
-use Rattle.shared_settling.specs.Among.{SettlesAmong, CanSettleRest, CanSettleAmong, SettledAmong}
-use Rattle.shared_settling.proofs.Alone.{LeavesCounts}
+use Rattle.shared_settling.specs.Among.{SettlesAmong}
+use Rattle.shared_settling.proofs.Going.{Booked}
 use Rattle.shared_settling.proofs.rest.settle_rest.Given as goal
 
 abbrev pub invariant-loop-step : goal.invariant-loop-step
 invariant-loop-step g l = record {
   own : SettlesAmong (own_sight (run_of l.fn.core)) (own_sight (run_of l.core));
-  units : (basis : Basis) → KeepsUnitRule basis (run_of l.fn.core) → KeepsUnitRule basis (run_of l.core);
-  counts : LeavesCounts (run_of l.fn.core) (run_of l.core);
-  books : (o : Outset) (b : Books) → CanSettleRest o l.shape (run_of l.fn.core)
-      → CanSettleAmong g.H.Host.tells o b l.shape (own_sight (run_of l.fn.core)) l.fn.settler (g.H.Host.faults l.fn.host) (g.H.Host.world l.fn.host)
-      → SettledAmong {T = Bool} g.H.Host.tells o b (run_seen (own_sight (run_of l.fn.core))) (run_seen (own_sight (run_of l.core))) l.fn.settler l.settler
-      (g.H.Host.faults l.host) (g.H.Host.world l.fn.host) (g.H.Host.world l.host) (Ok true);
+  books : Booked Bool g.H.Host.tells l.shape (own_sight (run_of l.fn.core)) (own_sight (run_of l.core)) l.fn.settler l.settler
+      (g.H.Host.faults l.fn.host) (g.H.Host.faults l.host) (g.H.Host.world l.fn.host) (g.H.Host.world l.host) (Ok true);
   beside : TurnsBeside {T = Bool} g.H.Host.tells (run_seen (own_sight (run_of l.fn.core))) (run_seen (own_sight (run_of l.core))) l.fn.settler l.settler
       (g.H.Host.faults l.fn.host) (g.H.Host.faults l.host) (g.H.Host.world l.fn.host) (g.H.Host.world l.host) (Ok true);
   bounds : IsInBounds l.settler.writer;
