@@ -34,12 +34,12 @@ use Rattle.turn_rules.proofs.Lawful.{legal-run}
 use Rattle.turn_rules.proofs.Listed.{filter-none}
 use Rattle.turn_rules.proofs.Numbers.{units-below}
 use Rattle.settle_loop.specs.declared.settler.Settler.{Settler}
-use Rattle.interleaver.specs.Beginnings.{Outset, IsOutset, CanTurn, basis_of}
-use Rattle.interleaver.specs.Books.{Books, IsPutOut}
-use Rattle.interleaver.specs.Records.{KeepsRecord, IsFreshRecord}
-use Rattle.interleaver.specs.Settling.{AreEven}
+use Rattle.run_books.specs.Beginnings.{Outset, IsOutset, CanTurn, basis_of}
+use Rattle.run_books.specs.Books.{Books, IsPutOut}
+use Rattle.interleaver.specs.Turns.{KeepsTurns as KeepsRecord, IsFreshRecord}
+use Rattle.run_books.specs.Settling.{AreEven}
 use Rattle.interleaver.specs.UnderWay.{IsUnderWay}
-use Rattle.interleaver.proofs.Showing.{whole-take, flat-both}
+use Rattle.run_books.proofs.Showing.{whole-take, flat-both}
 
 units-above : (n b : ℕ) (u : UnitNo) → Member u (units_from n b) → b ≤ u.0
 units-above zero b u m = absurd m
