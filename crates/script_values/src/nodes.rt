@@ -104,7 +104,7 @@ pub fn seek(nodes: &[Node], list: &[Local], name: &Chars, digest: u64) -> End
         let Some(node) = node_at(nodes, i) else {
             return End::Nowhere;
         };
-        if is_named(node, list, i, name, digest) {
+        if node.digest == digest && is_named(node, list, i, name, digest) {
             return End::At { place: i };
         }
         let next = kid(node, rest);
