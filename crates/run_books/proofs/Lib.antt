@@ -1,4 +1,5 @@
 pub mod Showing
+pub mod Resting
 pub mod LineCounts
 pub mod BooksStated
 pub mod BooksCore
