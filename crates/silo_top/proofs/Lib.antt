@@ -22,3 +22,4 @@ pub mod LoadServed
 pub mod LoadMade
 pub mod LoadSaid
 pub mod LoadAnswered
+pub mod Carried

@@ -1,5 +1,5 @@
 -- How the lines of a run are carried, in whichever manner: what holds where that begins, and what it leaves.
-use Rattle.std.specs.Prelude.{◌≡◌, ℕ, Bool, false, IsTrue, List, length, Result}
+use Rattle.std.specs.Prelude.{◌≡◌, ℕ, Bool, false, List, length, Result, IfOk}
 use Rattle.host_trait.specs.declared.channels.Channel.{Channel}
 use Rattle.host_trait.specs.World.{World}
 use Rattle.request_wire.specs.declared.requests.Line.{Line}
@@ -7,9 +7,12 @@ use Rattle.script_tree.specs.Programs.{ProgramTree}
 use Rattle.core_model.specs.Legal.{Run}
 use Rattle.promise_spec.specs.TurnRule.{KeepsTurnRule}
 use Rattle.promise_spec.specs.Words.{Manner}
+use Rattle.history_core.specs.Cores.{run_of}
+use Rattle.history_core.specs.declared.whole.Core.{Core}
 use Rattle.settle_loop.specs.declared.settler.Settler.{Settler}
 use Rattle.run_books.specs.declared.faults.RunFault.{RunFault}
 use Rattle.run_books.specs.Beginnings.{Outset, IsOutset, CanTurn}
+use Rattle.run_books.specs.Beside.{TurnsBeside}
 use Rattle.run_books.specs.Books.{Books}
 use Rattle.run_books.specs.Records.{RecordGoesOn}
 use Rattle.interleaver.specs.Turns.{KeepsTurns, IsFreshRecord}
@@ -30,3 +33,10 @@ pub record CarriedOn {T : Type 0} (tells : Bool) (m : Manner) (o : Outset) (b : 
 abbrev pub CarriesOn : {T : Type 0} → Bool → Manner → ProgramTree → List Line → Run → Run → Settler → Settler → (Channel → ℕ) → (Channel → ℕ) → World → World → Result T RunFault → Type 0
 CarriesOn tells m types lines r r' settler settler' counts counts' now now' result =
     (o : Outset) (b : Books) → StartsRun tells m o b types r settler lines counts now → CarriedOn tells m o b r r' settler settler' counts' now now' result
+
+-- The lines were carried, and this is the run that they left: the core's, which comes back where all are carried.
+pub record CarriedLines (tells : Bool) (m : Manner) (types : ProgramTree) (lines : List Line) (r : Run) (settler settler' : Settler) (counts counts' : Channel → ℕ) (now now' : World) (result : Result Core RunFault) : Type 0 where
+  pub left : Run
+  pub carries : CarriesOn tells m types lines r left settler settler' counts counts' now now' result
+  pub beside : TurnsBeside tells r left settler settler' counts counts' now now' result
+  pub core : IfOk result (λ c. run_of c ≡ left)

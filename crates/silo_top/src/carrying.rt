@@ -6,21 +6,26 @@ ghost use Rattle.host_trait.specs.declared.channels.Channel.{Channel as AChannel
 ghost use Rattle.log_reading.specs.Sums.{AreNear};
 ghost use Rattle.run_books.specs.Closing.{turns_ending};
 ghost use Rattle.promise_spec.specs.Promise.{Promises};
-ghost use Rattle.silo_top.specs.Answering.{AnswersRun, turns_manner, observed_run};
+ghost use Rattle.silo_top.specs.Answering.{AnswersRun, observed_run};
+ghost use Rattle.silo_top.specs.Asking.{carriage_manner, IsCarriage};
 ghost use Rattle.silo_top.specs.Reading.{input_ending};
 ghost use Rattle.silo_top.specs.Serving.{IsBehindOpening, ending_by_turns};
 ghost use Rattle.silo_top.specs.Statuses.{status_ending};
 
+use crate::asking::Carriage;
+use crate::carriage::carry_all;
 use crate::input::{InputFault, read_input};
 use crate::lines::read_lines;
-use crate::starting::start;
+use crate::starting::{Started, start};
 use crate::status::Status;
-use base_types::List;
+use history_core::Core;
 use host_trait::{FileId, Host};
-use interleaver::{RunFault, run_turns};
+use interleaver::RunFault;
 use settle_loop::Gate;
 use silo_opening::Opened;
 use std::alloc::{AllocError, Global};
+use std::sync::Wait;
+use std::thread::Threads;
 
 /// The file of the log.
 pub(crate) const MANAGER: FileId = FileId::Manager { slot: 0 };
@@ -36,12 +41,12 @@ fn fault_status(fault: RunFault) -> Status
     }
 }
 
-/// The status of a run whose turns ended so.
-fn turns_status(ended: Result<(), RunFault>) -> Status
+/// The status of a run whose lines were carried so.
+fn turns_status(ended: Result<Core, RunFault>) -> Status
     ensures { status_ending result ≡ turns_ending ended }
 {
     match ended {
-        Ok(()) => Status::Done,
+        Ok(_core) => Status::Done,
         Err(fault) => fault_status(fault),
     }
 }
@@ -58,29 +63,29 @@ fn input_status(fault: InputFault) -> Status
 }
 
 /// Reads the input to its end, and carries its lines over an opened silo.
-pub(crate) fn serve<H: Host, G: Gate>(
+pub(crate) fn serve<R: Threads + Wait + Sync, H: Host, G: Gate + Sync>(
+    rt: &R,
     alloc: Global,
     opened: Opened,
     host: &mut H,
     gate: &G,
-    width: u32,
-    picks: &List<u32>,
+    how: &Carriage,
 ) -> Status
     requires gate { opened.gate_at < 2 ^ 63 }
     requires above { 0 < opened.next_unit.0 }
     requires near { AreNear opened.ends }
     requires few { opened.next_unit.0 ≤ 2 ^ 63 }
-    requires wide { 0 < width }
+    requires how { IsCarriage how.now }
     requires behind { IsTrue H.tells → (old : World) × IsBehindOpening old (H.world host.old) opened }
 
     // Behind the opening it keeps the whole promise of a run.
     ensures promises { IsTrue H.tells → (old : World) (before : AChannel → ℕ) → IsBehindOpening old (H.world host.old) opened
         → NoneFailed before (H.faults host.old)
-        → Promises (turns_manner width picks.now) (observed_run (turns_manner width picks.now) old (H.world host.new) before (H.faults host.new) result) }
+        → Promises (carriage_manner how.now) (observed_run (carriage_manner how.now) old (H.world host.new) before (H.faults host.new) result) }
     ensures answers { AnswersRun (status_ending result) (H.faults host.old) (H.faults host.new) }
     ensures ready { StaysReady (H.is_ready host.old) (H.is_ready host.new) }
 {
-    let mut started = match start(alloc, opened, false) {
+    let started = match start(alloc, opened, false) {
         Ok(started) => started,
         Err(AllocError) => return Status::Memory,
     };
@@ -92,15 +97,12 @@ pub(crate) fn serve<H: Host, G: Gate>(
         Ok(lines) => lines,
         Err(AllocError) => return Status::Memory,
     };
-    turns_status(run_turns(
-        alloc,
-        &started.checked,
-        &mut started.core,
-        &mut started.settler,
-        &lines,
-        host,
-        gate,
-        width,
-        picks,
+    let Started {
+        checked,
+        core,
+        mut settler,
+    } = started;
+    turns_status(carry_all(
+        rt, alloc, &checked, core, &mut settler, &lines, host, gate, how,
     ))
 }

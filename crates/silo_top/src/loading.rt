@@ -14,24 +14,28 @@ ghost use Rattle.bank_load.specs.Requests.{load_texts};
 ghost use Rattle.bank_load.specs.Summaries.{summary_line, total_kept};
 ghost use Rattle.log_reading.specs.Steps.{seen_in};
 ghost use Rattle.silo_opening.specs.Opened.{ending_of};
-ghost use Rattle.silo_top.specs.Answering.{AnswersRun, turns_manner, observed_call};
+ghost use Rattle.silo_top.specs.Answering.{AnswersRun, observed_call};
+ghost use Rattle.silo_top.specs.Asking.{carriage_manner, IsCarriage};
 ghost use Rattle.silo_top.specs.Loading.{IsNewBank, CarriesLoad, LiesWithin, creation_ending, load_ending, SaysSummary, MaySaySummary};
 ghost use Rattle.silo_top.specs.Serving.{IsBehindOpening};
 ghost use Rattle.silo_top.specs.Statuses.{status_ending};
 
+use crate::asking::Carriage;
+use crate::carriage::carry_all;
 use crate::carrying::MANAGER;
-use crate::starting::start;
+use crate::starting::{Started, start};
 use crate::status::Status;
 use bank_load::{bank_text, load_lines, load_summary, total_balance};
-use base_types::List;
 use history_core::Core;
 use host_trait::{Failed, Host};
-use interleaver::{RunFault, run_turns};
+use interleaver::RunFault;
 use program_file::accept;
 use script_check::Checked;
 use settle_loop::Gate;
 use silo_opening::{CreateFault, OpenFault, Opened, create, open_silo};
 use std::alloc::{AllocError, Global};
+use std::sync::Wait;
+use std::thread::Threads;
 
 /// Prints the summary of a load whose lines are all carried and settled.
 fn print_summary<H: Host>(alloc: Global, core: &Core, requests: usize, host: &mut H) -> Status
@@ -63,20 +67,21 @@ fn load_status(fault: RunFault) -> Status
 }
 
 /// Carries a load's lines over an opened silo of the bank program, and prints its summary.
-fn carry_load<H: Host, G: Gate>(
+fn carry_load<R: Threads + Wait + Sync, H: Host, G: Gate + Sync>(
+    rt: &R,
     alloc: Global,
     opened: Opened,
     host: &mut H,
     gate: &G,
     transfers: u32,
     seed: u64,
-    width: u32,
+    how: &Carriage,
 ) -> Status
     requires gate { opened.gate_at < 2 ^ 63 }
     requires above { 0 < opened.next_unit.0 }
     requires near { AreNear opened.ends }
     requires few { opened.next_unit.0 ≤ 2 ^ 63 }
-    requires wide { 0 < width }
+    requires how { IsCarriage how.now }
     requires many { transfers ≤ 100000 }
     requires bank { program_in bank_text ≡ Ok (program_tree opened.checked) }
     requires within { IsTrue H.tells → LiesWithin (seen_in (H.world host.old).disk) opened }
@@ -84,11 +89,11 @@ fn carry_load<H: Host, G: Gate>(
     // Behind the opening of a silo that was made for it, it keeps what is promised of a load.
     ensures carries { IsTrue H.tells → (old : World) (before : AChannel → ℕ) → IsBehindOpening old (H.world host.old) opened → IsNewBank old
         → NoneFailed before (H.faults host.old)
-        → CarriesLoad transfers seed (observed_call (turns_manner width []) (load_texts transfers seed) old (H.world host.new) before (H.faults host.new) result) }
+        → CarriesLoad transfers seed (observed_call (carriage_manner how.now) (load_texts transfers seed) old (H.world host.new) before (H.faults host.new) result) }
     ensures answers { AnswersRun (status_ending result) (H.faults host.old) (H.faults host.new) }
     ensures ready { StaysReady (H.is_ready host.old) (H.is_ready host.new) }
 {
-    let mut started = match start(alloc, opened, true) {
+    let started = match start(alloc, opened, true) {
         Ok(started) => started,
         Err(AllocError) => return Status::Memory,
     };
@@ -97,19 +102,15 @@ fn carry_load<H: Host, G: Gate>(
         Err(AllocError) => return Status::Memory,
     };
     let requests = lines.len();
-    let picks = List::new(alloc);
-    match run_turns(
-        alloc,
-        &started.checked,
-        &mut started.core,
-        &mut started.settler,
-        &lines,
-        host,
-        gate,
-        width,
-        &picks,
+    let Started {
+        checked,
+        core,
+        mut settler,
+    } = started;
+    match carry_all(
+        rt, alloc, &checked, core, &mut settler, &lines, host, gate, how,
     ) {
-        Ok(()) => print_summary(alloc, &started.core, requests, host),
+        Ok(core) => print_summary(alloc, &core, requests, host),
         Err(fault) => load_status(fault),
     }
 }
@@ -137,20 +138,21 @@ fn creation_status(fault: CreateFault) -> Status
 }
 
 /// Opens the silo that was made of the bank program, and carries a load in it.
-fn load_made<H: Host, G: Gate>(
+fn load_made<R: Threads + Wait + Sync, H: Host, G: Gate + Sync>(
+    rt: &R,
     alloc: Global,
     bank: Checked,
     host: &mut H,
     gate: &G,
     transfers: u32,
     seed: u64,
-    width: u32,
+    how: &Carriage,
 ) -> Status
-    requires wide { 0 < width }
+    requires how { IsCarriage how.now }
     requires many { transfers ≤ 100000 }
     requires bank { program_in bank_text ≡ Ok (program_tree bank) }
     ensures carries { IsTrue H.tells → IsNewBank (H.world host.old)
-        → CarriesLoad transfers seed (observed_call (turns_manner width []) (load_texts transfers seed) (H.world host.old) (H.world host.new) (H.faults host.old) (H.faults host.new) result) }
+        → CarriesLoad transfers seed (observed_call (carriage_manner how.now) (load_texts transfers seed) (H.world host.old) (H.world host.new) (H.faults host.old) (H.faults host.new) result) }
     ensures answers { AnswersRun (status_ending result) (H.faults host.old) (H.faults host.new) }
     ensures ready { StaysReady (H.is_ready host.old) (H.is_ready host.new) }
 {
@@ -164,25 +166,26 @@ fn load_made<H: Host, G: Gate>(
                 next_unit: opened.next_unit,
                 gate_at: opened.gate_at,
             };
-            carry_load(alloc, opened, host, gate, transfers, seed, width)
+            carry_load(rt, alloc, opened, host, gate, transfers, seed, how)
         }
         Err(fault) => open_status(fault),
     }
 }
 
 /// Makes a silo of the bank program, and carries the lines of a load in it. Nothing is made where there is no memory for the program.
-pub(crate) fn load<H: Host, G: Gate>(
+pub(crate) fn load<R: Threads + Wait + Sync, H: Host, G: Gate + Sync>(
+    rt: &R,
     alloc: Global,
     host: &mut H,
     gate: &G,
     transfers: u32,
     seed: u64,
-    width: u32,
+    how: &Carriage,
 ) -> Status
-    requires wide { 0 < width }
+    requires how { IsCarriage how.now }
     requires many { transfers ≤ 100000 }
-    ensures loads { IsTrue H.tells → Loads transfers seed (turns_manner width [])
-        (observed_call (turns_manner width []) (load_texts transfers seed) (H.world host.old) (H.world host.new) (H.faults host.old) (H.faults host.new) result) }
+    ensures loads { IsTrue H.tells → Loads transfers seed (carriage_manner how.now)
+        (observed_call (carriage_manner how.now) (load_texts transfers seed) (H.world host.old) (H.world host.new) (H.faults host.old) (H.faults host.new) result) }
     ensures answers { AnswersRun (status_ending result) (H.faults host.old) (H.faults host.new) }
     ensures ready { StaysReady (H.is_ready host.old) (H.is_ready host.new) }
 {
@@ -190,7 +193,7 @@ pub(crate) fn load<H: Host, G: Gate>(
         return Status::Memory;
     };
     match create(host, bank_text()) {
-        Ok(()) => load_made(alloc, bank, host, gate, transfers, seed, width),
+        Ok(()) => load_made(rt, alloc, bank, host, gate, transfers, seed, how),
         Err(fault) => creation_status(fault),
     }
 }

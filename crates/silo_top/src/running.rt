@@ -6,7 +6,8 @@ ghost use Rattle.promise_spec.specs.Endings.{HasFailedAs, BadUse};
 ghost use Rattle.promise_spec.specs.Promise.{Promises};
 ghost use Rattle.promise_spec.specs.Calls.{Serves, AnswersAs};
 ghost use Rattle.command_words.specs.CutParts.{texts_of};
-ghost use Rattle.silo_top.specs.Answering.{AnswersRun, is_built, is_taken, turns_manner, IsAsked, observed_call, observed_run};
+ghost use Rattle.silo_top.specs.Answering.{AnswersRun, is_built, is_taken, IsAsked, observed_call, observed_run};
+ghost use Rattle.silo_top.specs.Asking.{carriage_manner, IsCarriage};
 ghost use Rattle.silo_top.specs.Statuses.{status_ending};
 
 use crate::asking::{Asked, Carriage, read_asked};
@@ -14,12 +15,13 @@ use crate::carrying::serve;
 use crate::loading::load;
 use crate::reporting::{audit, history, show};
 use crate::status::Status;
-use base_types::List;
 use command_words::WordsFault;
 use host_trait::Host;
 use settle_loop::Gate;
 use silo_opening::{InitFault, OpenFault, init, open_silo};
 use std::alloc::Global;
+use std::sync::Wait;
+use std::thread::Threads;
 
 /// Makes a silo of the program that is the input.
 fn make<H: Host>(alloc: Global, host: &mut H) -> Status
@@ -40,21 +42,21 @@ fn make<H: Host>(alloc: Global, host: &mut H) -> Status
 }
 
 /// Opens the silo, and serves the input over it.
-fn run<H: Host, G: Gate>(
+fn run<R: Threads + Wait + Sync, H: Host, G: Gate + Sync>(
+    rt: &R,
     alloc: Global,
     host: &mut H,
     gate: &G,
-    width: u32,
-    picks: &List<u32>,
+    how: &Carriage,
 ) -> Status
-    requires wide { 0 < width }
-    ensures promises { IsTrue H.tells → Promises (turns_manner width picks.now)
-        (observed_run (turns_manner width picks.now) (H.world host.old) (H.world host.new) (H.faults host.old) (H.faults host.new) result) }
+    requires how { IsCarriage how.now }
+    ensures promises { IsTrue H.tells → Promises (carriage_manner how.now)
+        (observed_run (carriage_manner how.now) (H.world host.old) (H.world host.new) (H.faults host.old) (H.faults host.new) result) }
     ensures answers { AnswersRun (status_ending result) (H.faults host.old) (H.faults host.new) }
     ensures ready { StaysReady (H.is_ready host.old) (H.is_ready host.new) }
 {
     match open_silo(alloc, host) {
-        Ok(opened) => serve(alloc, opened, host, gate, width, picks),
+        Ok(opened) => serve(rt, alloc, opened, host, gate, how),
         Err(OpenFault::NotASilo) => Status::NotASilo,
         Err(OpenFault::Damaged { file, place }) => Status::Damaged { file, place },
         Err(OpenFault::DiskFault { file }) => Status::DiskFault { file },
@@ -80,8 +82,8 @@ fn run<H: Host, G: Gate>(
 /// What each of them promises, at each moment and at its end, is `Serves`, over a host that tells what it holds. Over any host
 /// a fault is answered only where a call on its channel failed, and no failed call on the input or the output is passed over
 /// (`AnswersAs`).
-pub fn run_silo<Rt, H: Host, G: Gate + Sync>(
-    _rt: &Rt,
+pub fn run_silo<Rt: Threads + Wait + Sync, H: Host, G: Gate + Sync>(
+    rt: &Rt,
     alloc: Global,
     words: &[String],
     host: &mut H,
@@ -97,13 +99,17 @@ pub fn run_silo<Rt, H: Host, G: Gate + Sync>(
 {
     match read_asked(alloc, words) {
         Ok(Asked::Init) => make(alloc, host),
-        Ok(Asked::Run(Carriage::Turns { width, picks })) => run(alloc, host, gate, width, &picks),
-        Ok(Asked::Run(Carriage::Workers(_workers))) => Status::Memory,
+        Ok(Asked::Run(how)) => run(rt, alloc, host, gate, &how),
         Ok(Asked::Show) => show(alloc, host),
         Ok(Asked::History) => history(alloc, host),
         Ok(Asked::Audit) => audit(alloc, host),
-        Ok(Asked::Load { transfers, seed, how: Carriage::Turns { width, picks: _picks } }) => load(alloc, host, gate, transfers, seed, width),
-        Ok(Asked::Load { transfers: _transfers, seed: _seed, how: Carriage::Workers(_workers) }) => Status::Memory,
+        Ok(
+            Asked::Load {
+                transfers,
+                seed,
+                how,
+            },
+        ) => load(rt, alloc, host, gate, transfers, seed, &how),
         Err(WordsFault::BadUse) => Status::BadUse,
         Err(WordsFault::Memory) => Status::Memory,
     }

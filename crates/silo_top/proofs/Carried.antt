@@ -1,0 +1,72 @@
+-- What carrying lines in turns leaves, told in whichever manner.
+use Rattle.std.proofs.Common.{◌≡◌, inl, inr, ℕ, ◌<◌, ◌≤◌, Bool, true, false, List, Result, Ok, Err, subst, arith, refl}
+use Rattle.host_trait.specs.declared.channels.Channel.{Channel}
+use Rattle.host_trait.specs.World.{World}
+use Rattle.request_wire.specs.declared.requests.Line.{Line}
+use Rattle.script_tree.specs.Programs.{ProgramTree}
+use Rattle.core_model.specs.Legal.{Run}
+use Rattle.history_core.specs.Cores.{run_of}
+use Rattle.history_core.specs.declared.whole.Core.{Core}
+use Rattle.settle_loop.specs.declared.settler.Settler.{Settler}
+use Rattle.run_books.specs.declared.faults.RunFault.{RunFault}
+use Rattle.run_books.specs.declared.faults.RunFault.TheVariants.{InDoubt, WriteFault, Memory}
+use Rattle.run_books.specs.Beginnings.{Outset, IsOutset, CanTurn}
+use Rattle.run_books.specs.Beside.{TurnsBeside, EmitsAs}
+use Rattle.run_books.specs.Books.{Books}
+use Rattle.run_books.specs.Records.{RecordGoesOn, TurnsEndAs}
+use Rattle.interleaver.specs.Turns.{KeepsTurns, IsFreshRecord, TurnsGoOn}
+use Rattle.interleaver.proofs.Unstopped.{turns-record}
+use Rattle.silo_top.specs.Answering.{turns_manner, workers_manner}
+use Rattle.silo_top.specs.Asking.{carriage_manner, IsCarriage}
+use Rattle.silo_top.specs.declared.asking.Carriage.{Carriage}
+use Rattle.silo_top.specs.declared.asking.Carriage.TheVariants.{Turns, Workers}
+use Rattle.silo_top.specs.Carrying.{StartsRun, CarriedOn, CarriesOn, CarriedLines}
+
+-- a width that is carried is one at least
+pub carriage_wide : (how : Carriage) → IsCarriage how → 0 < (carriage_manner how).width
+carriage_wide (Turns width picks) is = is
+carriage_wide (Workers n) is = omega arith
+
+-- how lines ended to be carried, with the core or without
+abbrev pub with_core : {T : Type 0} → Core → Result T RunFault → Result Core RunFault
+with_core core (Ok done) = Ok core
+with_core core (Err fault) = Err fault
+
+-- what it says is the same
+ends_so : {T : Type 0} (o : Outset) (b : Books) (r : Run) (s : Settler) (counts : Channel → ℕ) (core : Core) (result : Result T RunFault) → TurnsEndAs o b r s counts result → TurnsEndAs o b r s counts (with_core core result)
+ends_so o b r s counts core (Ok done) e = e
+ends_so o b r s counts core (Err InDoubt) e = e
+ends_so o b r s counts core (Err WriteFault) e = e
+ends_so o b r s counts core (Err Memory) e = e
+
+emits_so : {T : Type 0} (core : Core) (result : Result T RunFault) (old new : ℕ) → EmitsAs result old new → EmitsAs (with_core core result) old new
+emits_so core (Ok done) old new e = e
+emits_so core (Err InDoubt) old new e = e
+emits_so core (Err WriteFault) old new e = e
+emits_so core (Err Memory) old new e = e
+
+module _ {T : Type 0} (tells : Bool) (types : ProgramTree) (lines : List Line) (r r' : Run) (s s' : Settler) (f f' : Channel → ℕ) (w w' : World) (core : Core) (result : Result T RunFault) where
+  -- beside the record
+  pub beside_so : TurnsBeside tells r r' s s' f f' w w' result → TurnsBeside tells r r' s s' f f' w w' (with_core core result)
+  beside_so b = record {
+    more = b.more;
+    core = b.core;
+    quiet = b.quiet;
+    input = b.input;
+    past = b.past;
+    pulled = b.pulled;
+    emitted = emits_so core result _ _ b.emitted;
+    calm = b.calm;
+    hushed = b.hushed;
+  }
+
+  -- on one thread
+  pub turns_carried : (width : ℕ) (picks : List ℕ)
+      → ((o : Outset) (b : Books) → IsOutset o types r lines width picks → CanTurn r s lines → IsFreshRecord o b r → KeepsTurns tells o b r s f w → TurnsGoOn tells o b r r' s s' f' w w' result)
+      → CarriesOn tells (turns_manner width picks) types lines r r' s s' f f' w w' (with_core core result)
+  turns_carried width picks turns o b st =
+      let g = turns o b st.outset st.can st.fresh st.kept in
+      record {
+        on = record { books = g.books; record_kept = turns-record g.record_kept; lasts = g.lasts; ended = ends_so o g.books r' s' f' core result g.ended };
+        turns = λ one. g.record_kept.turns;
+      }
