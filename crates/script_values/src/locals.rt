@@ -3,9 +3,9 @@ ghost use Rattle.std.specs.Option.{option_copied, option_or};
 ghost use Rattle.script_scopes.specs.Places.{place_in, name_place};
 ghost use Rattle.script_values.specs.Expressions.{put_local, local_named};
 ghost use Rattle.script_values.specs.LocalNames.{names_of};
-ghost use Rattle.script_values.specs.Nodes.{name_digest, end_of, place_end, HasNodes};
+ghost use Rattle.script_values.specs.Nodes.{name_digest, way_end, place_end, HasNodes};
 
-use crate::nodes::{End, Node, add_node, digest_of, note, place, seek};
+use crate::nodes::{End, NameNode, add_node, digest_of, note, place, seek};
 use base_types::Value;
 use script_scopes::NamePlaces;
 use script_tree::Chars;
@@ -24,7 +24,7 @@ pub struct Local {
 #[derive(Drop)]
 pub struct LocalList {
     list: Vec<Local>,
-    nodes: Vec<Node>,
+    nodes: Vec<NameNode>,
     others: NamePlaces,
 }
 
@@ -134,7 +134,7 @@ fn give(list: &mut Vec<Local>, name: &Chars, at: usize, value: Value)
 // One local more, and its place.
 fn add(
     list: &mut Vec<Local>,
-    nodes: &mut Vec<Node>,
+    nodes: &mut Vec<NameNode>,
     others: &mut NamePlaces,
     local: Local,
     digest: u64,
@@ -142,7 +142,7 @@ fn add(
 ) -> Result<(), AllocError>
     requires has { HasNodes nodes.old.items list.old.items others.old }
     requires digest { digest ≡ name_digest local.name }
-    requires end { end ≡ end_of nodes.old.items (names_of list.old.items) local.name digest }
+    requires end { end ≡ way_end nodes.old.items (names_of list.old.items) local.name digest }
     requires none { option_or (place_end end) (place_in others.old local.name) ≡ None }
     ensures items { list.new.items ≡ (if is_ok result then list.old.items ++ local ∷ [] else list.old.items) }
     ensures has { HasNodes nodes.new.items list.new.items others.new }
