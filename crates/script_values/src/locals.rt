@@ -19,8 +19,9 @@ pub struct Local {
     pub value: Value,
 }
 
-/// Parameters and locals in the order in which they came. One is found in time in the logarithm of how many there
-/// are.
+/// Parameters and locals in the order in which they came, and beside each a node of a tree, down which names go. One
+/// is found in time in the logarithm of how many there are. The places of names whose ways would be too long are
+/// those of a map.
 #[derive(Drop)]
 pub struct LocalList {
     list: Vec<Local>,

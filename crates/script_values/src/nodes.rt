@@ -13,8 +13,8 @@ use std::alloc::AllocError;
 /// How many nodes lie behind the first on the way to a name, at the most.
 const DEPTH: u32 = 31;
 
-/// A local in the tree of all. A name goes down it by the digits of its digest. One that isn't linked stands for no
-/// name: that of its local has a place already.
+/// A local in the tree of all. A name goes down it by the digits of its digest. A node that isn't linked stands for no
+/// name: its local's has a place elsewhere.
 #[derive(Drop)]
 pub struct NameNode {
     pub digest: u64,
