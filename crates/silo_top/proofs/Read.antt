@@ -5,7 +5,7 @@ use Rattle.request_wire.specs.Names.{names_in}
 use Rattle.request_wire.specs.Request.{call_of}
 use Rattle.script_tree.specs.Programs.{ProgramTree}
 use Rattle.promise_spec.specs.Lines.{ReadsLineAs}
-use Rattle.interleaver.specs.Beginnings.{GoUpFrom}
+use Rattle.run_books.specs.Beginnings.{GoUpFrom}
 use Rattle.silo_top.specs.Reading.{AreReadFrom}
 
 -- ---- one after another

@@ -7,10 +7,10 @@ use Rattle.request_wire.specs.Lines.{lines_of}
 use Rattle.silo_top.specs.Reading.{AreReadFrom}
 use Rattle.std.specs.Prelude.{Bool}
 use Rattle.history_core.specs.Cores.{run_of}
-use Rattle.interleaver.specs.Beginnings.{Outset, IsOutset, CanTurn}
-use Rattle.interleaver.specs.Books.{Books}
-use Rattle.interleaver.specs.Beside.{TurnsBeside}
-use Rattle.interleaver.specs.Records.{IsFreshRecord, KeepsRecord, RecordGoesOn}
+use Rattle.run_books.specs.Beginnings.{Outset, IsOutset, CanTurn}
+use Rattle.run_books.specs.Books.{Books}
+use Rattle.run_books.specs.Beside.{TurnsBeside}
+use Rattle.interleaver.specs.Turns.{IsFreshRecord, KeepsTurns, TurnsGoOn}
 use Rattle.silo_top.proofs.Served.{served}
 use Rattle.silo_top.proofs.Answered.{answered}
 use Rattle.silo_top.proofs.OpensWith.{fits_at}
@@ -63,12 +63,12 @@ returns-clause-promises g c = λ told old before behind none.
     (subst (λ (k : ProgramTree). AreReadFrom k 0 (lines_of c.deref.result.now) c.in-Ok-read_lines.lines) (ap program_tree c.in-Ok.ensures.start.checked) c.in-Ok-read_lines.ensures))
     (subst (λ (t : Bool). (o : Outset) (b : Books) → IsOutset o (program_tree c.args.opened.checked) (run_of c.in-Ok.started.core) c.in-Ok-read_lines.lines c.args.width c.args.picks.now
     → CanTurn (run_of c.in-Ok.started.core) c.in-Ok.started.settler c.in-Ok-read_lines.lines → IsFreshRecord o b (run_of c.in-Ok.started.core)
-    → KeepsRecord t o b (run_of c.in-Ok.started.core) c.in-Ok.started.settler f1 w1
-    → RecordGoesOn t o b (run_of c.in-Ok.started.core) (run_of c.run_turns.new.core) c.in-Ok.started.settler c.run_turns.new.settler f2 w1 w2 c.run_turns.result) told
+    → KeepsTurns t o b (run_of c.in-Ok.started.core) c.in-Ok.started.settler f1 w1
+    → TurnsGoOn t o b (run_of c.in-Ok.started.core) (run_of c.run_turns.new.core) c.in-Ok.started.settler c.run_turns.new.settler f2 w1 w2 c.run_turns.result) told
     (subst (λ (k : ProgramTree). (o : Outset) (b : Books) → IsOutset o k (run_of c.in-Ok.started.core) c.in-Ok-read_lines.lines c.args.width c.args.picks.now
     → CanTurn (run_of c.in-Ok.started.core) c.in-Ok.started.settler c.in-Ok-read_lines.lines → IsFreshRecord o b (run_of c.in-Ok.started.core)
-    → KeepsRecord g.H.Host.tells o b (run_of c.in-Ok.started.core) c.in-Ok.started.settler f1 w1
-    → RecordGoesOn g.H.Host.tells o b (run_of c.in-Ok.started.core) (run_of c.run_turns.new.core) c.in-Ok.started.settler c.run_turns.new.settler f2 w1 w2 c.run_turns.result) (ap program_tree c.in-Ok.ensures.start.checked) c.run_turns.ensures.record_kept))
+    → KeepsTurns g.H.Host.tells o b (run_of c.in-Ok.started.core) c.in-Ok.started.settler f1 w1
+    → TurnsGoOn g.H.Host.tells o b (run_of c.in-Ok.started.core) (run_of c.run_turns.new.core) c.in-Ok.started.settler c.run_turns.new.settler f2 w1 w2 c.run_turns.result) (ap program_tree c.in-Ok.ensures.start.checked) c.run_turns.ensures.record_kept))
     (subst (λ (t : Bool). TurnsBeside t (run_of c.in-Ok.started.core) (run_of c.run_turns.new.core) c.in-Ok.started.settler c.run_turns.new.settler f1 f2 w1 w2 c.run_turns.result) told c.run_turns.ensures.beside)
 
 pub returns-clause-answers : goal.returns-clause-answers
@@ -84,6 +84,6 @@ returns-clause-answers g c =
     (subst (λ (k : ProgramTree). AreReadFrom k 0 (lines_of c.deref.result.now) c.in-Ok-read_lines.lines) (ap program_tree c.in-Ok.ensures.start.checked) c.in-Ok-read_lines.ensures)
     (subst (λ (k : ProgramTree). (o : Outset) (b : Books) → IsOutset o k (run_of c.in-Ok.started.core) c.in-Ok-read_lines.lines c.args.width c.args.picks.now
     → CanTurn (run_of c.in-Ok.started.core) c.in-Ok.started.settler c.in-Ok-read_lines.lines → IsFreshRecord o b (run_of c.in-Ok.started.core)
-    → KeepsRecord g.H.Host.tells o b (run_of c.in-Ok.started.core) c.in-Ok.started.settler f1 w1
-    → RecordGoesOn g.H.Host.tells o b (run_of c.in-Ok.started.core) (run_of c.run_turns.new.core) c.in-Ok.started.settler c.run_turns.new.settler f2 w1 w2 c.run_turns.result) (ap program_tree c.in-Ok.ensures.start.checked) c.run_turns.ensures.record_kept)
+    → KeepsTurns g.H.Host.tells o b (run_of c.in-Ok.started.core) c.in-Ok.started.settler f1 w1
+    → TurnsGoOn g.H.Host.tells o b (run_of c.in-Ok.started.core) (run_of c.run_turns.new.core) c.in-Ok.started.settler c.run_turns.new.settler f2 w1 w2 c.run_turns.result) (ap program_tree c.in-Ok.ensures.start.checked) c.run_turns.ensures.record_kept)
     c.run_turns.ensures.beside)
