@@ -277,8 +277,7 @@ module _ {H : Type 0} (tells : Bool) (world : H → World) (faults : H → Chann
   lacks-at after new n g votes lacks settler =
       let later : NoneFell (faults old) (faults new) = calm-later (faults old) (faults new) lacks.calm in
       let doubted : after.doubted ≡ before.doubted = ap (λ (s : Settler). s.doubted) settler in
-      let quiet : after.quiet ≡ before.quiet = ap (λ (s : Settler). s.quiet) settler in
-      (
+      let quiet : after.quiet ≡ before.quiet = ap (λ (s : Settler). s.quiet) settler in (
         record {
           books = b;
           kept = record {

@@ -1,7 +1,7 @@
 -- The books after a step of the settler of a core that others have too.
-use Rattle.std.proofs.Common.{◌≡◌, ◌⊎◌, inl, inr, ℕ, ◌+◌, ◌-◌, ◌^◌, ◌<◌, ◌≤◌, List, [], ◌∷◌, ◌++◌, length, Bool, true, false, true≢false, not, ◌&&◌, ◌||◌, refl, sym, ap, ◌∙◌, subst, arith, append-nil, Some, nat_lt, slice_get}
-use Rattle.std.specs.Prelude.{IsTrue, Result, Ok, Err, if◌then◌else◌, is_none}
-use Rattle.std.proofs.lemmas.Bool.{and_parts, and_from, lt-ltb}
+use Rattle.std.proofs.Common.{◌≡◌, inl, inr, ℕ, ◌<◌, ◌≤◌, List, [], ◌∷◌, length, Bool, true, false, true≢false, not, ◌&&◌, ◌||◌, refl, sym, ap, ◌∙◌, subst, arith, Some, slice_get}
+use Rattle.std.specs.Prelude.{Result, Ok, Err, if◌then◌else◌, is_none}
+use Rattle.std.proofs.lemmas.Bool.{and_from, lt-ltb}
 use Rattle.std.proofs.lemmas.Option.{slice_get_within}
 use Rattle.base_types.specs.declared.entries.Entry.{Entry}
 use Rattle.base_types.specs.declared.shapes.Shape.{Shape}
@@ -9,23 +9,23 @@ use Rattle.host_trait.specs.declared.channels.Channel.{Channel}
 use Rattle.host_trait.specs.declared.channels.Channel.TheVariants.{Output}
 use Rattle.host_trait.specs.Faults.{Rose}
 use Rattle.host_trait.specs.World.{World}
-use Rattle.turn_cell.specs.History.{In, entry}
+use Rattle.turn_cell.specs.History.{entry}
 use Rattle.core_model.specs.CoreState.{CoreState}
 use Rattle.core_model.specs.declared.effects.Effect.{Effect}
 use Rattle.core_model.specs.declared.events.CoreEvent.{CoreEvent}
 use Rattle.core_model.specs.declared.events.CoreEvent.TheVariants as event
 use Rattle.core_model.specs.declared.events.CoreReply.{CoreReply}
-use Rattle.core_model.specs.Events.{applies, can, is_allowed, is_after_halt, reply_to}
+use Rattle.core_model.specs.Events.{applies, can, is_allowed, is_after_halt}
 use Rattle.core_model.specs.Laws.{extended}
 use Rattle.core_model.specs.Legal.{Run, ends}
 use Rattle.core_model.specs.Lines.{EntriesAreOnce}
-use Rattle.core_model.specs.Settler.{Step, Votes, Decides, Seals as SealStep, Learns, Writes, Takes, Rests, MakesEvent, settler_step, versions_to_write}
+use Rattle.core_model.specs.Settler.{Step, Votes, Decides, Seals as SealStep, Learns, Writes, Takes, Rests, MakesEvent, settler_step}
 use Rattle.core_model.proofs.Lined.{once-ends}
 use Rattle.core_model.proofs.Replied.{reply-tells}
 use Rattle.core_model.proofs.Stepped.{step-applies}
 use Rattle.core_access.specs.Histories.{Told, run_after, reply_in}
 use Rattle.core_access.specs.Settling.{leaves_settling}
-use Rattle.core_access.specs.Sights.{Sight, run_seen, saw, told, AllPass, Looks, Tells, Counts, IsAlone}
+use Rattle.core_access.specs.Sights.{Sight, run_seen, saw, told, AllPass, Looks, Counts}
 use Rattle.core_access.specs.Spared.{is_spared, has_room}
 use Rattle.core_access.proofs.Entries.{entries-single}
 use Rattle.core_access.proofs.Sights.{run-told, looks-before, looks-none}
@@ -37,22 +37,20 @@ use Rattle.promise_spec.specs.Programs.{shape_in}
 use Rattle.promise_spec.specs.UnitRule.{KeepsUnitRule}
 use Rattle.settle_loop.specs.Works.{tells_entry, tells_doubt, has_applied, counted_up}
 use Rattle.settle_loop.specs.HostSteps.{CutsEntry, DoesFor, MakesNoCall}
-use Rattle.settle_loop.specs.Turning.{state_shown, written_after, doubted_after, has_unwritten, LooksOn, PutsNext, IsNotTaken, TurnsAs}
+use Rattle.settle_loop.specs.Turning.{written_after, doubted_after, LooksOn, PutsNext, IsNotTaken, TurnsAs}
 use Rattle.settle_loop.specs.declared.settler.Settler.{Settler}
 use Rattle.settle_loop.specs.declared.settler.Turned.{Turned}
 use Rattle.settle_loop.specs.declared.settler.Turned.TheVariants.{Stepped, Nothing, Stop}
 use Rattle.settle_loop.specs.declared.settler.StopCause.TheVariants.{InDoubt, WriteFault}
 use Rattle.run_books.specs.Beginnings.{Outset, basis_of}
 use Rattle.run_books.specs.Books.{Books}
-use Rattle.run_books.specs.Images.{LastsSo}
 use Rattle.run_books.specs.Records.{KeepsBooks}
-use Rattle.run_books.specs.Settling.{AreEven, CanSettle, SaysOfStep, BooksGoOn}
+use Rattle.run_books.specs.Settling.{AreEven, CanSettle, BooksGoOn}
 use Rattle.run_books.specs.Sharing.{MayRely, SeesOn, CanShare, StepKeeps, OthersKeepBooks, SharedStepsKeep}
 use Rattle.run_books.proofs.LineCounts.{at-most}
 use Rattle.run_books.proofs.BooksOthers.{others-keep, unapplied-keeps}
-use Rattle.run_books.proofs.BooksStep.{StepDone, IsCounted}
 use Rattle.run_books.proofs.BooksSettled.{is_of_batch, done, WentOn, went, lacks-at, cut-by, in-doubt}
-use Rattle.run_books.proofs.Fronts.{after-base, after-kinds, after-units, events_told}
+use Rattle.run_books.proofs.Fronts.{after-base, after-kinds, after-units}
 use Rattle.run_books.proofs.Relying.{sees-none, sees-look, sees-both, run-sees, counts-on, going-before, relies-before}
 use Rattle.run_books.proofs.Staying.{Stays, not-settling, stays-all, step-stays, does-on}
 
@@ -188,7 +186,7 @@ sees-put x mid e p q = subst (SeesOn x) (sym q) (record {
 })
 
 -- a look behind the event, or none
-looks-behind : (may : CoreEvent → Bool) (x : Bool) (mid t : Sight) → LooksOn may x mid t → Looks may mid t
+pub looks-behind : (may : CoreEvent → Bool) (x : Bool) (mid t : Sight) → LooksOn may x mid t → Looks may mid t
 looks-behind may true mid t l = l.0
 looks-behind may false mid t l = subst (Looks may mid) (sym l) (looks-none may mid)
 

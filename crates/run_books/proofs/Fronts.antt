@@ -1,5 +1,5 @@
 -- What holds of a run held of its first part: the unit rule, and that it isn't stopped; and units and lines were no more.
-use Rattle.std.proofs.Common.{◌≡◌, ℕ, zero, suc, ◌+◌, ◌≤◌, List, [], ◌∷◌, ◌++◌, length, map, take, Bool, true, false, true≢false, refl, sym, ap, ◌∙◌, subst, arith, append-nil, append_assoc, Some, None}
+use Rattle.std.proofs.Common.{◌≡◌, ℕ, zero, suc, ◌≤◌, List, [], ◌∷◌, ◌++◌, length, map, take, Bool, true, false, true≢false, refl, sym, ap, ◌∙◌, subst, arith, append-nil, append_assoc, Some}
 use Rattle.std.specs.Prelude.{slice_get}
 use Rattle.std.proofs.lemmas.List.{take-append-le}
 use Rattle.base_types.specs.declared.calls.Origin.{Origin}

@@ -1,4 +1,5 @@
 pub mod Showing
+pub mod Resting
 pub mod LineCounts
 pub mod BooksStated
 pub mod BooksCore
@@ -26,3 +27,4 @@ pub mod Fronts
 pub mod Relying
 pub mod Staying
 pub mod BooksShared
+pub mod Seen

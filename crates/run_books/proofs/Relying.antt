@@ -1,12 +1,12 @@
 -- What may be relied on of what was seen may be relied on of what was seen before.
-use Rattle.std.proofs.Common.{◌≡◌, ◌⊎◌, inl, inr, ⊎_elim, ℕ, ◌+◌, ◌<◌, ◌≤◌, ◌^◌, List, [], ◌∷◌, ◌++◌, length, Bool, true, false, refl, sym, ap, ◌∙◌, subst, arith, length-append, append-nil, append_assoc}
+use Rattle.std.proofs.Common.{◌≡◌, ◌⊎◌, ℕ, ◌<◌, ◌≤◌, ◌^◌, List, [], ◌∷◌, ◌++◌, length, Bool, true, false, refl, sym, ap, ◌∙◌, subst, arith, length-append, append-nil, append_assoc}
 use Rattle.core_model.specs.Legal.{Run, ends}
 use Rattle.core_model.specs.declared.events.CoreEvent.{CoreEvent}
 use Rattle.core_model.specs.declared.events.CoreReply.{CoreReply}
 use Rattle.turn_cell.specs.History.{In, entries_of, entry}
 use Rattle.turn_cell.proofs.Lists.{in_left}
 use Rattle.core_access.specs.Histories.{Told, run_after}
-use Rattle.core_access.specs.Sights.{Sight, run_seen, saw, told, Looks, Tells, Counts, IsAlone}
+use Rattle.core_access.specs.Sights.{Sight, run_seen, Looks, Tells, Counts, IsAlone}
 use Rattle.core_access.proofs.Entries.{entries-append, entries-single, run-on}
 use Rattle.worker_rules.specs.Work.{is_work}
 use Rattle.promise_spec.specs.UnitRule.{KeepsUnitRule}

@@ -1,15 +1,12 @@
 -- What a step of the settler showed stays while others put their events.
-use Rattle.std.proofs.Common.{◌≡◌, inl, inr, ℕ, ◌<◌, List, [], ◌∷◌, ◌++◌, Bool, true, false, true≢false, not, ◌&&◌, ◌||◌, refl, sym, ap, ◌∙◌, subst, Option, Some, None, is_some, nat_lt, length}
+use Rattle.std.proofs.Common.{◌≡◌, inl, inr, ℕ, ◌<◌, List, [], ◌∷◌, Bool, true, false, true≢false, not, ◌&&◌, refl, sym, ap, ◌∙◌, subst, Option, Some, None, is_some, nat_lt, length}
 use Rattle.std.specs.Prelude.{slice_get, if◌then◌else◌}
-use Rattle.std.proofs.lemmas.Bool.{and_parts, and_from, lt-ltb}
-use Rattle.std.proofs.lemmas.Option.{slice_get_within}
 use Rattle.base_types.specs.declared.calls.GrainId.{GrainId}
 use Rattle.base_types.specs.declared.entries.Entry.{Entry}
 use Rattle.base_types.specs.declared.shapes.Shape.{Shape}
 use Rattle.base_types.specs.declared.stores.Version.{Version}
 use Rattle.host_trait.specs.declared.channels.Channel.{Channel}
 use Rattle.host_trait.specs.World.{World}
-use Rattle.turn_cell.specs.History.{In}
 use Rattle.core_model.specs.CoreState.{UnitNo, Batch, CoreState}
 use Rattle.core_model.specs.declared.effects.Effect.{Effect}
 use Rattle.core_model.specs.declared.events.CoreEvent.{CoreEvent}
@@ -19,7 +16,7 @@ use Rattle.core_model.specs.Learning.{next_learn}
 use Rattle.core_model.specs.Laws.{extended}
 use Rattle.core_model.specs.Legal.{Run, ends}
 use Rattle.core_model.specs.Replies.{OnlyExtends}
-use Rattle.core_model.specs.Settler.{Step, Votes, Decides, Seals as SealStep, Learns, Writes, Takes, Rests, settler_step, batch_step, later_step, last_step, learn_step, to_commit, versions_to_write}
+use Rattle.core_model.specs.Settler.{Writes, Takes, Rests, settler_step, batch_step, later_step, last_step, learn_step, to_commit, versions_to_write}
 use Rattle.core_model.proofs.Replied.{extends-ends}
 use Rattle.core_access.specs.Histories.{Told, run_after}
 use Rattle.core_access.specs.Settling.{is_settling, leaves_settling, LeavesBatches}
@@ -28,9 +25,9 @@ use Rattle.core_access.proofs.Settling.{others-leave}
 use Rattle.promise_spec.specs.UnitRule.{Basis, KeepsUnitRule}
 use Rattle.settler_rules.proofs.Shared.{shown-stay}
 use Rattle.batch_disk.specs.declared.writer.BatchWriter.{BatchWriter}
-use Rattle.settle_loop.specs.HostSteps.{SealsUnits, DoubtsAgain, VotesOn, DoesFor}
+use Rattle.settle_loop.specs.HostSteps.{SealsUnits, VotesOn, DoesFor}
 use Rattle.run_books.proofs.BooksSettled.{is_of_batch}
-use Rattle.run_books.proofs.Fronts.{after-is, after-units, events_told, get-front}
+use Rattle.run_books.proofs.Fronts.{after-units, get-front}
 use Rattle.run_books.proofs.ShownVersions.{versions-stay}
 
 -- it isn't the settler's

@@ -1,5 +1,5 @@
 -- The record of a run: what holds where it begins, and again where it ends, however it ends.
-use Rattle.std.specs.Prelude.{◌≡◌, ◌<◌, ◌≤◌, ◌+◌, ◌*◌, ℕ, Bool, false, IsTrue, List, [], length, is_some, None, Result, Ok, Err}
+use Rattle.std.specs.Prelude.{◌≡◌, ◌<◌, ◌≤◌, ◌+◌, ◌*◌, ℕ, Bool, IsTrue, List, [], length, is_some, None, Result, Ok, Err}
 use Rattle.host_trait.specs.declared.channels.Channel.{Channel}
 use Rattle.host_trait.specs.declared.channels.Channel.TheVariants.{File, Output}
 use Rattle.host_trait.specs.Faults.{Rose}

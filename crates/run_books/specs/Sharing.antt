@@ -8,7 +8,7 @@ use Rattle.core_model.specs.declared.events.CoreEvent.{CoreEvent}
 use Rattle.turn_cell.specs.History.{entries_of}
 use Rattle.core_access.specs.Histories.{Told, run_after}
 use Rattle.core_access.specs.Settling.{leaves_settling}
-use Rattle.core_access.specs.Sights.{Sight, run_seen, saw, AllPass, Counts, IsAlone}
+use Rattle.core_access.specs.Sights.{Sight, run_seen, AllPass, Counts, IsAlone}
 use Rattle.worker_rules.specs.Work.{is_work}
 use Rattle.script_check.specs.Accepted.{IsAcceptedProgram}
 use Rattle.promise_spec.specs.Programs.{shape_in}

@@ -7,6 +7,10 @@
 
 mod faults;
 mod laws;
+mod sharing;
 
 pub use faults::RunFault;
 pub use laws::records_show;
+pub use sharing::{
+    calls_see_on, none_stops, others_keep_the_books, relied_on_before, shared_steps_keep_the_books,
+};
