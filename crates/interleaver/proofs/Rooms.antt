@@ -3,7 +3,6 @@ use Rattle.std.proofs.Common.{◌≡◌, ◌⊎◌, ℕ, zero, suc, ◌+◌, ◌
 use Rattle.std.specs.Prelude.{if◌then◌else◌, filter, not, ◌&&◌, ◌||◌, slice_get, drop, Result, Ok, Err}
 use Rattle.std.specs.List.{AllByRecursion}
 use Rattle.std.proofs.lemmas.Bool.{cases_Bool, ltb-true, lt-ltb}
-use Rattle.std.proofs.lemmas.Option.{slice_get_within}
 use Rattle.request_wire.specs.declared.requests.Line.{Line}
 use Rattle.core_model.specs.declared.events.CoreReply.{CoreReply}
 use Rattle.core_model.specs.Legal.{Run, ends}
@@ -30,7 +29,7 @@ use Rattle.interleaver.proofs.Unstopped.{way-unstopped}
 use Rattle.run_books.proofs.BooksStated.{OthersKeep}
 use Rattle.interleaver.proofs.Choosing.{at-outset}
 use Rattle.interleaver.proofs.Flying.{kept-flown, lines-flying}
-use Rattle.interleaver.proofs.Lacking.{line-lacks}
+use Rattle.interleaver.proofs.Lacking.{lacks-none, line-lacks}
 use Rattle.interleaver.proofs.LineTurns.{drop-at, line-went}
 
 -- nothing is behind the last
@@ -56,15 +55,6 @@ still-carried types r doubted before after is carried = subst (AreCarried types 
     by : (d : Bool) → AreCarried types none_comes (own_sight r) (flown_unless d (ends r) before)
     by true = carried
     by false = drops-carried types none_comes (own_sight r) before (is_flown (ends r)) carried
-
--- the line that begins next is one of the lines
-pub next-within : (doubted : Bool) (agents : List Agent) (width begun : ℕ) (lines : List Line) (line : Line) → Some line ≡ next_line_by doubted agents width begun lines → begun < length lines
-next-within doubted agents width begun lines line = by doubted (nat_lt (lines_carried agents) width)
-  where
-    by : (d few : Bool) → Some line ≡ (if d || not few then None else slice_get lines begun) → begun < length lines
-    by true few x = absurd cc
-    by false false x = absurd cc
-    by false true x = slice_get_within lines begun line (sym x)
 
 module _ (tells : Bool) (o : Outset) (types : ProgramTree) (lines : List Line) (width : ℕ) (picks : List ℕ) (b : Books) (s : TurnStage) (agents : List Agent)
     (is : agents ≡ flown_unless s.settler.doubted (ends s.run) s.agents) (carried : AreCarried types none_comes (own_sight s.run) s.agents) (way : IsUnderWay tells o types lines width picks b s) where
@@ -197,3 +187,9 @@ module _ (tells : Bool) (o : Outset) (types : ProgramTree) (lines : List Line) (
       → RecordGoesOn {T = Bool} tells o b s.run r' s.settler s.settler s.counts s.world s.world (Err Memory))
       o types s.run (drop s.begun lines) width picks way.outset
       (λ w x. line-lacks keeps tells o lines b (record s { agents = agents }) r' w line found.0 found.1 x) dropped-way put
+
+  -- or there was none for the line itself
+  pub unread-says : (keeps : OthersKeep) → RecordGoesOn {T = Bool} tells o b s.run s.run s.settler s.settler s.counts s.world s.world (Err Memory)
+  unread-says keeps =
+      at-outset (λ t n ps. IsUnderWay tells o t lines n ps b s → RecordGoesOn {T = Bool} tells o b s.run s.run s.settler s.settler s.counts s.world s.world (Err Memory))
+      o types s.run (drop s.begun lines) width picks way.outset (λ w. lacks-none keeps tells o lines b s s.run w refl) way

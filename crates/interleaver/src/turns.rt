@@ -1,5 +1,4 @@
 ghost use Rattle.std.specs.Prelude.{◌≡◌, ◌+◌, ◌-◌, ◌<◌, ◌≤◌, ◌^◌, ◌⊎◌, ℕ, List as AList, true, false, IsTrue, IfOk, IfErr, OnErr, length};
-ghost use Rattle.std.specs.Option.{option_copied};
 ghost use Rattle.request_wire.specs.declared.requests.Line.{Line as ALine};
 ghost use Rattle.host_trait.specs.Files.{StaysReady};
 ghost use Rattle.core_model.specs.Legal.{ends};
@@ -35,9 +34,10 @@ use history_core::Core;
 use host_trait::Host;
 use request_wire::Line;
 use run_books::RunFault;
+use run_lines::Lines;
 use script_check::Checked;
 use settle_loop::{Gate, GatePlace, Settler, StopCause, Turned};
-use std::alloc::Global;
+use std::alloc::{AllocError, Global};
 use unit_carrier::{Agents, Went, begin_line};
 
 /// Where a run of turns stands: the units that are carried, how many lines have begun and how many picks were used.
@@ -102,14 +102,21 @@ fn reach_step<G: Gate>(gate: &G, unit: UnitNo, went: Went) {
 }
 
 impl Turns {
-    /// The next line, where one may begin: fewer lines than the width are in flight, one is left, and nothing is in doubt.
-    fn next_line<'a>(&self, settler: &Settler, lines: &'a [Line], width: u32) -> Option<&'a Line>
-        ensures { option_copied result ≡ next_line_by settler.now.doubted self.now.agents.list.items width self.now.begun lines.now }
+    /// The next line, where one may begin: fewer lines than the width are in flight, one is left, and nothing is in doubt. No line
+    /// is read before it may begin.
+    fn next_line<L: Lines>(
+        &self,
+        settler: &Settler,
+        lines: &mut L,
+        width: u32,
+    ) -> Result<Option<Line>, AllocError>
+        ensures same { L.lines lines.new ≡ L.lines lines.old }
+        ensures next { IfOk result (λ line. line ≡ next_line_by settler.now.doubted self.now.agents.list.items width self.now.begun (L.lines lines.old)) }
     {
         if settler.doubted() || lines_in(&self.agents) >= width as usize {
-            return None;
+            return Ok(None);
         }
-        lines.get(self.begun)
+        lines.line_at(self.alloc, self.begun)
     }
 
     /// The next line begins.
@@ -210,24 +217,25 @@ impl Turns {
 
     /// One turn: the next line begins, where one may, or else the mover at the next pick moves. Answers whether anything was
     /// left to do.
-    fn turn<H: Host, G: Gate>(
+    fn turn<H: Host, G: Gate, L: Lines>(
         &mut self,
         checked: &Checked,
         core: &mut Core,
         settler: &mut Settler,
-        lines: &[Line],
+        lines: &mut L,
         host: &mut H,
         gate: &G,
         width: u32,
         picks: &[u32],
     ) -> Result<bool, RunFault>
         requires carried { AreCarried (program_tree checked.now) none_comes (own_sight (run_of core.old)) self.old.agents.list.items }
-        requires room { self.old.used < 2 ^ 64 - 1 }
+        requires room { self.old.begun + self.old.used < 2 ^ 64 - 1 }
         requires shape { self.old.shape.types ≡ type_shapes (program_tree checked.now) }
         requires bounds { IsInBounds settler.old.writer }
         requires fits { IsTrue H.tells → FitsDisk settler.old.writer (H.world host.old).disk }
-        ensures turns { (o : Outset) (b : Books) → IsUnderWay H.tells o (program_tree checked.now) lines.now width picks.now b (stage_of (run_of core.old) settler.old (H.faults host.old) (H.world host.old) self.old)
-            → TurnSays H.tells o (program_tree checked.now) lines.now width picks.now b (stage_of (run_of core.old) settler.old (H.faults host.old) (H.world host.old) self.old) (stage_of (run_of core.new) settler.new (H.faults host.new) (H.world host.new) self.new) result }
+        ensures same { L.lines lines.new ≡ L.lines lines.old }
+        ensures turns { (o : Outset) (b : Books) → IsUnderWay H.tells o (program_tree checked.now) (L.lines lines.old) width picks.now b (stage_of (run_of core.old) settler.old (H.faults host.old) (H.world host.old) self.old)
+            → TurnSays H.tells o (program_tree checked.now) (L.lines lines.old) width picks.now b (stage_of (run_of core.old) settler.old (H.faults host.old) (H.world host.old) self.old) (stage_of (run_of core.new) settler.new (H.faults host.new) (H.world host.new) self.new) result }
         ensures beside { TurnsBeside H.tells (run_of core.old) (run_of core.new) settler.old settler.new (H.faults host.old) (H.faults host.new) (H.world host.old) (H.world host.new) result }
         ensures carried { IfOk result (λ _. AreCarried (program_tree checked.now) none_comes (own_sight (run_of core.new)) self.new.agents.list.items) }
         ensures used { IfOk result (λ _. self.new.used ≤ self.old.used + 1) }
@@ -238,10 +246,9 @@ impl Turns {
         ensures ready { StaysReady (H.is_ready host.old) (H.is_ready host.new) }
     {
         drop_unless_doubted(&mut self.agents, core, settler);
-        match self.next_line(settler, lines, width) {
+        match self.next_line(settler, lines, width)? {
             Some(line) => {
-                prove!(self.begun < lines.len());
-                self.begin(checked, core, line, gate)?;
+                self.begin(checked, core, &line, gate)?;
                 return Ok(true);
             }
             None => return self.move_one(checked, core, settler, host, gate, picks),
@@ -264,12 +271,12 @@ impl Turns {
 /// - `WriteFault`: the output failed.
 /// - `Memory`: memory ran out. So is told a run that hasn't ended by 2 to the 64 less one turns, in each of which an event applied.
 ///   What was put into the core and done to the host by then stands.
-pub fn run_turns<H: Host, G: Gate>(
+pub fn run_turns<H: Host, G: Gate, L: Lines>(
     alloc: Global,
     checked: &Checked,
     core: &mut Core,
     settler: &mut Settler,
-    lines: &List<Line>,
+    lines: &mut L,
     host: &mut H,
     gate: &G,
     width: u32,
@@ -281,14 +288,15 @@ pub fn run_turns<H: Host, G: Gate>(
     requires fits { IsTrue H.tells → FitsDisk settler.old.writer (H.world host.old).disk }
 
     // The run's record, however it ends.
-    ensures record_kept { (o : Outset) (b : Books) → IsOutset o (program_tree checked.now) (run_of core.old) lines.now width turns.now
-        → CanTurn (run_of core.old) settler.old lines.now → IsFreshRecord o b (run_of core.old)
+    ensures record_kept { (o : Outset) (b : Books) → IsOutset o (program_tree checked.now) (run_of core.old) (L.lines lines.old) width turns.now
+        → CanTurn (run_of core.old) settler.old (L.lines lines.old) → IsFreshRecord o b (run_of core.old)
         → KeepsRecord H.tells o b (run_of core.old) settler.old (H.faults host.old) (H.world host.old)
         → RecordGoesOn H.tells o b (run_of core.old) (run_of core.new) settler.old settler.new (H.faults host.new) (H.world host.old) (H.world host.new) result }
 
     // And what it leaves beside that.
     ensures beside { TurnsBeside H.tells (run_of core.old) (run_of core.new) settler.old settler.new (H.faults host.old) (H.faults host.new) (H.world host.old) (H.world host.new) result }
 
+    ensures same { L.lines lines.new ≡ L.lines lines.old }
     ensures bounds { IsInBounds settler.new.writer }
     ensures fits { IsTrue H.tells → FitsDisk settler.new.writer (H.world host.new).disk }
     ensures ready { StaysReady (H.is_ready host.old) (H.is_ready host.new) }
@@ -307,7 +315,7 @@ pub fn run_turns<H: Host, G: Gate>(
             checked,
             core,
             settler,
-            lines.as_slice(),
+            lines,
             host,
             gate,
             width,

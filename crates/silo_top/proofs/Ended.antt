@@ -99,10 +99,8 @@ pub turns_answer : {T : Type 0} (tells : Bool) (o : Outset) (b : Books) (r r' : 
 turns_answer tells o b r r' s s' mid after now now' result calm e beside = record {
   good = good_by result;
   risen = risen_by o b r' s' after result e;
-  names = record {
-    input = λ other. absurd (other (beside.pulled ∙ calm Input));
-    output = output_by result (o.faults Output) (mid Output) (after Output) (calm Output) beside.emitted;
-  };
+  input = λ other. absurd (other (beside.pulled ∙ calm Input));
+  output = output_by result (o.faults Output) (mid Output) (after Output) (calm Output) beside.emitted;
   exact = λ unbegun. absurd (unbegun (begun_by result));
 }
 

@@ -47,7 +47,8 @@ faulted_answers : (fault : RunFault) (old new : Channel → ℕ) → HasRisen (l
 faulted_answers fault old new risen pulled calm = record {
   good = good fault;
   risen = risen;
-  names = record { input = λ other. absurd (other pulled); output = λ other. absurd (other calm) };
+  input = λ other. absurd (other pulled);
+  output = λ other. absurd (other calm);
   exact = λ unbegun. absurd (unbegun (begun fault));
 }
   where
@@ -90,7 +91,8 @@ summary_answers e old mid new may failed pulled calm =
     record {
       good = good_by e may;
       risen = risen_by e may failed;
-      names = record { input = λ other. absurd (other (pulled_by e may failed)); output = output_by e may failed };
+      input = λ other. absurd (other (pulled_by e may failed));
+      output = output_by e may failed;
       exact = λ unbegun. absurd (unbegun (begun_by e may));
     }
   where

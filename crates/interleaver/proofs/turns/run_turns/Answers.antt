@@ -32,26 +32,27 @@ loop-turn-init g c = record {
       (none-carried (program_tree c.args.checked.now) (run_of c.args.core.now) c.requires.legal c.requires.loads);
   shape = c.in_ok-shape.ensures;
   turns = refl;
+  lines = refl;
   bounds = c.requires.bounds;
   fits = c.requires.fits;
   ready = λ file was. was;
   beside = nothing-beside g.H.Host.tells (run_of c.args.core.now) c.args.settler.now (g.H.Host.faults c.args.host.now) (g.H.Host.world c.args.host.now);
   went = λ o b is can fresh kept.
       let from : TurnStage = (record { run = run_of c.args.core.now; settler = c.args.settler.now; counts = g.H.Host.faults c.args.host.now; world = g.H.Host.world c.args.host.now; agents = []; begun = 0; used = 0 }) in
-      subst (λ (l : List Agent). WentOn g.H.Host.tells o (program_tree c.args.checked.now) c.args.lines.now c.args.width c.args.turns.now b from (record from { agents = l })) (sym c.new.ensures)
-      (nothing-went g.H.Host.tells o (program_tree c.args.checked.now) c.args.lines.now c.args.width c.args.turns.now b from
-      (start g.H.Host.tells o (program_tree c.args.checked.now) c.args.lines.now c.args.width c.args.turns.now b (run_of c.args.core.now) c.args.settler.now (g.H.Host.faults c.args.host.now) (g.H.Host.world c.args.host.now)
+      subst (λ (l : List Agent). WentOn g.H.Host.tells o (program_tree c.args.checked.now) (g.L.Lines.lines c.args.lines.now) c.args.width c.args.turns.now b from (record from { agents = l })) (sym c.new.ensures)
+      (nothing-went g.H.Host.tells o (program_tree c.args.checked.now) (g.L.Lines.lines c.args.lines.now) c.args.width c.args.turns.now b from
+      (start g.H.Host.tells o (program_tree c.args.checked.now) (g.L.Lines.lines c.args.lines.now) c.args.width c.args.turns.now b (run_of c.args.core.now) c.args.settler.now (g.H.Host.faults c.args.host.now) (g.H.Host.world c.args.host.now)
       is can fresh kept c.program-program.ensures.checked c.show_few.ensures));
 }
 
 pub returns-in_err-turn-clause-record_kept : goal.returns-in_err-turn-clause-record_kept
 returns-in_err-turn-clause-record_kept g c = λ o b is can fresh kept.
     let p = err_from_is_err_and c.from_residual-in_err-turn.result c.from_residual-in_err-turn.ensures.1 in
-    rw p.1 (fault-after g.H.Host.tells o (program_tree c.args.checked.now) c.args.lines.now c.as_slice.result.now c.args.width c.args.turns.now c.as_slice-in-loop-turn.result.now b
+    rw p.1 (fault-after g.H.Host.tells o (program_tree c.args.checked.now) (g.L.Lines.lines c.args.lines.now) (g.L.Lines.lines c.loop-turn.lines) c.args.width c.args.turns.now c.as_slice.result.now b
     (record { run = run_of c.args.core.now; settler = c.args.settler.now; counts = g.H.Host.faults c.args.host.now; world = g.H.Host.world c.args.host.now; agents = []; begun = 0; used = 0 })
     (stage_of (run_of c.loop-turn.core) c.loop-turn.settler (g.H.Host.faults c.loop-turn.host) (g.H.Host.world c.loop-turn.host) c.loop-turn.state)
     (stage_of (run_of c.turn.new.core) c.turn.new.settler (g.H.Host.faults c.turn.new.host) (g.H.Host.world c.turn.new.host) c.turn.new.self)
-    c.as_slice.ensures c.as_slice-in-loop-turn.ensures (c.loop-turn.invariant.went o b is can fresh kept) c.turn.result (c.turn.ensures.turns o)
+    c.loop-turn.invariant.lines c.as_slice.ensures (c.loop-turn.invariant.went o b is can fresh kept) c.turn.result (c.turn.ensures.turns o)
     p.0 (c.in_err-turn.was ∙ ap Err (sym p.2)))
 
 pub returns-in_err-turn-clause-beside : goal.returns-in_err-turn-clause-beside
@@ -64,11 +65,11 @@ returns-in_err-turn-clause-beside g c =
 
 pub returns-then-not-branch-clause-record_kept : goal.returns-then-not-branch-clause-record_kept
 returns-then-not-branch-clause-record_kept g c = λ o b is can fresh kept.
-    done-after g.H.Host.tells o (program_tree c.args.checked.now) c.args.lines.now c.as_slice.result.now c.args.width c.args.turns.now c.as_slice-in-loop-turn.result.now b
+    done-after g.H.Host.tells o (program_tree c.args.checked.now) (g.L.Lines.lines c.args.lines.now) (g.L.Lines.lines c.loop-turn.lines) c.args.width c.args.turns.now c.as_slice.result.now b
     (record { run = run_of c.args.core.now; settler = c.args.settler.now; counts = g.H.Host.faults c.args.host.now; world = g.H.Host.world c.args.host.now; agents = []; begun = 0; used = 0 })
     (stage_of (run_of c.loop-turn.core) c.loop-turn.settler (g.H.Host.faults c.loop-turn.host) (g.H.Host.world c.loop-turn.host) c.loop-turn.state)
     (stage_of (run_of c.turn.new.core) c.turn.new.settler (g.H.Host.faults c.turn.new.host) (g.H.Host.world c.turn.new.host) c.turn.new.self)
-    c.as_slice.ensures c.as_slice-in-loop-turn.ensures (c.loop-turn.invariant.went o b is can fresh kept) c.turn.result (c.turn.ensures.turns o)
+    c.loop-turn.invariant.lines c.as_slice.ensures (c.loop-turn.invariant.went o b is can fresh kept) c.turn.result (c.turn.ensures.turns o)
     tt (c.in_ok-turn.was ∙ ap Ok c.if-not-branch.true)
 
 pub returns-then-not-branch-clause-beside : goal.returns-then-not-branch-clause-beside
@@ -83,6 +84,7 @@ loop-turn-preserved g c = record {
   carried = c.in_ok-turn.ensures.carried;
   shape = ap (λ (x : Shape). x.types) c.turn.ensures.shape ∙ c.loop-turn.invariant.shape;
   turns = c.in_ok-turn.ensures.goes c.if-not-branch.false ∙ ap (λ (n : ℕ). n + 1) c.loop-turn.invariant.turns;
+  lines = c.turn.ensures.same ∙ c.loop-turn.invariant.lines;
   bounds = c.turn.ensures.bounds;
   fits = c.turn.ensures.fits;
   ready = λ file was. c.turn.ensures.ready file (c.loop-turn.invariant.ready file was);
@@ -91,17 +93,17 @@ loop-turn-preserved g c = record {
       (beside-well g.H.Host.tells (run_of c.loop-turn.core) (run_of c.turn.new.core) c.loop-turn.settler c.turn.new.settler (g.H.Host.faults c.loop-turn.host) (g.H.Host.faults c.turn.new.host) (g.H.Host.world c.loop-turn.host) (g.H.Host.world c.turn.new.host) c.in_ok-turn.field-0 (Ok true)
       (subst (λ (x : Result Bool RunFault). TurnsBeside g.H.Host.tells (run_of c.loop-turn.core) (run_of c.turn.new.core) c.loop-turn.settler c.turn.new.settler (g.H.Host.faults c.loop-turn.host) (g.H.Host.faults c.turn.new.host) (g.H.Host.world c.loop-turn.host) (g.H.Host.world c.turn.new.host) x) c.in_ok-turn.was c.turn.ensures.beside));
   went = λ o b is can fresh kept.
-      on-after g.H.Host.tells o (program_tree c.args.checked.now) c.args.lines.now c.as_slice.result.now c.args.width c.args.turns.now c.as_slice-in-loop-turn.result.now b
+      on-after g.H.Host.tells o (program_tree c.args.checked.now) (g.L.Lines.lines c.args.lines.now) (g.L.Lines.lines c.loop-turn.lines) c.args.width c.args.turns.now c.as_slice.result.now b
       (record { run = run_of c.args.core.now; settler = c.args.settler.now; counts = g.H.Host.faults c.args.host.now; world = g.H.Host.world c.args.host.now; agents = []; begun = 0; used = 0 })
       (stage_of (run_of c.loop-turn.core) c.loop-turn.settler (g.H.Host.faults c.loop-turn.host) (g.H.Host.world c.loop-turn.host) c.loop-turn.state)
       (stage_of (run_of c.turn.new.core) c.turn.new.settler (g.H.Host.faults c.turn.new.host) (g.H.Host.world c.turn.new.host) c.turn.new.self)
-      c.as_slice.ensures c.as_slice-in-loop-turn.ensures (c.loop-turn.invariant.went o b is can fresh kept) c.turn.result (c.turn.ensures.turns o)
+      c.loop-turn.invariant.lines c.as_slice.ensures (c.loop-turn.invariant.went o b is can fresh kept) c.turn.result (c.turn.ensures.turns o)
       (c.in_ok-turn.was ∙ ap Ok c.if-not-branch.false);
 }
 
 pub returns-clause-record_kept : goal.returns-clause-record_kept
 returns-clause-record_kept g c = λ o b is can fresh kept.
-    out-then g.H.Host.tells o (program_tree c.args.checked.now) c.args.lines.now c.args.width c.args.turns.now b
+    out-then g.H.Host.tells o (program_tree c.args.checked.now) (g.L.Lines.lines c.args.lines.now) c.args.width c.args.turns.now b
     (record { run = run_of c.args.core.now; settler = c.args.settler.now; counts = g.H.Host.faults c.args.host.now; world = g.H.Host.world c.args.host.now; agents = []; begun = 0; used = 0 })
     (stage_of (run_of c.loop-turn.core) c.loop-turn.settler (g.H.Host.faults c.loop-turn.host) (g.H.Host.world c.loop-turn.host) c.loop-turn.state)
     (c.loop-turn.invariant.went o b is can fresh kept)
