@@ -1,10 +1,10 @@
 -- Where nobody can move, all is done.
-use Rattle.std.proofs.Common.{◌≡◌, ◌⊎◌, inl, inr, ℕ, ◌<◌, ◌≤◌, List, [], ◌∷◌, ◌++◌, length, map, Bool, true, false, true≢false, Option, Some, None, refl, sym, ap, ◌∙◌, subst, arith}
+use Rattle.std.proofs.Common.{◌≡◌, ℕ, ◌<◌, ◌≤◌, List, [], ◌∷◌, ◌++◌, length, map, Bool, true, false, true≢false, Option, Some, refl, sym, ap, ◌∙◌, arith}
 use Rattle.std.specs.Prelude.{if◌then◌else◌, ◌&&◌, not, is_some, is_none, nat_lt, filter}
 use Rattle.std.proofs.lemmas.Bool.{ltb-true}
 use Rattle.host_trait.specs.declared.channels.Channel.{Channel}
 use Rattle.host_trait.specs.World.{World}
-use Rattle.core_model.specs.CoreState.{UnitNo, CoreState, Entry, Member}
+use Rattle.core_model.specs.CoreState.{UnitNo}
 use Rattle.core_model.specs.declared.phases.Phase.{Phase}
 use Rattle.core_model.specs.declared.phases.Phase.TheVariants.{Unborn, Running, Finished, Refused, Ended}
 use Rattle.core_model.specs.declared.effects.Effect.{Effect}
@@ -13,9 +13,8 @@ use Rattle.core_model.specs.Lines.{EntriesAreOnce}
 use Rattle.core_model.specs.Settler.{has_step, settler_step}
 use Rattle.core_model.specs.Tests.{is_running, is_over, is_free}
 use Rattle.core_model.proofs.Lined.{once-ends}
-use Rattle.promise_spec.specs.Causes.{HasDoubt}
 use Rattle.promise_spec.specs.Gotten.{got_in, wanted_by}
-use Rattle.promise_spec.specs.TurnRule.{Mover, OfUnit, OfSettler, can_move, is_unhindered, in_flight, line_can_begin, units_of}
+use Rattle.promise_spec.specs.TurnRule.{OfUnit, OfSettler, can_move, is_unhindered, in_flight, line_can_begin, units_of}
 use Rattle.promise_spec.specs.UnitRule.{KeepsUnitRule}
 use Rattle.turn_rules.specs.Going.{movers_in}
 use Rattle.turn_rules.specs.Quiet.{HasRun}
@@ -42,11 +41,8 @@ module _ (tells : Bool) (o : Outset) (b : Books) (r : Run) (settler : Settler) (
     (above : 0 < r.base) (units : KeepsUnitRule (basis_of o) r) (books : KeepsBooks tells o b r settler counts now) (n : HasNoMover o r) where
   -- no unit can move
   still : (u : UnitNo) → can_move o.program.types (ends r) (got_in r) u ≡ false
-  still u = by ((ends r).units.phase u) refl
+  still u = of-phase ((ends r).units.phase u) (n.units u)
     where
-      moves : Phase → Bool
-      moves p = if is_running p then is_unhindered (ends r) u (wanted_by o.program.types (ends r) u (got_in r u)) else is_over p && not (is_free (ends r) u)
-
       of-phase : (p : Phase) → ((p ≡ Unborn → ⊥) → (is_over p ≡ true) × (is_free (ends r) u ≡ true))
           → (if is_running p then is_unhindered (ends r) u (wanted_by o.program.types (ends r) u (got_in r u)) else is_over p && not (is_free (ends r) u)) ≡ false
       of-phase Unborn f = refl
@@ -54,9 +50,6 @@ module _ (tells : Bool) (o : Outset) (b : Books) (r : Run) (settler : Settler) (
       of-phase Finished f = ap not (f (λ e. absurd cc)).1
       of-phase Refused f = ap not (f (λ e. absurd cc)).1
       of-phase Ended f = ap not (f (λ e. absurd cc)).1
-
-      by : (p : Phase) → (ends r).units.phase u ≡ p → can_move o.program.types (ends r) (got_in r) u ≡ false
-      by p q = of-phase ((ends r).units.phase u) (n.units u)
 
   -- so nobody does
   nobody : movers_in o.program.types r ≡ []

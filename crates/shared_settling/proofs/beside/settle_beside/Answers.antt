@@ -1,4 +1,4 @@
-use Rattle.std.proofs.Common.{◌≡◌, ◌∙◌, inl, inr, refl, sym, ap, Bool, true, false, List, []}
+use Rattle.std.proofs.Common.{◌∙◌, refl, ap, Bool, true, false, []}
 use Rattle.std.specs.Prelude.{Ok, Err}
 use Rattle.core_access.specs.Sights.{run_seen}
 use Rattle.run_books.specs.declared.faults.RunFault.TheVariants.{InDoubt, WriteFault, Memory}

@@ -1,4 +1,4 @@
-use Rattle.std.proofs.Common.{◌≡◌, ◌∙◌, refl, sym, ap, Bool, true, false, List, []}
+use Rattle.std.proofs.Common.{◌∙◌, sym, ap, Bool, true, false, []}
 use Rattle.std.specs.Prelude.{Ok, Err}
 use Rattle.std.proofs.lemmas.Result.{err_from_is_err_and}
 use Rattle.core_model.specs.Legal.{Run, ends}
