@@ -76,7 +76,7 @@ goes-still : (tells : Bool) (o : Outset) (rest : List Told) (b : Books) (r : Run
 goes-still tells o [] b r settler counts now above units all k = record { goes = record { books = b; kept = k; lasts = λ t head l. l }; rest = refl }
 goes-still tells o (x ∷ rest) b r settler counts now above units all k =
     let one = others-still tells o b r x.event settler counts now above (after-units r (x ∷ rest) (basis_of o) units) (after-units (extended r (x.event ∷ [])) rest (basis_of o) units)
-        (is-other x.event (all x (inl refl))) k in
+    (is-other x.event (all x (inl refl))) k in
     let more = goes-still tells o rest one.0.books (extended r (x.event ∷ [])) settler counts now above units (λ y i. all y (inr i)) one.0.kept in
     record {
       goes = record { books = more.goes.books; kept = more.goes.kept; lasts = λ t head l. more.goes.lasts t head (one.0.lasts t head l) };
