@@ -20,7 +20,8 @@ use Rattle.interleaver.specs.Turns.{KeepsTurns, IsFreshRecord, TurnsGoOn}
 use Rattle.silo_opening.specs.declared.open.Opened.{Opened}
 use Rattle.silo_top.specs.declared.starting.Started.{Started}
 use Rattle.silo_top.specs.Answering.{AnswersRun}
-use Rattle.silo_top.specs.Reading.{PulledOnly, AreReadFrom}
+use Rattle.silo_top.specs.Reading.{PulledOnly}
+use Rattle.silo_top.proofs.Read.{AreReadFrom}
 use Rattle.silo_top.specs.Starting.{IsStartOf}
 use Rattle.silo_top.proofs.Beginning.{start_run, no_books, starts_kept, starts_quiet, starts_fresh, starts_outset}
 use Rattle.silo_top.proofs.Ended.{turns_answer}

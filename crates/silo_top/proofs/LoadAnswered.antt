@@ -24,7 +24,7 @@ use Rattle.silo_opening.specs.declared.open.Opened.{Opened}
 use Rattle.silo_top.specs.declared.starting.Started.{Started}
 use Rattle.silo_top.specs.Answering.{AnswersRun}
 use Rattle.silo_top.specs.Loading.{MaySaySummary, load_ending}
-use Rattle.silo_top.specs.Reading.{AreReadFrom}
+use Rattle.silo_top.proofs.Read.{AreReadFrom}
 use Rattle.silo_top.specs.Starting.{IsStartOf}
 use Rattle.silo_top.proofs.Beginning.{start_run, no_books, starts_kept, starts_quiet, starts_fresh, starts_outset}
 use Rattle.silo_top.proofs.LoadServed.{load_risen}

@@ -27,7 +27,8 @@ use Rattle.silo_top.specs.declared.status.Status.{Status}
 use Rattle.silo_top.specs.declared.starting.Started.{Started}
 use Rattle.silo_top.specs.Statuses.{status_ending}
 use Rattle.silo_top.specs.Answering.{turns_manner, observed_run}
-use Rattle.silo_top.specs.Reading.{PulledOnly, AreReadFrom}
+use Rattle.silo_top.specs.Reading.{PulledOnly}
+use Rattle.silo_top.proofs.Read.{AreReadFrom}
 use Rattle.silo_top.specs.Starting.{IsStartOf}
 use Rattle.silo_top.specs.Serving.{IsBehindOpening}
 use Rattle.run_books.specs.Beside.{TurnsBeside}

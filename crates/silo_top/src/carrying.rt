@@ -12,12 +12,12 @@ ghost use Rattle.silo_top.specs.Serving.{IsBehindOpening, ending_by_turns};
 ghost use Rattle.silo_top.specs.Statuses.{status_ending};
 
 use crate::input::{InputFault, read_input};
-use crate::lines::read_lines;
 use crate::starting::start;
 use crate::status::Status;
 use base_types::List;
 use host_trait::{FileId, Host};
 use interleaver::{RunFault, run_turns};
+use run_lines::InputLines;
 use settle_loop::Gate;
 use silo_opening::Opened;
 use std::alloc::{AllocError, Global};
@@ -88,16 +88,13 @@ pub(crate) fn serve<H: Host, G: Gate>(
         Ok(input) => input,
         Err(fault) => return input_status(fault),
     };
-    let lines = match read_lines(alloc, &started.checked, &input) {
-        Ok(lines) => lines,
-        Err(AllocError) => return Status::Memory,
-    };
+    let mut lines = InputLines::new(&started.checked, input.as_slice());
     turns_status(run_turns(
         alloc,
         &started.checked,
         &mut started.core,
         &mut started.settler,
-        &lines,
+        &mut lines,
         host,
         gate,
         width,

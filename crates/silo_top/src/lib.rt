@@ -1,14 +1,13 @@
 //! The commands of a silo: [`run_silo`] does all that a call does.
 //!
-//! `asking` says which command the words ask for, `input` reads the input and `lines` its lines, `starting` makes a core and a
-//! settler of an opened silo, `carrying` carries the lines over them, `loading` makes a silo and carries drawn lines, `reporting`
+//! `asking` says which command the words ask for, `input` reads the input, `starting` makes a core and a settler of an opened
+//! silo, `carrying` carries the input's lines over them, `loading` makes a silo and carries drawn lines, `reporting`
 //! tells of a folder, and `running` puts these together. What a call promises is told in the words of `promise_spec`.
 #![tactic(auto)]
 
 mod asking;
 mod carrying;
 mod input;
-mod lines;
 mod loading;
 mod reporting;
 mod running;

@@ -28,6 +28,7 @@ use history_core::Core;
 use host_trait::{Failed, Host};
 use interleaver::{RunFault, run_turns};
 use program_file::accept;
+use run_lines::ListLines;
 use script_check::Checked;
 use settle_loop::Gate;
 use silo_opening::{CreateFault, OpenFault, Opened, create, open_silo};
@@ -98,12 +99,13 @@ fn carry_load<H: Host, G: Gate>(
     };
     let requests = lines.len();
     let picks = List::new(alloc);
+    let mut placed = ListLines::new(&lines);
     match run_turns(
         alloc,
         &started.checked,
         &mut started.core,
         &mut started.settler,
-        &lines,
+        &mut placed,
         host,
         gate,
         width,
