@@ -20,7 +20,8 @@ use Rattle.silo_top.specs.declared.starting.Started.{Started}
 use Rattle.promise_spec.specs.Words.{Manner}
 use Rattle.silo_top.specs.Answering.{AnswersRun}
 use Rattle.silo_top.specs.Carrying.{StartsRun, CarriedOn, CarriesOn}
-use Rattle.silo_top.specs.Reading.{PulledOnly, AreReadFrom}
+use Rattle.silo_top.specs.Reading.{PulledOnly}
+use Rattle.silo_top.proofs.Read.{AreReadFrom}
 use Rattle.silo_top.specs.Starting.{IsStartOf}
 use Rattle.silo_top.proofs.Beginning.{no_books, starts_kept, starts_quiet, starts_fresh, starts_outset}
 use Rattle.silo_top.proofs.Ended.{turns_answer}

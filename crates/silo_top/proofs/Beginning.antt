@@ -21,7 +21,7 @@ use Rattle.settle_loop.specs.declared.settler.Settler.{Settler}
 use Rattle.run_books.specs.Beginnings.{Outset, CanTurn, IsOutset}
 use Rattle.run_books.specs.Books.{Books, IsPutOut}
 use Rattle.interleaver.specs.Turns.{KeepsTurns, IsFreshRecord}
-use Rattle.silo_top.specs.Reading.{AreReadFrom}
+use Rattle.silo_top.proofs.Read.{AreReadFrom}
 use Rattle.silo_top.proofs.Read.{as_many, go_up, read_as}
 
 -- a run of the core without events

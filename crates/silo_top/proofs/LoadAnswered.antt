@@ -22,7 +22,7 @@ use Rattle.silo_top.specs.declared.starting.Started.{Started}
 use Rattle.silo_top.specs.Answering.{AnswersRun}
 use Rattle.silo_top.specs.Carrying.{CarriedOn, CarriesOn}
 use Rattle.silo_top.specs.Loading.{MaySaySummary, load_ending}
-use Rattle.silo_top.specs.Reading.{AreReadFrom}
+use Rattle.silo_top.proofs.Read.{AreReadFrom}
 use Rattle.silo_top.specs.Starting.{IsStartOf}
 use Rattle.silo_top.proofs.Beginning.{no_books}
 use Rattle.silo_top.proofs.Answered.{start_fresh}

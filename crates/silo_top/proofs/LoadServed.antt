@@ -65,7 +65,7 @@ use Rattle.silo_top.specs.declared.status.Status.{Status}
 use Rattle.silo_top.specs.Statuses.{status_ending}
 use Rattle.silo_top.specs.declared.starting.Started.{Started}
 use Rattle.silo_top.specs.Answering.{observed_call}
-use Rattle.silo_top.specs.Reading.{AreReadFrom}
+use Rattle.silo_top.proofs.Read.{AreReadFrom}
 use Rattle.silo_top.specs.Starting.{IsStartOf}
 use Rattle.silo_top.specs.Serving.{IsBehindOpening}
 use Rattle.silo_top.specs.Loading.{IsNewBank, CarriesLoad, MaySaySummary, SaysSummary, load_ending}

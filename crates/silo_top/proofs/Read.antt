@@ -1,30 +1,27 @@
 -- Lines that were read from their texts.
-use Rattle.std.proofs.Common.{◌≡◌, ℕ, zero, suc, ◌+◌, List, [], ◌∷◌, ◌++◌, length, slice_get, Some, refl, sym, ◌∙◌, ap, subst, arith, append_assoc, append-nil}
+use Rattle.std.proofs.Common.{◌≡◌, ℕ, zero, suc, ◌+◌, List, [], ◌∷◌, length, slice_get, Some, refl, ◌∙◌, ap, arith}
+use Rattle.std.specs.Prelude.{⊤}
 use Rattle.request_wire.specs.declared.requests.Line.{Line}
 use Rattle.request_wire.specs.Names.{names_in}
 use Rattle.request_wire.specs.Request.{call_of}
 use Rattle.script_tree.specs.Programs.{ProgramTree}
 use Rattle.promise_spec.specs.Lines.{ReadsLineAs}
 use Rattle.run_books.specs.Beginnings.{GoUpFrom}
-use Rattle.silo_top.specs.Reading.{AreReadFrom}
+use Rattle.run_lines.specs.Reading.{lines_from_texts}
 
--- ---- one after another
+-- the lines are these texts', one for each, numbered one after another from the one behind this number on, and each is what its
+-- text reads as
+abbrev pub AreReadFrom : ProgramTree → ℕ → List (List ℕ) → List Line → Type 0
+AreReadFrom types n [] [] = ⊤
+AreReadFrom types n [] (line ∷ lines) = ⊥
+AreReadFrom types n (text ∷ texts) [] = ⊥
+AreReadFrom types n (text ∷ texts) (line ∷ lines) =
+    (line.number ≡ n + 1) × (call_of (names_in types) text ≡ line.what) × AreReadFrom types (n + 1) texts lines
 
--- what is read of the texts that are left is, behind the lines so far, read of all
-abbrev pub ReadSoFar : ProgramTree → ℕ → List (List ℕ) → List (List ℕ) → List Line → Type 0
-ReadSoFar types n all left lines = (more : List Line) → AreReadFrom types n left more → AreReadFrom types 0 all (lines ++ more)
-
--- one line more
-pub read_on : (types : ProgramTree) (n : ℕ) (all left later : List (List ℕ)) (text : List ℕ) (lines : List Line) (line : Line) → left ≡ text ∷ later → line.number ≡ n + 1
-    → call_of (names_in types) text ≡ line.what → ReadSoFar types n all left lines → ReadSoFar types (n + 1) all later (lines ++ line ∷ [])
-read_on types n all left later text lines line cut number what so_far more rest =
-    subst (AreReadFrom types 0 all) (sym (append_assoc lines (line ∷ []) more))
-    (so_far (line ∷ more) (subst (λ (l : List (List ℕ)). AreReadFrom types n l (line ∷ more)) (sym cut) (number, what, rest)))
-
--- and none left
-pub read_all : (types : ProgramTree) (n : ℕ) (all left : List (List ℕ)) (lines : List Line) → left ≡ [] → ReadSoFar types n all left lines → AreReadFrom types 0 all lines
-read_all types n all left lines none so_far =
-    subst (AreReadFrom types 0 all) (append-nil lines) (so_far [] (subst (λ (l : List (List ℕ)). AreReadFrom types n l []) (sym none) tt))
+-- so are the lines of an input
+pub lines_are_read : (types : ProgramTree) (n : ℕ) (texts : List (List ℕ)) → AreReadFrom types n texts (lines_from_texts types n texts)
+lines_are_read types n [] = tt
+lines_are_read types n (text ∷ texts) = (refl, refl, lines_are_read types (n + 1) texts)
 
 -- ---- what the lines are
 

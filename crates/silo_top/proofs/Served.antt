@@ -28,7 +28,8 @@ use Rattle.silo_top.specs.Statuses.{status_ending}
 use Rattle.silo_top.specs.Answering.{observed_run}
 use Rattle.silo_top.specs.Carrying.{StartsRun, CarriedOn, CarriesOn}
 use Rattle.promise_spec.specs.Words.{Manner}
-use Rattle.silo_top.specs.Reading.{PulledOnly, AreReadFrom}
+use Rattle.silo_top.specs.Reading.{PulledOnly}
+use Rattle.silo_top.proofs.Read.{AreReadFrom}
 use Rattle.silo_top.specs.Starting.{IsStartOf}
 use Rattle.silo_top.specs.Serving.{IsBehindOpening}
 use Rattle.run_books.specs.Beside.{TurnsBeside}

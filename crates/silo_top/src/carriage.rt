@@ -10,11 +10,10 @@ ghost use Rattle.silo_top.specs.Asking.{carriage_manner, IsCarriage};
 ghost use Rattle.silo_top.specs.Carrying.{CarriedLines};
 
 use crate::asking::Carriage;
-use base_types::List;
 use history_core::Core;
 use host_trait::Host;
 use interleaver::{RunFault, run_turns};
-use request_wire::Line;
+use run_lines::Lines;
 use script_check::Checked;
 use settle_loop::{Gate, Settler};
 use std::alloc::Global;
@@ -22,13 +21,13 @@ use std::sync::Wait;
 use std::thread::Threads;
 
 /// Carries all lines so, and hands the core back where all is carried and written.
-pub(crate) fn carry_all<R: Threads + Wait + Sync, H: Host, G: Gate + Sync>(
+pub(crate) fn carry_all<R: Threads + Wait + Sync, H: Host, G: Gate + Sync, L: Lines + Copy + Send + Sync>(
     _rt: &R,
     alloc: Global,
     checked: &Checked,
     core: Core,
     settler: &mut Settler,
-    lines: &List<Line>,
+    lines: L,
     host: &mut H,
     gate: &G,
     how: &Carriage,
@@ -38,7 +37,7 @@ pub(crate) fn carry_all<R: Threads + Wait + Sync, H: Host, G: Gate + Sync>(
     requires how { IsCarriage how.now }
     requires bounds { IsInBounds settler.old.writer }
     requires fits { IsTrue H.tells → FitsDisk settler.old.writer (H.world host.old).disk }
-    ensures carried { CarriedLines H.tells (carriage_manner how.now) (program_tree checked.now) lines.now (run_of core) settler.old settler.new (H.faults host.old) (H.faults host.new) (H.world host.old) (H.world host.new) result }
+    ensures carried { CarriedLines H.tells (carriage_manner how.now) (program_tree checked.now) (L.lines lines) (run_of core) settler.old settler.new (H.faults host.old) (H.faults host.new) (H.world host.old) (H.world host.new) result }
     ensures bounds { IsInBounds settler.new.writer }
     ensures fits { IsTrue H.tells → FitsDisk settler.new.writer (H.world host.new).disk }
     ensures ready { StaysReady (H.is_ready host.old) (H.is_ready host.new) }
@@ -46,8 +45,9 @@ pub(crate) fn carry_all<R: Threads + Wait + Sync, H: Host, G: Gate + Sync>(
     match how {
         Carriage::Turns { width, picks } => {
             let mut core = core;
+            let mut lines = lines;
             match run_turns(
-                alloc, checked, &mut core, settler, lines, host, gate, *width, picks,
+                alloc, checked, &mut core, settler, &mut lines, host, gate, *width, picks,
             ) {
                 Ok(()) => return Ok(core),
                 Err(fault) => return Err(fault),

@@ -15,12 +15,12 @@ ghost use Rattle.silo_top.specs.Statuses.{status_ending};
 use crate::asking::Carriage;
 use crate::carriage::carry_all;
 use crate::input::{InputFault, read_input};
-use crate::lines::read_lines;
 use crate::starting::{Started, start};
 use crate::status::Status;
 use history_core::Core;
 use host_trait::{FileId, Host};
 use interleaver::RunFault;
+use run_lines::InputLines;
 use settle_loop::Gate;
 use silo_opening::Opened;
 use std::alloc::{AllocError, Global};
@@ -93,16 +93,13 @@ pub(crate) fn serve<R: Threads + Wait + Sync, H: Host, G: Gate + Sync>(
         Ok(input) => input,
         Err(fault) => return input_status(fault),
     };
-    let lines = match read_lines(alloc, &started.checked, &input) {
-        Ok(lines) => lines,
-        Err(AllocError) => return Status::Memory,
-    };
     let Started {
         checked,
         core,
         mut settler,
     } = started;
+    let lines = InputLines::new(&checked, input.as_slice());
     turns_status(carry_all(
-        rt, alloc, &checked, core, &mut settler, &lines, host, gate, how,
+        rt, alloc, &checked, core, &mut settler, lines, host, gate, how,
     ))
 }

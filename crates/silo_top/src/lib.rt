@@ -1,6 +1,6 @@
 //! The commands of a silo: [`run_silo`] does all that a call does.
 //!
-//! `asking` says which command the words ask for, `input` reads the input and `lines` its lines, `starting` makes a core and a
+//! `asking` says which command the words ask for, `input` reads the input, `starting` makes a core and a
 //! settler of an opened silo, `carriage` carries lines over them, in turns or by workers, `carrying` serves an input so, `loading` makes a silo and carries drawn lines, `reporting`
 //! tells of a folder, and `running` puts these together. What a call promises is told in the words of `promise_spec`.
 #![tactic(auto)]
@@ -9,7 +9,6 @@ mod asking;
 mod carriage;
 mod carrying;
 mod input;
-mod lines;
 mod loading;
 mod reporting;
 mod running;

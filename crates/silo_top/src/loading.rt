@@ -30,6 +30,7 @@ use history_core::Core;
 use host_trait::{Failed, Host};
 use interleaver::RunFault;
 use program_file::accept;
+use run_lines::ListLines;
 use script_check::Checked;
 use settle_loop::Gate;
 use silo_opening::{CreateFault, OpenFault, Opened, create, open_silo};
@@ -107,8 +108,9 @@ fn carry_load<R: Threads + Wait + Sync, H: Host, G: Gate + Sync>(
         core,
         mut settler,
     } = started;
+    let placed = ListLines::new(&lines);
     match carry_all(
-        rt, alloc, &checked, core, &mut settler, &lines, host, gate, how,
+        rt, alloc, &checked, core, &mut settler, placed, host, gate, how,
     ) {
         Ok(core) => print_summary(alloc, &core, requests, host),
         Err(fault) => load_status(fault),

@@ -118,3 +118,9 @@ works-puts may types before place lines line s t r here x = by line.what refl x.
         (λ b asked p. tells-promise b may s t (Bad line.number why) r (put (Bad line.number why) is) refl
         (λ u own. line-owns own)
         (λ alone applied. subst (ReadsLineAs b.types b.lines line.number) q (reads b asked)) p)
+
+-- where it may have been put, and memory was wanting
+pub works-refused : (may : CoreEvent → Bool) (types : ProgramTree) (before place : ℕ) (lines : List Line) (line : Line) (s t : Sight)
+    → slice_get lines place ≡ Some line → Looks may s t ⊎ ((r : CoreReply) × PutsLine may types line.number line.what s t r) → WorksOn (IsBasisOf types before lines) s t
+works-refused may types before place lines line s t here (inl l) = works-looks (IsBasisOf types before lines) may s t l
+works-refused may types before place lines line s t here (inr (r, x)) = works-puts may types before place lines line s t r here x

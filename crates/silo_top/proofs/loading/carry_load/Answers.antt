@@ -10,7 +10,7 @@ use Rattle.run_books.specs.Beside.{TurnsBeside}
 use Rattle.bank_load.specs.Requests.{load_texts, numbered_from}
 use Rattle.bank_load.proofs.Asked.{load_read}
 use Rattle.silo_top.specs.Answering.{turns_manner, AnswersRun}
-use Rattle.silo_top.specs.Reading.{AreReadFrom}
+use Rattle.silo_top.proofs.Read.{AreReadFrom}
 use Rattle.silo_top.specs.Statuses.{status_ending}
 use Rattle.silo_top.proofs.LoadAnswered.{TurnsSay, turns_of, turns_faulted, summary_answers}
 use Rattle.silo_top.proofs.LoadBegun.{bank_of, bank_checked}
