@@ -1,17 +1,18 @@
 #!/usr/bin/env bash
 # Kills real runs at random moments, and checks what they leave:
-#   bench/kill.sh [ROUNDS] [LINES] [WIDTH]
-# A round runs LINES transfers over 64 accounts, which have 64,000 together, with WIDTH lines under way at a time, kills that process, and
+#   bench/kill.sh [ROUNDS] [LINES] [WIDTH | --workers N]
+# A round runs LINES transfers over 64 accounts, which have 64,000 together, with WIDTH lines under way at a time or with N workers, kills that process, and
 # reads the folder by examples/reader, which has nothing of the program's. Then: the log begins with the records that it had before,
 # and goes on with the units of the whole reply lines, in their order and with their results, and maybe with others whose
 # replies the kill cut off; no aborted unit has a record; and the balances make 64,000. The next round goes on over that folder.
 # A killed process leaves what it has written, synced or not; what a lost sync leaves is tested over the host in memory.
 top=$(cd "$(dirname "${BASH_SOURCE[0]}")/.." && pwd)
 [ -n "${SILO:-}" ] || "$top/silo" </dev/null >/dev/null 2>&1
-exec python3 - "$top" "${SILO:-$top/crates/silo/out/silo}" "${1:-20}" "${2:-2000}" "${3:-8}" <<'END'
+exec python3 - "$top" "${SILO:-$top/crates/silo/out/silo}" "${1:-20}" "${2:-2000}" "${3:-8}" "${4:-}" <<'END'
 import json, os, random, signal, subprocess, sys, tempfile, time
 
-top, program, rounds, count, width = sys.argv[1], sys.argv[2], int(sys.argv[3]), int(sys.argv[4]), sys.argv[5]
+top, program, rounds, count = sys.argv[1], sys.argv[2], int(sys.argv[3]), int(sys.argv[4])
+manner = ["--workers", sys.argv[6]] if sys.argv[5] == "--workers" else ["--width", sys.argv[5]]
 reader = os.path.join(top, "examples", "reader", "read.py")
 with open(os.path.join(top, "examples", "bank", "bank.grain"), "rb") as file:
     bank = file.read()
@@ -47,7 +48,7 @@ with tempfile.TemporaryDirectory() as room:
             file.write(b"".join(lines))
         begun = time.monotonic()
         with open(names[0], "rb") as given, open(names[1], "wb") as replies:
-            running = subprocess.Popen([program, folder, "run", "--width", width], stdin=given, stdout=replies)
+            running = subprocess.Popen([program, folder, "run", *manner], stdin=given, stdout=replies)
             if turn > 0:
                 time.sleep(length * random.random())
                 running.kill()
@@ -81,5 +82,5 @@ with tempfile.TemporaryDirectory() as room:
     last = subprocess.run([program, folder, "run"], input=line("account/0.read"), stdout=subprocess.PIPE, check=True)
     if json.loads(last.stdout)["unit"] <= records[-1]["unit"]:
         fail(f"a unit's number was given again: {last.stdout}")
-print(f"{rounds} runs at width {width}, {killed} of them killed: all {found} units of whole replies were found again, and {cut} whose reply was cut off; {aborted} aborted; the balances make 64000")
+print(f"{rounds} runs with {' '.join(manner)}, {killed} of them killed: all {found} units of whole replies were found again, and {cut} whose reply was cut off; {aborted} aborted; the balances make 64000")
 END

@@ -1,7 +1,8 @@
 // Events and replies as text.
-use base_types::{Call, GrainId, Mode, Origin, Outcome, State, UnitNo, Value};
+use base_types::{Call, GrainId, Mode, Origin, Outcome, State, UnitNo};
 use core_model::{CoreEvent, CoreReply, Effect, Read};
 use std::alloc::AllocError;
+use test_cases::{add_items, add_outcome};
 
 // The types of the program, each with its methods.
 const TYPES: [(&str, &[&str]); 4] = [
@@ -57,48 +58,17 @@ fn method_name(call: &Call) -> &'static str {
     }
 }
 
-fn add_value(out: &mut String, value: &Value) -> Result<(), AllocError> {
-    match value {
-        Value::Int(number) => write!(out, "{number}"),
-        Value::Text(text) => {
-            let text = text.as_str();
-            write!(out, "'{text}'")
-        }
-    }
-}
-
-fn add_values(out: &mut String, values: &[Value]) -> Result<(), AllocError> {
-    let mut between = "";
-    for value in values {
-        out.push_str(between)?;
-        add_value(out, value)?;
-        between = ",";
-    }
-    Ok(())
-}
-
 fn add_state(out: &mut String, grain: GrainId, state: &State) -> Result<(), AllocError> {
     add_grain(out, grain)?;
     out.push_str("=")?;
-    add_values(out, state.as_slice())
-}
-
-fn add_outcome(out: &mut String, outcome: &Outcome) -> Result<(), AllocError> {
-    match outcome {
-        Outcome::Value(value) => add_value(out, value),
-        Outcome::Fault(text) => {
-            let text = text.as_str();
-            write!(out, "fault {text}")
-        }
-        Outcome::Aborted => out.push_str("aborted"),
-    }
+    add_items(out, state.as_slice())
 }
 
 fn add_call(out: &mut String, call: &Call) -> Result<(), AllocError> {
     add_grain(out, call.grain)?;
     let method = method_name(call);
     write!(out, ".{method}(")?;
-    add_values(out, call.args.as_slice())?;
+    add_items(out, call.args.as_slice())?;
     out.push_str(")")
 }
 
@@ -194,7 +164,7 @@ pub fn add_reply(out: &mut String, reply: &CoreReply) -> Result<(), AllocError> 
         }
         CoreReply::Granted { state, source } => {
             out.push_str(": ")?;
-            add_values(out, state.as_slice())?;
+            add_items(out, state.as_slice())?;
             let source = source.0;
             write!(out, " of {source}\n")
         }

@@ -19,6 +19,3 @@ pub use shapes::{Shape, TypeShape};
 pub use state::{STATE_LIMIT, State};
 pub use stores::{Ends, Place, Store, Version};
 pub use text::{TEXT_LIMIT, Text};
-
-#[cfg(test)]
-mod tests;

@@ -6,6 +6,3 @@ mod batch;
 
 pub use batch::decide_batch;
 pub use cell_model::{Decision, Prepared};
-
-#[cfg(test)]
-mod tests;

@@ -6,6 +6,3 @@ mod opening;
 mod table;
 
 pub use table::CellTable;
-
-#[cfg(test)]
-mod tests;

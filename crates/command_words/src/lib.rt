@@ -14,6 +14,3 @@ mod words;
 pub use faults::WordsFault;
 pub use reading::read_words;
 pub use words::{LoadOptions, RunOptions, Words};
-
-#[cfg(test)]
-mod tests;

@@ -7,6 +7,3 @@ mod lists;
 mod values;
 
 pub use lists::{Same, same_items};
-
-#[cfg(test)]
-mod tests;

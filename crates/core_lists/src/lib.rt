@@ -12,6 +12,3 @@ pub use entry_list::EntryList;
 pub use handed_states::HandedStates;
 pub use last_states::LastStates;
 pub use learn_queue::LearnQueue;
-
-#[cfg(test)]
-mod tests;

@@ -1,9 +1,9 @@
-use crate::numbers::{Numbers, short};
 use crate::verbs::Note;
 use base_types::{Call, GrainId, List, Origin, Outcome, STATE_LIMIT, State, Text, UnitNo, Value};
 use core_model::{CoreEvent, Effect, Read};
 use std::alloc::{AllocError, Global};
 use std::mem;
+use test_cases::{Numbers, short};
 
 /// What the lines so far said of the event to come.
 #[derive(Drop)]

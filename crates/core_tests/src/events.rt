@@ -1,8 +1,8 @@
 use crate::drafts::Draft;
-use crate::numbers::{Numbers, natural, short};
 use crate::verbs::Event;
 use base_types::{BadRequest, GrainId, Mode, UnitNo};
 use core_model::{CoreEvent, Effect};
+use test_cases::{Numbers, natural, short};
 
 fn grant(unit: UnitNo, grain: GrainId, mode: Mode) -> CoreEvent {
     CoreEvent::Grant { unit, grain, mode }

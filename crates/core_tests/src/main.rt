@@ -4,7 +4,6 @@
 
 mod drafts;
 mod events;
-mod numbers;
 mod openings;
 mod runs;
 mod shared;

@@ -2,7 +2,6 @@ ghost use Rattle.std.specs.Prelude.{◌<◌, ◌≤◌, ◌^◌};
 
 use crate::drafts::Draft;
 use crate::events::{Kind, kind_of, made, refusal};
-use crate::numbers::{Numbers, natural, short, three_numbers};
 use crate::openings::opening;
 use crate::shared::{is_object, next_line, spoil};
 use crate::surveys::{Wanted, sum_of, survey};
@@ -11,6 +10,7 @@ use crate::verbs::{Look, Verb, verb_of};
 use core_model::{CoreEvent, CoreReply};
 use history_core::Core;
 use std::alloc::{AllocError, Global};
+use test_cases::{Numbers, natural, short, three_numbers};
 
 // The greatest number that a core's first unit may have.
 const LAST_BASE: u64 = 1 << 63;

@@ -1,46 +1,10 @@
-use base_types::{BadRequest, Entry, GrainId, Outcome, Settled, State, UnitNo, Value, Version};
+use base_types::{BadRequest, Entry, GrainId, Outcome, Settled, State, UnitNo, Version};
 use cell_model::{Ask, Decision};
 use core_model::{
     AskAnswer, BatchView, CoreAnswer, CoreReply, Effect, KnownOutcome, Read, SettlerWork,
 };
 use std::alloc::AllocError;
-
-fn add_grain(out: &mut String, grain: GrainId) -> Result<(), AllocError> {
-    let kind = grain.kind;
-    let key = grain.key;
-    write!(out, "{kind}/{key}")
-}
-
-fn add_value(out: &mut String, value: &Value) -> Result<(), AllocError> {
-    match value {
-        Value::Int(number) => write!(out, "{number}"),
-        Value::Text(text) => {
-            let text = text.as_str();
-            write!(out, "'{text}'")
-        }
-    }
-}
-
-fn add_state(out: &mut String, state: &State) -> Result<(), AllocError> {
-    let mut between = "";
-    for value in state.as_slice() {
-        out.push_str(between)?;
-        add_value(out, value)?;
-        between = ",";
-    }
-    Ok(())
-}
-
-fn add_outcome(out: &mut String, outcome: &Outcome) -> Result<(), AllocError> {
-    match outcome {
-        Outcome::Value(value) => add_value(out, value),
-        Outcome::Fault(text) => {
-            let text = text.as_str();
-            write!(out, "fault {text}")
-        }
-        Outcome::Aborted => out.push_str("aborted"),
-    }
-}
+use test_cases::{add_grain, add_items, add_outcome};
 
 fn bad_name(why: BadRequest) -> &'static str {
     match why {
@@ -124,7 +88,7 @@ pub fn add_reply(out: &mut String, reply: &CoreReply) -> Result<(), AllocError> 
             write!(out, "unit {unit}")
         }
         CoreReply::Granted { state, source } => {
-            add_state(out, state)?;
+            add_items(out, state.as_slice())?;
             let source = source.0;
             write!(out, " of {source}")
         }
@@ -174,7 +138,7 @@ fn add_reads(out: &mut String, reads: &[Read]) -> Result<(), AllocError> {
         out.push_str(" r")?;
         add_grain(out, read.grain)?;
         out.push_str("=")?;
-        add_state(out, &read.state)?;
+        add_items(out, read.state.as_slice())?;
         let source = read.source.0;
         write!(out, "of{source}")?;
     }
@@ -186,7 +150,7 @@ fn add_writes(out: &mut String, writes: &[(GrainId, State)]) -> Result<(), Alloc
         out.push_str(" w")?;
         add_grain(out, write.0)?;
         out.push_str("=")?;
-        add_state(out, &write.1)?;
+        add_items(out, write.1.as_slice())?;
     }
     Ok(())
 }
@@ -255,7 +219,7 @@ fn add_versions(out: &mut String, versions: &[Version]) -> Result<(), AllocError
     for version in versions {
         let unit = version.unit.0;
         write!(out, " {unit}=")?;
-        add_state(out, &version.state)?;
+        add_items(out, version.state.as_slice())?;
     }
     Ok(())
 }
@@ -336,6 +300,6 @@ pub fn add_answer(out: &mut String, answer: &CoreAnswer) -> Result<(), AllocErro
 pub fn add_last(out: &mut String, state: Option<&State>) -> Result<(), AllocError> {
     match state {
         None => out.push_str("-"),
-        Some(state) => add_state(out, state),
+        Some(state) => add_items(out, state.as_slice()),
     }
 }

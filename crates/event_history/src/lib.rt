@@ -5,6 +5,3 @@
 mod history;
 
 pub use history::History;
-
-#[cfg(test)]
-mod tests;

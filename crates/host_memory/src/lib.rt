@@ -13,6 +13,3 @@ mod plan;
 
 pub use host::MemoryHost;
 pub use plan::CallKind;
-
-#[cfg(test)]
-mod tests;

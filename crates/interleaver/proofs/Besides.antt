@@ -38,9 +38,9 @@ use Rattle.settle_loop.specs.declared.settler.Settler.{Settler}
 use Rattle.settle_loop.specs.declared.settler.Turned.{Turned}
 use Rattle.settle_loop.specs.declared.settler.Turned.TheVariants.{Stepped, Nothing, Stop}
 use Rattle.settle_loop.specs.declared.settler.StopCause.TheVariants as cause
-use Rattle.interleaver.specs.declared.faults.RunFault.{RunFault}
-use Rattle.interleaver.specs.declared.faults.RunFault.TheVariants.{InDoubt, WriteFault, Memory}
-use Rattle.interleaver.specs.Beside.{EmitsAs, IsHushed, TurnsBeside}
+use Rattle.run_books.specs.declared.faults.RunFault.{RunFault}
+use Rattle.run_books.specs.declared.faults.RunFault.TheVariants.{InDoubt, WriteFault, Memory}
+use Rattle.run_books.specs.Beside.{EmitsAs, IsHushed, TurnsBeside}
 use Rattle.interleaver.specs.UnderWay.{BeganOn, SettlesBy}
 use Rattle.interleaver.proofs.Alone.{own-same, own-told}
 use Rattle.interleaver.proofs.Settles.{settles-by}

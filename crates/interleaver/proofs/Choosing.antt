@@ -21,14 +21,16 @@ use Rattle.txn_agent.specs.Stepping.{Acts}
 use Rattle.unit_carrier.specs.Carrying.{AreCarried, StepsOn, as_carried, unit_at, units_carried}
 use Rattle.unit_carrier.proofs.Known.{settles-carried}
 use Rattle.unit_carrier.proofs.Places.{units-same}
-use Rattle.interleaver.specs.Beginnings.{Outset, IsOutset, GoUpFrom}
-use Rattle.interleaver.specs.Books.{Books}
+use Rattle.run_books.specs.Beginnings.{Outset, IsOutset, GoUpFrom}
+use Rattle.run_books.specs.Books.{Books}
 use Rattle.interleaver.specs.Flights.{loop_at, IsNextMover}
-use Rattle.interleaver.specs.Records.{RecordGoesOn, HasCarriedAll, KeepsBooks}
-use Rattle.interleaver.specs.declared.faults.RunFault.TheVariants.{Memory}
+use Rattle.run_books.specs.Records.{HasCarriedAll, KeepsBooks}
+use Rattle.interleaver.specs.Turns.{TurnsGoOn as RecordGoesOn}
+use Rattle.run_books.specs.declared.faults.RunFault.TheVariants.{Memory}
 use Rattle.interleaver.specs.declared.movers.NextMover.TheVariants.{Unit as OfIndex}
 use Rattle.interleaver.specs.UnderWay.{TurnSays, TurnStage, IsUnderWay, WentOn, MovedOn, SettlesBy, SettlesOne, SettledOn}
-use Rattle.interleaver.proofs.BooksStated.{OthersKeep}
+use Rattle.interleaver.proofs.Unstopped.{way-unstopped}
+use Rattle.run_books.proofs.BooksStated.{OthersKeep}
 use Rattle.interleaver.proofs.UnitTurns.{by-step, picked-moves, unit-went}
 use Rattle.interleaver.proofs.Lacking.{unit-lacks, lacks-none}
 use Rattle.interleaver.proofs.Finishing.{has-carried}
@@ -37,9 +39,9 @@ use Rattle.host_trait.specs.World.{World}
 use Rattle.host_trait.specs.declared.channels.Channel.{Channel}
 use Rattle.settle_loop.specs.declared.settler.Settler.{Settler}
 use Rattle.settle_loop.specs.Turning.{has_unwritten}
-use Rattle.interleaver.specs.declared.faults.RunFault.{RunFault}
-use Rattle.interleaver.specs.Images.{LastsSo}
-use Rattle.interleaver.specs.Settling.{AreEven}
+use Rattle.run_books.specs.declared.faults.RunFault.{RunFault}
+use Rattle.run_books.specs.Images.{LastsSo}
+use Rattle.run_books.specs.Settling.{AreEven}
 
 -- what the outset says it is told of
 pub at-outset : (P : ProgramTree → ℕ → List ℕ → Type 0) (o : Outset) (types : ProgramTree) (r : Run) (lines : List Line) (width : ℕ) (picks : List ℕ) → IsOutset o types r lines width picks
@@ -91,7 +93,7 @@ module _ (keeps : OthersKeep) (tells : Bool) (o : Outset) (lines : List Line) (b
       (subst (λ (us : List UnitNo). StepsOn none_comes o.program.types is.0 (own_sight r1) (own_sight s'.run) us (units_carried s'.agents) m.went) units
       (subst (λ (v : UnitNo). StepsOn none_comes o.program.types v (own_sight r1) (own_sight s'.run) (units_carried agents1) (units_carried s'.agents) m.went) at m.on)) in
       unit-went keeps tells o lines b s s' here way is.0 pick
-      (by-step o s.run s'.run is.0 (units_carried s.agents) (units_carried s'.agents) (moves.1, way.books.unstopped) way.outset.kinds here way.turning.first way.turning.unit_rule m.went on moves.0)
+      (by-step o s.run s'.run is.0 (units_carried s.agents) (units_carried s'.agents) (moves.1, (way-unstopped way)) way.outset.kinds here way.turning.first way.turning.unit_rule m.went on moves.0)
       used begun settler counts world (way.books.doubt ∙ ap is_some moves.1) m.few
 
   -- or has no memory

@@ -9,7 +9,8 @@ use Rattle.base_types.specs.declared.shapes.TypeShape.{TypeShape}
 use Rattle.script_check.specs.Accepted.{IsAcceptedProgram}
 use Rattle.script_check.specs.Shapes.{type_shapes}
 use Rattle.script_tree.specs.Programs.{ProgramTree}
-use Rattle.interleaver.specs.Settling.{CanSettle}
+use Rattle.run_books.specs.Settling.{CanSettle}
+use Rattle.run_books.proofs.LineCounts.{so-many, at-most}
 use Rattle.interleaver.proofs.Frames.{same-number}
 use Rattle.core_model.specs.Changes.{swept, swept_by}
 use Rattle.core_model.proofs.Decoded.{Change, bad, begin, lock, raise, refuse, finish, end_plain, end_snapshot, release, take_batch, vote, decide_some, decide_none, seal_batch, spoil_batch, doubt_batch, learn, emit, halt_run, want, load, decode}
@@ -45,52 +46,12 @@ use Rattle.turn_rules.proofs.Lawful.{legal-run}
 use Rattle.turn_rules.proofs.Turns.{turn-ended}
 use Rattle.settle_loop.specs.Turning.{has_unwritten}
 use Rattle.unit_carrier.specs.Carrying.{units_carried}
-use Rattle.interleaver.specs.Beginnings.{Outset, basis_of}
-use Rattle.interleaver.specs.Books.{Books}
+use Rattle.run_books.specs.Beginnings.{Outset, basis_of}
+use Rattle.run_books.specs.Books.{Books}
 use Rattle.interleaver.specs.Flights.{loop_at}
-use Rattle.interleaver.specs.Records.{HasCarriedAll}
+use Rattle.run_books.specs.Records.{HasCarriedAll}
 use Rattle.interleaver.specs.UnderWay.{TurnStage, IsUnderWay}
-
--- ---- as many entries as lines
-
--- a list without one of its elements
-taken-out : (x : Entry) (xs : List Entry) → Member x xs → (ys : List Entry) × (length xs ≡ suc (length ys)) × ((y : Entry) → Member y ys → Member y xs) × ((y : Entry) → Member y xs → (y ≡ x) ⊎ Member y ys)
-    × (DifferInLine xs → DifferInLine ys × ((y : Entry) → Member y ys → y.line ≡ x.line → ⊥))
-taken-out x [] m = absurd m
-taken-out x (z ∷ zs) (inl q) = (
-  zs,
-  refl,
-  (λ y k. inr k),
-  (λ y k. ⊎_elim (λ (e : y ≡ z). inl (e ∙ sym q)) (λ n. inr n) k),
-  (λ d. (d.1, λ y k e. d.0 y k (sym (e ∙ ap (λ (w : Entry). w.line) q)))),
-)
-taken-out x (z ∷ zs) (inr m) =
-    let (ys, long, sub, cover, differ) = taken-out x zs m in (
-      z ∷ ys,
-      ap suc long,
-      (λ y k. ⊎_elim (λ (e : y ≡ z). inl e) (λ n. inr (sub y n)) k),
-      (λ y k. ⊎_elim (λ (e : y ≡ z). inr (inl e)) (λ n. ⊎_elim (λ (t : y ≡ x). inl t) (λ p. inr (inr p)) (cover y n)) k),
-      (λ d. (
-        ((λ y k e. d.0 y (sub y k) e), (differ d.1).0),
-        λ y k e. ⊎_elim (λ (t : y ≡ z). d.0 x m (ap (λ (w : Entry). w.line) (sym t) ∙ e)) (λ n. (differ d.1).1 y n e) k,
-      )),
-    )
-
--- entries of different lines, one for each line up to a number and none else, are so many
-so-many : (n : ℕ) (xs : List Entry) → DifferInLine xs → ((x : Entry) → Member x xs → (0 < x.line) × (x.line ≤ n)) → ((k : ℕ) → 1 ≤ k → k ≤ n → (x : Entry) × Member x xs × (x.line ≡ k)) → length xs ≡ n
-so-many zero [] d within all = refl
-so-many zero (x ∷ xs) d within all = let w = within x (inl refl) in let lo = w.0 in let hi = w.1 in absurd (omega (arith, lo, hi))
-so-many (suc n) xs d within all =
-    let (x, m, line) = all (suc n) (omega arith) (omega arith) in
-    let (ys, long, sub, cover, differ) = taken-out x xs m in
-    long ∙ ap suc (so-many n ys (differ d).0
-    (λ y k. let w = within y (sub y k) in let lo = w.0 in let hi = w.1 in
-    (lo, below y.line (λ e. (differ d).1 y k (e ∙ sym line)) hi))
-    (λ k lo hi. let (y, my, at) = all k lo (omega (arith, hi)) in
-    (y, ⊎_elim (λ (e : y ≡ x). absurd (let t : k ≡ suc n = sym at ∙ ap (λ (w : Entry). w.line) e ∙ line in omega (arith, t, hi))) (λ p. p) (cover y my), at)))
-  where
-    below : (k : ℕ) → (k ≡ suc n → ⊥) → k ≤ suc n → k ≤ n
-    below k ne hi = search (arith, ne, hi)
+use Rattle.interleaver.proofs.Unstopped.{way-unstopped}
 
 -- ---- a doubt
 
@@ -218,31 +179,6 @@ module _ (tells : Bool) (o : Outset) (lines : List Line) (b : Books) (s : TurnSt
         written = way.books.written ∙ (let x : (ends s.run).manager.emitted ≡ (ends s.run).units.lines = omega (arith, le, ge, many) in x);
       }
 
--- an entry of that line, or none
-has-line : (k : ℕ) (xs : List Entry) → ((x : Entry) × Member x xs × (x.line ≡ k)) ⊎ ((x : Entry) → Member x xs → x.line ≡ k → ⊥)
-has-line k [] = inr (λ x m e. absurd m)
-has-line k (x ∷ xs) = elim (cases_Bool (x.line == k)) [
-  | inl t ↦ inl (x, inl refl, eqb-true x.line k t)
-  | inr f ↦ ⊎_elim (λ y. inl (y.0, inr y.1, y.2)) (λ n. inr (λ y m e. ⊎_elim (λ (q : y ≡ x). absurd (true≢false (sym (same-number x.line k (ap (λ (w : Entry). w.line) (sym q) ∙ e)) ∙ f))) (λ p. n y p e) m)) (has-line k xs)
-]
-
--- entries of different lines up to a number are at most so many
-pub at-most : (n : ℕ) (xs : List Entry) → DifferInLine xs → ((x : Entry) → Member x xs → (0 < x.line) × (x.line ≤ n)) → length xs ≤ n
-at-most zero [] d within = omega arith
-at-most zero (x ∷ xs) d within = let w = within x (inl refl) in let lo = w.0 in let hi = w.1 in absurd (omega (arith, lo, hi))
-at-most (suc n) xs d within = by (has-line (suc n) xs) (λ ys. at-most n ys)
-  where
-    below : (k : ℕ) → (k ≡ suc n → ⊥) → k ≤ suc n → k ≤ n
-    below k ne hi = search (arith, ne, hi)
-
-    by : ((x : Entry) × Member x xs × (x.line ≡ suc n)) ⊎ ((x : Entry) → Member x xs → x.line ≡ suc n → ⊥)
-        → ((ys : List Entry) → DifferInLine ys → ((x : Entry) → Member x ys → (0 < x.line) × (x.line ≤ n)) → length ys ≤ n) → length xs ≤ suc n
-    by (inl (x, m, line)) more =
-        let (ys, long, sub, cover, differ) = taken-out x xs m in
-        let le = more ys (differ d).0 (λ y k. let w = within y (sub y k) in (w.0, below y.line (λ e. (differ d).1 y k (e ∙ sym line)) w.1)) in
-        omega (arith, long, le)
-    by (inr none) more = let le = more xs d (λ y k. let w = within y k in (w.0, below y.line (none y k) w.1)) in omega (arith, le)
-
 -- what the settler's step needs to know of a run under way
 pub can-settle : (tells : Bool) (o : Outset) (types : ProgramTree) (lines : List Line) (width : ℕ) (picks : List ℕ) (b : Books) (s : TurnStage) (shape : Shape) → IsUnderWay tells o types lines width picks b s
     → shape.types ≡ type_shapes types → CanSettle o shape s.run
@@ -259,4 +195,5 @@ can-settle tells o types lines width picks b s shape way is =
       accepted = subst IsAcceptedProgram (sym way.outset.types_are) way.accepted;
       numbers = way.few;
       room = omega (arith, le, few, most);
+      unstopped = way-unstopped way;
     }

@@ -25,14 +25,14 @@ use Rattle.turn_rules.proofs.Growth.{unit-grows, turn-grows}
 use Rattle.turn_rules.proofs.Movers.{begins-kept, movers-kept}
 use Rattle.txn_agent.specs.Stepping.{Acts}
 use Rattle.unit_carrier.specs.Lines.{PutsLine, IsEventOf}
-use Rattle.interleaver.specs.declared.faults.RunFault.TheVariants.{Memory}
-use Rattle.interleaver.specs.Beginnings.{Outset, GoUpFrom, basis_of}
-use Rattle.interleaver.specs.Books.{Books}
+use Rattle.run_books.specs.declared.faults.RunFault.TheVariants.{Memory}
+use Rattle.run_books.specs.Beginnings.{Outset, GoUpFrom, basis_of}
+use Rattle.run_books.specs.Books.{Books}
 use Rattle.interleaver.specs.Flights.{loop_at}
-use Rattle.interleaver.specs.Records.{RecordGoesOn}
+use Rattle.interleaver.specs.Turns.{TurnsGoOn as RecordGoesOn}
 use Rattle.interleaver.specs.UnderWay.{TurnStage, IsUnderWay}
 use Rattle.interleaver.proofs.Alone.{own-same, own-told}
-use Rattle.interleaver.proofs.BooksStated.{OthersKeep}
+use Rattle.run_books.proofs.BooksStated.{OthersKeep}
 use Rattle.interleaver.proofs.Frames.{unit-others, unit-no-halt}
 use Rattle.interleaver.proofs.LineTurns.{drop-at}
 
@@ -56,7 +56,7 @@ module _ (keeps : OthersKeep) (tells : Bool) (o : Outset) (lines : List Line) (b
   lacks-event : (e : CoreEvent) → r' ≡ with_event s.run e → MayCome (basis_of o) s.run e → IsNext o.program.types (length o.asked) o.width o.picks s.run e → is_settling e ≡ false → (e ≡ Halt → ⊥) → Ends r'
   lacks-event e q may is_next other halt =
       let rule : KeepsUnitRule (basis_of o) (with_event s.run e) = unit-grows (basis_of o) s.run e way.turning.unit_rule may in
-      let on = keeps tells o b s.run e s.settler s.counts s.world way.turning.first way.turning.unit_rule rule other halt way.even way.books in
+      let on = keeps tells o b s.run e s.settler s.counts s.world way.turning.first way.turning.unit_rule rule other way.even way.books in
       subst Ends (sym q) (record {
         books = on.0.books;
         record_kept = record {

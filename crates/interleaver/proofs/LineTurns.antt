@@ -26,15 +26,16 @@ use Rattle.turn_rules.proofs.Turns.{turn-bad, turn-line}
 use Rattle.settle_loop.specs.declared.settler.Settler.{Settler}
 use Rattle.unit_carrier.specs.Carrying.{units_carried}
 use Rattle.unit_carrier.specs.Lines.{IsEventOf, began_by, with_begun}
-use Rattle.interleaver.specs.Beginnings.{Outset, IsOutset, GoUpFrom, basis_of}
-use Rattle.interleaver.specs.Books.{Books}
+use Rattle.run_books.specs.Beginnings.{Outset, IsOutset, GoUpFrom, basis_of}
+use Rattle.run_books.specs.Books.{Books}
 use Rattle.interleaver.specs.Flights.{loop_at}
-use Rattle.interleaver.specs.Images.{LastsSo}
-use Rattle.interleaver.specs.Records.{KeepsBooks}
-use Rattle.interleaver.specs.Settling.{AreEven}
+use Rattle.run_books.specs.Images.{LastsSo}
+use Rattle.run_books.specs.Records.{KeepsBooks}
+use Rattle.run_books.specs.Settling.{AreEven}
 use Rattle.interleaver.specs.UnderWay.{TurnStage, IsUnderWay, WentOn, BeganOn}
+use Rattle.interleaver.proofs.Unstopped.{way-unstopped}
 use Rattle.interleaver.proofs.Alone.{own-told}
-use Rattle.interleaver.proofs.BooksStated.{OthersKeep}
+use Rattle.run_books.proofs.BooksStated.{OthersKeep}
 use Rattle.interleaver.proofs.Frames.{lines-begun, lines-bad, same-number}
 use Rattle.interleaver.proofs.OtherTurns.{loop-into}
 
@@ -84,7 +85,7 @@ module _ (keeps : OthersKeep) (tells : Bool) (o : Outset) (lines : List Line) (b
       → WentOn tells o o.program.types lines o.width o.picks b s s'
   line-on e run other halt more few small turning begun settler counts world calm =
       let rule : KeepsUnitRule (basis_of o) (with_event s.run e) = subst (KeepsUnitRule (basis_of o)) run turning.unit_rule in
-      let on = keeps tells o b s.run e s.settler s.counts s.world way.turning.first way.turning.unit_rule rule other halt way.even way.books in
+      let on = keeps tells o b s.run e s.settler s.counts s.world way.turning.first way.turning.unit_rule rule other way.even way.books in
       let at : s'.begun ≡ suc s.begun = (let x : s.begun + 1 ≡ suc s.begun = omega arith in begun ∙ x) in
       record {
         books = on.0.books;
@@ -134,7 +135,7 @@ module _ (keeps : OthersKeep) (tells : Bool) (o : Outset) (lines : List Line) (b
       by (Ok call) q is =
           let plain = is.0 in
           let ev : CoreEvent = Begin (OfLineOrigin line.number) call plain in
-          let a : applies (ends s.run) ev ≡ true = allowed-with (ends s.run).manager.doubt (ends s.run).units.halt (line.number == (ends s.run).units.lines + 1) sure way.books.unstopped (same-number line.number ((ends s.run).units.lines + 1) numbers.0) in
+          let a : applies (ends s.run) ev ≡ true = allowed-with (ends s.run).manager.doubt (ends s.run).units.halt (line.number == (ends s.run).units.lines + 1) sure (way-unstopped way) (same-number line.number ((ends s.run).units.lines + 1) numbers.0) in
           let due : MayCome (basis_of o) s.run ev = (λ x. (subst (ReadsLineAs o.program.types o.asked line.number) q this-reads, is.2)) in
           let on : s'.run ≡ with_event s.run ev = run ∙ ap (with_event s.run) is.1 in
           let new : began_by g.on.r ≡ Some (new_unit (ends s.run)) =
@@ -150,7 +151,7 @@ module _ (keeps : OthersKeep) (tells : Bool) (o : Outset) (lines : List Line) (b
           apart c p t = absurd cc
       by (Err why) q is =
           let ev : CoreEvent = Bad line.number why in
-          let a : applies (ends s.run) ev ≡ true = allowed-with (ends s.run).manager.doubt (ends s.run).units.halt (line.number == (ends s.run).units.lines + 1) sure way.books.unstopped (same-number line.number ((ends s.run).units.lines + 1) numbers.0) in
+          let a : applies (ends s.run) ev ≡ true = allowed-with (ends s.run).manager.doubt (ends s.run).units.halt (line.number == (ends s.run).units.lines + 1) sure (way-unstopped way) (same-number line.number ((ends s.run).units.lines + 1) numbers.0) in
           let due : MayCome (basis_of o) s.run ev = (λ x. subst (ReadsLineAs o.program.types o.asked line.number) q this-reads) in
           let on : s'.run ≡ with_event s.run ev = run ∙ ap (with_event s.run) is in
           let none : began_by g.on.r ≡ None =

@@ -9,15 +9,16 @@ use Rattle.request_wire.specs.declared.requests.Line.{Line}
 use Rattle.std.specs.Prelude.{length}
 use Rattle.promise_spec.specs.TurnRule.{KeepsTurnRule}
 use Rattle.script_tree.specs.Programs.{ProgramTree}
-use Rattle.interleaver.specs.declared.faults.RunFault.{RunFault}
-use Rattle.interleaver.specs.declared.faults.RunFault.TheVariants.{InDoubt, WriteFault, Memory}
+use Rattle.run_books.specs.declared.faults.RunFault.{RunFault}
+use Rattle.run_books.specs.declared.faults.RunFault.TheVariants.{InDoubt, WriteFault, Memory}
 use Rattle.core_model.specs.declared.events.CoreEvent.{CoreEvent}
 use Rattle.core_model.specs.Legal.{Run}
 use Rattle.settle_loop.specs.declared.settler.Settler.{Settler}
-use Rattle.interleaver.specs.Beginnings.{Outset}
-use Rattle.interleaver.specs.Beside.{EmitsAs, TurnsBeside}
-use Rattle.interleaver.specs.Books.{Books}
-use Rattle.interleaver.specs.Records.{KeepsRecord, IsFreshRecord, TurnsEndAs, RecordGoesOn, HasCarriedAll}
+use Rattle.run_books.specs.Beginnings.{Outset}
+use Rattle.run_books.specs.Beside.{EmitsAs, TurnsBeside}
+use Rattle.run_books.specs.Books.{Books}
+use Rattle.run_books.specs.Records.{TurnsEndAs, HasCarriedAll}
+use Rattle.interleaver.specs.Turns.{KeepsTurns as KeepsRecord, IsFreshRecord, TurnsGoOn as RecordGoesOn}
 use Rattle.interleaver.specs.UnderWay.{TurnStage, IsUnderWay, WentOn, TurnSays}
 
 module _ (tells : Bool) (o : Outset) (types : ProgramTree) (lines : List Line) (width : ℕ) (picks : List ℕ) (b : Books) (s t : TurnStage) where

@@ -18,13 +18,15 @@ use Rattle.turn_rules.proofs.Numbers.{next-stays}
 use Rattle.turn_rules.proofs.Settlers.{settlers}
 use Rattle.turn_rules.proofs.Turns.{turn-settler}
 use Rattle.unit_carrier.specs.Carrying.{units_carried}
-use Rattle.interleaver.specs.declared.faults.RunFault.{RunFault}
-use Rattle.interleaver.specs.declared.faults.RunFault.TheVariants.{InDoubt, WriteFault, Memory}
-use Rattle.interleaver.specs.Beginnings.{Outset, IsOutset, GoUpFrom, basis_of}
-use Rattle.interleaver.specs.Books.{Books}
+use Rattle.run_books.specs.declared.faults.RunFault.{RunFault}
+use Rattle.run_books.specs.declared.faults.RunFault.TheVariants.{InDoubt, WriteFault, Memory}
+use Rattle.run_books.specs.Beginnings.{Outset, IsOutset, GoUpFrom, basis_of}
+use Rattle.run_books.specs.Books.{Books}
 use Rattle.interleaver.specs.Flights.{loop_at}
-use Rattle.interleaver.specs.Records.{TurnsEndAs, RecordGoesOn}
+use Rattle.run_books.specs.Records.{TurnsEndAs}
+use Rattle.interleaver.specs.Turns.{TurnsGoOn as RecordGoesOn}
 use Rattle.interleaver.specs.UnderWay.{TurnStage, IsUnderWay, WentOn, SettlesBy, SettledSays, SettledOn}
+use Rattle.interleaver.proofs.Unstopped.{way-unstopped}
 use Rattle.interleaver.proofs.Frames.{lines-stay, settler-no-line}
 use Rattle.interleaver.proofs.Settles.{settles-rule}
 
@@ -56,7 +58,7 @@ module _ (tells : Bool) (o : Outset) (lines : List Line) (b : Books) (s s' : Tur
 
   -- the settler's event applies
   settler-applies : (e : CoreEvent) → MakesEvent (settler_step (ends s.run)) e → applies (ends s.run) e ≡ true
-  settler-applies e makes = step-applies s.run e makes ∙ ap (λ (h : Bool). not h || is_after_halt e) way.books.unstopped
+  settler-applies e makes = step-applies s.run e makes ∙ ap (λ (h : Bool). not h || is_after_halt e) (way-unstopped way)
 
   -- a turn of the settler
   pub settler-went : {T : Type 0} (done : T) → IsPicked l OfSettler → (e : CoreEvent) → MakesEvent (settler_step (ends s.run)) e → s'.run ≡ with_event s.run e

@@ -18,14 +18,15 @@ use Rattle.txn_agent.specs.declared.agent.Agent.{Agent}
 use Rattle.unit_carrier.specs.Carrying.{AreCarried, units_carried}
 use Rattle.unit_carrier.specs.Lines.{PutsLine}
 use Rattle.unit_carrier.proofs.Known.{drops-carried}
-use Rattle.interleaver.specs.declared.faults.RunFault.{RunFault}
-use Rattle.interleaver.specs.declared.faults.RunFault.TheVariants.{Memory}
-use Rattle.interleaver.specs.Beginnings.{Outset, basis_of}
-use Rattle.interleaver.specs.Books.{Books}
+use Rattle.run_books.specs.declared.faults.RunFault.{RunFault}
+use Rattle.run_books.specs.declared.faults.RunFault.TheVariants.{Memory}
+use Rattle.run_books.specs.Beginnings.{Outset, basis_of}
+use Rattle.run_books.specs.Books.{Books}
 use Rattle.interleaver.specs.Flights.{flown_unless, is_flown, lines_carried, loop_at, next_line_by}
-use Rattle.interleaver.specs.Records.{RecordGoesOn}
+use Rattle.interleaver.specs.Turns.{TurnsGoOn as RecordGoesOn}
 use Rattle.interleaver.specs.UnderWay.{BeganOn, IsUnderWay, TurnSays, TurnStage, WentOn}
-use Rattle.interleaver.proofs.BooksStated.{OthersKeep}
+use Rattle.interleaver.proofs.Unstopped.{way-unstopped}
+use Rattle.run_books.proofs.BooksStated.{OthersKeep}
 use Rattle.interleaver.proofs.Choosing.{at-outset}
 use Rattle.interleaver.proofs.Flying.{kept-flown, lines-flying}
 use Rattle.interleaver.proofs.Lacking.{lacks-none, line-lacks}
@@ -106,7 +107,7 @@ module _ (tells : Bool) (o : Outset) (types : ProgramTree) (lines : List Line) (
   -- so many lines are in flight as agents of lines are left
   flying : s.settler.doubted ≡ false → length (filter (is_flying (ends s.run)) (units_carried agents)) ≡ lines_carried agents
   flying q = subst (λ (xs : List Agent). length (filter (is_flying (ends s.run)) (units_carried xs)) ≡ lines_carried xs) (sym (is ∙ ap (λ (d : Bool). flown_unless d (ends s.run) s.agents) q))
-      (lines-flying types s.run legal (calm q) way.books.unstopped s.agents carried.known came)
+      (lines-flying types s.run legal (calm q) (way-unstopped way) s.agents carried.known came)
 
   narrow : s.settler.doubted ≡ false → nat_lt (length (filter (is_flying (ends s.run)) (units_carried agents))) o.width ≡ nat_lt (lines_carried agents) width
   narrow q = ap (λ (n : ℕ). nat_lt n o.width) (flying q) ∙ ap (λ (k : ℕ). nat_lt (lines_carried agents) k) way.outset.width_is

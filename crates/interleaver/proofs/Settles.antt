@@ -25,14 +25,14 @@ use Rattle.settle_loop.specs.declared.settler.Settler.{Settler}
 use Rattle.settle_loop.specs.declared.settler.Turned.{Turned}
 use Rattle.settle_loop.specs.declared.settler.Turned.TheVariants.{Stepped, Nothing, Stop}
 use Rattle.settle_loop.specs.declared.settler.StopCause.TheVariants.{InDoubt, WriteFault}
-use Rattle.interleaver.specs.Beginnings.{Outset, basis_of}
-use Rattle.interleaver.specs.Books.{Books}
-use Rattle.interleaver.specs.Records.{KeepsBooks}
-use Rattle.interleaver.specs.Settling.{AreEven, CanSettle, SaysOfStep, BooksGoOn}
+use Rattle.run_books.specs.Beginnings.{Outset, basis_of}
+use Rattle.run_books.specs.Books.{Books}
+use Rattle.run_books.specs.Records.{KeepsBooks}
+use Rattle.run_books.specs.Settling.{AreEven, CanSettle, SaysOfStep, BooksGoOn}
 use Rattle.interleaver.specs.UnderWay.{SettlesBy, SettlesOne, SettledOn}
-use Rattle.interleaver.specs.declared.faults.RunFault.{RunFault}
-use Rattle.interleaver.specs.declared.faults.RunFault.TheVariants as fault
-use Rattle.interleaver.proofs.BooksStated.{SettledKeep}
+use Rattle.run_books.specs.declared.faults.RunFault.{RunFault}
+use Rattle.run_books.specs.declared.faults.RunFault.TheVariants as fault
+use Rattle.run_books.proofs.BooksStated.{SettledKeep}
 use Rattle.interleaver.proofs.Alone.{own-same}
 
 -- a look at what one has alone, then an event: the run's next event
@@ -122,7 +122,7 @@ module _ {H E : Type 0} (keeps : SettledKeep) (tells : Bool) (world : H → Worl
   pub on-stepped : {T : Type 0} → result ≡ Ok Stepped → (done : T) → Settled T (Ok done)
   on-stepped {T} q done =
       let s : Says (Ok Stepped) = subst Says q said in
-      record { on = s.0; says = (s.1, left-behind tells world faults shape r r' before after old new books.unstopped (subst Turns q turns)) }
+      record { on = s.0; says = (s.1, left-behind tells world faults shape r r' before after old new can.unstopped (subst Turns q turns)) }
 
   pub on-idle : {T : Type 0} → result ≡ Ok Nothing → (done : T) → Settled T (Ok done)
   on-idle {T} q done =

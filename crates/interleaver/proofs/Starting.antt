@@ -34,12 +34,12 @@ use Rattle.turn_rules.proofs.Lawful.{legal-run}
 use Rattle.turn_rules.proofs.Listed.{filter-none}
 use Rattle.turn_rules.proofs.Numbers.{units-below}
 use Rattle.settle_loop.specs.declared.settler.Settler.{Settler}
-use Rattle.interleaver.specs.Beginnings.{Outset, IsOutset, CanTurn, basis_of}
-use Rattle.interleaver.specs.Books.{Books, IsPutOut}
-use Rattle.interleaver.specs.Records.{KeepsRecord, IsFreshRecord}
-use Rattle.interleaver.specs.Settling.{AreEven}
+use Rattle.run_books.specs.Beginnings.{Outset, IsOutset, CanTurn, basis_of}
+use Rattle.run_books.specs.Books.{Books, IsPutOut}
+use Rattle.interleaver.specs.Turns.{KeepsTurns as KeepsRecord, IsFreshRecord}
+use Rattle.run_books.specs.Settling.{AreEven}
 use Rattle.interleaver.specs.UnderWay.{IsUnderWay}
-use Rattle.interleaver.proofs.Showing.{whole-take, flat-both}
+use Rattle.run_books.proofs.Resting.{even-at-rest}
 
 units-above : (n b : ℕ) (u : UnitNo) → Member u (units_from n b) → b ≤ u.0
 units-above zero b u m = absurd m
@@ -99,26 +99,6 @@ module _ (o : Outset) (r : Run) (first : 0 < r.base) (rule : KeepsUnitRule (basi
     below = λ u m. absurd m;
   }
 
--- what no entry is in has none
-none-each : (xs : List Settlement) → entries_of xs ≡ [] → AllByRecursion (λ s. length s.entries ≤ 1) xs
-none-each [] q = tt
-none-each (x ∷ xs) q = by x.entries refl q (none-each xs)
-  where
-    by : (es : List Entry) → x.entries ≡ es → es ++ entries_of xs ≡ [] → (entries_of xs ≡ [] → AllByRecursion (λ s. length s.entries ≤ 1) xs) → AllByRecursion (λ s. length s.entries ≤ 1) (x ∷ xs)
-    by [] e t more = (subst (λ (l : List Entry). length l ≤ 1) (sym e) (omega arith), more t)
-    by (y ∷ es) e t more = absurd (cons y (es ++ entries_of xs) t)
-      where
-        cons : (a : Entry) (l : List Entry) → a ∷ l ≡ [] → ⊥
-        cons a l z = absurd cc
-
--- a list whose front is all of it has nothing behind
-no-more : (xs ys : List Entry) → xs ≡ xs ++ ys → ys ≡ []
-no-more xs ys q = none-of ys (let e : length xs ≡ length xs + length ys = ap length q ∙ length-append xs ys in omega (arith, e))
-  where
-    none-of : (l : List Entry) → length l ≡ 0 → l ≡ []
-    none-of [] z = refl
-    none-of (x ∷ l) z = absurd (omega (arith, z))
-
 module _ (tells : Bool) (o : Outset) (types : ProgramTree) (lines : List Line) (width : ℕ) (picks : List ℕ) (b : Books) (r : Run) (settler : Settler) (counts : Channel → ℕ) (now : World) where
   -- all that holds on the way holds where nobody is carried yet
   pub start : IsOutset o types r lines width picks → CanTurn r settler lines → IsFreshRecord o b r → KeepsRecord tells o b r settler counts now → IsAcceptedProgram types → HasFewNumbers (ends r)
@@ -138,28 +118,6 @@ module _ (tells : Bool) (o : Outset) (types : ProgramTree) (lines : List Line) (
       count = sym fresh.picks;
     };
     books = k.books;
-    even = even;
+    even = even-at-rest tells o b r settler counts now can.quiet.written fresh.rest k.books;
     left = λ d. absurd (true≢false (sym d ∙ can.sure));
   }
-    where
-      even : AreEven settler.quiet b (ends r)
-      even = by settler.quiet k.books.said
-        where
-          le : length (ends r).manager.settled ≤ (ends r).manager.emitted
-          le = can.quiet.written
-
-          said-all : (n : ℕ) → (ends r).manager.emitted ≤ n → entries_of b.said ≡ take n (ends r).manager.settled → entries_of b.said ≡ (ends r).manager.settled
-          said-all n up q = q ∙ whole-take (ends r).manager.settled n (let x = le in omega (arith, x, up))
-
-          is-all : entries_of b.said ≡ (ends r).manager.settled → AreEven false b (ends r)
-          is-all q = record {
-            rest = fresh.rest;
-            told = q ∙ sym (whole-take (ends r).manager.settled (ends r).manager.emitted le);
-            single = λ z. none-each b.unsaid (no-more (entries_of b.said) (entries_of b.unsaid)
-                (q ∙ sym k.books.booked.entries ∙ flat-both (λ (s : Settlement). s.entries) b.said b.unsaid));
-          }
-
-          by : (quiet : Bool) → IsPutOut quiet b (ends r) → AreEven quiet b (ends r)
-          by true p = record { rest = fresh.rest; told = tt; single = λ z. absurd (true≢false z) }
-          by false (inl q) = is-all (said-all (ends r).manager.emitted (omega arith) q)
-          by false (inr q) = is-all (said-all ((ends r).manager.emitted + 1) (omega arith) q.0)

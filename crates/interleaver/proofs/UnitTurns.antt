@@ -33,13 +33,13 @@ use Rattle.txn_agent.proofs.Going.{puts-applied, missed-not}
 use Rattle.txn_agent.proofs.Telling.{alone-tells}
 use Rattle.unit_carrier.specs.Carrying.{StepsOn, units_carried, with_child, went_by}
 use Rattle.unit_carrier.specs.declared.agents.Went.{Went}
-use Rattle.interleaver.specs.Beginnings.{Outset, GoUpFrom, basis_of}
-use Rattle.interleaver.specs.Books.{Books}
+use Rattle.run_books.specs.Beginnings.{Outset, GoUpFrom, basis_of}
+use Rattle.run_books.specs.Books.{Books}
 use Rattle.interleaver.specs.Flights.{loop_at}
-use Rattle.interleaver.specs.Settling.{AreEven}
+use Rattle.run_books.specs.Settling.{AreEven}
 use Rattle.interleaver.specs.UnderWay.{TurnStage, IsUnderWay, WentOn}
 use Rattle.interleaver.proofs.Frames.{lines-stay, unit-others, unit-no-halt, unit-no-line, done-begins-none, began-is-new}
-use Rattle.interleaver.proofs.BooksStated.{OthersKeep}
+use Rattle.run_books.proofs.BooksStated.{OthersKeep}
 use Rattle.core_access.proofs.Sights.{looks-alone}
 use Rattle.core_model.specs.Settler.{has_step, settler_step}
 use Rattle.host_trait.specs.World.{World}
@@ -50,8 +50,8 @@ use Rattle.promise_spec.specs.Gotten.{got_in}
 use Rattle.promise_spec.specs.Lines.{ReadsLineAs}
 use Rattle.promise_spec.specs.TurnRule.{Mover}
 use Rattle.turn_rules.specs.Turning.{TurnLoop}
-use Rattle.interleaver.specs.Images.{LastsSo}
-use Rattle.interleaver.specs.Records.{KeepsBooks}
+use Rattle.run_books.specs.Images.{LastsSo}
+use Rattle.run_books.specs.Records.{KeepsBooks}
 
 -- the event of a unit by which the run went on, and the units that are carried then
 pub record GoesByUnit (o : Outset) (u : UnitNo) (r r' : Run) (units units' : List UnitNo) : Type 0 where
@@ -218,7 +218,7 @@ module _ (keeps : OthersKeep) (tells : Bool) (o : Outset) (lines : List Line) (b
   unit-went u pick g used begun settler counts world sure few =
       let turning : IsTurning (loop_at o s'.run s'.agents s'.used) = unit-turning u pick g used in
       let rule : KeepsUnitRule (basis_of o) (with_event s.run g.e) = subst (KeepsUnitRule (basis_of o)) g.run turning.unit_rule in
-      let on = keeps tells o b s.run g.e s.settler s.counts s.world way.turning.first way.turning.unit_rule rule (unit-others u g.e g.own) (unit-no-halt u g.e g.own) way.even way.books in
+      let on = keeps tells o b s.run g.e s.settler s.counts s.world way.turning.first way.turning.unit_rule rule (unit-others u g.e g.own) way.even way.books in
       let same : (ends s'.run).units.lines ≡ (ends s.run).units.lines =
       ap (λ (x : Run). (ends x).units.lines) g.run ∙ ap (λ (x : CoreState). x.units.lines) (ends-more s.run g.e) ∙ lines-stay (ends s.run) g.e (unit-no-line u g.e g.own) in
       record {

@@ -11,7 +11,7 @@ use Rattle.turn_rules.specs.Turning.{TurnLoop}
 use Rattle.txn_agent.specs.declared.agent.Agent.{Agent}
 use Rattle.txn_agent.specs.Stepping.{has_freed_all}
 use Rattle.unit_carrier.specs.Carrying.{units_carried}
-use Rattle.interleaver.specs.Beginnings.{Outset, basis_of}
+use Rattle.run_books.specs.Beginnings.{Outset, basis_of}
 use Rattle.interleaver.specs.declared.movers.NextMover.{NextMover}
 use Rattle.interleaver.specs.declared.movers.NextMover.TheVariants.{Unit as OfIndex, Settler as TheSettler, Nobody}
 

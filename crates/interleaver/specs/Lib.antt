@@ -1,9 +1,3 @@
-pub mod Beginnings
 pub mod Flights
-pub mod Books
-pub mod Images
-pub mod Records
-pub mod Settling
+pub mod Turns
 pub mod UnderWay
-pub mod Beside
-pub mod Closing

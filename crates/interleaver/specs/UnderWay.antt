@@ -20,15 +20,16 @@ use Rattle.settle_loop.specs.Turning.{has_unwritten}
 use Rattle.unit_carrier.specs.Carrying.{StepsOn, unit_at, units_carried}
 use Rattle.unit_carrier.specs.Lines.{BeginsOn}
 use Rattle.unit_carrier.specs.declared.agents.Went.{Went}
-use Rattle.interleaver.specs.declared.faults.RunFault.{RunFault}
-use Rattle.interleaver.specs.declared.faults.RunFault.TheVariants.{InDoubt, WriteFault, Memory}
+use Rattle.run_books.specs.declared.faults.RunFault.{RunFault}
+use Rattle.run_books.specs.declared.faults.RunFault.TheVariants.{InDoubt, WriteFault, Memory}
 use Rattle.interleaver.specs.declared.turns.Turns.{Turns}
-use Rattle.interleaver.specs.Beginnings.{Outset, IsOutset, GoUpFrom}
-use Rattle.interleaver.specs.Books.{Books}
+use Rattle.run_books.specs.Beginnings.{Outset, IsOutset, GoUpFrom}
+use Rattle.run_books.specs.Books.{Books}
 use Rattle.interleaver.specs.Flights.{loop_at}
-use Rattle.interleaver.specs.Images.{LastsSo}
-use Rattle.interleaver.specs.Records.{KeepsBooks, HasCarriedAll, HasDoubted, RecordGoesOn}
-use Rattle.interleaver.specs.Settling.{AreEven, BooksGoOn}
+use Rattle.run_books.specs.Images.{LastsSo}
+use Rattle.run_books.specs.Records.{KeepsBooks, HasCarriedAll, HasDoubted}
+use Rattle.interleaver.specs.Turns.{TurnsGoOn as RecordGoesOn}
+use Rattle.run_books.specs.Settling.{AreEven, BooksGoOn}
 
 -- Where a run of turns stands: the core's run, the settler, the host's counts of faults and its world, the units that are carried,
 -- how many lines have begun, and how many picks were used.

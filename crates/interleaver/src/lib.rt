@@ -1,8 +1,9 @@
 //! Runs on one thread: begins lines as the width lets it, and has one mover after another move, by a list of picks: the units
 //! that are carried, and the settler.
 //!
-//! [`run_turns`] is the whole of it. It keeps a record of the run, which holds where it begins and again where it ends, however it
-//! ends: `Records`. What each image of a crash keeps of that is `Images`.
+//! [`run_turns`] is the whole of it. It keeps a record of the run and the turn rule, which hold where it begins and again where it
+//! ends, however it ends: `Turns`. The books that the record speaks of, and what each image of a crash keeps of them, are those of
+//! `run_books`.
 //!
 //! # Whether a run goes on
 //!
@@ -17,12 +18,9 @@
 //!   events have applied. No bound on the events of a run is proved, and so not that no run comes to that end.
 #![tactic(auto)]
 
-mod faults;
 mod flights;
-mod laws;
 mod movers;
 mod turns;
 
-pub use faults::RunFault;
-pub use laws::records_show;
+pub use run_books::RunFault;
 pub use turns::run_turns;

@@ -10,9 +10,10 @@ ghost use Rattle.serde_json.specs.Written.{has_float};
 ghost use Rattle.promise_spec.specs.Reports.{line_of, origin_count, ended_as};
 ghost use Rattle.log_audit.specs.Lines.{grain_data, count_data, record_data, audit_data};
 
-use crate::parts::{args_json, call_text, fields_json, fields_of_kind, grain_text, value_json};
+use crate::parts::{args_json, call_text, fields_json, fields_of_kind, value_json};
 use base_types::{GrainId, Origin, Outcome, Shape, Value};
 use commit_log::CommitRecord;
+use request_wire::grain_text;
 use script_tree::TypeDecl;
 use serde_json::{Value as Json, json};
 use std::alloc::{AllocError, Global};

@@ -3,37 +3,19 @@
 ghost use Rattle.std.specs.Prelude.{◌≡◌, map, slice_get, IfOk, string_bytes};
 ghost use Rattle.script_tree.specs.Programs.{type_tree};
 ghost use Rattle.script_check.specs.Accepted.{IsAcceptedProgram};
-ghost use Rattle.request_wire.specs.Reply.{type_name, grain_text, value_data};
+ghost use Rattle.request_wire.specs.Reply.{value_data};
 ghost use Rattle.script_meaning.specs.Calls.{numbered};
 ghost use Rattle.serde_json.specs.Data.{array, object};
 ghost use Rattle.serde_json.specs.View.{view};
 ghost use Rattle.promise_spec.specs.Reports.{fields_data, items_of, method_name};
 ghost use Rattle.log_audit.specs.Lines.{fields_of_kind, call_named};
 
-use base_types::{Call, GrainId, Shape, Value};
+use base_types::{Call, Shape, Value};
+use request_wire::grain_text;
 use script_meaning::target_at;
 use script_tree::{FieldDecl, TypeDecl};
 use serde_json::{Map, Value as Json};
 use std::alloc::{AllocError, Global};
-
-// The name of a type, empty where the shape has no type of this number.
-fn type_name(shape: &Shape, kind: u16) -> &str
-    ensures { result.now ≡ type_name shape.now kind }
-{
-    match shape.types.get(kind as usize) {
-        Some(named) => named.name.as_str(),
-        None => "",
-    }
-}
-
-/// A grain as `type/key`.
-pub(crate) fn grain_text(alloc: Global, shape: &Shape, grain: GrainId) -> Result<String, AllocError>
-    ensures { IfOk result (λ text. string_bytes text ≡ grain_text shape.now grain) }
-{
-    let name = type_name(shape, grain.kind);
-    let key = grain.key;
-    format!(in alloc; "{name}/{key}")
-}
 
 // The name of a method, empty where the program has none of these numbers.
 fn method_name(types: &[TypeDecl], kind: u16, method: u16) -> &str

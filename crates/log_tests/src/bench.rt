@@ -3,7 +3,7 @@ ghost use Rattle.std.specs.Prelude.{◌<◌, ◌^◌};
 use crate::cases::{Case, case_of};
 use crate::fields::add_field;
 use crate::folder::Folder;
-use crate::printing::{add_bytes, add_values};
+use crate::printing::add_bytes;
 use crate::records::{add_records, block_of, records_in};
 use base_types::{GrainId, List, Place, Shape, State, Text, TypeShape, UnitNo, Value, Version};
 use commit_log::{MANAGER, seal};
@@ -12,6 +12,7 @@ use gate_block::{append_closed, open_gate, read_block};
 use grain_log::{read_version, write_versions};
 use host_trait::FileId;
 use std::alloc::{AllocError, Global};
+use test_cases::add_values;
 
 const GRAIN: FileId = FileId::Grain {
     slot: 0,

@@ -1,11 +1,12 @@
 use crate::cases::Case;
-use crate::printing::{add_call, add_outcome, add_value, add_values};
+use crate::printing::add_call;
 use base_types::{Call, Origin, Outcome, State, Value};
 use field_codec::{
     CodecFault, Numbers, get_answer, get_call, get_origin, get_result, get_state, get_u16, get_u32,
     get_u64, get_unit, get_value, put, put_call, put_state, put_u16, put_u32, put_u64, put_value,
 };
 use std::alloc::{AllocError, Global};
+use test_cases::{add_outcome, add_value, add_values};
 
 // What is read.
 #[derive(Drop)]

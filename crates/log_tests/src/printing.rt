@@ -1,63 +1,13 @@
-use base_types::{Call, GrainId, Outcome, Value};
+use base_types::{Call, Outcome};
 use commit_log::{CommitRecord, Written};
 use std::alloc::AllocError;
-
-// The longest text that is written out.
-const LONGEST: usize = 40;
-
-pub fn add_value(out: &mut String, value: &Value) -> Result<(), AllocError> {
-    match value {
-        Value::Int(number) => write!(out, "{number}"),
-        Value::Text(text) => {
-            let text = text.as_str();
-            let bytes = text.len();
-            if bytes > LONGEST {
-                return write!(out, "a text of {bytes} bytes");
-            }
-            write!(out, "\"{text}\"")
-        }
-    }
-}
-
-pub fn add_values(out: &mut String, values: &[Value]) -> Result<(), AllocError> {
-    let mut between = "(";
-    for value in values {
-        out.push_str(between)?;
-        add_value(out, value)?;
-        between = ", ";
-    }
-    if values.is_empty() {
-        out.push_str(between)?;
-    }
-    out.push_str(")")
-}
-
-fn add_grain(out: &mut String, grain: GrainId) -> Result<(), AllocError> {
-    let GrainId { kind, key } = grain;
-    write!(out, "{kind}/{key}")
-}
+use test_cases::{add_grain, add_outcome, add_values};
 
 pub fn add_call(out: &mut String, call: &Call) -> Result<(), AllocError> {
     let method = call.method;
     add_grain(out, call.grain)?;
     write!(out, ".{method}")?;
     add_values(out, call.args.as_slice())
-}
-
-pub fn add_outcome(out: &mut String, outcome: &Outcome) -> Result<(), AllocError> {
-    match outcome {
-        Outcome::Value(value) => add_value(out, value),
-        Outcome::Fault(text) => {
-            out.push_str("fault ")?;
-            let text = text.as_str();
-            let bytes = text.len();
-            if bytes > LONGEST {
-                return write!(out, "a text of {bytes} bytes");
-            }
-            out.push_str(text)
-        }
-        Outcome::Aborted => out.push_str("aborted"),
-    }
 }
 
 // The most answers, or writes, that are written out.

@@ -10,12 +10,12 @@
 //!
 //! The first four tell what is held: each grain with its mode, its working state and whether that was written.
 
-use crate::printing::add_values;
 use crate::trouble::Trouble;
 use base_types::{GrainId, Mode, State, Value};
 use script_holding::{Held, Holding};
 use script_tree::{Chars, FieldDecl, Literal, Name};
 use std::alloc::{AllocError, Global};
+use test_cases::add_values;
 
 fn field_of(alloc: Global, name: &str, number: i64) -> Result<FieldDecl, AllocError> {
     let text = Chars::new(alloc, name)?;

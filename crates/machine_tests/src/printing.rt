@@ -1,39 +1,10 @@
 use base_types::{Call, GrainId, Outcome, State, Value};
 use script_check::Checked;
 use std::alloc::{AllocError, Global};
+use test_cases::{add_outcome, add_values};
 
-// The longest text, and the most grains or calls, that are written out.
-const LONGEST: usize = 40;
-
+// The most grains or calls that are written out.
 const MOST: usize = 8;
-
-fn add_value(out: &mut String, value: &Value) -> Result<(), AllocError> {
-    match value {
-        Value::Int(number) => write!(out, "{number}"),
-        Value::Text(text) => {
-            let text = text.as_str();
-            let bytes = text.len();
-            if bytes > LONGEST {
-                return write!(out, "a text of {bytes} bytes");
-            }
-            write!(out, "\"{text}\"")
-        }
-    }
-}
-
-/// Writes values in parentheses.
-pub fn add_values(out: &mut String, values: &[Value]) -> Result<(), AllocError> {
-    let mut between = "(";
-    for value in values {
-        out.push_str(between)?;
-        add_value(out, value)?;
-        between = ", ";
-    }
-    if values.is_empty() {
-        out.push_str(between)?;
-    }
-    out.push_str(")")
-}
 
 /// Writes `account/1`, or the number of a type that isn't there.
 pub fn add_grain(out: &mut String, program: &Checked, grain: GrainId) -> Result<(), AllocError> {
@@ -70,17 +41,6 @@ pub fn add_call(
     out.push_str(method_name(program, call))?;
     add_values(out, call.args.as_slice())?;
     write!(out, "@{depth}")
-}
-
-fn add_outcome(out: &mut String, outcome: &Outcome) -> Result<(), AllocError> {
-    match outcome {
-        Outcome::Value(value) => add_value(out, value),
-        Outcome::Fault(text) => {
-            out.push_str("fault ")?;
-            out.push_str(text.as_str())
-        }
-        Outcome::Aborted => out.push_str("aborted"),
-    }
 }
 
 /// How a unit ended, as a text.

@@ -1,13 +1,13 @@
 //! A scope with the fields `total`, `other` and `third`, of which the state has values for the first two, 10 and 20; the key
 //! 4294967295; and locals that were given values in this order: `x` 1, `other` 2 and `x` 3.
 
-use crate::printing::add_values;
 use crate::settings::{first_body, parsed};
 use crate::trouble::Trouble;
 use base_types::Value;
 use script_tree::{Chars, FieldDecl, Literal, Name, Stmt};
 use script_values::{FrameLocals, Scope, Stop, assign, evaluate_all, field_number};
 use std::alloc::{AllocError, Global};
+use test_cases::add_values;
 
 const FIELDS: [&str; 3] = ["total", "other", "third"];
 

@@ -11,6 +11,3 @@ mod taking;
 
 pub use batch::OpenBatch;
 pub use members::FinishedUnit;
-
-#[cfg(test)]
-mod tests;

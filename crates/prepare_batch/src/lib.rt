@@ -10,6 +10,3 @@ mod works;
 
 pub use laws::work_is_the_plan;
 pub use works::{FileWork, plan};
-
-#[cfg(test)]
-mod tests;

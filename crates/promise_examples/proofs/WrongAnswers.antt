@@ -307,17 +307,11 @@ module _ (built : Command → Bool) (takes : GivenOption → Bool) (words : List
       let rose : Rose (old (File f)) (new (File f)) = subst (λ (x : ending.Ending). ending.HasRisen x old new) is answers.risen in
       omega (arith, rose, low, same)
 
-  pub input_passed : AnswersAs built takes words e old new → e ≡ ending.Done → new Input ≢ old Input → ⊥
-  input_passed answers is rose = elim (answers.input rose) [
-    | inl fault ↦ (let z : ending.Done ≡ ending.ReadFault = sym is ∙ fault in absurd (cc z))
-    | inr want ↦ (let z : ending.Done ≡ ending.Memory = sym is ∙ want in absurd (cc z))
-  ]
+  pub input_passed : AnswersAs built takes words e old new → e ≢ ending.ReadFault → new Input ≢ old Input → ⊥
+  input_passed answers other rose = other (answers.input rose)
 
-  pub output_passed : AnswersAs built takes words e old new → e ≡ ending.Done → new Output ≢ old Output → ⊥
-  output_passed answers is rose = elim (answers.output rose) [
-    | inl fault ↦ (let z : ending.Done ≡ ending.WriteFault = sym is ∙ fault in absurd (cc z))
-    | inr want ↦ (let z : ending.Done ≡ ending.Memory = sym is ∙ want in absurd (cc z))
-  ]
+  pub output_passed : AnswersAs built takes words e old new → e ≢ ending.WriteFault → new Output ≢ old Output → ⊥
+  output_passed answers other rose = other (answers.output rose)
 
   pub made_though : (c : Command) (channel : Channel) → AnswersAs built takes words e old new → Understands built takes words c → ((f : ending.Ending) → GoesOn c f → ⊥)
       → e ≡ ending.Done → new channel ≢ old channel → ⊥

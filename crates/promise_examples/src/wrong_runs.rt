@@ -234,8 +234,9 @@ pub fn words_are_answered()
 
 /// Over any host, one that tells nothing of what it holds too: no answer is right that calls words bad use that say a command,
 /// that answers other words otherwise, but for want of memory, or lets a count of faults rise for them, or that ends with a file's fault though its count,
-/// below its last value, is what it was; that is done though a call on the input or the output failed, or that has made a silo, or
-/// reported one, though any call failed; or that names one fault though a call on another channel failed, where it carries no lines.
+/// below its last value, is what it was; that names anything else though a call on the input or the output failed; that has made a
+/// silo, or reported one, though any call failed; or that names one fault though a call on another channel failed, where it carries
+/// no lines.
 pub fn bad_use_is_said_by_words()
     ensures said { (built : Command → Bool) (takes : GivenOption → Bool) (words : List (List ℕ)) (e : ending.Ending) (old new : Channel → ℕ) (c : Command)
         → AnswersAs built takes words e old new → Understands built takes words c → e ≡ ending.BadUse → ⊥ }
@@ -246,9 +247,9 @@ pub fn bad_use_is_said_by_words()
     ensures fault { (built : Command → Bool) (takes : GivenOption → Bool) (words : List (List ℕ)) (e : ending.Ending) (old new : Channel → ℕ) (f : FileId)
         → AnswersAs built takes words e old new → e ≡ ending.DiskFault f → old (File f) < 2 ^ 64 - 1 → new (File f) ≡ old (File f) → ⊥ }
     ensures input { (built : Command → Bool) (takes : GivenOption → Bool) (words : List (List ℕ)) (e : ending.Ending) (old new : Channel → ℕ)
-        → AnswersAs built takes words e old new → e ≡ ending.Done → new Input ≢ old Input → ⊥ }
+        → AnswersAs built takes words e old new → e ≢ ending.ReadFault → new Input ≢ old Input → ⊥ }
     ensures output { (built : Command → Bool) (takes : GivenOption → Bool) (words : List (List ℕ)) (e : ending.Ending) (old new : Channel → ℕ)
-        → AnswersAs built takes words e old new → e ≡ ending.Done → new Output ≢ old Output → ⊥ }
+        → AnswersAs built takes words e old new → e ≢ ending.WriteFault → new Output ≢ old Output → ⊥ }
     ensures made { (built : Command → Bool) (takes : GivenOption → Bool) (words : List (List ℕ)) (e : ending.Ending) (old new : Channel → ℕ) (c : Command) (channel : Channel)
         → AnswersAs built takes words e old new → Understands built takes words c → ((f : ending.Ending) → GoesOn c f → ⊥) → e ≡ ending.Done
         → new channel ≢ old channel → ⊥ }

@@ -86,7 +86,7 @@ bad_use_keeps p r bad sound = subst (IsSoundFolder p) (sym bad.unused) sound
 -- ---- new silos
 
 -- a new silo has the empty log
-new_log : (p : Program) (image : Image) → IsNewSilo magic p.text image → IsLog live_slot (shape_in p) image []
+pub new_log : (p : Program) (image : Image) → IsNewSilo magic p.text image → IsLog live_slot (shape_in p) image []
 new_log p image new = record {
   silo = new.silo;
   header = whole;

@@ -46,12 +46,12 @@ GoesOn Audit e = ⊥
 GoesOn (Load n seed m) e = IsBegun e
 
 -- What holds over any host, one that tells nothing of what it holds too: the words alone say what is bad use, but for want of
--- memory, and a fault is shown by its count. No failed call is passed over: one on the input or the output ends the call so, or
--- memory is wanting then; and where the command doesn't go on behind a file's fault, exactly the call that the ending names failed.
+-- memory, and a fault is shown by its count. No failed call is passed over, by want of memory neither: one on the input or the
+-- output is named; and where the command doesn't go on behind a file's fault, exactly the call that the ending names failed.
 pub record AnswersAs (built : Command → Bool) (takes : GivenOption → Bool) (words : List (List ℕ)) (e : Ending) (old new : Channel → ℕ) : Type 0 where
   pub said : (c : Command) → Understands built takes words c → e ≢ BadUse
   pub other : ((c : Command) → Understands built takes words c → ⊥) → ((e ≡ BadUse) ⊎ (e ≡ Memory)) × NoneFailed old new
   pub risen : HasRisen e old new
-  pub input : new Input ≢ old Input → (e ≡ ReadFault) ⊎ (e ≡ Memory)
-  pub output : new Output ≢ old Output → (e ≡ WriteFault) ⊎ (e ≡ Memory)
+  pub input : new Input ≢ old Input → e ≡ ReadFault
+  pub output : new Output ≢ old Output → e ≡ WriteFault
   pub exact : (c : Command) → Understands built takes words c → (GoesOn c e → ⊥) → HasFailedAs e old new

@@ -14,5 +14,5 @@ mod requests;
 
 pub use faults::RequestFault;
 pub use lines::first_line;
-pub use replies::{replies_are_lines, reply_text};
+pub use replies::{grain_text, replies_are_lines, reply_text};
 pub use requests::{Line, read_request};

@@ -16,8 +16,8 @@ fn type_name(shape: &Shape, kind: u16) -> &str
     }
 }
 
-/// A grain as `type/key`.
-fn grain_text(alloc: Global, shape: &Shape, grain: GrainId) -> Result<String, AllocError>
+/// A grain as `type/key`. The type's name is empty where the shape has no type of this number.
+pub fn grain_text(alloc: Global, shape: &Shape, grain: GrainId) -> Result<String, AllocError>
     ensures { IfOk result (λ text. string_bytes text ≡ grain_text shape.now grain) }
 {
     let name = type_name(shape, grain.kind);

@@ -17,3 +17,5 @@ mod standing;
 mod stops;
 #[cfg(test)]
 mod transfers;
+#[cfg(test)]
+mod words;

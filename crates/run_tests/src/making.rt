@@ -1,4 +1,4 @@
-use crate::bank::BANK;
+use crate::bank::program_text;
 use crate::setting::{MANAGER, PROGRAM, command, new_silo};
 use host_memory::MemoryHost;
 use program_file::ProgramFault;
@@ -8,26 +8,30 @@ use std::alloc::Global;
 use std::test::Fail;
 
 // Whether the folder is a silo of the bank program with an empty log.
-fn is_new_silo(host: &MemoryHost) -> bool {
+fn is_new_silo(host: &MemoryHost, text: &[u8]) -> bool {
     let log = Some(b"\x01OTXLOG01\0\0\0\0\0\0\0".as_slice());
     match host.file(PROGRAM) {
-        Some(bytes) => host.file(MANAGER) == log && bytes.get(4..) == Some(BANK.as_bytes()),
+        Some(bytes) => host.file(MANAGER) == log && bytes.get(4..) == Some(text),
         None => false,
     }
 }
 
-fn init_again(alloc: Global, host: &mut MemoryHost) -> Result<Status, Fail> {
-    host.set_input(BANK.as_bytes())?;
+fn init_again(alloc: Global, host: &mut MemoryHost, text: &[u8]) -> Result<Status, Fail> {
+    host.set_input(text)?;
     command(alloc, host, &["init"])
 }
 
 #[test]
 fn a_silo_is_made_once(rt: HostRuntime) -> Result<(), Fail> {
     let alloc = rt.alloc();
+    let text = program_text(alloc)?;
     let mut host = new_silo(alloc)?;
-    assert!(rt; is_new_silo(&host));
-    assert_eq!(rt; init_again(alloc, &mut host)?, Status::AlreadyASilo);
-    assert!(rt; is_new_silo(&host));
+    assert!(rt; is_new_silo(&host, text.as_bytes()));
+    assert_eq!(rt;
+        init_again(alloc, &mut host, text.as_bytes())?,
+        Status::AlreadyASilo
+    );
+    assert!(rt; is_new_silo(&host, text.as_bytes()));
     assert!(rt; host.output().is_empty());
     Ok(())
 }
@@ -73,7 +77,7 @@ fn other_words_are_bad_use(rt: HostRuntime) -> Result<(), Fail> {
         &["help"],
     ];
     for words in lists {
-        let mut host = MemoryHost::new(alloc, BANK.as_bytes())?;
+        let mut host = MemoryHost::new(alloc, b"type t { field f = 0; }")?;
         assert_eq!(rt;
             command(alloc, &mut host, words)?,
             Status::BadUse,

@@ -1,5 +1,5 @@
 // A silo of the bank program in memory, and the program over it.
-use crate::bank::BANK;
+use crate::bank::program_text;
 use base_types::GrainId;
 use host_memory::MemoryHost;
 use host_trait::{FileId, Host};
@@ -42,7 +42,8 @@ fn make(alloc: Global, host: &mut MemoryHost) -> Result<(), Fail> {
 
 /// A folder that `init` has made a silo of the bank program.
 pub fn new_silo(alloc: Global) -> Result<MemoryHost, Fail> {
-    let mut host = MemoryHost::new(alloc, BANK.as_bytes())?;
+    let text = program_text(alloc)?;
+    let mut host = MemoryHost::new(alloc, text.as_bytes())?;
     make(alloc, &mut host)?;
     Ok(host)
 }

@@ -23,9 +23,9 @@ const LINES: &str = r#"{"args":[1,2,30],"call":"atm/0.transfer"}
 {"args":[2,1,5],"call":"atm/0.transfer"}
 "#;
 
-const BOOKS: &str = r#"{"args":[],"call":"atm/0.books"}"#;
+const BOOKS: &str = r#"{"args":[],"call":"books/0.all"}"#;
 
-// What `books` answers before the run.
+// What it answers before the run.
 const BEFORE: i64 = 100_100_100;
 
 // How a transfer's reply line names it, and what it adds to the books.

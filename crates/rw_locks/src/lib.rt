@@ -6,6 +6,3 @@ mod table;
 
 pub use cell_model::{Ask, Hold};
 pub use table::LockTable;
-
-#[cfg(test)]
-mod tests;

@@ -25,6 +25,8 @@ mod programs;
 #[cfg(test)]
 mod refusals;
 #[cfg(test)]
+mod spans;
+#[cfg(test)]
 mod tokens;
 #[cfg(test)]
 mod trees;

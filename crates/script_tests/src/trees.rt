@@ -1,10 +1,10 @@
 use crate::answers::checked;
-use crate::bank::BANK;
 use crate::printing::print_program;
 use crate::programs::COUNTER;
 use std::alloc::Global;
 use std::process::Abort;
 use std::test::Fail;
+use test_cases::BANK;
 
 // The tree of each text, printed.
 fn expect_trees(rt: &impl Abort, alloc: Global, rows: &[(&str, &str)]) -> Result<(), Fail> {

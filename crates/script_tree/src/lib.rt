@@ -18,6 +18,3 @@ pub use items::Items;
 pub use options::{Entered, EntryRefusal, MethodKind, TxnOption};
 pub use programs::{FieldDecl, Method, Program, TypeDecl};
 pub use statements::{Source, Stmt};
-
-#[cfg(test)]
-mod tests;

@@ -4,4 +4,5 @@ pub mod Expressions
 pub mod Reasons
 pub mod Stops
 pub mod LocalNames
+pub mod Nodes
 pub mod Scopes

@@ -6,6 +6,7 @@
 
 mod expressions;
 mod locals;
+mod nodes;
 mod numbers;
 mod operators;
 mod reasons;

@@ -1,10 +1,11 @@
-ghost use Rattle.std.specs.Prelude.{◌≡◌, ◌∷◌, ◌++◌, [], ℕ, List, Some, OnOk, OnErr, is_ok, if◌then◌else◌, length, bytes_eq};
-ghost use Rattle.std.specs.Map.{update};
-ghost use Rattle.std.specs.Option.{option_copied};
+ghost use Rattle.std.specs.Prelude.{◌≡◌, ◌∷◌, ◌++◌, [], Some, None, OnOk, OnErr, is_ok, if◌then◌else◌, length};
+ghost use Rattle.std.specs.Option.{option_copied, option_or};
 ghost use Rattle.script_scopes.specs.Places.{place_in, name_place};
 ghost use Rattle.script_values.specs.Expressions.{put_local, local_named};
 ghost use Rattle.script_values.specs.LocalNames.{names_of};
+ghost use Rattle.script_values.specs.Nodes.{name_digest, end_of, place_end, HasNodes};
 
+use crate::nodes::{End, Node, add_node, digest_of, note, place, seek};
 use base_types::Value;
 use script_scopes::NamePlaces;
 use script_tree::Chars;
@@ -23,7 +24,8 @@ pub struct Local {
 #[derive(Drop)]
 pub struct LocalList {
     list: Vec<Local>,
-    places: NamePlaces,
+    nodes: Vec<Node>,
+    others: NamePlaces,
 }
 
 impl Model for LocalList {
@@ -32,12 +34,11 @@ impl Model for LocalList {
 
     ghost Value = { List Local };
 
-    ghost use Rattle.script_scopes.specs.Places.{HasPlaces};
-    ghost use Rattle.script_values.specs.LocalNames.{names_of};
+    ghost use Rattle.script_values.specs.Nodes.{HasNodes};
 
     ghost view = { λ l. l.list.items };
 
-    ghost invariant = { λ l. HasPlaces l.places (names_of l.list.items) };
+    ghost invariant = { λ l. HasNodes l.nodes.items l.list.items l.others };
 }
 
 impl LocalList {
@@ -45,7 +46,13 @@ impl LocalList {
     pub fn get(&self, name: &Chars) -> Option<&Value>
         ensures { option_copied result ≡ local_named name.now self.now }
     {
-        match self.places.find(name) {
+        let end = seek(
+            self.nodes.as_slice(),
+            self.list.as_slice(),
+            name,
+            digest_of(name),
+        );
+        match place(&self.others, name, end) {
             None => None,
             Some(at) => Some(value_at(self.list.as_slice(), name, at)),
         }
@@ -55,14 +62,23 @@ impl LocalList {
         ensures ok { OnOk result (self.new ≡ put_local name.now value self.old) }
         ensures err { OnErr result (self.new ≡ self.old) }
     {
-        match self.places.find(name) {
+        let digest = digest_of(name);
+        let end = seek(self.nodes.as_slice(), self.list.as_slice(), name, digest);
+        match place(&self.others, name, end) {
             Some(at) => {
                 give(&mut self.list, name, at, value);
                 Ok(())
             }
             None => {
                 let name = name.copy()?;
-                add(&mut self.list, &mut self.places, Local { name, value })?;
+                add(
+                    &mut self.list,
+                    &mut self.nodes,
+                    &mut self.others,
+                    Local { name, value },
+                    digest,
+                    end,
+                )?;
                 Ok(())
             }
         }
@@ -71,11 +87,27 @@ impl LocalList {
     fn push(&mut self, local: Local) -> Result<(), AllocError>
         ensures items { self.new ≡ (if is_ok result then self.old ++ local ∷ [] else self.old) }
     {
-        if self.places.find(&local.name).is_some() {
-            self.list.push(local)?;
+        let digest = digest_of(&local.name);
+        let end = seek(
+            self.nodes.as_slice(),
+            self.list.as_slice(),
+            &local.name,
+            digest,
+        );
+        if place(&self.others, &local.name, end).is_some() {
+            self.list.reserve(1)?;
+            add_node(&mut self.nodes, digest, false)?;
+            self.list.push_reserved(local);
             return Ok(());
         }
-        add(&mut self.list, &mut self.places, local)?;
+        add(
+            &mut self.list,
+            &mut self.nodes,
+            &mut self.others,
+            local,
+            digest,
+            end,
+        )?;
         Ok(())
     }
 }
@@ -100,15 +132,23 @@ fn give(list: &mut Vec<Local>, name: &Chars, at: usize, value: Value)
 }
 
 // One local more, and its place.
-fn add(list: &mut Vec<Local>, places: &mut NamePlaces, local: Local) -> Result<(), AllocError>
+fn add(
+    list: &mut Vec<Local>,
+    nodes: &mut Vec<Node>,
+    others: &mut NamePlaces,
+    local: Local,
+    digest: u64,
+    end: End,
+) -> Result<(), AllocError>
+    requires has { HasNodes nodes.old.items list.old.items others.old }
+    requires digest { digest ≡ name_digest local.name }
+    requires end { end ≡ end_of nodes.old.items (names_of list.old.items) local.name digest }
+    requires none { option_or (place_end end) (place_in others.old local.name) ≡ None }
     ensures items { list.new.items ≡ (if is_ok result then list.old.items ++ local ∷ [] else list.old.items) }
-    ensures places { OnOk result ((name : List ℕ) → place_in places.new name
-        ≡ update bytes_eq (place_in places.old) local.name (Some (length list.old.items)) name) }
-    ensures err { OnErr result ((name : List ℕ) → place_in places.new name ≡ place_in places.old name) }
+    ensures has { HasNodes nodes.new.items list.new.items others.new }
 {
-    let alloc = *list.allocator();
     list.reserve(1)?;
-    places.note(alloc, &local.name, list.len())?;
+    note(nodes, others, list.as_slice(), &local.name, digest, end)?;
     list.push_reserved(local);
     Ok(())
 }
@@ -127,7 +167,8 @@ impl FrameLocals {
         FrameLocals {
             items: LocalList {
                 list: Vec::new(alloc),
-                places: NamePlaces::new(alloc),
+                nodes: Vec::new(alloc),
+                others: NamePlaces::new(alloc),
             },
         }
     }

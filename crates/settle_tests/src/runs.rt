@@ -3,11 +3,12 @@ use crate::images::{Allowed, PICKS, count_allowed};
 use crate::logs::{COUNT, UNIT, words};
 use crate::recorder::{MANAGER, bytes_in, count};
 use crate::units::{Add, account};
-use crate::verbs::{Look, Numbers, Verb, natural, short, three_numbers, verb_of};
+use crate::verbs::{Look, Verb, verb_of};
 use host_memory::CallKind;
 use host_trait::{Channel, FileId};
 use settle_loop::{StopCause, Turned};
 use std::alloc::{AllocError, Global};
+use test_cases::{Numbers, natural, short, three_numbers};
 
 /// A bench, and what is said to the line that it carried last.
 #[derive(Drop)]

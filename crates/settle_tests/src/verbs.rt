@@ -1,5 +1,3 @@
-use std::str::SplitWhitespace;
-
 /// The first word of a line.
 #[derive(Clone, Copy)]
 pub enum Verb {
@@ -101,45 +99,4 @@ fn look_behind(word: &str) -> Option<Verb> {
         "spread" => Some(Verb::Look(Look::Spread)),
         _ => None,
     }
-}
-
-/// The numbers of a line, 0 where there is none.
-#[derive(Clone, Copy)]
-pub struct Numbers {
-    pub first: i64,
-    pub second: i64,
-    pub third: i64,
-}
-
-// The next number, 0 behind the last word; nothing where the word is no number.
-fn next_number(words: &mut SplitWhitespace<'_>) -> Option<i64> {
-    match words.next() {
-        None => Some(0),
-        Some(word) => word.parse::<i64>().ok(),
-    }
-}
-
-/// The next three numbers, where these words are numbers and no more than three.
-pub fn three_numbers(words: &mut SplitWhitespace<'_>) -> Option<Numbers> {
-    let first = next_number(words)?;
-    let second = next_number(words)?;
-    let third = next_number(words)?;
-    if words.next().is_some() {
-        return None;
-    }
-    Some(Numbers {
-        first,
-        second,
-        third,
-    })
-}
-
-/// The number, 0 where it is below that.
-pub fn natural(number: i64) -> u64 {
-    u64::try_from(number).unwrap_or(0)
-}
-
-/// The number, 0 where it hasn't 32 bits.
-pub fn short(number: i64) -> u32 {
-    u32::try_from(number).unwrap_or(0)
 }

@@ -11,12 +11,12 @@ use Rattle.script_check.specs.Shapes.{type_shapes}
 use Rattle.core_model.specs.Legal.{Run}
 use Rattle.history_core.specs.Cores.{run_of}
 use Rattle.settle_loop.specs.declared.settler.Settler.{Settler}
-use Rattle.interleaver.specs.declared.faults.RunFault.{RunFault}
-use Rattle.interleaver.specs.Beginnings.{Outset, IsOutset, CanTurn}
-use Rattle.interleaver.specs.Beside.{TurnsBeside}
-use Rattle.interleaver.specs.Books.{Books}
-use Rattle.interleaver.specs.Closing.{turns_ending}
-use Rattle.interleaver.specs.Records.{KeepsRecord, IsFreshRecord, RecordGoesOn}
+use Rattle.run_books.specs.declared.faults.RunFault.{RunFault}
+use Rattle.run_books.specs.Beginnings.{Outset, IsOutset, CanTurn}
+use Rattle.run_books.specs.Beside.{TurnsBeside}
+use Rattle.run_books.specs.Books.{Books}
+use Rattle.run_books.specs.Closing.{turns_ending}
+use Rattle.interleaver.specs.Turns.{KeepsTurns, IsFreshRecord, TurnsGoOn}
 use Rattle.silo_opening.specs.declared.open.Opened.{Opened}
 use Rattle.silo_top.specs.declared.starting.Started.{Started}
 use Rattle.silo_top.specs.Answering.{AnswersRun}
@@ -30,7 +30,7 @@ use Rattle.silo_top.proofs.OpensWith.{many_types}
 pub answered : {T : Type 0} (tells : Bool) (width : ℕ) (picks : List ℕ) (x : Opened) (st : Started) (input : List ℕ) (lines : List Line) (w0 w1 w2 : World) (f0 f1 f2 : Channel → ℕ) (result : Result T RunFault) (r' : Run) (s' : Settler)
     → IsStartOf x st → (IsTrue tells → PulledOnly w0 w1) → NoneFailed f0 f1 → 0 < width → 0 < x.next_unit.0 → AreReadFrom (program_tree x.checked) 0 (lines_of input) lines
     → ((o : Outset) (b : Books) → IsOutset o (program_tree x.checked) (run_of st.core) lines width picks → CanTurn (run_of st.core) st.settler lines → IsFreshRecord o b (run_of st.core)
-    → KeepsRecord tells o b (run_of st.core) st.settler f1 w1 → RecordGoesOn tells o b (run_of st.core) r' st.settler s' f2 w1 w2 result)
+    → KeepsTurns tells o b (run_of st.core) st.settler f1 w1 → TurnsGoOn tells o b (run_of st.core) r' st.settler s' f2 w1 w2 result)
     → TurnsBeside tells (run_of st.core) r' st.settler s' f1 f2 w1 w2 result → AnswersRun (turns_ending result) f0 f2
 answered {T} tells width picks x st input lines w0 w1 w2 f0 f1 f2 result r' s' start pulled calm wide above are turns beside =
     let types : ProgramTree = program_tree x.checked in
@@ -40,10 +40,10 @@ answered {T} tells width picks x st input lines w0 w1 w2 f0 f1 f2 result r' s' s
     let opening = opening_state (record { types = type_shapes types }) x.store in
     let first : Run = start_run base kinds opening in
     let same : run_of st.core ≡ first = start.run in
-    let goes : RecordGoesOn {T = T} tells o no_books (run_of st.core) r' st.settler s' f2 w1 w2 result = turns o no_books
+    let goes : TurnsGoOn {T = T} tells o no_books (run_of st.core) r' st.settler s' f2 w1 w2 result = turns o no_books
     (subst (λ (r : Run). IsOutset o types r lines width picks) (sym same) (starts_outset base kinds opening o types (lines_of input) lines width picks are (many_types types) refl refl refl wide refl))
     (subst (λ (r : Run). CanTurn r st.settler lines) (sym same) (starts_quiet base kinds opening types (lines_of input) lines st.settler are start.doubted start.written))
     (subst (λ (r : Run). IsFreshRecord o no_books r) (sym same) (starts_fresh base kinds opening o))
-    (subst (λ (r : Run). KeepsRecord tells o no_books r st.settler f1 w1) (sym same) (starts_kept base kinds opening tells o st.settler f1 w1 above (λ c. let e = calm c in omega (arith, e))
+    (subst (λ (r : Run). KeepsTurns tells o no_books r st.settler f1 w1) (sym same) (starts_kept base kinds opening tells o st.settler f1 w1 above (λ c. let e = calm c in omega (arith, e))
     start.written start.doubted start.sealing (λ told. ((pulled told).output, (pulled told).syncs)))) in
     turns_answer tells o goes.books (run_of st.core) r' st.settler s' f1 f2 w1 w2 result calm goes.ended beside

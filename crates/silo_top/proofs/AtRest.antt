@@ -28,8 +28,8 @@ use Rattle.batch_disk.specs.declared.writer.BatchWriter.{BatchWriter}
 use Rattle.batch_disk.proofs.Ends.{raised_each, raised_long, kept_within}
 use Rattle.batch_disk.proofs.Keeping.{silo_begins}
 use Rattle.batch_disk.proofs.Lists.{both_parts, split_parts, each_list}
-use Rattle.interleaver.specs.Beginnings.{Outset}
-use Rattle.interleaver.specs.Images.{KeepsFolder}
+use Rattle.run_books.specs.Beginnings.{Outset}
+use Rattle.run_books.specs.Images.{KeepsFolder}
 use Rattle.silo_opening.specs.Opened.{IsOpenedFrom}
 use Rattle.silo_opening.specs.declared.open.Opened.{Opened}
 use Rattle.silo_top.specs.Starting.{IsStartOf}

@@ -18,9 +18,9 @@ use Rattle.promise_spec.specs.Causes.{RoseBy}
 use Rattle.txn_agent.specs.Linked.{IsLegalRun}
 use Rattle.worker_rules.specs.Stories.{NoneLoads}
 use Rattle.settle_loop.specs.declared.settler.Settler.{Settler}
-use Rattle.interleaver.specs.Beginnings.{Outset, CanTurn, IsOutset}
-use Rattle.interleaver.specs.Books.{Books, IsPutOut}
-use Rattle.interleaver.specs.Records.{KeepsRecord, IsFreshRecord}
+use Rattle.run_books.specs.Beginnings.{Outset, CanTurn, IsOutset}
+use Rattle.run_books.specs.Books.{Books, IsPutOut}
+use Rattle.interleaver.specs.Turns.{KeepsTurns, IsFreshRecord}
 use Rattle.silo_top.proofs.Read.{AreReadFrom}
 use Rattle.silo_top.proofs.Read.{as_many, go_up, read_as}
 
@@ -63,7 +63,7 @@ module _ (base kinds : ℕ) (opening : GrainId → List Value) where
   -- the record holds
   pub starts_kept : (tells : Bool) (o : Outset) (s : Settler) (counts : Channel → ℕ) (now : World) → 0 < base → ((c : Channel) → o.faults c ≤ counts c)
       → s.written ≡ 0 → s.doubted ≡ false → s.writer.in_doubt ≡ false
-      → (IsTrue tells → (now.output ≡ o.world.output) × (now.syncs ≡ o.world.syncs)) → KeepsRecord tells o no_books r s counts now
+      → (IsTrue tells → (now.output ≡ o.world.output) × (now.syncs ≡ o.world.syncs)) → KeepsTurns tells o no_books r s counts now
   starts_kept tells o s counts now above later written sure sealing outside = record {
     above = above;
     units = λ at e a. absurd (none_applies base kinds opening at e a);
@@ -80,7 +80,6 @@ module _ (base kinds : ℕ) (opening : GrainId → List Value) where
       doubt = sure;
       unsure = sealing ∙ sym sure;
       written = written;
-      unstopped = refl;
       outside = λ told. record {
         output = record { output = (outside told).0 ∙ sym (append-nil o.world.output); unended = tt; proper = tt };
         syncs = λ none. no_syncs now.syncs o.world.syncs (outside told).1;

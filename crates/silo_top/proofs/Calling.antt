@@ -11,7 +11,7 @@ use Rattle.promise_spec.specs.Loads.{Loads}
 use Rattle.promise_spec.specs.Calls.{Understands, Obeys, Serves, AnswersAs, GoesOn}
 use Rattle.bank_load.specs.Requests.{load_texts}
 use Rattle.silo_top.specs.declared.status.Status.{Status}
-use Rattle.silo_top.specs.Answering.{is_built, is_taken, turns_manner, IsAsked, AsksFor, observed_call, observed_run, AnswersRun, NamesFaults}
+use Rattle.silo_top.specs.Answering.{is_built, is_taken, turns_manner, IsAsked, AsksFor, observed_call, observed_run, AnswersRun}
 use Rattle.silo_top.proofs.AskedWords.{one_said}
 use Rattle.silo_top.proofs.Counted.{failed_risen, failed_input, failed_output}
 use Rattle.silo_top.proofs.Unopened.{starved_promised, starved_made, starved_unopened, starved_unmade}
@@ -37,8 +37,8 @@ module _ (texts : List (List ℕ)) where
       said = λ c v. good;
       other = λ none. absurd (none d u);
       risen = failed_risen before after e exact;
-      input = λ other. inl (failed_input before after e exact other);
-      output = λ other. inl (failed_output before after e exact other);
+      input = failed_input before after e exact;
+      output = failed_output before after e exact;
       exact = λ c v stops. exact;
     }
 
@@ -48,8 +48,8 @@ module _ (texts : List (List ℕ)) where
       said = λ c v. a.good;
       other = λ none. absurd (none d u);
       risen = a.risen;
-      input = λ other. inl (a.names.input other);
-      output = λ other. inl (a.names.output other);
+      input = a.input;
+      output = a.output;
       exact = λ c v stops. a.exact (λ begun. subst (λ (x : Command). GoesOn x e → ⊥) (one_understood c d v u) stops (goes begun));
     }
 
@@ -116,7 +116,3 @@ module _ (texts : List (List ℕ)) where
     output = λ other. absurd (other refl);
     exact = λ c u stops. λ d. refl;
   }
-
--- where no count changed, none is named
-pub still_names : (e : Ending) (counts : Channel → ℕ) → NamesFaults e counts counts
-still_names e counts = record { input = λ other. absurd (other refl); output = λ other. absurd (other refl) }

@@ -8,7 +8,7 @@ use Rattle.promise_spec.specs.Endings.{Ending, Done, BadUse, Memory, ReadFault, 
 use Rattle.silo_opening.specs.Counts.{OpenFaulted}
 use Rattle.silo_opening.specs.Opened.{ending_of}
 use Rattle.silo_opening.specs.declared.faults.OpenFault.{OpenFault}
-use Rattle.silo_top.specs.Answering.{AnswersRun, NamesFaults}
+use Rattle.silo_top.specs.Answering.{AnswersRun}
 
 abbrev Counts : Type 0
 Counts = Channel → ℕ
@@ -66,15 +66,13 @@ module _ (old new : Counts) where
   failed_output (BadProgram fault) f other = absurd (other (f Output))
   failed_output (InputTooLong line) f other = absurd (other (f Output))
 
-  pub failed_names : (e : Ending) → HasFailedAs e old new → NamesFaults e old new
-  failed_names e f = record { input = failed_input e f; output = failed_output e f }
-
   -- so a run that names exactly the call that failed answers as a run does
   pub exactly_answers : (e : Ending) → e ≢ BadUse → HasFailedAs e old new → AnswersRun e old new
   exactly_answers e good f = record {
     good = good;
     risen = failed_risen e f;
-    names = failed_names e f;
+    input = failed_input e f;
+    output = failed_output e f;
     exact = λ unbegun. f;
   }
 

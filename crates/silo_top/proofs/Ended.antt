@@ -25,15 +25,17 @@ use Rattle.promise_spec.specs.Promise.{IsDone, Promises}
 use Rattle.promise_laws.specs.Closings.{ReadsMayStay, IsBehind}
 use Rattle.promise_laws.specs.Obligations.{ShowsAnywhere, Opens}
 use Rattle.settle_loop.specs.declared.settler.Settler.{Settler}
-use Rattle.interleaver.specs.declared.faults.RunFault.{RunFault}
-use Rattle.interleaver.specs.declared.faults.RunFault.TheVariants.{InDoubt, WriteFault, Memory}
-use Rattle.interleaver.specs.Beginnings.{Outset}
-use Rattle.interleaver.specs.Books.{Books, booked_journal}
-use Rattle.interleaver.specs.Closing.{IsCourseOf, turns_ending}
-use Rattle.interleaver.specs.Images.{LastsSo}
-use Rattle.interleaver.specs.Records.{TurnsEndAs, RecordGoesOn}
-use Rattle.interleaver.proofs.Showing.{explains, settled}
-use Rattle.interleaver.proofs.Lasting.{lasts}
+use Rattle.run_books.specs.declared.faults.RunFault.{RunFault}
+use Rattle.run_books.specs.declared.faults.RunFault.TheVariants.{InDoubt, WriteFault, Memory}
+use Rattle.run_books.specs.Beginnings.{Outset}
+use Rattle.run_books.specs.Books.{Books, booked_journal}
+use Rattle.run_books.specs.Closing.{IsCourseOf, turns_ending}
+use Rattle.run_books.specs.Images.{LastsSo}
+use Rattle.run_books.specs.Records.{TurnsEndAs}
+use Rattle.interleaver.specs.Turns.{TurnsGoOn}
+use Rattle.interleaver.proofs.Unstopped.{turns-record}
+use Rattle.run_books.proofs.Showing.{explains, settled}
+use Rattle.run_books.proofs.Lasting.{lasts}
 use Rattle.opening_rules.specs.Behind.{program_of, FollowsOpening}
 use Rattle.opening_rules.proofs.Behind.{behind}
 use Rattle.silo_opening.specs.declared.open.Opened.{Opened}
@@ -42,7 +44,7 @@ use Rattle.silo_top.specs.Statuses.{status_ending}
 use Rattle.silo_top.specs.Answering.{turns_manner, observed_run, AnswersRun}
 use Rattle.silo_top.specs.Reading.{PulledOnly}
 use Rattle.silo_top.specs.Serving.{IsBehindOpening}
-use Rattle.interleaver.specs.Beside.{EmitsAs, TurnsBeside}
+use Rattle.run_books.specs.Beside.{EmitsAs, TurnsBeside}
 use Rattle.silo_top.proofs.Beginning.{no_books}
 use Rattle.silo_top.proofs.Promised.{behind_promised}
 
@@ -97,10 +99,8 @@ pub turns_answer : {T : Type 0} (tells : Bool) (o : Outset) (b : Books) (r r' : 
 turns_answer tells o b r r' s s' mid after now now' result calm e beside = record {
   good = good_by result;
   risen = risen_by o b r' s' after result e;
-  names = record {
-    input = λ other. absurd (other (beside.pulled ∙ calm Input));
-    output = output_by result (o.faults Output) (mid Output) (after Output) (calm Output) beside.emitted;
-  };
+  input = λ other. absurd (other (beside.pulled ∙ calm Input));
+  output = output_by result (o.faults Output) (mid Output) (after Output) (calm Output) beside.emitted;
   exact = λ unbegun. absurd (unbegun (begun_by result));
 }
 
@@ -130,7 +130,7 @@ module _ {T : Type 0} (width : ℕ) (picks : List ℕ) (x : Opened) (old mid now
   r0 = core_from p.types (standing_of p.types log) []
 
   -- the turns went on from the start, and what the images keep held there, where the folder is sound
-  module _ (r' : Run) (s s' : Settler) (mid_faults : Channel → ℕ) (goes : RecordGoesOn true out no_books r0 r' s s' after now new result) (beside : TurnsBeside true r0 r' s s' mid_faults after now new result) (loud : s.quiet ≡ false) where
+  module _ (r' : Run) (s s' : Settler) (mid_faults : Channel → ℕ) (goes : TurnsGoOn true out no_books r0 r' s s' after now new result) (beside : TurnsBeside true r0 r' s s' mid_faults after now new result) (loud : s.quiet ≡ false) where
     abbrev pub b : Books
     b = goes.books
 
@@ -170,7 +170,7 @@ module _ {T : Type 0} (width : ℕ) (picks : List ℕ) (x : Opened) (old mid now
     stands = behind x seen c mid is.opened follows
 
     are_settled : AreSettled p seen c
-    are_settled = settled true out b r' s' seen c result (beside.quiet ∙ loud) goes.record_kept goes.ended ends_as course
+    are_settled = settled true out b r' s' seen c result (beside.quiet ∙ loud) (turns-record goes.record_kept) goes.ended ends_as course
 
     is_done : (answer : Result T RunFault) → TurnsEndAs out b r' s' after answer → turns_ending answer ≡ Done → (e : c.entries ≡ (ends r').manager.settled) → IsDone seen c
     is_done (Ok done) e q all = record {
@@ -183,7 +183,7 @@ module _ {T : Type 0} (width : ℕ) (picks : List ℕ) (x : Opened) (old mid now
 
     answers : ShowsAnywhere p seen c
     answers = record {
-      explains = explains true out b r' s' seen c result goes.record_kept goes.ended ends_as course;
+      explains = explains true out b r' s' seen c result (turns-record goes.record_kept) goes.ended ends_as (λ one. goes.record_kept.turns) course;
       settled = are_settled;
       output = subst (λ (l : List ℕ). Grew (shape_in p) l new.output (entries_of b.said) b.rest) is.run.now.output (goes.record_kept.books.outside told).output;
       whole = λ other. rest_by out b r' s' after result goes.ended (λ q. other (ends_as ∙ q));
@@ -205,4 +205,4 @@ module _ {T : Type 0} (width : ℕ) (picks : List ℕ) (x : Opened) (old mid now
     -- so the run keeps its promise, where it is known what the images keep at the start of the turns
     pub turns_promised : (Opens p seen c → LastsSo out (take 15 (seen_at_entry seen manager)) no_books r0 s.writer now) → Promises (turns_manner width picks) seen
     turns_promised start = behind_promised p seen c mid stands is.stays stay_mid (turns_manner width picks) refl answers
-        (λ opens. lasts true out (take 15 (seen_at_entry seen manager)) b r' s' seen c refl goes.record_kept (goes.lasts told (take 15 (seen_at_entry seen manager)) (start opens)) course refl stands opens stay_new)
+        (λ opens. lasts true out (take 15 (seen_at_entry seen manager)) b r' s' seen c refl (turns-record goes.record_kept) (goes.lasts told (take 15 (seen_at_entry seen manager)) (start opens)) course refl stands opens stay_new)

@@ -17,8 +17,8 @@ use Rattle.promise_laws.proofs.BatchEnds.{records-end}
 use Rattle.promise_laws.proofs.KeptRuns.{logged_ends}
 use Rattle.batch_disk.specs.Resting.{EachImage}
 use Rattle.batch_disk.specs.declared.writer.BatchWriter.{BatchWriter}
-use Rattle.interleaver.specs.Beginnings.{Outset, basis_of}
-use Rattle.interleaver.specs.Images.{LeavesAside, KeepsFolder, LastsSo}
+use Rattle.run_books.specs.Beginnings.{Outset, basis_of}
+use Rattle.run_books.specs.Images.{LeavesAside, KeepsFolder, LastsSo}
 use Rattle.silo_top.specs.Reading.{PulledOnly}
 use Rattle.silo_top.proofs.Beginning.{start_run, no_books, none_applies}
 

@@ -13,12 +13,13 @@ use Rattle.history_core.specs.Cores.{run_of}
 use Rattle.promise_spec.specs.Endings as ending
 use Rattle.promise_spec.specs.Endings.{Ending, HasRisen, HasFailedAs, IsBegun, BadUse, ReadFault, WriteFault as Unwritten}
 use Rattle.settle_loop.specs.declared.settler.Settler.{Settler}
-use Rattle.interleaver.specs.declared.faults.RunFault.{RunFault}
-use Rattle.interleaver.specs.declared.faults.RunFault.TheVariants.{InDoubt, WriteFault, Memory}
-use Rattle.interleaver.specs.Beginnings.{Outset, IsOutset, CanTurn}
-use Rattle.interleaver.specs.Beside.{TurnsBeside}
-use Rattle.interleaver.specs.Books.{Books}
-use Rattle.interleaver.specs.Records.{KeepsRecord, IsFreshRecord, RecordGoesOn, TurnsEndAs}
+use Rattle.run_books.specs.declared.faults.RunFault.{RunFault}
+use Rattle.run_books.specs.declared.faults.RunFault.TheVariants.{InDoubt, WriteFault, Memory}
+use Rattle.run_books.specs.Beginnings.{Outset, IsOutset, CanTurn}
+use Rattle.run_books.specs.Beside.{TurnsBeside}
+use Rattle.run_books.specs.Books.{Books}
+use Rattle.run_books.specs.Records.{TurnsEndAs}
+use Rattle.interleaver.specs.Turns.{KeepsTurns, IsFreshRecord, TurnsGoOn}
 use Rattle.silo_opening.specs.declared.open.Opened.{Opened}
 use Rattle.silo_top.specs.declared.starting.Started.{Started}
 use Rattle.silo_top.specs.Answering.{AnswersRun}
@@ -32,7 +33,7 @@ use Rattle.silo_top.proofs.OpensWith.{many_types}
 -- what `run_turns` says of its record
 abbrev pub TurnsSay : {T : Type 0} → Bool → ProgramTree → List ℕ → ℕ → List Line → Run → Run → Settler → Settler → (Channel → ℕ) → (Channel → ℕ) → World → World → Result T RunFault → Type 0
 TurnsSay tells types picks width lines r r' s s' f1 f2 w1 w2 result = (o : Outset) (b : Books) → IsOutset o types r lines width picks → CanTurn r s lines → IsFreshRecord o b r
-    → KeepsRecord tells o b r s f1 w1 → RecordGoesOn tells o b r r' s s' f2 w1 w2 result
+    → KeepsTurns tells o b r s f1 w1 → TurnsGoOn tells o b r r' s s' f2 w1 w2 result
 
 -- it is the same for the same program, and without picks
 pub turns_of : {T : Type 0} (tells : Bool) (types others : ProgramTree) (picks : List ℕ) (width : ℕ) (lines : List Line) (r r' : Run) (s s' : Settler) (f1 f2 : Channel → ℕ) (w1 w2 : World) (result : Result T RunFault) → types ≡ others → picks ≡ []
@@ -46,7 +47,8 @@ faulted_answers : (fault : RunFault) (old new : Channel → ℕ) → HasRisen (l
 faulted_answers fault old new risen pulled calm = record {
   good = good fault;
   risen = risen;
-  names = record { input = λ other. absurd (other pulled); output = λ other. absurd (other calm) };
+  input = λ other. absurd (other pulled);
+  output = λ other. absurd (other calm);
   exact = λ unbegun. absurd (unbegun (begun fault));
 }
   where
@@ -64,7 +66,7 @@ faulted_answers fault old new risen pulled calm = record {
 pub turns_faulted : {T : Type 0} (tells : Bool) (width : ℕ) (x : Opened) (st : Started) (texts : List (List ℕ)) (lines : List Line) (w1 w2 : World) (f1 f2 : Channel → ℕ) (result : Result T RunFault) (r' : Run) (s' : Settler)
     → IsStartOf x st → st.settler.quiet ≡ true → 0 < width → 0 < x.next_unit.0 → AreReadFrom (program_tree x.checked) 0 texts lines
     → ((o : Outset) (b : Books) → IsOutset o (program_tree x.checked) (run_of st.core) lines width [] → CanTurn (run_of st.core) st.settler lines → IsFreshRecord o b (run_of st.core)
-    → KeepsRecord tells o b (run_of st.core) st.settler f1 w1 → RecordGoesOn tells o b (run_of st.core) r' st.settler s' f2 w1 w2 result)
+    → KeepsTurns tells o b (run_of st.core) st.settler f1 w1 → TurnsGoOn tells o b (run_of st.core) r' st.settler s' f2 w1 w2 result)
     → TurnsBeside tells (run_of st.core) r' st.settler s' f1 f2 w1 w2 result → (fault : RunFault) → result ≡ Err fault → AnswersRun (load_ending fault) f1 f2
 turns_faulted {T} tells width x st texts lines w1 w2 f1 f2 result r' s' start hush wide above are turns beside fault q =
     let types : ProgramTree = program_tree x.checked in
@@ -74,11 +76,11 @@ turns_faulted {T} tells width x st texts lines w1 w2 f1 f2 result r' s' start hu
     let opening = opening_state (record { types = type_shapes types }) x.store in
     let first : Run = start_run base kinds opening in
     let same : run_of st.core ≡ first = start.run in
-    let goes : RecordGoesOn {T = T} tells o no_books (run_of st.core) r' st.settler s' f2 w1 w2 result = turns o no_books
+    let goes : TurnsGoOn {T = T} tells o no_books (run_of st.core) r' st.settler s' f2 w1 w2 result = turns o no_books
     (subst (λ (r : Run). IsOutset o types r lines width []) (sym same) (starts_outset base kinds opening o types texts lines width [] are (many_types types) refl refl refl wide refl))
     (subst (λ (r : Run). CanTurn r st.settler lines) (sym same) (starts_quiet base kinds opening types texts lines st.settler are start.doubted start.written))
     (subst (λ (r : Run). IsFreshRecord o no_books r) (sym same) (starts_fresh base kinds opening o))
-    (subst (λ (r : Run). KeepsRecord tells o no_books r st.settler f1 w1) (sym same) (starts_kept base kinds opening tells o st.settler f1 w1 above (λ c. omega arith)
+    (subst (λ (r : Run). KeepsTurns tells o no_books r st.settler f1 w1) (sym same) (starts_kept base kinds opening tells o st.settler f1 w1 above (λ c. omega arith)
     start.written start.doubted start.sealing (λ told. (refl, refl)))) in
     let ended : TurnsEndAs o goes.books r' s' f2 {T = T} (Err fault) = subst (TurnsEndAs o goes.books r' s' f2) q goes.ended in
     faulted_answers fault f1 f2 (load_risen T o goes.books r' s' f2 fault ended) beside.pulled (beside.calm hush)
@@ -89,7 +91,8 @@ summary_answers e old mid new may failed pulled calm =
     record {
       good = good_by e may;
       risen = risen_by e may failed;
-      names = record { input = λ other. absurd (other (pulled_by e may failed)); output = output_by e may failed };
+      input = λ other. absurd (other (pulled_by e may failed));
+      output = output_by e may failed;
       exact = λ unbegun. absurd (unbegun (begun_by e may));
     }
   where

@@ -1,23 +1,20 @@
 -- What a load begins with: a silo of the bank program with an empty log.
-use Rattle.std.proofs.Common.{◌≡◌, ◌≢◌, ℕ, ◌<◌, ◌≤◌, List, [], length, None, Ok, slice_index, refl, sym, ap, ◌∙◌, subst, arith, lit≤, get_or-take, unwrap_or}
+use Rattle.std.proofs.Common.{◌≡◌, List, [], Ok, refl, sym, ap, ◌∙◌, subst, lit≤, unwrap_or}
 use Rattle.base_types.specs.Stores.{state_in}
 use Rattle.base_types.specs.declared.calls.GrainId.{GrainId}
 use Rattle.host_trait.specs.World.{World, Image, IsImage}
-use Rattle.gate_block.specs.Log.{first_gate}
-use Rattle.gate_block.proofs.Logs.{no_blocks}
-use Rattle.log_reading.specs.Blocks.{header_damage}
 use Rattle.log_reading.specs.Steps.{seen_in}
-use Rattle.program_file.specs.Programs.{text_limit, program_in}
+use Rattle.program_file.specs.Programs.{program_in}
 use Rattle.script_tree.specs.Programs.{ProgramTree, program_tree}
-use Rattle.silo_spec.specs.Silos.{manager, program_file, HasProgram, IsNewSilo, new_header}
-use Rattle.promise_spec.specs.Programs.{Program, IsChecked, shape_in}
-use Rattle.promise_spec.specs.Records.{Commit, new_silo, standing_of}
-use Rattle.promise_spec.specs.Logs.{magic, live_slot, IsLog}
+use Rattle.silo_spec.specs.Silos.{IsNewSilo}
+use Rattle.promise_spec.specs.Programs.{Program, IsChecked}
+use Rattle.promise_spec.specs.Records.{new_silo, standing_of}
+use Rattle.promise_spec.specs.Logs.{magic, live_slot}
 use Rattle.promise_spec.specs.Openings.{Reads, opened_as}
 use Rattle.promise_spec.specs.Promise.{IsSoundFolder}
 use Rattle.promise_spec.specs.Loads.{bank_text}
 use Rattle.promise_spec.proofs.Openings.{program_checked, log_is_read, reads_is}
-use Rattle.promise_spec.proofs.SoundFolders.{new_folder}
+use Rattle.promise_spec.proofs.SoundFolders.{new_log, new_folder}
 use Rattle.promise_laws.specs.Closings.{ReadsMayStay}
 use Rattle.opening_rules.specs.Behind.{program_of}
 use Rattle.script_tree.specs.declared.programs.Program.{Program as Tree}
@@ -25,34 +22,6 @@ use Rattle.silo_opening.specs.Opened.{IsOpenedFrom}
 use Rattle.silo_opening.specs.declared.open.Opened.{Opened}
 use Rattle.silo_top.specs.Loading.{IsNewBank}
 use Rattle.silo_top.specs.Serving.{IsBehindOpening}
-
--- a new silo has the empty log
-new_log : (p : Program) (image : Image) → IsNewSilo magic p.text image → IsLog live_slot (shape_in p) image []
-new_log p image new = record {
-  silo = new.silo;
-  header = whole;
-  batches = [];
-  gate = first_gate;
-  blocks = record { blocks = no_blocks (image manager) (omega (arith, new.silo.long)); closed = shut };
-  sizes = tt;
-  commits = refl;
-  kept = tt;
-}
-  where
-    -- the bytes of its header are a new header's
-    byte_of : (i : ℕ) → i < 16 → slice_index (image manager) i ≡ slice_index (new_header magic) i
-    byte_of i low = sym (get_or-take 16 (image manager) i 0 low) ∙ ap (λ (l : List ℕ). slice_index l i) new.header
-
-    -- of which bytes 13 and 14 are zero
-    whole : header_damage (image manager) ≡ None
-    whole = rw (byte_of 13 (omega arith), byte_of 14 (omega arith)) refl
-
-    byte : slice_index (image manager) 15 ≡ 0
-    byte = byte_of 15 (omega arith)
-
-    -- its gate isn't open
-    shut : slice_index (image manager) 15 ≢ 1
-    shut open_gate = omega (arith, byte, open_gate)
 
 -- the bank program with these types
 abbrev pub bank_of : ProgramTree → Program

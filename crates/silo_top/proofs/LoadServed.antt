@@ -39,16 +39,18 @@ use Rattle.promise_laws.specs.Obligations.{ExplainsEvents, Opens, Lasts}
 use Rattle.promise_laws.proofs.KeptRuns.{opens_sound}
 use Rattle.settle_loop.specs.declared.settler.Settler.{Settler}
 use Rattle.batch_disk.specs.Resting.{SomeImage}
-use Rattle.interleaver.specs.declared.faults.RunFault.{RunFault}
-use Rattle.interleaver.specs.declared.faults.RunFault.TheVariants.{InDoubt, WriteFault, Memory}
-use Rattle.interleaver.specs.Beginnings.{Outset, IsOutset, CanTurn}
-use Rattle.interleaver.specs.Beside.{IsHushed, TurnsBeside}
-use Rattle.interleaver.specs.Books.{Books, booked_journal, IsPutOut}
-use Rattle.interleaver.specs.Closing.{IsCourseOf, turns_ending}
-use Rattle.interleaver.specs.Images.{LastsSo}
-use Rattle.interleaver.specs.Records.{KeepsRecord, IsFreshRecord, RecordGoesOn, TurnsEndAs, HasCarriedAll}
-use Rattle.interleaver.proofs.Showing.{explains}
-use Rattle.interleaver.proofs.Lasting.{lasts}
+use Rattle.run_books.specs.declared.faults.RunFault.{RunFault}
+use Rattle.run_books.specs.declared.faults.RunFault.TheVariants.{InDoubt, WriteFault, Memory}
+use Rattle.run_books.specs.Beginnings.{Outset, IsOutset, CanTurn}
+use Rattle.run_books.specs.Beside.{IsHushed, TurnsBeside}
+use Rattle.run_books.specs.Books.{Books, booked_journal, IsPutOut}
+use Rattle.run_books.specs.Closing.{IsCourseOf, turns_ending}
+use Rattle.run_books.specs.Images.{LastsSo}
+use Rattle.run_books.specs.Records.{TurnsEndAs, HasCarriedAll}
+use Rattle.interleaver.specs.Turns.{KeepsTurns, IsFreshRecord, TurnsGoOn}
+use Rattle.interleaver.proofs.Unstopped.{turns-record}
+use Rattle.run_books.proofs.Showing.{explains}
+use Rattle.run_books.proofs.Lasting.{lasts}
 use Rattle.opening_rules.specs.Behind.{program_of, FollowsOpening}
 use Rattle.opening_rules.proofs.Behind.{behind}
 use Rattle.silo_opening.specs.declared.open.Opened.{Opened}
@@ -183,7 +185,7 @@ module _ {T : Type 0} (n seed width : ℕ) (x : Opened) (st : Started) (old mid 
 
   module _ (lines : List Line) (are : AreReadFrom (program_tree x.checked) 0 (load_texts n seed) lines) (wide : 0 < width) (above : 0 < x.next_unit.0) (none : NoneFailed before between) (r' : Run) (s' : Settler)
       (turns : (o : Outset) (b : Books) → IsOutset o (program_tree x.checked) (run_of st.core) lines width [] → CanTurn (run_of st.core) st.settler lines → IsFreshRecord o b (run_of st.core)
-      → KeepsRecord true o b (run_of st.core) st.settler between mid → RecordGoesOn true o b (run_of st.core) r' st.settler s' after mid new result)
+      → KeepsTurns true o b (run_of st.core) st.settler between mid → TurnsGoOn true o b (run_of st.core) r' st.settler s' after mid new result)
       (aside : TurnsBeside true (run_of st.core) r' st.settler s' between after mid new result) where
     began : run_of st.core ≡ r0
     began = start_is (seen_in old.disk) x st is.opened start
@@ -191,15 +193,15 @@ module _ {T : Type 0} (n seed width : ℕ) (x : Opened) (st : Started) (old mid 
     base : 0 < r0.base
     base = subst (λ (k : ℕ). 0 < k) is.opened.next above
 
-    kept_first : KeepsRecord true out no_books r0 st.settler between mid
+    kept_first : KeepsTurns true out no_books r0 st.settler between mid
     kept_first = starts_kept r0.base r0.kinds r0.opening true out st.settler between mid base (λ c. let e = none c in omega (arith, e)) start.written start.doubted start.sealing (λ told. (refl, refl))
 
-    pub goes : RecordGoesOn true out no_books r0 r' st.settler s' after mid new result
-    goes = subst (λ (r : Run). RecordGoesOn true out no_books r r' st.settler s' after mid new result) began (turns out no_books
+    pub goes : TurnsGoOn true out no_books r0 r' st.settler s' after mid new result
+    goes = subst (λ (r : Run). TurnsGoOn true out no_books r r' st.settler s' after mid new result) began (turns out no_books
         (subst (λ (r : Run). IsOutset out (program_tree x.checked) r lines width []) (sym began) (starts_outset r0.base r0.kinds r0.opening out (program_tree x.checked) (load_texts n seed) lines width [] are refl refl refl refl wide refl))
         (subst (λ (r : Run). CanTurn r st.settler lines) (sym began) (starts_quiet r0.base r0.kinds r0.opening (program_tree x.checked) (load_texts n seed) lines st.settler are start.doubted start.written))
         (subst (λ (r : Run). IsFreshRecord out no_books r) (sym began) (starts_fresh r0.base r0.kinds r0.opening out))
-        (subst (λ (r : Run). KeepsRecord true out no_books r st.settler between mid) (sym began) kept_first))
+        (subst (λ (r : Run). KeepsTurns true out no_books r st.settler between mid) (sym began) kept_first))
 
     pub beside : TurnsBeside true r0 r' st.settler s' between after mid new result
     beside = subst (λ (r : Run). TurnsBeside true r r' st.settler s' between after mid new result) began aside
@@ -280,7 +282,7 @@ module _ {T : Type 0} (n seed width : ℕ) (x : Opened) (st : Started) (old mid 
         (λ sure. starts_resting out x st (seen_in old.disk) is.opened start refl r0 mid.disk is.settled seen_left all))
 
     pub lasts_so : Lasts p seen c0
-    lasts_so = lasts true out head b r' s' seen c0 refl goes.record_kept lasting course refl stands opens stay_new
+    lasts_so = lasts true out head b r' s' seen c0 refl (turns-record goes.record_kept) lasting course refl stands opens stay_new
 
     -- an image at the end has the whole order
     pub has_whole : HasWhole p c0 new
@@ -306,7 +308,7 @@ module _ {T : Type 0} (n seed width : ℕ) (x : Opened) (st : Started) (old mid 
             is_some y ys t = absurd cc
 
     pub explains_so : ExplainsEvents p seen c0
-    explains_so = explains true out b r' s' seen c0 result goes.record_kept goes.ended refl course
+    explains_so = explains true out b r' s' seen c0 result (turns-record goes.record_kept) goes.ended refl (λ one. goes.record_kept.turns) course
 
     -- ---- a load that ends so
 

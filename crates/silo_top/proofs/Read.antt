@@ -6,7 +6,7 @@ use Rattle.request_wire.specs.Names.{names_in}
 use Rattle.request_wire.specs.Request.{call_of}
 use Rattle.script_tree.specs.Programs.{ProgramTree}
 use Rattle.promise_spec.specs.Lines.{ReadsLineAs}
-use Rattle.interleaver.specs.Beginnings.{GoUpFrom}
+use Rattle.run_books.specs.Beginnings.{GoUpFrom}
 use Rattle.run_lines.specs.Reading.{lines_from_texts}
 
 -- the lines are these texts', one for each, numbered one after another from the one behind this number on, and each is what its

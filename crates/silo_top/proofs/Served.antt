@@ -17,11 +17,11 @@ use Rattle.promise_spec.specs.Endings.{input_limit}
 use Rattle.promise_spec.specs.Promise.{Promises}
 use Rattle.promise_laws.specs.Closings.{ReadsMayStay}
 use Rattle.settle_loop.specs.declared.settler.Settler.{Settler}
-use Rattle.interleaver.specs.declared.faults.RunFault.{RunFault}
-use Rattle.interleaver.specs.Beginnings.{Outset, IsOutset, CanTurn}
-use Rattle.interleaver.specs.Books.{Books}
-use Rattle.interleaver.specs.Closing.{turns_ending}
-use Rattle.interleaver.specs.Records.{KeepsRecord, IsFreshRecord, RecordGoesOn}
+use Rattle.run_books.specs.declared.faults.RunFault.{RunFault}
+use Rattle.run_books.specs.Beginnings.{Outset, IsOutset, CanTurn}
+use Rattle.run_books.specs.Books.{Books}
+use Rattle.run_books.specs.Closing.{turns_ending}
+use Rattle.interleaver.specs.Turns.{KeepsTurns, IsFreshRecord, TurnsGoOn}
 use Rattle.silo_opening.specs.declared.open.Opened.{Opened}
 use Rattle.silo_top.specs.declared.status.Status.{Status}
 use Rattle.silo_top.specs.declared.starting.Started.{Started}
@@ -31,7 +31,7 @@ use Rattle.silo_top.specs.Reading.{PulledOnly}
 use Rattle.silo_top.proofs.Read.{AreReadFrom}
 use Rattle.silo_top.specs.Starting.{IsStartOf}
 use Rattle.silo_top.specs.Serving.{IsBehindOpening}
-use Rattle.interleaver.specs.Beside.{TurnsBeside}
+use Rattle.run_books.specs.Beside.{TurnsBeside}
 use Rattle.silo_top.proofs.Beginning.{no_books, starts_kept, starts_quiet, starts_fresh, starts_outset}
 use Rattle.silo_top.proofs.Ended.{out, r0, stands, turns_promised}
 use Rattle.silo_top.proofs.LastsAtStart.{starts_lasting}
@@ -48,7 +48,7 @@ module _ {T : Type 0} (width : ℕ) (picks : List ℕ) (x : Opened) (st : Starte
   first = r0 width picks x old mid now new before after status result is pulled stay_mid stay_new end short ends_as
 
   -- the record that holds where the turns begin
-  kept : 0 < x.next_unit.0 → NoneFailed before between → KeepsRecord true outset no_books first st.settler between now
+  kept : 0 < x.next_unit.0 → NoneFailed before between → KeepsTurns true outset no_books first st.settler between now
   kept above calm = starts_kept first.base first.kinds first.opening true outset st.settler between now (subst (λ (n : ℕ). 0 < n) is.opened.next above) (λ c. let e = calm c in omega (arith, e))
       start.written start.doubted start.sealing (λ told. (pulled.output, pulled.syncs))
 
@@ -60,18 +60,18 @@ module _ {T : Type 0} (width : ℕ) (picks : List ℕ) (x : Opened) (st : Starte
   -- So the run keeps its promise by what `run_turns` ensures, and by what it leaves beside that.
   pub served : (lines : List Line) (r' : Run) (s' : Settler) → st.settler.quiet ≡ false → 0 < width → 0 < x.next_unit.0 → NoneFailed before between → AreReadFrom (program_tree x.checked) 0 (lines_of old.input) lines
       → ((o : Outset) (b : Books) → IsOutset o (program_tree x.checked) (run_of st.core) lines width picks → CanTurn (run_of st.core) st.settler lines → IsFreshRecord o b (run_of st.core)
-      → KeepsRecord true o b (run_of st.core) st.settler between now → RecordGoesOn true o b (run_of st.core) r' st.settler s' after now new result)
+      → KeepsTurns true o b (run_of st.core) st.settler between now → TurnsGoOn true o b (run_of st.core) r' st.settler s' after now new result)
       → TurnsBeside true (run_of st.core) r' st.settler s' between after now new result
       → Promises (turns_manner width picks) (observed_run (turns_manner width picks) old new before after status)
   served lines r' s' loud wide above calm are turns beside =
       let same : run_of st.core ≡ first = start_is (seen_in old.disk) x st is.opened start in
       let base : 0 < first.base = subst (λ (n : ℕ). 0 < n) is.opened.next above in
-      let goes : RecordGoesOn true outset no_books (run_of st.core) r' st.settler s' after now new result = turns outset no_books
+      let goes : TurnsGoOn true outset no_books (run_of st.core) r' st.settler s' after now new result = turns outset no_books
       (subst (λ (r : Run). IsOutset outset (program_tree x.checked) r lines width picks) (sym same) (starts_outset first.base first.kinds first.opening outset (program_tree x.checked) (lines_of old.input) lines width picks are refl refl refl refl wide refl))
       (subst (λ (r : Run). CanTurn r st.settler lines) (sym same) (starts_quiet first.base first.kinds first.opening (program_tree x.checked) (lines_of old.input) lines st.settler are start.doubted start.written))
       (subst (λ (r : Run). IsFreshRecord outset no_books r) (sym same) (starts_fresh first.base first.kinds first.opening outset))
-      (subst (λ (r : Run). KeepsRecord true outset no_books r st.settler between now) (sym same) (kept above calm)) in
-      let went : RecordGoesOn true outset no_books first r' st.settler s' after now new result = subst (λ (r : Run). RecordGoesOn true outset no_books r r' st.settler s' after now new result) same goes in
+      (subst (λ (r : Run). KeepsTurns true outset no_books r st.settler between now) (sym same) (kept above calm)) in
+      let went : TurnsGoOn true outset no_books first r' st.settler s' after now new result = subst (λ (r : Run). TurnsGoOn true outset no_books r r' st.settler s' after now new result) same goes in
       let left : TurnsBeside true first r' st.settler s' between after now new result = subst (λ (r : Run). TurnsBeside true r r' st.settler s' between after now new result) same beside in
       let behind = stands width picks x old mid now new before after status result is pulled stay_mid stay_new end short ends_as r' st.settler s' between went left loud in
       turns_promised width picks x old mid now new before after status result is pulled stay_mid stay_new end short ends_as r' st.settler s' between went left loud

@@ -54,15 +54,11 @@ observed_call m asked old new before after status = record {
 abbrev pub observed_run : Manner → World → World → (Channel → ℕ) → (Channel → ℕ) → Status → Observed
 observed_run m old new before after status = observed_call m (lines_of old.input) old new before after status
 
--- No failed call on the input or the output is passed over, by want of memory neither.
-pub record NamesFaults (e : Ending) (old new : Channel → ℕ) : Type 0 where
-  pub input : new Input ≢ old Input → e ≡ ReadFault
-  pub output : new Output ≢ old Output → e ≡ WriteFault
-
 -- What a run or a load answers over any host: never bad use, and a fault is shown by its count; no failed call on the input or the
 -- output is passed over; and an ending that no line has begun before names exactly the call that failed.
 pub record AnswersRun (e : Ending) (old new : Channel → ℕ) : Type 0 where
   pub good : e ≢ BadUse
   pub risen : HasRisen e old new
-  pub names : NamesFaults e old new
+  pub input : new Input ≢ old Input → e ≡ ReadFault
+  pub output : new Output ≢ old Output → e ≡ WriteFault
   pub exact : (IsBegun e → ⊥) → HasFailedAs e old new

@@ -14,8 +14,8 @@ use Rattle.promise_spec.specs.Programs.{Program, IsChecked}
 use Rattle.promise_spec.specs.Logs.{magic, IsPrefix}
 use Rattle.promise_spec.specs.Endings as ending
 use Rattle.promise_spec.specs.Courses.{Observed, Course}
-use Rattle.interleaver.specs.declared.faults.RunFault.{RunFault}
-use Rattle.interleaver.specs.declared.faults.RunFault.TheVariants.{InDoubt, WriteFault, Memory}
+use Rattle.run_books.specs.declared.faults.RunFault.{RunFault}
+use Rattle.run_books.specs.declared.faults.RunFault.TheVariants.{InDoubt, WriteFault, Memory}
 use Rattle.promise_spec.specs.Refusals.{IsUnopened}
 use Rattle.promise_spec.specs.Loads.{bank_text, KeepsLoad}
 

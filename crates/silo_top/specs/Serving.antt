@@ -5,8 +5,8 @@ use Rattle.host_trait.specs.Runs.{RunsOnFile}
 use Rattle.host_trait.specs.World.{World}
 use Rattle.log_reading.specs.Steps.{seen_in, manager}
 use Rattle.promise_laws.specs.Closings.{ReadsMayStay}
-use Rattle.interleaver.specs.declared.faults.RunFault.{RunFault}
-use Rattle.interleaver.specs.Closing.{turns_ending}
+use Rattle.run_books.specs.declared.faults.RunFault.{RunFault}
+use Rattle.run_books.specs.Closing.{turns_ending}
 use Rattle.promise_spec.specs.Endings.{Ending}
 use Rattle.silo_opening.specs.Opened.{Stays, IsOpenedFrom}
 use Rattle.silo_opening.specs.declared.open.Opened.{Opened}

@@ -4,7 +4,7 @@ ghost use Rattle.host_trait.specs.Files.{StaysReady};
 ghost use Rattle.host_trait.specs.World.{World};
 ghost use Rattle.host_trait.specs.declared.channels.Channel.{Channel as AChannel};
 ghost use Rattle.log_reading.specs.Sums.{AreNear};
-ghost use Rattle.interleaver.specs.Closing.{turns_ending};
+ghost use Rattle.run_books.specs.Closing.{turns_ending};
 ghost use Rattle.promise_spec.specs.Promise.{Promises};
 ghost use Rattle.silo_top.specs.Answering.{AnswersRun, turns_manner, observed_run};
 ghost use Rattle.silo_top.specs.Reading.{input_ending};

@@ -6,7 +6,7 @@ ghost use Rattle.promise_spec.specs.Endings.{HasFailedAs, BadUse};
 ghost use Rattle.promise_spec.specs.Promise.{Promises};
 ghost use Rattle.promise_spec.specs.Calls.{Serves, AnswersAs};
 ghost use Rattle.command_words.specs.CutParts.{texts_of};
-ghost use Rattle.silo_top.specs.Answering.{AnswersRun, NamesFaults, is_built, is_taken, turns_manner, IsAsked, observed_call, observed_run};
+ghost use Rattle.silo_top.specs.Answering.{AnswersRun, is_built, is_taken, turns_manner, IsAsked, observed_call, observed_run};
 ghost use Rattle.silo_top.specs.Statuses.{status_ending};
 
 use crate::asking::{Asked, read_asked};
@@ -78,8 +78,8 @@ fn run<H: Host, G: Gate>(
 /// `load` makes the folder a silo of the bank program, carries lines that it draws from a seed, and prints one summary line.
 ///
 /// What each of them promises, at each moment and at its end, is `Serves`, over a host that tells what it holds. Over any host
-/// a fault is answered only where a call on its channel failed (`AnswersAs`), and no failed call on the input or the output is
-/// passed over (`NamesFaults`).
+/// a fault is answered only where a call on its channel failed, and no failed call on the input or the output is passed over
+/// (`AnswersAs`).
 pub fn run_silo<Rt, H: Host, G: Gate + Sync>(
     _rt: &Rt,
     alloc: Global,
@@ -92,7 +92,6 @@ pub fn run_silo<Rt, H: Host, G: Gate + Sync>(
         (observed_call m asked (H.world host.old) (H.world host.new) (H.faults host.old) (H.faults host.new) result) }
 
     // What the counts of faults say of the answer, over every host.
-    ensures names { NamesFaults (status_ending result) (H.faults host.old) (H.faults host.new) }
     ensures answers { AnswersAs is_built is_taken (texts_of words.now) (status_ending result) (H.faults host.old) (H.faults host.new) }
     ensures ready { StaysReady (H.is_ready host.old) (H.is_ready host.new) }
 {

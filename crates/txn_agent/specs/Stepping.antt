@@ -90,6 +90,13 @@ has_freed_all (Awaits work child) = false
 has_freed_all (Frees held) = length held == 0
 has_freed_all Stopped = false
 
+-- the unit is over, whether or not locks of it are left
+abbrev pub is_freeing : Doing → Bool
+is_freeing (Asks work pause) = false
+is_freeing (Awaits work child) = false
+is_freeing (Frees held) = true
+is_freeing Stopped = false
+
 -- where a unit waits for its child still, the core showed that the child isn't decided
 abbrev pub Hears : Sight → Doing → Type 0
 Hears s (Asks work pause) = ⊤

@@ -4,7 +4,7 @@ ghost use Rattle.script_tree.specs.Programs.{ProgramTree, program_tree};
 ghost use Rattle.promise_spec.specs.Serial.{depth_of as depth_in};
 ghost use Rattle.txn_agent.specs.Linked.{IfOwn, IsNew, Knows};
 ghost use Rattle.promise_spec.specs.TurnRule.{is_line};
-ghost use Rattle.txn_agent.specs.Stepping.{Acts, AnswerSays, Hears, children_of, has_freed_all};
+ghost use Rattle.txn_agent.specs.Stepping.{Acts, AnswerSays, Hears, children_of, has_freed_all, is_freeing};
 ghost use Rattle.txn_agent.specs.Movable.{ShowsMove};
 
 use crate::steps::{hear_child, moves_now, step};
@@ -118,6 +118,18 @@ impl Agent {
             Doing::Asks { .. } => false,
             Doing::Awaits { .. } => false,
             Doing::Frees { held } => held.is_empty(),
+            Doing::Stopped => false,
+        }
+    }
+
+    /// Whether the unit is over, whether or not it has locks to give back still.
+    pub fn is_freeing(&self) -> bool
+        ensures { result ≡ is_freeing self.now.doing }
+    {
+        match &self.doing {
+            Doing::Asks { .. } => false,
+            Doing::Awaits { .. } => false,
+            Doing::Frees { .. } => true,
             Doing::Stopped => false,
         }
     }

@@ -133,7 +133,7 @@ map-filter-member {A} f p (x ∷ xs) y m =
     (λ e n. ⊎_elim (λ q. inl q) (λ k. inr (map-filter-member f p xs y k)) n)
     (λ e n. inr (map-filter-member f p xs y n)) m
 
-older-some : (p : Agent → Bool) (agents : List Agent) → AreOlder (units_carried agents) → AreOlder (units_carried (filter p agents))
+pub older-some : (p : Agent → Bool) (agents : List Agent) → AreOlder (units_carried agents) → AreOlder (units_carried (filter p agents))
 older-some p [] o = o
 older-some p (a ∷ agents) o =
     cond_both (p a) (a ∷ filter p agents) (filter p agents) (λ (l : List Agent). AreOlder (units_carried l))

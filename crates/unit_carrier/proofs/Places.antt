@@ -99,7 +99,7 @@ older-apart u v less e = let n : u.0 ≡ v.0 = ap (λ (x : UnitNo). x.0) e in ab
 
 module _ (types : ProgramTree) (may : CoreEvent → Bool) (s t : Sight) (counts : Counts s) where
   -- each other agent knows its unit still, and the one at the index does
-  steps-known : (agents : List Agent) (i : ℕ) (old new : Agent) → Acts may types old.carried.unit s t → slice_get agents i ≡ Some old → Knows types t new
+  pub steps-known : (agents : List Agent) (i : ℕ) (old new : Agent) → Acts may types old.carried.unit s t → slice_get agents i ≡ Some old → Knows types t new
       → AreOlder (units_carried agents) → AllByRecursion (Knows types s) agents → AllByRecursion (Knows types t) (slice_set agents i new)
   steps-known [] i old new acts q knows older all = absurd cc
   steps-known (a ∷ agents) zero old new acts q knows older all =
@@ -154,7 +154,7 @@ units-last [] agent = refl
 units-last (a ∷ agents) agent = ap (λ (us : List UnitNo). a.carried.unit ∷ us) (units-last agents agent)
 
 -- all of a list with one more behind it
-all-last : {A : Type 0} (P : A → Type 0) (xs : List A) (x : A) → AllByRecursion P xs → P x → AllByRecursion P (xs ++ (x ∷ []))
+pub all-last : {A : Type 0} (P : A → Type 0) (xs : List A) (x : A) → AllByRecursion P xs → P x → AllByRecursion P (xs ++ (x ∷ []))
 all-last P [] x all p = (p, tt)
 all-last P (y ∷ xs) x all p = (all.0, all-last P xs x all.1 p)
 

@@ -15,6 +15,8 @@ use Rattle.script_tree.specs.declared.options.Entered.{Entered}
 use Rattle.script_tree.specs.declared.options.Entered.TheVariants.{NewUnit}
 use Rattle.script_meaning.specs.Calls.{Target}
 use Rattle.script_meaning.specs.Play.{IsTransaction}
+use Rattle.txn_agent.specs.declared.agent.Agent.{Agent}
+use Rattle.unit_carrier.specs.Carrying.{CarriesOneMore}
 
 -- a call that enters so is a unit of its own
 abbrev pub is_new_unit : Entered → Bool
@@ -54,3 +56,29 @@ pub record BeginsOn (may_come : CoreEvent → Bool) (types : ProgramTree) (numbe
   pub put : PutsLine may_come types number what s t r
   pub is : began ≡ began_by r
   pub units : after ≡ with_begun before began
+
+-- the unit of a line's call is carried too, where it began
+abbrev pub CarriesBegun : ProgramTree → ℕ → Call → Bool → List Agent → List Agent → Option UnitNo → Type 0
+CarriesBegun types number call plain before after None = after ≡ before
+CarriesBegun types number call plain before after (Some unit) = CarriesOneMore types unit (OfLine number) call plain before after
+
+-- A call's event was put, by whatever access; a unit that began is carried, behind all others.
+pub record StartsCall (may_come : CoreEvent → Bool) (types : ProgramTree) (number : ℕ) (call : Call) (s t : Sight) (before after : List Agent) (began : Option UnitNo) : Type 0 where
+  pub plain : Bool
+  pub of_kind : (plain ≡ false) ↔ IsTransaction types call
+  pub r : CoreReply
+  pub told : Tells may_come s (Begin (OfLine number) call plain) r t
+  pub is : began ≡ began_by r
+  pub carries : CarriesBegun types number call plain before after began
+
+-- A bad line's event was put; no unit began.
+pub record SpoilsLine (may_come : CoreEvent → Bool) (number : ℕ) (why : BadRequest) (s t : Sight) (before after : List Agent) (began : Option UnitNo) : Type 0 where
+  pub r : CoreReply
+  pub told : Tells may_come s (Bad number why) r t
+  pub is : began ≡ None
+  pub same : after ≡ before
+
+-- a line's event was put, by what the line reads as
+abbrev pub StartsLine : (CoreEvent → Bool) → ProgramTree → ℕ → Result Call BadRequest → Sight → Sight → List Agent → List Agent → Option UnitNo → Type 0
+StartsLine may types number (Ok call) s t before after began = StartsCall may types number call s t before after began
+StartsLine may types number (Err why) s t before after began = SpoilsLine may number why s t before after began

@@ -81,8 +81,8 @@ impl Agents {
         Ok(Found::Few(movers))
     }
 
-    /// Carries a unit that has just begun.
-    pub(crate) fn carry(
+    /// Carries a unit that has just begun, behind all others.
+    pub fn carry(
         &mut self,
         alloc: Global,
         checked: &Checked,

@@ -5,7 +5,7 @@ ghost use Rattle.core_model.specs.declared.events.CoreReply.{CoreReply as AReply
 ghost use Rattle.script_tree.specs.Programs.{method_tree, program_tree, type_tree};
 ghost use Rattle.script_meaning.specs.Calls.{numbered};
 ghost use Rattle.unit_carrier.specs.Carrying.{AreCarried, units_carried};
-ghost use Rattle.unit_carrier.specs.Lines.{BeginsOn, PutsLine, began_by, is_new_unit, makes_unit};
+ghost use Rattle.unit_carrier.specs.Lines.{BeginsOn, PutsLine, StartsCall, StartsLine, began_by, is_new_unit, makes_unit};
 
 use crate::agents::Agents;
 use base_types::{Call, Origin, UnitNo};
@@ -89,7 +89,7 @@ fn begun(reply: &CoreReply) -> Option<UnitNo>
 }
 
 /// Begins a line's call as a unit, and carries it.
-fn begin_call<A: Access>(
+fn start_call<A: Access>(
     alloc: Global,
     checked: &Checked,
     access: &mut A,
@@ -98,12 +98,10 @@ fn begin_call<A: Access>(
     call: &Call,
 ) -> Result<Option<UnitNo>, AllocError>
     requires fit { A.is_fit access.old }
-    requires carried { AreCarried (program_tree checked.now) A.may_come (A.sight access.old) agents.old.list.items }
     ensures fit { A.is_fit access.new }
     ensures aside { A.aside access.new ≡ A.aside access.old }
     ensures put { OnErr result (Looks A.may_come (A.sight access.old) (A.sight access.new) ⊎ ((r : AReply) × PutsLine A.may_come (program_tree checked.now) line (Ok call.now) (A.sight access.old) (A.sight access.new) r)) }
-    ensures begins { IfOk result (λ began. BeginsOn A.may_come (program_tree checked.now) line (Ok call.now) (A.sight access.old) (A.sight access.new) (units_carried agents.old.list.items) (units_carried agents.new.list.items) began) }
-    ensures carried { IfOk result (λ _. AreCarried (program_tree checked.now) A.may_come (A.sight access.new) agents.new.list.items) }
+    ensures starts { IfOk result (λ began. StartsCall A.may_come (program_tree checked.now) line call.now (A.sight access.old) (A.sight access.new) agents.old.list.items agents.new.list.items began) }
 {
     let plain = !makes_transaction(checked, call);
     let origin = Origin::Line(line);
@@ -126,7 +124,37 @@ fn begin_call<A: Access>(
     }
 }
 
-/// Begins the next line: its unit, which it answers, or, where it is bad, no unit.
+/// Puts the event of a line, by whatever access: its call begins as a unit, which is carried and answered, or, where it is bad,
+/// that is told.
+pub fn start_line<A: Access>(
+    alloc: Global,
+    checked: &Checked,
+    access: &mut A,
+    agents: &mut Agents,
+    line: &Line,
+) -> Result<Option<UnitNo>, AllocError>
+    requires fit { A.is_fit access.old }
+    ensures fit { A.is_fit access.new }
+    ensures aside { A.aside access.new ≡ A.aside access.old }
+    ensures put { OnErr result (Looks A.may_come (A.sight access.old) (A.sight access.new) ⊎ ((r : AReply) × PutsLine A.may_come (program_tree checked.now) line.now.number line.now.what (A.sight access.old) (A.sight access.new) r)) }
+    ensures starts { IfOk result (λ began. StartsLine A.may_come (program_tree checked.now) line.now.number line.now.what (A.sight access.old) (A.sight access.new) agents.old.list.items agents.new.list.items began) }
+{
+    match &line.what {
+        Ok(call) => return start_call(alloc, checked, access, agents, line.number, call),
+        Err(why) => {
+            put(
+                access,
+                CoreEvent::Bad {
+                    line: line.number,
+                    why: *why,
+                },
+            )?;
+            return Ok(None);
+        }
+    }
+}
+
+/// Begins the next line over a core that nobody else puts events into: its unit, which it answers, or, where it is bad, no unit.
 pub fn begin_line<A: Access>(
     alloc: Global,
     checked: &Checked,
@@ -142,17 +170,6 @@ pub fn begin_line<A: Access>(
     ensures begins { IfOk result (λ began. BeginsOn A.may_come (program_tree checked.now) line.now.number line.now.what (A.sight access.old) (A.sight access.new) (units_carried agents.old.list.items) (units_carried agents.new.list.items) began) }
     ensures carried { IfOk result (λ _. AreCarried (program_tree checked.now) A.may_come (A.sight access.new) agents.new.list.items) }
 {
-    match &line.what {
-        Ok(call) => return begin_call(alloc, checked, access, agents, line.number, call),
-        Err(why) => {
-            put(
-                access,
-                CoreEvent::Bad {
-                    line: line.number,
-                    why: *why,
-                },
-            )?;
-            return Ok(None);
-        }
-    }
+    let began = start_line(alloc, checked, access, agents, line)?;
+    Ok(began)
 }

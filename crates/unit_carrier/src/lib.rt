@@ -2,7 +2,8 @@
 //! steps.
 //!
 //! [`Agents`] are carried units in number order. What is known of them is `AreCarried`, over a core that nobody else puts events
-//! into (`HasCoreAlone`); `laws` says what leaves that so.
+//! into (`HasCoreAlone`); `laws` says what leaves that so. Who shares a core keeps its own knowledge of the units that it carries, and
+//! begins a line by `start_line`.
 #![tactic(auto)]
 
 mod agents;
@@ -11,5 +12,5 @@ mod laws;
 mod moves;
 
 pub use agents::{Agents, Found, Went};
-pub use begin::begin_line;
+pub use begin::{begin_line, start_line};
 pub use laws::others_leave_the_carried;

@@ -51,6 +51,9 @@ pub enum UnitEntry {
     Over(OverUnit),
 }
 
+// So many bytes a unit takes that is over, beside what its result owns.
+const _: () = prove!(mem::size_of::<UnitEntry>() == 56);
+
 impl Ending {
     /// The phase of a unit that ended so.
     pub fn phase(self) -> Phase

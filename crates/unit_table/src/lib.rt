@@ -13,6 +13,3 @@ mod waits;
 
 pub use entry::RunningUnit;
 pub use table::UnitTable;
-
-#[cfg(test)]
-mod tests;

@@ -2,4 +2,4 @@ pub mod Numbers
 pub mod Own
 pub mod Whole
 pub mod Promising
-pub mod Work
+pub mod Workers

@@ -7,9 +7,9 @@ use Rattle.txn_agent.specs.declared.agent.Agent.{Agent}
 use Rattle.unit_carrier.specs.Carrying.{AreCarried}
 use Rattle.unit_carrier.proofs.Known.{none-carried}
 use Rattle.base_types.specs.declared.shapes.Shape.{Shape}
-use Rattle.interleaver.specs.declared.faults.RunFault.{RunFault}
-use Rattle.interleaver.specs.declared.faults.RunFault.TheVariants.{Memory}
-use Rattle.interleaver.specs.Beside.{TurnsBeside}
+use Rattle.run_books.specs.declared.faults.RunFault.{RunFault}
+use Rattle.run_books.specs.declared.faults.RunFault.TheVariants.{Memory}
+use Rattle.run_books.specs.Beside.{TurnsBeside}
 use Rattle.interleaver.specs.UnderWay.{TurnStage, WentOn, stage_of}
 use Rattle.interleaver.proofs.Besides.{one-after-another}
 use Rattle.interleaver.proofs.Onward.{on-after, done-after, fault-after, out-then, nothing-beside, beside-fault, beside-well, at-once, nothing-went}

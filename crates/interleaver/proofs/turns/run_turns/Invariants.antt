@@ -7,10 +7,10 @@ use Rattle.script_tree.specs.Programs.{program_tree}
 use Rattle.script_check.specs.Shapes.{type_shapes}
 use Rattle.batch_disk.specs.Writers.{IsInBounds, FitsDisk}
 use Rattle.unit_carrier.specs.Carrying.{AreCarried}
-use Rattle.interleaver.specs.Beginnings.{Outset, CanTurn, IsOutset}
-use Rattle.interleaver.specs.Beside.{TurnsBeside}
-use Rattle.interleaver.specs.Books.{Books}
-use Rattle.interleaver.specs.Records.{KeepsRecord, IsFreshRecord}
+use Rattle.run_books.specs.Beginnings.{Outset, CanTurn, IsOutset}
+use Rattle.run_books.specs.Beside.{TurnsBeside}
+use Rattle.run_books.specs.Books.{Books}
+use Rattle.interleaver.specs.Turns.{KeepsTurns as KeepsRecord, IsFreshRecord}
 use Rattle.interleaver.specs.UnderWay.{WentOn, stage_of}
 use Rattle.interleaver.proofs.turns.run_turns.Given as goal
 

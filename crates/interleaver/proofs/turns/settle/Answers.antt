@@ -7,11 +7,11 @@ use Rattle.std.specs.Prelude.{Result, Ok, Err}
 use Rattle.std.proofs.lemmas.Result.{err_from_is_err_and}
 use Rattle.settle_loop.specs.declared.settler.Turned.TheVariants.{Stepped, Nothing, Stop}
 use Rattle.settle_loop.specs.declared.settler.StopCause.TheVariants as cause
-use Rattle.interleaver.specs.declared.faults.RunFault.TheVariants as fault
+use Rattle.run_books.specs.declared.faults.RunFault.TheVariants as fault
 use Rattle.interleaver.proofs.Besides.{step-beside}
 use Rattle.history_core.specs.Cores.{run_of}
 use Rattle.interleaver.proofs.Settles.{settles-by, settles-one, rests-none, on-stepped, on-idle, on-doubt, on-cut, on-lack}
-use Rattle.interleaver.proofs.BooksSettled.{settled-keeps}
+use Rattle.run_books.proofs.BooksSettled.{settled-keeps}
 use Rattle.interleaver.proofs.turns.settle.Goals as goal
 
 pub returns-in_err-step-clause-settles : goal.returns-in_err-step-clause-settles

@@ -6,7 +6,7 @@ use Rattle.script_tree.specs.Programs.{ProgramTree, program_tree}
 use Rattle.history_core.specs.Cores.{run_of}
 use Rattle.promise_spec.specs.Loads.{load_calls}
 use Rattle.promise_spec.specs.Endings.{Ending}
-use Rattle.interleaver.specs.Beside.{TurnsBeside}
+use Rattle.run_books.specs.Beside.{TurnsBeside}
 use Rattle.bank_load.specs.Requests.{load_texts, numbered_from}
 use Rattle.bank_load.proofs.Asked.{load_read}
 use Rattle.silo_top.specs.Answering.{turns_manner, AnswersRun}

@@ -8,8 +8,7 @@ use Rattle.silo_top.specs.declared.asking.Asked.{Asked}
 use Rattle.silo_top.specs.Answering.{is_built, is_taken, turns_manner, observed_call}
 use Rattle.silo_top.specs.Asking.{asked_command, MayBeCarried}
 use Rattle.silo_top.specs.Statuses.{status_ending}
-use Rattle.silo_top.proofs.Calling.{obeyed_serves, exact_answers, run_answers, run_serves, load_serves, refused_serves, refused_answers, starved_serves, starved_answers, still_names}
-use Rattle.silo_top.proofs.Counted.{failed_names}
+use Rattle.silo_top.proofs.Calling.{obeyed_serves, exact_answers, run_answers, run_serves, load_serves, refused_serves, refused_answers, starved_serves, starved_answers}
 use Rattle.silo_top.proofs.running.run_silo.Goals as goal
 
 -- words that weren't read
@@ -24,18 +23,12 @@ pub returns-in-Ok-Init-clause-serves : goal.returns-in-Ok-Init-clause-serves
 returns-in-Ok-Init-clause-serves g c = λ told m asked is. obeyed_serves (texts_of c.args.words.now) Init (understood (texts_of c.args.words.now) c.in-Ok-Init.field-0 Asked.Init c.in-Ok-Init.field-0-is c.in-Ok-Init.ensures.asked)
     (observed_call m asked (g.H.Host.world c.args.host.now) (g.H.Host.world c.make.new.host) (g.H.Host.faults c.args.host.now) (g.H.Host.faults c.make.new.host) c.make.result) (c.make.ensures.makes told m asked)
 
-pub returns-in-Ok-Init-clause-names : goal.returns-in-Ok-Init-clause-names
-returns-in-Ok-Init-clause-names g c = failed_names (g.H.Host.faults c.args.host.now) (g.H.Host.faults c.make.new.host) (status_ending c.make.result) c.make.ensures.exact
-
 pub returns-in-Ok-Init-clause-answers : goal.returns-in-Ok-Init-clause-answers
 returns-in-Ok-Init-clause-answers g c = exact_answers (texts_of c.args.words.now) Init (understood (texts_of c.args.words.now) c.in-Ok-Init.field-0 Asked.Init c.in-Ok-Init.field-0-is c.in-Ok-Init.ensures.asked) (g.H.Host.faults c.args.host.now) (g.H.Host.faults c.make.new.host) (status_ending c.make.result) (λ q. c.make.ensures.good q) c.make.ensures.exact
 
 pub returns-in-Ok-Show-clause-serves : goal.returns-in-Ok-Show-clause-serves
 returns-in-Ok-Show-clause-serves g c = λ told m asked is. obeyed_serves (texts_of c.args.words.now) Show (understood (texts_of c.args.words.now) c.in-Ok-Show.field-0 Asked.Show c.in-Ok-Show.field-0-is c.in-Ok-Show.ensures.asked)
     (observed_call m asked (g.H.Host.world c.args.host.now) (g.H.Host.world c.show.new.host) (g.H.Host.faults c.args.host.now) (g.H.Host.faults c.show.new.host) c.show.result) (c.show.ensures.reports told m asked)
-
-pub returns-in-Ok-Show-clause-names : goal.returns-in-Ok-Show-clause-names
-returns-in-Ok-Show-clause-names g c = failed_names (g.H.Host.faults c.args.host.now) (g.H.Host.faults c.show.new.host) (status_ending c.show.result) c.show.ensures.exact
 
 pub returns-in-Ok-Show-clause-answers : goal.returns-in-Ok-Show-clause-answers
 returns-in-Ok-Show-clause-answers g c = exact_answers (texts_of c.args.words.now) Show (understood (texts_of c.args.words.now) c.in-Ok-Show.field-0 Asked.Show c.in-Ok-Show.field-0-is c.in-Ok-Show.ensures.asked) (g.H.Host.faults c.args.host.now) (g.H.Host.faults c.show.new.host) (status_ending c.show.result) (λ q. c.show.ensures.good q) c.show.ensures.exact
@@ -44,18 +37,12 @@ pub returns-in-Ok-History-clause-serves : goal.returns-in-Ok-History-clause-serv
 returns-in-Ok-History-clause-serves g c = λ told m asked is. obeyed_serves (texts_of c.args.words.now) History (understood (texts_of c.args.words.now) c.in-Ok-History.field-0 Asked.History c.in-Ok-History.field-0-is c.in-Ok-History.ensures.asked)
     (observed_call m asked (g.H.Host.world c.args.host.now) (g.H.Host.world c.history.new.host) (g.H.Host.faults c.args.host.now) (g.H.Host.faults c.history.new.host) c.history.result) (c.history.ensures.reports told m asked)
 
-pub returns-in-Ok-History-clause-names : goal.returns-in-Ok-History-clause-names
-returns-in-Ok-History-clause-names g c = failed_names (g.H.Host.faults c.args.host.now) (g.H.Host.faults c.history.new.host) (status_ending c.history.result) c.history.ensures.exact
-
 pub returns-in-Ok-History-clause-answers : goal.returns-in-Ok-History-clause-answers
 returns-in-Ok-History-clause-answers g c = exact_answers (texts_of c.args.words.now) History (understood (texts_of c.args.words.now) c.in-Ok-History.field-0 Asked.History c.in-Ok-History.field-0-is c.in-Ok-History.ensures.asked) (g.H.Host.faults c.args.host.now) (g.H.Host.faults c.history.new.host) (status_ending c.history.result) (λ q. c.history.ensures.good q) c.history.ensures.exact
 
 pub returns-in-Ok-Audit-clause-serves : goal.returns-in-Ok-Audit-clause-serves
 returns-in-Ok-Audit-clause-serves g c = λ told m asked is. obeyed_serves (texts_of c.args.words.now) Audit (understood (texts_of c.args.words.now) c.in-Ok-Audit.field-0 Asked.Audit c.in-Ok-Audit.field-0-is c.in-Ok-Audit.ensures.asked)
     (observed_call m asked (g.H.Host.world c.args.host.now) (g.H.Host.world c.audit.new.host) (g.H.Host.faults c.args.host.now) (g.H.Host.faults c.audit.new.host) c.audit.result) (c.audit.ensures.audits told m asked)
-
-pub returns-in-Ok-Audit-clause-names : goal.returns-in-Ok-Audit-clause-names
-returns-in-Ok-Audit-clause-names g c = failed_names (g.H.Host.faults c.args.host.now) (g.H.Host.faults c.audit.new.host) (status_ending c.audit.result) c.audit.ensures.exact
 
 pub returns-in-Ok-Audit-clause-answers : goal.returns-in-Ok-Audit-clause-answers
 returns-in-Ok-Audit-clause-answers g c = exact_answers (texts_of c.args.words.now) Audit (understood (texts_of c.args.words.now) c.in-Ok-Audit.field-0 Asked.Audit c.in-Ok-Audit.field-0-is c.in-Ok-Audit.ensures.asked) (g.H.Host.faults c.args.host.now) (g.H.Host.faults c.audit.new.host) (status_ending c.audit.result) (λ q. c.audit.ensures.good q) c.audit.ensures.exact
@@ -64,18 +51,12 @@ pub returns-in-Ok-Run-clause-serves : goal.returns-in-Ok-Run-clause-serves
 returns-in-Ok-Run-clause-serves g c = λ told m asked is. run_serves (texts_of c.args.words.now) c.in-Ok-Run.width c.in-Ok-Run.picks (understood (texts_of c.args.words.now) c.in-Ok-Run.field-0 (Asked.Run c.in-Ok-Run.width c.in-Ok-Run.picks) c.in-Ok-Run.field-0-is c.in-Ok-Run.ensures.asked) m asked
     (g.H.Host.world c.args.host.now) (g.H.Host.world c.run.new.host) (g.H.Host.faults c.args.host.now) (g.H.Host.faults c.run.new.host) c.run.result is (c.run.ensures.promises told)
 
-pub returns-in-Ok-Run-clause-names : goal.returns-in-Ok-Run-clause-names
-returns-in-Ok-Run-clause-names g c = c.run.ensures.answers.names
-
 pub returns-in-Ok-Run-clause-answers : goal.returns-in-Ok-Run-clause-answers
 returns-in-Ok-Run-clause-answers g c = run_answers (texts_of c.args.words.now) (Run (turns_manner c.in-Ok-Run.width c.in-Ok-Run.picks)) (understood (texts_of c.args.words.now) c.in-Ok-Run.field-0 (Asked.Run c.in-Ok-Run.width c.in-Ok-Run.picks) c.in-Ok-Run.field-0-is c.in-Ok-Run.ensures.asked) (g.H.Host.faults c.args.host.now) (g.H.Host.faults c.run.new.host) (status_ending c.run.result) (λ begun. begun) c.run.ensures.answers
 
 pub returns-in-Ok-Load-clause-serves : goal.returns-in-Ok-Load-clause-serves
 returns-in-Ok-Load-clause-serves g c = λ told m asked is. load_serves (texts_of c.args.words.now) c.in-Ok-Load.transfers c.in-Ok-Load.seed c.in-Ok-Load.width (understood (texts_of c.args.words.now) c.in-Ok-Load.field-0 (Asked.Load c.in-Ok-Load.transfers c.in-Ok-Load.seed c.in-Ok-Load.width) c.in-Ok-Load.field-0-is c.in-Ok-Load.ensures.asked) m asked
     (g.H.Host.world c.args.host.now) (g.H.Host.world c.load.new.host) (g.H.Host.faults c.args.host.now) (g.H.Host.faults c.load.new.host) c.load.result is (c.load.ensures.loads told)
-
-pub returns-in-Ok-Load-clause-names : goal.returns-in-Ok-Load-clause-names
-returns-in-Ok-Load-clause-names g c = c.load.ensures.answers.names
 
 pub returns-in-Ok-Load-clause-answers : goal.returns-in-Ok-Load-clause-answers
 returns-in-Ok-Load-clause-answers g c = run_answers (texts_of c.args.words.now) (Load c.in-Ok-Load.transfers c.in-Ok-Load.seed (turns_manner c.in-Ok-Load.width [])) (understood (texts_of c.args.words.now) c.in-Ok-Load.field-0 (Asked.Load c.in-Ok-Load.transfers c.in-Ok-Load.seed c.in-Ok-Load.width) c.in-Ok-Load.field-0-is c.in-Ok-Load.ensures.asked) (g.H.Host.faults c.args.host.now) (g.H.Host.faults c.load.new.host) (status_ending c.load.result) (λ begun. begun) c.load.ensures.answers
@@ -89,17 +70,11 @@ load-requires-clause-many g c = (subst MayBeCarried c.in-Ok-Load.field-0-is c.in
 pub returns-in-Err-BadUse-clause-serves : goal.returns-in-Err-BadUse-clause-serves
 returns-in-Err-BadUse-clause-serves g c = λ told m asked is. refused_serves (texts_of c.args.words.now) m asked (g.H.Host.world c.args.host.now) (g.H.Host.faults c.args.host.now) (c.in-Err-BadUse.ensures.bad_use (ap unread c.in-Err-BadUse.field-0-is))
 
-pub returns-in-Err-BadUse-clause-names : goal.returns-in-Err-BadUse-clause-names
-returns-in-Err-BadUse-clause-names g c = still_names BadUse (g.H.Host.faults c.args.host.now)
-
 pub returns-in-Err-BadUse-clause-answers : goal.returns-in-Err-BadUse-clause-answers
 returns-in-Err-BadUse-clause-answers g c = refused_answers (texts_of c.args.words.now) (g.H.Host.faults c.args.host.now) (c.in-Err-BadUse.ensures.bad_use (ap unread c.in-Err-BadUse.field-0-is))
 
 pub returns-in-Err-Memory-clause-serves : goal.returns-in-Err-Memory-clause-serves
 returns-in-Err-Memory-clause-serves g c = λ told m asked is. starved_serves (texts_of c.args.words.now) m asked (g.H.Host.world c.args.host.now) (g.H.Host.faults c.args.host.now) is
-
-pub returns-in-Err-Memory-clause-names : goal.returns-in-Err-Memory-clause-names
-returns-in-Err-Memory-clause-names g c = still_names Memory (g.H.Host.faults c.args.host.now)
 
 pub returns-in-Err-Memory-clause-answers : goal.returns-in-Err-Memory-clause-answers
 returns-in-Err-Memory-clause-answers g c = starved_answers (texts_of c.args.words.now) (g.H.Host.faults c.args.host.now)

@@ -1,4 +1,4 @@
-use Rattle.worker_rules.proofs.Work.{work-settles, work-stops, work-loads}
+use Rattle.worker_rules.proofs.Workers.{work-settles, work-stops, work-loads}
 use Rattle.worker_rules.proofs.work.workers_leave_the_settler.Goals as goal
 
 pub returns-clause-settling : goal.returns-clause-settling

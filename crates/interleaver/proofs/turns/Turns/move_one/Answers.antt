@@ -3,9 +3,9 @@ use Rattle.std.specs.Prelude.{Result, Ok, Err}
 use Rattle.core_model.specs.Legal.{Run}
 use Rattle.core_model.specs.Settler.{has_step, settler_step}
 use Rattle.settle_loop.specs.Turning.{has_unwritten}
-use Rattle.interleaver.specs.declared.faults.RunFault.{RunFault}
-use Rattle.interleaver.specs.Records.{KeepsBooks}
-use Rattle.interleaver.specs.Settling.{AreEven, CanSettle}
+use Rattle.run_books.specs.declared.faults.RunFault.{RunFault}
+use Rattle.run_books.specs.Records.{KeepsBooks}
+use Rattle.run_books.specs.Settling.{AreEven, CanSettle}
 use Rattle.interleaver.proofs.Finishing.{can-settle}
 use Rattle.std.proofs.lemmas.Result.{err_from_is_err_and}
 use Rattle.core_model.specs.Legal.{ends}
@@ -13,13 +13,14 @@ use Rattle.history_core.specs.Cores.{run_of}
 use Rattle.script_tree.specs.Programs.{program_tree}
 use Rattle.unit_carrier.specs.Carrying.{unit_at, units_carried}
 use Rattle.unit_carrier.proofs.Places.{units-same}
-use Rattle.interleaver.specs.declared.faults.RunFault.TheVariants.{Memory}
+use Rattle.run_books.specs.declared.faults.RunFault.TheVariants.{Memory}
 use Rattle.interleaver.specs.declared.movers.NextMover.{NextMover}
 use Rattle.interleaver.specs.Flights.{IsNextMover, MovesWithin}
-use Rattle.interleaver.specs.Beside.{TurnsBeside}
+use Rattle.run_books.specs.Beside.{TurnsBeside}
 use Rattle.interleaver.specs.UnderWay.{stage_of, SettlesBy, SettlesOne, SettledOn}
+use Rattle.interleaver.proofs.Unstopped.{way-unstopped}
 use Rattle.interleaver.proofs.Besides.{acts-beside, beside-err, beside-ok, none-beside}
-use Rattle.interleaver.proofs.BooksOthers.{others-keep}
+use Rattle.run_books.proofs.BooksOthers.{others-keep}
 use Rattle.interleaver.proofs.Choosing.{none-out, nobody-says, says-lack, settles-known, unit-says, unit-out-says, settler-says, settler-out-says}
 use Rattle.interleaver.proofs.turns.Turns.move_one.Goals as goal
 
@@ -37,25 +38,25 @@ pub returns-in-Nobody-clause-turns : goal.returns-in-Nobody-clause-turns
 returns-in-Nobody-clause-turns g c = λ o b lines width way full.
     nobody-says others-keep g.H.Host.tells o (program_tree c.args.checked.now) lines width c.args.picks.now b (stage_of (run_of c.args.core.now) c.args.settler.now (g.H.Host.faults c.args.host.now) (g.H.Host.world c.args.host.now) c.args.self.now) refl way full (record { run = run_of c.next_mover.new.core; settler = c.args.settler.now; counts = g.H.Host.faults c.args.host.now; world = g.H.Host.world c.args.host.now; agents = c.next_mover.new.agents.list.items; begun = c.args.self.now.begun; used = c.args.self.now.used }) c.next_mover.ensures.same
     (units-same c.next_mover.new.agents.list.items c.args.self.now.agents.list.items c.in_ok-next_mover.ensures.units) refl refl refl refl refl
-    (subst (IsNextMover (program_tree c.args.checked.now) (run_of c.args.core.now) (units_carried c.args.self.now.agents.list.items) c.pick_at-pick.result) c.in-Nobody.is (c.in_ok-next_mover.ensures.mover way.books.doubt way.books.unstopped))
+    (subst (IsNextMover (program_tree c.args.checked.now) (run_of c.args.core.now) (units_carried c.args.self.now.agents.list.items) c.pick_at-pick.result) c.in-Nobody.is (c.in_ok-next_mover.ensures.mover way.books.doubt (way-unstopped way)))
 
 pub returns-in_err-move_unit-in-Unit-clause-turns : goal.returns-in_err-move_unit-in-Unit-clause-turns
 returns-in_err-move_unit-in-Unit-clause-turns g c = λ o b lines width way full.
     let p = err_from_is_err_and c.from_residual-in_err-move_unit-in-Unit.result c.from_residual-in_err-move_unit-in-Unit.ensures.1 in
     says-lack g.H.Host.tells o (program_tree c.args.checked.now) lines width c.args.picks.now b (stage_of (run_of c.args.core.now) c.args.settler.now (g.H.Host.faults c.args.host.now) (g.H.Host.world c.args.host.now) c.args.self.now) (record { run = run_of c.move_unit.new.core; settler = c.args.settler.now; counts = g.H.Host.faults c.args.host.now; world = g.H.Host.world c.args.host.now; agents = c.move_unit.new.self.agents.list.items; begun = c.move_unit.new.self.begun; used = c.move_unit.new.self.used }) c.from_residual-in_err-move_unit-in-Unit.result Memory (p.1 ∙ ap Err (p.2 ∙ c.in_err-move_unit-in-Unit.ensures.memory))
     (unit-out-says others-keep g.H.Host.tells o (program_tree c.args.checked.now) lines width c.args.picks.now b (stage_of (run_of c.args.core.now) c.args.settler.now (g.H.Host.faults c.args.host.now) (g.H.Host.world c.args.host.now) c.args.self.now) refl way full (run_of c.move_unit.new.core) (run_of c.next_mover.new.core) c.next_mover.new.agents.list.items c.in-Unit.index c.pick_at-pick.result c.pick_at-pick.ensures
-    (subst (IsNextMover (program_tree c.args.checked.now) (run_of c.args.core.now) (units_carried c.args.self.now.agents.list.items) c.pick_at-pick.result) c.in-Unit.is (c.in_ok-next_mover.ensures.mover way.books.doubt way.books.unstopped)) c.next_mover.ensures.same c.in_ok-next_mover.ensures.units c.move_unit.ensures.acts)
+    (subst (IsNextMover (program_tree c.args.checked.now) (run_of c.args.core.now) (units_carried c.args.self.now.agents.list.items) c.pick_at-pick.result) c.in-Unit.is (c.in_ok-next_mover.ensures.mover way.books.doubt (way-unstopped way))) c.next_mover.ensures.same c.in_ok-next_mover.ensures.units c.move_unit.ensures.acts)
 
 pub returns-in-Unit-clause-turns : goal.returns-in-Unit-clause-turns
 returns-in-Unit-clause-turns g c = λ o b lines width way full.
     unit-says others-keep g.H.Host.tells o (program_tree c.args.checked.now) lines width c.args.picks.now b (stage_of (run_of c.args.core.now) c.args.settler.now (g.H.Host.faults c.args.host.now) (g.H.Host.world c.args.host.now) c.args.self.now) refl way full (record { run = run_of c.move_unit.new.core; settler = c.args.settler.now; counts = g.H.Host.faults c.args.host.now; world = g.H.Host.world c.args.host.now; agents = c.move_unit.new.self.agents.list.items; begun = c.move_unit.new.self.begun; used = c.move_unit.new.self.used + 1 }) (run_of c.next_mover.new.core) c.next_mover.new.agents.list.items c.in-Unit.index c.pick_at-pick.result c.pick_at-pick.ensures
-    (subst (IsNextMover (program_tree c.args.checked.now) (run_of c.args.core.now) (units_carried c.args.self.now.agents.list.items) c.pick_at-pick.result) c.in-Unit.is (c.in_ok-next_mover.ensures.mover way.books.doubt way.books.unstopped)) c.next_mover.ensures.same c.in_ok-next_mover.ensures.units c.in_ok-move_unit-in-Unit.ensures.moves (ap (λ (n : ℕ). n + 1) c.move_unit.ensures.used) c.move_unit.ensures.begun refl refl refl
+    (subst (IsNextMover (program_tree c.args.checked.now) (run_of c.args.core.now) (units_carried c.args.self.now.agents.list.items) c.pick_at-pick.result) c.in-Unit.is (c.in_ok-next_mover.ensures.mover way.books.doubt (way-unstopped way))) c.next_mover.ensures.same c.in_ok-next_mover.ensures.units c.in_ok-move_unit-in-Unit.ensures.moves (ap (λ (n : ℕ). n + 1) c.move_unit.ensures.used) c.move_unit.ensures.begun refl refl refl
 
 pub returns-in_err-settle-in-Settler-clause-turns : goal.returns-in_err-settle-in-Settler-clause-turns
 returns-in_err-settle-in-Settler-clause-turns g c = λ o b lines width way full.
     let p = err_from_is_err_and c.from_residual-in_err-settle-in-Settler.result c.from_residual-in_err-settle-in-Settler.ensures.1 in
     says-lack g.H.Host.tells o (program_tree c.args.checked.now) lines width c.args.picks.now b (stage_of (run_of c.args.core.now) c.args.settler.now (g.H.Host.faults c.args.host.now) (g.H.Host.world c.args.host.now) c.args.self.now) (record { run = run_of c.settle.new.core; settler = c.settle.new.settler; counts = g.H.Host.faults c.settle.new.host; world = g.H.Host.world c.settle.new.host; agents = c.next_mover.new.agents.list.items; begun = c.args.self.now.begun; used = c.args.self.now.used }) c.from_residual-in_err-settle-in-Settler.result c.in_err-settle-in-Settler.field-0.0 (p.1 ∙ ap Err p.2)
-    (settler-out-says others-keep g.H.Host.tells o (program_tree c.args.checked.now) lines width c.args.picks.now b (stage_of (run_of c.args.core.now) c.args.settler.now (g.H.Host.faults c.args.host.now) (g.H.Host.world c.args.host.now) c.args.self.now) refl way full (record { run = run_of c.settle.new.core; settler = c.settle.new.settler; counts = g.H.Host.faults c.settle.new.host; world = g.H.Host.world c.settle.new.host; agents = c.next_mover.new.agents.list.items; begun = c.args.self.now.begun; used = c.args.self.now.used }) c.pick_at-pick.result c.pick_at-pick.ensures (subst (IsNextMover (program_tree c.args.checked.now) (run_of c.args.core.now) (units_carried c.args.self.now.agents.list.items) c.pick_at-pick.result) c.in-Settler.is (c.in_ok-next_mover.ensures.mover way.books.doubt way.books.unstopped))
+    (settler-out-says others-keep g.H.Host.tells o (program_tree c.args.checked.now) lines width c.args.picks.now b (stage_of (run_of c.args.core.now) c.args.settler.now (g.H.Host.faults c.args.host.now) (g.H.Host.world c.args.host.now) c.args.self.now) refl way full (record { run = run_of c.settle.new.core; settler = c.settle.new.settler; counts = g.H.Host.faults c.settle.new.host; world = g.H.Host.world c.settle.new.host; agents = c.next_mover.new.agents.list.items; begun = c.args.self.now.begun; used = c.args.self.now.used }) c.pick_at-pick.result c.pick_at-pick.ensures (subst (IsNextMover (program_tree c.args.checked.now) (run_of c.args.core.now) (units_carried c.args.self.now.agents.list.items) c.pick_at-pick.result) c.in-Settler.is (c.in_ok-next_mover.ensures.mover way.books.doubt (way-unstopped way)))
     (subst (λ (x : Run). SettlesBy x (run_of c.settle.new.core)) c.next_mover.ensures.same c.settle.ensures.settles) c.in_err-settle-in-Settler.field-0.0
     (subst (λ (x : Result Unit RunFault). SettledOn {T = Unit} g.H.Host.tells o b (run_of c.args.core.now) (run_of c.settle.new.core) c.args.settler.now c.settle.new.settler (g.H.Host.faults c.settle.new.host) (g.H.Host.world c.args.host.now) (g.H.Host.world c.settle.new.host) x) c.in_err-settle-in-Settler.was
     (subst (λ (x : Run). SettledOn {T = Unit} g.H.Host.tells o b x (run_of c.settle.new.core) c.args.settler.now c.settle.new.settler (g.H.Host.faults c.settle.new.host) (g.H.Host.world c.args.host.now) (g.H.Host.world c.settle.new.host) c.settle.result) c.next_mover.ensures.same
@@ -67,7 +68,7 @@ returns-in_err-settle-in-Settler-clause-turns g c = λ o b lines width way full.
 
 pub returns-in-Settler-clause-turns : goal.returns-in-Settler-clause-turns
 returns-in-Settler-clause-turns g c = λ o b lines width way full.
-    settler-says others-keep g.H.Host.tells o (program_tree c.args.checked.now) lines width c.args.picks.now b (stage_of (run_of c.args.core.now) c.args.settler.now (g.H.Host.faults c.args.host.now) (g.H.Host.world c.args.host.now) c.args.self.now) refl way full (record { run = run_of c.settle.new.core; settler = c.settle.new.settler; counts = g.H.Host.faults c.settle.new.host; world = g.H.Host.world c.settle.new.host; agents = c.next_mover.new.agents.list.items; begun = c.args.self.now.begun; used = c.args.self.now.used + 1 }) c.pick_at-pick.result c.pick_at-pick.ensures (subst (IsNextMover (program_tree c.args.checked.now) (run_of c.args.core.now) (units_carried c.args.self.now.agents.list.items) c.pick_at-pick.result) c.in-Settler.is (c.in_ok-next_mover.ensures.mover way.books.doubt way.books.unstopped))
+    settler-says others-keep g.H.Host.tells o (program_tree c.args.checked.now) lines width c.args.picks.now b (stage_of (run_of c.args.core.now) c.args.settler.now (g.H.Host.faults c.args.host.now) (g.H.Host.world c.args.host.now) c.args.self.now) refl way full (record { run = run_of c.settle.new.core; settler = c.settle.new.settler; counts = g.H.Host.faults c.settle.new.host; world = g.H.Host.world c.settle.new.host; agents = c.next_mover.new.agents.list.items; begun = c.args.self.now.begun; used = c.args.self.now.used + 1 }) c.pick_at-pick.result c.pick_at-pick.ensures (subst (IsNextMover (program_tree c.args.checked.now) (run_of c.args.core.now) (units_carried c.args.self.now.agents.list.items) c.pick_at-pick.result) c.in-Settler.is (c.in_ok-next_mover.ensures.mover way.books.doubt (way-unstopped way)))
     (subst (λ (x : Run). has_step (settler_step (ends x)) ≡ true → SettlesOne x (run_of c.settle.new.core)) c.next_mover.ensures.same c.in_ok-settle-in-Settler.ensures.acted)
     (subst (λ (x : Result Unit RunFault). SettledOn {T = Unit} g.H.Host.tells o b (run_of c.args.core.now) (run_of c.settle.new.core) c.args.settler.now c.settle.new.settler (g.H.Host.faults c.settle.new.host) (g.H.Host.world c.args.host.now) (g.H.Host.world c.settle.new.host) x) c.in_ok-settle-in-Settler.was
     (subst (λ (x : Run). SettledOn {T = Unit} g.H.Host.tells o b x (run_of c.settle.new.core) c.args.settler.now c.settle.new.settler (g.H.Host.faults c.settle.new.host) (g.H.Host.world c.args.host.now) (g.H.Host.world c.settle.new.host) c.settle.result) c.next_mover.ensures.same

@@ -1,0 +1,65 @@
+#!/usr/bin/env bash
+# Times runs of N transfers over 64 accounts that worker threads carry, beside the same on one thread with 64 lines in flight:
+#   bench/workers.sh [N] [PLACE] [FREE]
+# Each run has a new silo: in a folder at PLACE (/tmp), where syncs are real, and in one at FREE (/dev/shm), a memory file system, where
+# they cost nothing. Prints for each the transfers a second, the processor time that the run spent, and how many were aborted.
+# Fails where a run doesn't end with 0, leaves a line without a reply, or makes or loses money.
+# Wanted where syncs are free: 2 workers at least 1.3 times as many a second as 1, on four processors; and no run with more than 1.5
+# times the processor time of the run on one thread.
+top=$(cd "$(dirname "${BASH_SOURCE[0]}")/.." && pwd)
+[ -n "${SILO:-}" ] || "$top/silo" </dev/null >/dev/null 2>&1
+exec python3 - "$top" "${SILO:-$top/crates/silo/out/silo}" "${1:-20000}" "${2:-/tmp}" "${3:-/dev/shm}" <<'END'
+import json, os, resource, subprocess, sys, tempfile, time
+
+top, program, count, real, free = sys.argv[1], sys.argv[2], int(sys.argv[3]), sys.argv[4], sys.argv[5]
+with open(os.path.join(top, "examples", "bank", "bank.grain"), "rb") as file:
+    bank = file.read()
+drawn = 7
+
+def draw():
+    global drawn
+    drawn = (drawn * 6364136223846793005 + 1442695040888963407) % 2**64
+    return drawn // 2147483648 // 4
+
+lines = [b'{"args":[1000],"call":"account/%d.deposit"}\n' % key for key in range(64)]
+for _ in range(count):
+    one, other, amount = draw() % 64, draw() % 64, draw() % 100 + 1
+    lines.append(b'{"args":[%d,%d,%d],"call":"teller/0.transfer"}\n' % (one, other, amount))
+given = b"".join(lines)
+
+def fail(text):
+    sys.exit(f"workers.sh: {text}")
+
+def timed(place, words):
+    with tempfile.TemporaryDirectory(dir=place) as room:
+        folder = os.path.join(room, "silo")
+        os.mkdir(folder)
+        subprocess.run([program, folder, "init"], input=bank, check=True)
+        before = resource.getrusage(resource.RUSAGE_CHILDREN)
+        begun = time.monotonic()
+        ran = subprocess.run([program, folder, "run", *words], input=given, stdout=subprocess.PIPE)
+        took = time.monotonic() - begun
+        after = resource.getrusage(resource.RUSAGE_CHILDREN)
+        if ran.returncode != 0:
+            fail(f"a run with {' '.join(words)} ended with {ran.returncode}")
+        replies = [json.loads(reply) for reply in ran.stdout.split(b"\n")[:-1]]
+        if sorted(reply["n"] for reply in replies) != list(range(1, len(lines) + 1)):
+            fail(f"a run with {' '.join(words)} left a line without its one reply")
+        shown = subprocess.run([program, folder, "show"], stdout=subprocess.PIPE, check=True).stdout.split(b"\n")[:-1]
+        states = [json.loads(line) for line in shown]
+        deposited = sum(1000 for reply in replies if reply["n"] <= 64 and "reply" in reply)
+        if sum(state["fields"]["balance"] for state in states if "grain" in state) != deposited:
+            fail(f"a run with {' '.join(words)} made or lost money")
+        spent = after.ru_utime + after.ru_stime - before.ru_utime - before.ru_stime
+        return took, spent, sum("aborted" in reply for reply in replies)
+
+for name, place in (("real", real), ("free", free)):
+    rates, times = {}, {}
+    for words in (["--width", "64"], ["--workers", "1"], ["--workers", "2"], ["--workers", "4"]):
+        took, spent, aborted = min(timed(place, words) for _ in range(3))
+        label = " ".join(words)
+        rates[label], times[label] = len(lines) / took, spent
+        print(f"{name} syncs, {label}: {len(lines) / took:.0f} a second, {spent:.2f} s of processor time, {aborted} aborted")
+    print(f"{name} syncs: 2 workers carry {rates['--workers 2'] / rates['--workers 1']:.2f} times as many a second as 1; "
+          f"at most {max(times.values()) / times['--width 64']:.2f} times the processor time of one thread")
+END

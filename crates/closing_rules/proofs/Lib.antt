@@ -1,0 +1,4 @@
+pub mod Gathered
+pub mod Onwards
+pub mod Stories
+pub mod Closes

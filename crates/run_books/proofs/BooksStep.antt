@@ -1,0 +1,253 @@
+-- The books after the event that a step of the settler puts.
+use Rattle.std.proofs.Common.{◌≡◌, inr, ℕ, List, [], ◌∷◌, ◌++◌, Bool, true, false, ◌||◌, refl, sym, ap, ◌∙◌, subst, append-nil, append_assoc, Some, None, is_some}
+use Rattle.std.specs.Prelude.{IsTrue, if◌then◌else◌}
+use Rattle.base_types.specs.declared.calls.GrainId.{GrainId}
+use Rattle.base_types.specs.declared.entries.Entry.{Entry}
+use Rattle.host_trait.specs.declared.channels.Channel.{Channel}
+use Rattle.host_trait.specs.World.{World, Passes, moment_of}
+use Rattle.host_trait.proofs.Moments.{started}
+use Rattle.core_model.specs.CoreState.{UnitNo, CoreState, Member}
+use Rattle.core_model.specs.declared.effects.Effect.{Effect}
+use Rattle.core_model.specs.declared.events.CoreEvent.{CoreEvent}
+use Rattle.core_model.specs.declared.events.CoreEvent.TheVariants as event
+use Rattle.core_model.specs.Events.{applies, is_after_doubt}
+use Rattle.core_model.specs.Laws.{extended}
+use Rattle.core_model.specs.Legal.{Run, ends}
+use Rattle.core_model.specs.Settler.{MakesEvent, settler_step, to_commit, versions_to_write}
+use Rattle.core_model.proofs.Split.{no_doubt}
+use Rattle.promise_spec.specs.Programs.{shape_in}
+use Rattle.promise_spec.specs.Records.{Commit}
+use Rattle.promise_spec.specs.Crashes.{Acknowledges}
+use Rattle.promise_spec.specs.UnitRule.{KeepsUnitRule}
+use Rattle.promise_spec.specs.Journals.{Settlement, Seals, commits_of}
+use Rattle.batch_disk.specs.Resting.{Voted, log_of}
+use Rattle.batch_disk.specs.Moments.{LeavesRest, KeepsLog}
+use Rattle.batch_disk.specs.Records.{commits_by}
+use Rattle.batch_disk.specs.Seals.{WriterAfter}
+use Rattle.batch_disk.specs.Writers.{KeepsDisk, kept_of, voted_of}
+use Rattle.batch_disk.specs.declared.writer.BatchWriter.{BatchWriter}
+use Rattle.batch_disk.proofs.Lists.{flat_push}
+use Rattle.batch_disk.proofs.Recorded.{records_are}
+use Rattle.commit_log.specs.declared.gate.Sealing.{Sealing}
+use Rattle.commit_log.specs.declared.gate.Sealing.TheVariants as sealing
+use Rattle.commit_log.specs.declared.records.CommitRecord.{CommitRecord}
+use Rattle.settle_loop.specs.Works.{event_of, tells_entry, tells_doubt, counted_up}
+use Rattle.settle_loop.specs.HostSteps.{MakesNoCall, VotesOn, SealsUnits, DoesFor, batch_made}
+use Rattle.settle_loop.specs.Journaling.{as_settled, LeavesLogs, JournalsAs}
+use Rattle.settle_loop.specs.declared.settler.Settler.{Settler}
+use Rattle.settle_loop.proofs.Journaled.{journals, leaves}
+use Rattle.run_books.specs.Beginnings.{Outset, basis_of}
+use Rattle.run_books.specs.Books.{Books, AreInDoubt, AreBooked}
+use Rattle.run_books.specs.Images.{KeepsFolder, LastsSo}
+use Rattle.run_books.specs.Records.{KeepsBooks}
+use Rattle.run_books.specs.Settling.{AreEven, CanSettle}
+use Rattle.run_books.proofs.BooksCore.{Moves, moves-run}
+use Rattle.run_books.proofs.BooksCounts.{doubt-ends}
+use Rattle.run_books.proofs.BooksLists.{alone}
+use Rattle.run_books.proofs.BooksGrown.{grown, grown-commits}
+use Rattle.run_books.proofs.BooksImages.{vote-kept}
+use Rattle.run_books.proofs.BooksKept.{AddsBatch, books-kept, books-even}
+use Rattle.run_books.proofs.BooksEvents.{adds-none, adds-vote, adds-sealed, adds-unsealed}
+use Rattle.run_books.proofs.BooksFair.{AreOfVotes, is-fair, votes-after, fresh-batch}
+use Rattle.run_books.proofs.BooksSeals.{seals-last}
+
+-- nothing is in doubt, and so no batch of the books
+pub none-doubted : (w : CoreState) (d : List Settlement) → AreInDoubt w d → w.manager.doubt ≡ None → d ≡ []
+none-doubted w [] is none = refl
+none-doubted w (batch ∷ []) is none = absurd (let z : Some is.0 ≡ None = sym is.1 ∙ none in cc)
+none-doubted w (batch ∷ (another ∷ rest)) is none = absurd is
+
+module _ {H : Type 0} (tells : Bool) (world : H → World) (faults : H → Channel → ℕ) (o : Outset) (b : Books) (r : Run) (before after : Settler) (old new : H)
+    (can : CanSettle o (shape_in o.program) r) (even : AreEven before.quiet b (ends r)) (k : KeepsBooks tells o b r before (faults old) (world old)) where
+  -- the books with what the event adds
+  pub record StepDone (e : CoreEvent) : Type 0 where
+    pub books : Books
+    pub kept : KeepsBooks tells o books (extended r (e ∷ [])) after (faults new) (world new)
+    pub even_again : AreEven after.quiet books (ends (extended r (e ∷ [])))
+    pub lasts : IsTrue tells → (head : List ℕ) → LastsSo o head b r before.writer (world old) → LastsSo o head books (extended r (e ∷ [])) after.writer (world new)
+
+  -- what becomes of the settler, and that the event applies
+  pub record IsCounted (e : CoreEvent) : Type 0 where
+    pub applied : applies (ends r) e ≡ true
+    pub quiet : after.quiet ≡ before.quiet
+    pub written : after.written ≡ (if tells_entry e then counted_up before.written else before.written)
+    pub doubted : after.doubted ≡ (before.doubted || tells_doubt e)
+    pub units : KeepsUnitRule (basis_of o) (extended r (e ∷ []))
+
+  -- what is left of the folder where no batch is in doubt
+  record DiskAfter (e : CoreEvent) (head : List ℕ) (f : KeepsFolder o head b r before.writer (world old).disk) (batch : List Settlement) : Type 0 where
+    batches : List (List Commit)
+    log : log_of batches ≡ log_of f.batches ++ commits_of batch
+    keeps : KeepsDisk (shape_in o.program) head batches after.writer (world new).disk
+    votes : AreOfVotes (extended r (e ∷ [])) after.writer
+    seals : Seals o.program (log_of f.batches) batch (world old) (world new)
+    rest : Passes (LeavesRest head (world old)) (world old).past (world new).past
+    rest_now : LeavesRest head (world old) (moment_of (world new))
+
+  module _ (e : CoreEvent) (c : IsCounted e) (entry : tells_entry e ≡ false) (late : is_after_doubt e ≡ false) where
+    abbrev r' : Run
+    r' = extended r (e ∷ [])
+
+    m : Moves (ends r) e (ends r')
+    m = moves-run r e c.applied
+
+    pub none : (ends r).manager.doubt ≡ None
+    none = no_doubt (ends r) e c.applied late
+
+    pub sure : b.doubted ≡ []
+    sure = none-doubted (ends r) b.doubted k.booked.doubted none
+
+    pub writer-sure : before.writer.in_doubt ≡ false
+    writer-sure = k.unsure ∙ k.doubt ∙ ap is_some none
+
+    -- an event that leaves no doubt
+    plain-done : (plain : tells_doubt e ≡ false) (batch : List Settlement) (adds : AddsBatch tells o r r' before after (faults old) (faults new) (world old) (world new) batch b.doubted)
+        → (IsTrue tells → (head : List ℕ) (f : KeepsFolder o head b r before.writer (world old).disk) → DiskAfter e head f batch)
+        → ((x : Entry) (l : Commit) → Member x (ends r).manager.settled → Member l (commits_of batch) → Acknowledges x l → ⊥) → StepDone e
+    plain-done plain batch adds disk fresh = record {
+      books = grown b m.more batch b.doubted;
+      kept = kept;
+      even_again = books-even tells o b r e before after (faults old) (faults new) (world old) (world new) batch b.doubted can.above can.units even k m entry adds;
+      lasts = λ t head l. (
+          let f = l.folder writer-sure in
+          let d = disk t head f in
+          subst (λ (x : List Settlement). LastsSo o head (grown b m.more batch x) r' after.writer (world new)) (sym sure)
+          (seals-last o head b r e before.writer after.writer (world old) (world new) m.more batch can.above can.units c.units k.booked sure even.rest (k.outside t).output.proper l adds.none
+          (subst (λ (x : List Settlement). AreBooked (grown b m.more batch x) (ends r')) sure kept.booked)
+          (subst (λ (log : List Commit). Seals o.program log batch (world old) (world new)) f.log d.seals) d.rest d.rest_now
+          (λ x y said there is. fresh x y (subst (λ (xs : List Entry). Member x xs) k.booked.entries said) there is)
+          (λ h. absurd (let left = doubt-ends r' h in let z : Some left.0 ≡ None = sym left.1 ∙ (m.doubt plain ∙ none) in cc))
+          (λ q. record {
+            batches = d.batches;
+            log = d.log ∙ ap (λ (x : List Commit). x ++ commits_of batch) f.log ∙ append_assoc o.opening (commits_of (b.said ++ b.unsaid)) (commits_of batch)
+                ∙ ap (λ (x : List Commit). o.opening ++ x) (sym (grown-commits b m.more batch []));
+            keeps = d.keeps;
+            votes = d.votes;
+          }))
+          );
+    }
+      where
+        kept : KeepsBooks tells o (grown b m.more batch b.doubted) (extended r (e ∷ [])) after (faults new) (world new)
+        kept = books-kept tells o b r e before after (faults old) (faults new) (world old) (world new) batch b.doubted can.above can.units even k m entry adds
+
+    -- what the journal law says of it, where it is the settler's step
+    journal-of : MakesEvent (settler_step (ends r)) e → (t : IsTrue tells) (head : List ℕ) (f : KeepsFolder o head b r before.writer (world old).disk) (does : DoesFor tells world faults e before.quiet (shape_in o.program) (ends r) before.writer after.writer old new)
+        → JournalsAs o.program head f.batches before.writer after.writer (world old) (world new) e before.quiet (ends r) (batch_made tells world faults e before.quiet (shape_in o.program) (ends r) before.writer after.writer old new does)
+    journal-of makes t head f does =
+        journals tells t world faults o.program head f.batches (ends r) before.writer after.writer old new f.keeps
+        (is-fair o r before.writer can.above can.units can.kinds can.accepted can.numbers f.votes) before.quiet (settler_step (ends r)) e refl makes does
+
+    -- without a host call no log changes
+    no-call : (head : List ℕ) (f : KeepsFolder o head b r before.writer (world old).disk) → MakesNoCall tells world faults before.writer after.writer old new
+        → LeavesLogs o.program head f.batches before.writer after.writer (world old) (world new)
+    no-call head f none =
+        let same : LeavesLogs o.program head f.batches before.writer before.writer (world old) (world old) =
+        leaves o.program head f.batches before.writer before.writer (world old) (world old) f.keeps refl (record { more = []; past = sym (append-nil (world old).past); last = refl })
+        (started (KeepsLog (shape_in o.program) head (log_of f.batches) (world old)) (world old).past) f.keeps in
+        subst (λ (x : BatchWriter). LeavesLogs o.program head f.batches before.writer x (world old) (world new)) (sym none.writer)
+        (subst (λ (h : H). LeavesLogs o.program head f.batches before.writer before.writer (world old) (world h)) (sym none.host) same)
+
+    -- no log changes
+    leaves-disk : (head : List ℕ) (f : KeepsFolder o head b r before.writer (world old).disk) → LeavesLogs o.program head f.batches before.writer after.writer (world old) (world new) → AreOfVotes (extended r (e ∷ [])) after.writer
+        → DiskAfter e head f []
+    leaves-disk head f left votes = record {
+      batches = f.batches;
+      log = sym (append-nil (log_of f.batches));
+      keeps = left.disk;
+      votes = votes;
+      seals = left.seals;
+      rest = left.rest;
+      rest_now = left.rest_now;
+    }
+
+    votes-still : AreOfVotes r before.writer → after.writer ≡ before.writer → AreOfVotes r' after.writer
+    votes-still votes same = subst (λ (w : BatchWriter). AreOfVotes r' w) (sym same) (λ v there. vote-kept r (e ∷ []) can.above before.writer.batch v.unit v.write.grain v.state (votes v there))
+
+    votes-gone : kept_of after.writer ≡ [] → AreOfVotes r' after.writer
+    votes-gone gone v there = absurd (subst (λ (vs : List Voted). Member v vs) gone there)
+
+  no-older : (x : Entry) (l : Commit) → Member x (ends r).manager.settled → Member l (commits_of []) → Acknowledges x l → ⊥
+  no-older x l said there is = there
+
+  or-none : (x : Bool) → (x || false) ≡ x
+  or-none true = refl
+  or-none false = refl
+
+  -- the three events without a host call
+  pub by-decide : (n : ℕ) → MakesNoCall tells world faults before.writer after.writer old new → IsCounted (event.Decide n) → StepDone (event.Decide n)
+  by-decide n does c =
+      let e : CoreEvent = event.Decide n in
+      plain-done e c refl refl refl []
+      (adds-none tells world faults o b r before after old new can.above can.units k e c.applied (moves-run r e c.applied) c.quiet c.written refl (c.doubted ∙ or-none before.doubted) (λ g. refl) refl refl refl does)
+      (λ t head f. leaves-disk e c refl refl head f (no-call e c refl refl head f does) (votes-still e c refl refl f.votes does.writer)) no-older
+
+  pub by-learn : (u : UnitNo) (g : GrainId) → MakesNoCall tells world faults before.writer after.writer old new → IsCounted (event.Learn u g) → StepDone (event.Learn u g)
+  by-learn u g does c =
+      let e : CoreEvent = event.Learn u g in
+      plain-done e c refl refl refl []
+      (adds-none tells world faults o b r before after old new can.above can.units k e c.applied (moves-run r e c.applied) c.quiet c.written refl (c.doubted ∙ or-none before.doubted) (λ h. refl) refl refl refl does)
+      (λ t head f. leaves-disk e c refl refl head f (no-call e c refl refl head f does) (votes-still e c refl refl f.votes does.writer)) no-older
+
+  pub by-take : MakesNoCall tells world faults before.writer after.writer old new → IsCounted event.Take → StepDone event.Take
+  by-take does c =
+      let e : CoreEvent = event.Take in
+      plain-done e c refl refl refl []
+      (adds-none tells world faults o b r before after old new can.above can.units k e c.applied (moves-run r e c.applied) c.quiet c.written refl (c.doubted ∙ or-none before.doubted) (λ g. refl) refl refl refl does)
+      (λ t head f. leaves-disk e c refl refl head f (no-call e c refl refl head f does) (votes-still e c refl refl f.votes does.writer)) no-older
+
+  -- a vote
+  pub by-vote : (n : ℕ) (g : GrainId) (said : Bool) → MakesEvent (settler_step (ends r)) (event.Vote n g said) → VotesOn tells world faults n g said (versions_to_write (ends r) (ends r).manager.batch g) before.writer after.writer old new → IsCounted (event.Vote n g said) → StepDone (event.Vote n g said)
+  by-vote n g said makes does c =
+      let e : CoreEvent = event.Vote n g said in
+      plain-done e c refl refl refl []
+      (adds-vote tells world faults o b r before after old new can.above can.units k n g said c.applied (moves-run r e c.applied) c.quiet c.written (c.doubted ∙ or-none before.doubted) does)
+      (λ t head f. leaves-disk e c refl refl head f (journal-of e c refl refl makes t head f does) (votes-after r n g said before.writer after.writer can.above c.applied does.batch does.kept f.votes)) no-older
+
+  -- a batch on disk, or not
+  sealed-gone : (n : ℕ) (x : Sealing) (made : List CommitRecord) (v w : BatchWriter) → event.Sealed n ≡ event_of n x → WriterAfter x made v w → kept_of w ≡ []
+  sealed-gone n (sealing.Sealed next) made v w q is = is.1.1.1
+  sealed-gone n sealing.NotSealed made v w q is = absurd (cc q)
+  sealed-gone n sealing.InDoubt made v w q is = absurd (cc q)
+
+  unsealed-gone : (n : ℕ) (x : Sealing) (made : List CommitRecord) (v w : BatchWriter) → event.NotSealed n ≡ event_of n x → WriterAfter x made v w → kept_of w ≡ []
+  unsealed-gone n (sealing.Sealed next) made v w q is = absurd (cc q)
+  unsealed-gone n sealing.NotSealed made v w q is = is.1
+  unsealed-gone n sealing.InDoubt made v w q is = absurd (cc q)
+
+  pub by-unsealed : (n : ℕ) → MakesEvent (settler_step (ends r)) (event.NotSealed n) → SealsUnits tells world faults n (event.NotSealed n) (to_commit (ends r) (ends r).manager.batch) before.writer after.writer old new → IsCounted (event.NotSealed n) → StepDone (event.NotSealed n)
+  by-unsealed n makes does c =
+      let e : CoreEvent = event.NotSealed n in
+      plain-done e c refl refl refl []
+      (adds-unsealed tells world faults o b r before after old new can.above can.units k n c.applied (moves-run r e c.applied) c.quiet c.written (c.doubted ∙ or-none before.doubted) does)
+      (λ t head f. leaves-disk e c refl refl head f (journal-of e c refl refl makes t head f does)
+      (votes-gone e c refl refl (unsealed-gone n does.answer does.work.records before.writer after.writer does.event does.after_is))) no-older
+
+  pub by-sealed : (n : ℕ) → MakesEvent (settler_step (ends r)) (event.Sealed n) → SealsUnits tells world faults n (event.Sealed n) (to_commit (ends r) (ends r).manager.batch) before.writer after.writer old new → IsCounted (event.Sealed n) → StepDone (event.Sealed n)
+  by-sealed n makes does c =
+      let e : CoreEvent = event.Sealed n in
+      let effects : List Effect = to_commit (ends r) (ends r).manager.batch in
+      let batch : List Commit = commits_by effects does.work.records in
+      let adds = adds-sealed tells world faults o b r before after old new can.above can.units k n c.applied (moves-run r e c.applied) c.quiet c.written (c.doubted ∙ or-none before.doubted) does in
+      let m = moves-run r e c.applied in
+      let kept = books-kept tells o b r e before after (faults old) (faults new) (world old) (world new) (as_settled batch ∷ []) b.doubted can.above can.units even k m refl adds in
+      plain-done e c refl refl refl (as_settled batch ∷ []) adds
+      (λ t head f. (
+      let s = journal-of e c refl refl makes t head f does in
+      record {
+        batches = f.batches ++ batch ∷ [];
+        log = flat_push f.batches batch ∙ ap (λ (x : List Commit). log_of f.batches ++ x) (sym (append-nil batch));
+        keeps = s.disk;
+        votes = votes-gone e c refl refl (sealed-gone n does.answer does.work.records before.writer after.writer does.event does.after_is);
+        seals = s.seals;
+        rest = s.rest;
+        rest_now = s.rest_now;
+      }))
+      (λ x l said there is. fresh-batch (basis_of o) r e batch (commits_of (b.said ++ ((b.unsaid ++ as_settled batch ∷ []) ++ alone m.more))) can.above can.units c.units
+      (records_are (voted_of n before.writer) effects does.work.records does.records) kept.booked.commits
+      (λ y among. subst (λ (ls : List Commit). Member y ls) (sym (grown-commits b m.more (as_settled batch ∷ []) b.doubted))
+      (in-back y (commits_of (b.said ++ b.unsaid)) (commits_of (as_settled batch ∷ [])) (subst (λ (ls : List Commit). Member y ls) (sym (append-nil batch)) among)))
+      x l said (subst (λ (ls : List Commit). Member l ls) (append-nil batch) there) is)
+    where
+      in-back : {A : Type 0} (x : A) (xs ys : List A) → Member x ys → Member x (xs ++ ys)
+      in-back x [] ys there = there
+      in-back x (z ∷ xs) ys there = inr (in-back x xs ys there)

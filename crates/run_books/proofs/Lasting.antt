@@ -1,0 +1,121 @@
+-- What the images keep of the turns' books is what has to last of a whole run.
+use Rattle.std.proofs.Common.{◌≡◌, ◌≢◌, ℕ, List, [], ◌∷◌, ◌++◌, map, Bool, true, inl, inr, ⊎_elim, refl, sym, ap, ◌∙◌, subst, append-nil}
+use Rattle.std.specs.Prelude.{IsTrue, take}
+use Rattle.std.specs.List.{AllByRecursion}
+use Rattle.host_trait.specs.declared.channels.FileId.{FileId}
+use Rattle.host_trait.specs.declared.channels.FileId.TheVariants.{Program as ProgramFile, Manager, Grain}
+use Rattle.host_trait.specs.World.{Moment, moment_of}
+use Rattle.host_trait.proofs.Moments.{weaker}
+use Rattle.core_model.specs.CoreState.{CoreState}
+use Rattle.core_model.specs.declared.effects.Effect.{Effect}
+use Rattle.core_model.specs.Serial.{chosen}
+use Rattle.core_model.specs.Legal.{Run, ends}
+use Rattle.log_reading.specs.Steps.{live_slot, manager}
+use Rattle.promise_spec.specs.Records.{Commit, AreRecordsOf}
+use Rattle.promise_spec.specs.Logs.{IsLog}
+use Rattle.promise_spec.specs.Programs.{shape_in}
+use Rattle.promise_spec.specs.Outputs.{IsProper}
+use Rattle.promise_spec.specs.Crashes.{IsAside, LeavesAlone}
+use Rattle.promise_spec.specs.Causes.{HasDoubt}
+use Rattle.promise_spec.specs.Exits.{AreOf, doubtful, HasDoubtfulBlock}
+use Rattle.promise_spec.specs.Journals.{Settlement, CutAt, Backs, commits_of, entries_of}
+use Rattle.promise_spec.specs.Courses.{Observed, Course, order, core_end, seen_at_entry}
+use Rattle.promise_laws.specs.Closings.{IsBehind, ReadsMayStay, AllEnd, Carries}
+use Rattle.promise_laws.specs.Obligations.{Opens, Lasts}
+use Rattle.promise_laws.proofs.KeptRuns.{whole_lasts, doubt_lasts}
+use Rattle.settle_loop.specs.declared.settler.Settler.{Settler}
+use Rattle.batch_disk.specs.Resting.{SomeImage}
+use Rattle.batch_disk.specs.declared.writer.BatchWriter.{BatchWriter}
+use Rattle.run_books.specs.Beginnings.{Outset}
+use Rattle.run_books.specs.Books.{Books, booked_journal, AreInDoubt}
+use Rattle.run_books.specs.Images.{LeavesAside, HasOpenBlock, LastsSo}
+use Rattle.run_books.specs.Records.{KeepsRecord}
+use Rattle.run_books.specs.Closing.{IsCourseOf}
+
+-- a file that is left alone isn't the live manager file
+not-live : (file : FileId) → IsAside live_slot file → file ≢ Manager live_slot
+not-live (ProgramFile slot) is q = absurd cc
+not-live (Manager slot) is q = is (same slot live_slot q)
+  where
+    same : (a b : ℕ) → Manager a ≡ Manager b → a ≡ b
+    same a b t = cc
+not-live (Grain slot grain) is q = absurd cc
+
+-- the records of units name them
+units-named : (es : List Effect) (ls : List Commit) → AreRecordsOf es ls → map (λ (l : Commit). l.logged.unit) ls ≡ map (λ (e : Effect). e.unit) es
+units-named [] [] p = refl
+units-named [] (l ∷ ls) p = absurd p
+units-named (e ∷ es) [] p = absurd p
+units-named (e ∷ es) (l ∷ ls) p = (λ i. p.0.unit i ∷ units-named es ls p.1 i)
+
+module _ (o : Outset) (head : List ℕ) (b : Books) (r : Run) (writer : BatchWriter) (seen : Observed) (c : Course)
+    (l : LastsSo o head b r writer seen.new) (is : IsCourseOf o b r seen c) (heads : head ≡ take 15 (seen_at_entry seen manager)) (behind : IsBehind live_slot o.program seen c o.world) where
+  end : ends r ≡ core_end o.program c
+  end = ap ends (sym is.run)
+
+  order-is : o.opening ++ commits_of (booked_journal b) ≡ order c
+  order-is = (λ i. sym is.opening i ++ sym is.added i)
+
+  alone-at : (m : Moment) → LeavesAside head o.world m → LeavesAlone live_slot seen m
+  alone-at m a = record {
+    aside = λ file aside. a.aside file aside ∙ behind.others file (not-live file aside);
+    header = λ image left. a.header image left ∙ heads;
+  }
+
+  end-at : (m : Moment) → AllEnd o.program (ends r) o.opening m → AllEnd o.program (core_end o.program c) c.opening m
+  end-at m a = subst (λ (log : List Commit). AllEnd o.program (core_end o.program c) log m) (sym is.opening) (subst (λ (w : CoreState). AllEnd o.program w o.opening m) end a)
+
+  block-of : HasOpenBlock (o.opening ++ commits_of (booked_journal b)) (ends r) seen.new.disk → HasDoubtfulBlock live_slot seen c (core_end o.program c)
+  block-of h = record {
+    gate = h.gate;
+    batch = h.batch;
+    batches = h.batches;
+    records = subst (λ (w : CoreState). AreRecordsOf (chosen w) h.batch) end h.records;
+    log = ⊎_elim (λ q. inl (sym order-is ∙ q)) (λ q. inr (sym order-is ∙ q)) h.log_is;
+    front = h.front;
+    block = h.block;
+    differ = h.differ;
+  }
+
+  carries : (journal : List Settlement) → booked_journal b ≡ journal → Carries o.program seen c o.world journal
+  carries journal q = record {
+    commits = is.added ∙ ap commits_of q;
+    backs = subst (λ (j : List Settlement). Backs j c.added) q (subst (Backs (booked_journal b)) (sym is.added) l.backs);
+    batches = weaker (AllEnd o.program (ends r) o.opening) (AllEnd o.program (core_end o.program c) c.opening) end-at l.batches;
+    batches_now = end-at (moment_of seen.new) l.batches_now;
+    alone = weaker (LeavesAside head o.world) (LeavesAlone live_slot seen) alone-at l.alone;
+    alone_now = alone-at (moment_of seen.new) l.alone_now;
+    block = λ d. block-of (l.block (subst HasDoubt is.run d));
+  }
+
+  cut-of : (doubted : List Settlement) → b.doubted ≡ doubted → CutAt o.program c.opening o.world b.said b.unsaid doubted c.rest seen.new
+  cut-of doubted q =
+      subst (λ (d : List Settlement). CutAt o.program c.opening o.world b.said b.unsaid d c.rest seen.new) q
+      (subst (λ (rest : List ℕ). CutAt o.program c.opening o.world b.said b.unsaid b.doubted rest seen.new) (sym is.rest)
+      (subst (λ (log : List Commit). CutAt o.program log o.world b.said b.unsaid b.doubted b.rest seen.new) (sym is.opening) l.journal))
+
+  module _ (opens : Opens o.program seen c) (stay : ReadsMayStay seen.new) (proper : AllByRecursion (IsProper (shape_in o.program)) (entries_of b.said)) where
+    lasts-by : (doubted : List Settlement) → b.doubted ≡ doubted → AreInDoubt (ends r) doubted → Lasts o.program seen c
+    lasts-by [] q d =
+        whole_lasts o.program seen c o.world behind b.said b.unsaid opens stay (cut-of [] q) is.entries proper
+        (carries (b.said ++ b.unsaid) (ap (λ (x : List Settlement). (b.said ++ b.unsaid) ++ x) q ∙ append-nil (b.said ++ b.unsaid)))
+    lasts-by (batch ∷ []) q d =
+        let some : SomeImage (λ image. IsLog live_slot (shape_in o.program) image (o.opening ++ commits_of (booked_journal b))) seen.new.disk = l.some (λ none. is-some batch (sym q ∙ none)) in
+        doubt_lasts o.program seen c o.world behind b.said b.unsaid batch some.image d.0 opens (cut-of (batch ∷ []) q) is.entries proper
+        (carries ((b.said ++ b.unsaid) ++ batch ∷ []) (ap (λ (x : List Settlement). (b.said ++ b.unsaid) ++ x) q))
+        some.left (subst (IsLog live_slot (shape_in o.program) some.image) order-is some.holds)
+        (ap (λ (w : CoreState). w.manager.doubt) (sym end) ∙ d.1)
+        (subst (λ (w : CoreState). AreOf (doubtful w) (commits_of (batch ∷ []))) end
+        (ap (map (λ (x : Commit). x.logged.unit)) (append-nil batch.commits) ∙ units-named (chosen (ends r)) batch.commits d.2))
+      where
+        is-some : (x : Settlement) → x ∷ [] ≡ [] → ⊥
+        is-some x t = absurd cc
+    lasts-by (batch ∷ (other ∷ more)) q d = absurd d
+
+-- what has to last
+pub lasts : (tells : Bool) (o : Outset) (head : List ℕ) (b : Books) (r : Run) (settler : Settler) (seen : Observed) (c : Course)
+    → tells ≡ true → KeepsRecord tells o b r settler seen.faults_after seen.new → LastsSo o head b r settler.writer seen.new → IsCourseOf o b r seen c
+    → head ≡ take 15 (seen_at_entry seen manager) → IsBehind live_slot o.program seen c o.world → Opens o.program seen c → ReadsMayStay seen.new
+    → Lasts o.program seen c
+lasts tells o head b r settler seen c t k l is heads behind opens stay =
+    lasts-by o head b r settler.writer seen c l is heads behind opens stay (k.books.outside (subst IsTrue (sym t) refl)).output.proper b.doubted refl k.books.booked.doubted

@@ -1,0 +1,12 @@
+use Rattle.run_books.proofs.Lasting.{lasts}
+use Rattle.run_books.proofs.Showing.{explains, settled}
+use Rattle.run_books.proofs.laws.records_show.Goals as goal
+
+pub returns-clause-explains : goal.returns-clause-explains
+returns-clause-explains g c = λ tells o b r settler seen course result k e q turns is. explains tells o b r settler seen course result k e q turns is
+
+pub returns-clause-settled : goal.returns-clause-settled
+returns-clause-settled g c = λ tells o b r settler seen course result loud k e q is. settled tells o b r settler seen course result loud k e q is
+
+pub returns-clause-lasts : goal.returns-clause-lasts
+returns-clause-lasts g c = λ tells o head b r settler seen course t k l is heads behind opens stay. lasts tells o head b r settler seen course t k l is heads behind opens stay

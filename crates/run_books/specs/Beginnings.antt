@@ -1,0 +1,54 @@
+-- What a run begins with, and what its record is told of from outside.
+use Rattle.std.specs.Prelude.{◌≡◌, ◌+◌, ◌<◌, ℕ, List, [], ◌∷◌, length, slice_get, Some, false, ⊤}
+use Rattle.host_trait.specs.declared.channels.Channel.{Channel}
+use Rattle.host_trait.specs.World.{World}
+use Rattle.request_wire.specs.declared.requests.Line.{Line}
+use Rattle.core_model.specs.Asked.{IsGoing}
+use Rattle.core_model.specs.Legal.{Run, ends}
+use Rattle.script_tree.specs.Programs.{ProgramTree}
+use Rattle.promise_spec.specs.Programs.{Program}
+use Rattle.promise_spec.specs.Records.{Commit, standing_of}
+use Rattle.promise_spec.specs.Lines.{ReadsLineAs}
+use Rattle.promise_spec.specs.UnitRule.{Basis}
+use Rattle.turn_rules.specs.Quiet.{IsQuiet}
+use Rattle.settle_loop.specs.declared.settler.Settler.{Settler}
+
+-- the lines are numbered one after another, from the one behind this number on
+abbrev pub GoUpFrom : ℕ → List Line → Type 0
+GoUpFrom n [] = ⊤
+GoUpFrom n (line ∷ lines) = (line.number ≡ n + 1) × GoUpFrom (n + 1) lines
+
+-- So far all is settled and written, no lock is held, nothing is in doubt and no stop stands. The lines go on behind those so
+-- far, and the settler has written as many entries as there were lines.
+pub record CanTurn (r : Run) (settler : Settler) (lines : List Line) : Type 0 where
+  pub quiet : IsQuiet (ends r)
+  pub going : IsGoing (ends r)
+  pub numbers : GoUpFrom (ends r).units.lines lines
+  pub sure : settler.doubted ≡ false
+  pub written : settler.written ≡ (ends r).units.lines
+
+-- What a run's record is told of from outside: the program, all lines that are asked, the log with which the run opened, the
+-- width and the picks, the counts of faults where the run began, and the world behind the opening.
+pub record Outset : Type 0 where
+  pub program : Program
+  pub asked : List (List ℕ)
+  pub opening : List Commit
+  pub width : ℕ
+  pub picks : List ℕ
+  pub faults : Channel → ℕ
+  pub world : World
+
+-- what the unit rule is told
+abbrev pub basis_of : Outset → Basis
+basis_of o = record { types = o.program.types; lines = o.asked; opening = standing_of o.program.types o.opening }
+
+-- What the outset tells is that of a call: the core has the program's types, the width is 1 at least, and the lines that are asked
+-- are those so far and behind them these, each of which is what its text reads as.
+pub record IsOutset (o : Outset) (types : ProgramTree) (r : Run) (lines : List Line) (width : ℕ) (picks : List ℕ) : Type 0 where
+  pub types_are : o.program.types ≡ types
+  pub kinds : r.kinds ≡ length types
+  pub width_is : o.width ≡ width
+  pub wide : 0 < width
+  pub picks_are : o.picks ≡ picks
+  pub all : length o.asked ≡ (ends r).units.lines + length lines
+  pub reads : (at : ℕ) (line : Line) → slice_get lines at ≡ Some line → ReadsLineAs types o.asked ((ends r).units.lines + at + 1) line.what

@@ -1,0 +1,78 @@
+-- The record of a run: what holds where it begins, and again where it ends, however it ends.
+use Rattle.std.specs.Prelude.{◌≡◌, ◌<◌, ◌≤◌, ◌+◌, ◌*◌, ℕ, Bool, IsTrue, List, [], length, is_some, None, Result, Ok, Err}
+use Rattle.host_trait.specs.declared.channels.Channel.{Channel}
+use Rattle.host_trait.specs.declared.channels.Channel.TheVariants.{File, Output}
+use Rattle.host_trait.specs.Faults.{Rose}
+use Rattle.host_trait.specs.World.{World}
+use Rattle.log_reading.specs.Steps.{live_slot, manager}
+use Rattle.core_model.specs.Legal.{Run, ends}
+use Rattle.promise_spec.specs.Programs.{shape_in}
+use Rattle.promise_spec.specs.Outputs.{Grew}
+use Rattle.promise_spec.specs.Cores.{how_many}
+use Rattle.promise_spec.specs.UnitRule.{KeepsUnitRule}
+use Rattle.promise_spec.specs.Causes.{AreFaults, HasDoubt, NoneRose, is_vote, is_sealed}
+use Rattle.promise_spec.specs.Journals.{entries_of}
+use Rattle.turn_rules.specs.Quiet.{HasRun}
+use Rattle.settle_loop.specs.declared.settler.Settler.{Settler}
+use Rattle.run_books.specs.declared.faults.RunFault.{RunFault}
+use Rattle.run_books.specs.declared.faults.RunFault.TheVariants.{InDoubt, WriteFault, Memory}
+use Rattle.run_books.specs.Beginnings.{Outset, basis_of}
+use Rattle.run_books.specs.Books.{Books, AreBooked, IsPutOut, IsCutOff}
+use Rattle.run_books.specs.Images.{LastsSo}
+
+-- where nothing failed there was one sync for each vote, and two for each batch on disk
+abbrev pub CountsEachSync : Outset → Run → (Channel → ℕ) → World → Type 0
+CountsEachSync o r faults now = NoneRose o.faults faults → now.syncs ≡ o.world.syncs + (how_many is_vote r + 2 * how_many is_sealed r)
+
+-- What a host that tells shows over any folder, sound or not: the output grew by the lines of what is written and a rest of a
+-- line, and how many syncs were asked.
+pub record ShowsOutside (o : Outset) (b : Books) (r : Run) (faults : Channel → ℕ) (now : World) : Type 0 where
+  pub output : Grew (shape_in o.program) o.world.output now.output (entries_of b.said) b.rest
+  pub syncs : CountsEachSync o r faults now
+
+-- No more faults show in the events than were counted, and no count fell. The books are those of the core's last state. The
+-- settler knows of a doubt, as its writer does, and how many entries are written.
+pub record KeepsBooks (tells : Bool) (o : Outset) (b : Books) (r : Run) (settler : Settler) (counts : Channel → ℕ) (now : World) : Type 0 where
+  pub faults : AreFaults live_slot r o.faults counts
+  pub later : (c : Channel) → o.faults c ≤ counts c
+  pub booked : AreBooked b (ends r)
+  pub said : IsPutOut settler.quiet b (ends r)
+  pub cut : IsCutOff (shape_in o.program) b (ends r)
+  pub doubt : settler.doubted ≡ is_some (ends r).manager.doubt
+  pub unsure : settler.writer.in_doubt ≡ settler.doubted
+  pub written : settler.written ≡ (ends r).manager.emitted
+  pub outside : IsTrue tells → ShowsOutside o b r counts now
+
+-- Units are numbered from 1 or later. The events keep the unit rule, and the books are kept.
+pub record KeepsRecord (tells : Bool) (o : Outset) (b : Books) (r : Run) (settler : Settler) (counts : Channel → ℕ) (now : World) : Type 0 where
+  pub above : 0 < r.base
+  pub units : KeepsUnitRule (basis_of o) r
+  pub books : KeepsBooks tells o b r settler counts now
+
+-- All is settled and written, each line has its entry, nothing is or was in doubt, and nobody can move.
+pub record HasCarriedAll (o : Outset) (r : Run) (settler : Settler) : Type 0 where
+  pub run : HasRun (length o.asked) (ends r)
+  pub none : (ends r).manager.doubt ≡ None
+  pub never : HasDoubt r → ⊥
+  pub written : settler.written ≡ (ends r).units.lines
+
+-- A batch is in doubt, all that is settled is written, and the manager file's count of faults rose.
+pub record HasDoubted (o : Outset) (r : Run) (faults : Channel → ℕ) : Type 0 where
+  pub doubt : HasDoubt r
+  pub written : length (ends r).manager.settled ≤ (ends r).manager.emitted
+  pub rose : Rose (o.faults (File manager)) (faults (File manager))
+
+-- What the answer says. A line is cut off only where the output failed.
+abbrev pub TurnsEndAs : Outset → Books → Run → Settler → (Channel → ℕ) → {T : Type 0} → Result T RunFault → Type 0
+TurnsEndAs o b r settler faults (Ok done) = HasCarriedAll o r settler × (b.rest ≡ [])
+TurnsEndAs o b r settler faults (Err InDoubt) = HasDoubted o r faults × (b.rest ≡ [])
+TurnsEndAs o b r settler faults (Err WriteFault) = Rose (o.faults Output) (faults Output)
+TurnsEndAs o b r settler faults (Err Memory) = b.rest ≡ []
+
+-- The record that held where the run began holds again with more in its books, and so does what the images keep, if they
+-- kept it; and the answer says how it ended.
+pub record RecordGoesOn {T : Type 0} (tells : Bool) (o : Outset) (b : Books) (r r' : Run) (settler settler' : Settler) (faults' : Channel → ℕ) (now now' : World) (result : Result T RunFault) : Type 0 where
+  pub books : Books
+  pub record_kept : KeepsRecord tells o books r' settler' faults' now'
+  pub lasts : IsTrue tells → (head : List ℕ) → LastsSo o head b r settler.writer now → LastsSo o head books r' settler'.writer now'
+  pub ended : TurnsEndAs o books r' settler' faults' result

@@ -1,0 +1,89 @@
+-- Step after step among others, and a stop at the end.
+use Rattle.std.proofs.Common.{◌≡◌, ◌⊎◌, ⊎_elim, inl, inr, ℕ, ◌<◌, Bool, true, sym, ap, subst}
+use Rattle.std.specs.Prelude.{Result, Ok, Err}
+use Rattle.base_types.specs.declared.shapes.Shape.{Shape}
+use Rattle.host_trait.specs.declared.channels.Channel.{Channel}
+use Rattle.host_trait.specs.World.{World}
+use Rattle.core_model.specs.declared.events.CoreEvent.{CoreEvent}
+use Rattle.core_model.specs.declared.events.CoreEvent.TheVariants.{Halt}
+use Rattle.core_model.specs.declared.events.CoreReply.{CoreReply}
+use Rattle.core_model.specs.Legal.{Run}
+use Rattle.core_access.specs.Sights.{Sight, run_seen, Looks, Tells, Counts}
+use Rattle.promise_spec.specs.UnitRule.{Basis}
+use Rattle.worker_rules.specs.Sharing.{KeepsPromise}
+use Rattle.worker_rules.proofs.Promising.{looks-promise}
+use Rattle.settle_loop.specs.declared.settler.Settler.{Settler}
+use Rattle.run_books.specs.declared.faults.RunFault.{RunFault}
+use Rattle.run_books.specs.Beginnings.{Outset}
+use Rattle.run_books.specs.Beside.{TurnsBeside}
+use Rattle.run_books.specs.Books.{Books}
+use Rattle.run_books.specs.Sharing.{SeesOn, MayRely}
+use Rattle.run_books.proofs.Relying.{sees-look, sees-tell, sees-both, counts-on, relies-before}
+use Rattle.shared_settling.specs.Among.{SettlesAmong, StopsAmong, CanSettleAmong, SettledAmong}
+use Rattle.shared_settling.proofs.Keeping.{can-again, settled-on, settled-fault}
+use Rattle.shared_settling.proofs.Leaving.{one-after-another, beside-fault}
+use Rattle.shared_settling.proofs.OthersStill.{looked-on, stopped-on}
+use Rattle.shared_settling.proofs.Passing.{among-both, among-look, stop-promise}
+use Rattle.shared_settling.proofs.StepsBeside.{fault-leaves}
+
+-- the books of what was seen by now go on to those of what is seen then, once it is known what others did
+abbrev pub Booked : (T : Type 0) → Bool → Shape → Sight → Sight → Settler → Settler → (Channel → ℕ) → (Channel → ℕ) → World → World → Result T RunFault → Type 0
+Booked T tells shape s t x y f g w v answer = (o : Outset) (b : Books) → CanSettleAmong tells o b shape s x f w → MayRely o t
+    → SettledAmong {T = T} tells o b (run_seen s) (run_seen t) x y g w v answer
+
+-- ---- one after another
+
+module _ (tells : Bool) (shape : Shape) (s0 s1 s2 : Sight) (x0 x1 x2 : Settler) (f0 f1 f2 : Channel → ℕ) (w0 w1 w2 : World) where
+  -- the books, with the answer of what came last
+  pub booked-on : (one : SettlesAmong s0 s1) (other : SettlesAmong s1 s2) → Booked Bool tells shape s0 s1 x0 x1 f0 f1 w0 w1 (Ok true) → (answer said : Result Bool RunFault) → answer ≡ said
+      → Booked Bool tells shape s1 s2 x1 x2 f1 f2 w1 w2 answer → Booked Bool tells shape s0 s2 x0 x2 f0 f2 w0 w2 said
+  booked-on one other books answer said is more o b can rely =
+      let counts : Counts s1 = counts-on s0 s1 one.on can.share.counts in
+      let g = books o b can (relies-before s1 s2 other.on o counts rely) in
+      let k = more o g.goes.books (can-again tells o b shape s0 s1 x0 x1 f0 f1 w0 w1 true one can g) rely in
+      settled-on tells o b (run_seen s0) (run_seen s1) (run_seen s2) x0 x1 x2 f1 f2 w0 w1 w2 {T = Bool} {U = Bool} true said g
+      (subst (λ (y : Result Bool RunFault). SettledAmong {T = Bool} tells o g.goes.books (run_seen s1) (run_seen s2) x1 x2 f2 w1 w2 y) is k)
+
+  -- and what is left beside them
+  pub beside-on : TurnsBeside {T = Bool} tells (run_seen s0) (run_seen s1) x0 x1 f0 f1 w0 w1 (Ok true) → (answer said : Result Bool RunFault) → answer ≡ said
+      → TurnsBeside {T = Bool} tells (run_seen s1) (run_seen s2) x1 x2 f1 f2 w1 w2 answer → TurnsBeside {T = Bool} tells (run_seen s0) (run_seen s2) x0 x2 f0 f2 w0 w2 said
+  beside-on one answer said is other =
+      one-after-another {T = Bool} {U = Bool} tells (run_seen s0) (run_seen s1) (run_seen s2) x0 x1 x2 f0 f1 f2 w0 w1 w2 true said one
+      (subst (TurnsBeside {T = Bool} tells (run_seen s1) (run_seen s2) x1 x2 f1 f2 w1 w2) is other)
+
+-- ---- a stop
+
+-- it was put, or there was no memory for it
+abbrev pub MayStop : (CoreEvent → Bool) → Sight → Sight → Type 0
+MayStop may s t = Looks may s t ⊎ ((r : CoreReply) × Tells may s Halt r t)
+
+module _ (may : CoreEvent → Bool) (s t u : Sight) (stop : MayStop may t u) where
+  stop-on : SeesOn t u
+  stop-on = ⊎_elim (λ l. sees-look may t u l) (λ l. sees-tell may t u Halt l.0 l.1) stop
+
+  module _ (among : SettlesAmong s t) where
+    pub stop-sees : SeesOn s u
+    stop-sees = sees-both s t u among.on stop-on
+
+    pub stop-own : SettlesAmong s u ⊎ StopsAmong may s u
+    stop-own = ⊎_elim (λ l. inl (among-both s t u among (among-look may t u l))) (λ l. inr (record { mid = t; settles = among; reply = l.0; stop = l.1 })) stop
+
+    pub stop-promised : (b : Basis) → (KeepsPromise b s → KeepsPromise b t) → KeepsPromise b s → KeepsPromise b u
+    stop-promised b kept p = ⊎_elim (λ l. looks-promise b may t u l (kept p)) (λ l. stop-promise b may t u l.0 l.1 (kept p)) stop
+
+    -- a fault's books
+    pub stop-booked : (tells : Bool) (shape : Shape) (x y : Settler) (f g : Channel → ℕ) (w v : World) (fault : RunFault) → Booked Bool tells shape s t x y f g w v (Err fault) → Booked Unit tells shape s u x y f g w v (Err fault)
+    stop-booked tells shape x y f g w v fault books o b can rely =
+        let counts : Counts t = counts-on s t among.on can.share.counts in
+        let above : 0 < t.first.base = subst (λ (r : Run). 0 < r.base) (sym among.on.first) can.share.above in
+        let was = books o b can (relies-before t u stop-on o counts rely) in
+        settled-fault tells o b (run_seen s) (run_seen u) x y g w v {T = Bool} {U = Unit} fault
+        (⊎_elim
+        (λ l. looked-on {T = Bool} tells o b (run_seen s) may t u x y g w v fault above counts rely was l)
+        (λ l. stopped-on {T = Bool} tells o b (run_seen s) may t u x y g w v fault above counts rely was l.0 l.1)
+        stop)
+
+  pub stop-beside : (tells : Bool) (x y : Settler) (f g : Channel → ℕ) (w v : World) (fault : RunFault) → TurnsBeside {T = Bool} tells (run_seen s) (run_seen t) x y f g w v (Err fault)
+      → TurnsBeside {T = Unit} tells (run_seen s) (run_seen u) x y f g w v (Err fault)
+  stop-beside tells x y f g w v fault beside =
+      beside-fault tells (run_seen s) (run_seen u) x y f g w v {T = Bool} {U = Unit} fault (fault-leaves {T = Bool} tells (run_seen s) t u x y f g w v fault stop-on beside)

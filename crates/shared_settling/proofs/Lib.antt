@@ -1,0 +1,7 @@
+pub mod Leaving
+pub mod Passing
+pub mod Keeping
+pub mod StepsBeside
+pub mod OthersStill
+pub mod Alone
+pub mod Going

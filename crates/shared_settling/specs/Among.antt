@@ -1,0 +1,77 @@
+-- A settler over a core that others have too: what it puts itself, and what it keeps of a run's books.
+use Rattle.std.specs.Prelude.{◌≡◌, ◌⊎◌, ◌<◌, ◌≤◌, ◌^◌, ◌++◌, ℕ, Bool, false, List, [], length, Result, Ok, Err}
+use Rattle.base_types.specs.declared.shapes.Shape.{Shape}
+use Rattle.host_trait.specs.declared.channels.Channel.{Channel}
+use Rattle.host_trait.specs.declared.channels.Channel.TheVariants.{Output}
+use Rattle.host_trait.specs.Faults.{Rose}
+use Rattle.host_trait.specs.World.{World}
+use Rattle.core_model.specs.Legal.{Run, ends}
+use Rattle.core_model.specs.declared.events.CoreEvent.{CoreEvent}
+use Rattle.core_model.specs.declared.events.CoreEvent.TheVariants.{Halt}
+use Rattle.core_model.specs.declared.events.CoreReply.{CoreReply}
+use Rattle.core_access.specs.Histories.{Told}
+use Rattle.core_access.specs.Settling.{is_settling}
+use Rattle.core_access.specs.Sights.{Sight, run_seen, AllPass, Tells}
+use Rattle.script_check.specs.Accepted.{IsAcceptedProgram}
+use Rattle.promise_spec.specs.Programs.{shape_in}
+use Rattle.promise_spec.specs.UnitRule.{KeepsUnitRule}
+use Rattle.settle_loop.specs.declared.settler.Settler.{Settler}
+use Rattle.run_books.specs.declared.faults.RunFault.{RunFault}
+use Rattle.run_books.specs.declared.faults.RunFault.TheVariants.{InDoubt, WriteFault, Memory}
+use Rattle.run_books.specs.Beginnings.{Outset, basis_of}
+use Rattle.run_books.specs.Books.{Books}
+use Rattle.run_books.specs.Records.{KeepsBooks, HasDoubted}
+use Rattle.run_books.specs.Settling.{AreEven, BooksGoOn}
+use Rattle.run_books.specs.Sharing.{SeesOn, CanShare}
+
+-- More was seen, and what was put oneself is of the settler's events.
+pub record SettlesAmong (s t : Sight) : Type 0 where
+  pub on : SeesOn s t
+  pub own : List Told
+  pub mine : t.mine ≡ s.mine ++ own
+  pub settling : AllPass is_settling own
+
+-- So it was up to a place, and there a stop was put.
+pub record StopsAmong (may_come : CoreEvent → Bool) (s t : Sight) : Type 0 where
+  pub mid : Sight
+  pub settles : SettlesAmong s mid
+  pub reply : CoreReply
+  pub stop : Tells may_come mid Halt reply t
+
+-- A stop is put last, and only where the answer says that the output failed or that memory ran out. Where there is no memory for
+-- a stop none is put.
+abbrev pub EndsAmong : (CoreEvent → Bool) → Sight → Sight → {T : Type 0} → Result T RunFault → Type 0
+EndsAmong may_come s t (Ok done) = SettlesAmong s t
+EndsAmong may_come s t (Err InDoubt) = SettlesAmong s t
+EndsAmong may_come s t (Err WriteFault) = SettlesAmong s t ⊎ StopsAmong may_come s t
+EndsAmong may_come s t (Err Memory) = SettlesAmong s t ⊎ StopsAmong may_come s t
+
+-- What is known where a settler begins among others: it may share the core, no stop stands, and the books are kept and even.
+pub record CanSettleAmong (tells : Bool) (o : Outset) (b : Books) (shape : Shape) (s : Sight) (settler : Settler) (counts : Channel → ℕ) (now : World) : Type 0 where
+  pub share : CanShare o shape s
+  pub going : (ends (run_seen s)).units.halt ≡ false
+  pub even : AreEven settler.quiet b (ends (run_seen s))
+  pub books : KeepsBooks tells o b (run_seen s) settler counts now
+
+-- What is known where a settler begins over a core that it has alone.
+pub record CanSettleRest (o : Outset) (shape : Shape) (r : Run) : Type 0 where
+  pub above : 0 < r.base
+  pub units : KeepsUnitRule (basis_of o) r
+  pub kinds : r.kinds ≡ length o.program.types
+  pub shape_is : shape ≡ shape_in o.program
+  pub accepted : IsAcceptedProgram o.program.types
+  pub few : (ends r).units.next ≤ 2 ^ 63
+  pub small : (ends r).units.lines < 2 ^ 32
+  pub going : (ends r).units.halt ≡ false
+
+-- what an answer says of the run that is known by now, and of its books
+abbrev pub SaysAmong : Outset → Books → Run → Settler → (Channel → ℕ) → {T : Type 0} → Result T RunFault → Type 0
+SaysAmong o b r settler counts (Ok done) = AreEven settler.quiet b (ends r) × ((ends r).units.halt ≡ false)
+SaysAmong o b r settler counts (Err InDoubt) = HasDoubted o r counts × (b.rest ≡ [])
+SaysAmong o b r settler counts (Err WriteFault) = Rose (o.faults Output) (counts Output)
+SaysAmong o b r settler counts (Err Memory) = b.rest ≡ []
+
+-- The books go on from one run to a later one, and the answer says so.
+pub record SettledAmong {T : Type 0} (tells : Bool) (o : Outset) (b : Books) (r r' : Run) (settler settler' : Settler) (counts' : Channel → ℕ) (now now' : World) (result : Result T RunFault) : Type 0 where
+  pub goes : BooksGoOn tells o b r r' settler settler' counts' now now'
+  pub says : SaysAmong o goes.books r' settler' counts' result

@@ -1,0 +1,178 @@
+-- What is known of a crew, as calls follow one another: by the step of one of its units, and by a line's event.
+use Rattle.std.proofs.Common.{◌≡◌, ◌⊎◌, ℕ, ◌≤◌, ◌<◌, List, [], ◌∷◌, ◌++◌, inl, inr, Bool, true, false, refl, sym, ap, ◌∙◌, subst, arith, Some}
+use Rattle.std.specs.Prelude.{slice_get, slice_set}
+use Rattle.std.specs.List.{AllByRecursion}
+use Rattle.core_model.specs.CoreState.{UnitNo, Member}
+use Rattle.core_model.specs.declared.events.CoreEvent.{CoreEvent}
+use Rattle.core_model.specs.declared.events.CoreReply.{CoreReply}
+use Rattle.core_model.specs.declared.events.CoreReply.TheVariants as reply
+use Rattle.core_model.specs.Legal.{Run, ends}
+use Rattle.core_access.specs.Histories.{Told}
+use Rattle.core_access.specs.Sights.{Sight, Counts, IfAlone, Looks, Tells, run_seen, saw, told}
+use Rattle.core_access.proofs.Sights.{looks-counts, tells-counts, run-told}
+use Rattle.script_tree.specs.Programs.{ProgramTree}
+use Rattle.promise_spec.specs.TurnRule.{OfUnit, mover_of}
+use Rattle.promise_spec.specs.UnitRule.{Basis}
+use Rattle.turn_cell.specs.History.{In, entry}
+use Rattle.turn_cell.proofs.Lists.{in_append, in_left}
+use Rattle.turn_rules.specs.Going.{is_own, with_event}
+use Rattle.turn_rules.specs.Turning.{AreOlder}
+use Rattle.worker_rules.specs.Stories.{is_load}
+use Rattle.worker_rules.specs.Sharing.{leaves_unit, BeganHere}
+use Rattle.worker_rules.specs.Work.{OnlyWorks, is_work}
+use Rattle.worker_rules.proofs.Promising.{is-harmless}
+use Rattle.txn_agent.specs.declared.agent.Agent.{Agent}
+use Rattle.txn_agent.specs.declared.work.Carried.{Carried}
+use Rattle.txn_agent.specs.Linked.{IsLegalRun, Knows}
+use Rattle.txn_agent.specs.Stepping.{Acts}
+use Rattle.txn_agent.proofs.Composed.{acts-counts}
+use Rattle.txn_agent.proofs.Promised.{acts-began, knows-looks, knows-tells, moves-one, moves-own}
+use Rattle.unit_carrier.specs.Carrying.{units_carried}
+use Rattle.unit_carrier.proofs.Finding.{all-at, all-set}
+use Rattle.unit_carrier.proofs.Known.{all-each, next-more}
+use Rattle.unit_carrier.proofs.Places.{at-member, steps-known, units-set}
+use Rattle.unit_carrier.proofs.Finding.{map-at}
+use Rattle.unit_crew.specs.Crews.{IsCrew, IsOfTypes, IsOwnUnit, WorksOn}
+use Rattle.unit_crew.specs.Through.{IsThrough}
+use Rattle.unit_crew.proofs.Staying.{looks-through, saw-next, tells-through}
+use Rattle.unit_crew.proofs.Works.{works-acts, works-looks, works-tells}
+
+-- What is known of agents behind a call, of the units that began before it.
+pub record IsCrewSo (types : ProgramTree) (s t : Sight) (agents : List Agent) : Type 0 where
+  pub counts : Counts t
+  pub sound : IsLegalRun t.first
+  pub only : OnlyWorks t.mine
+  pub next : (ends (run_seen s)).units.next ≤ (ends (run_seen t)).units.next
+  pub below : (u : UnitNo) → BeganHere u s → u.0 < (ends (run_seen s)).units.next
+  pub began : (u : UnitNo) → BeganHere u s → BeganHere u t
+  pub known : AllByRecursion (Knows types t) agents
+  pub own : AllByRecursion (IsOwnUnit s) agents
+  pub older : AreOlder (units_carried agents)
+  pub rest : (u : UnitNo) → BeganHere u s → Member u (units_carried agents) ⊎ IfAlone (leaves_unit u) t (λ r. IsThrough r u)
+
+-- where no unit began, that is all
+pub crew-so : (types : ProgramTree) (s t : Sight) (agents : List Agent) → ((u : UnitNo) → BeganHere u t → BeganHere u s) → IsCrewSo types s t agents → IsCrew types t agents
+crew-so types s t agents back c = record {
+  counts = c.counts;
+  sound = c.sound;
+  only = c.only;
+  below = λ u b. (let low : u.0 < (ends (run_seen s)).units.next = c.below u (back u b) in let n = c.next in omega (arith, low, n));
+  known = c.known;
+  own = all-each (IsOwnUnit s) (IsOwnUnit t) agents (λ a m k. c.began a.carried.unit k) c.own;
+  older = c.older;
+  rest = λ u b. c.rest u (back u b);
+}
+
+-- ---- which units began
+
+-- by a look none did
+pub looks-back : (may : CoreEvent → Bool) (u : UnitNo) (s t : Sight) → Looks may s t → BeganHere u t → BeganHere u s
+looks-back may u s t l b = subst (BeganHere u) l.sight b
+
+-- by an event the one that the reply names did
+pub tells-back : (may : CoreEvent → Bool) (u : UnitNo) (s t : Sight) (e : CoreEvent) (r : CoreReply) → Tells may s e r t → BeganHere u t → BeganHere u s ⊎ (r ≡ reply.Began u)
+tells-back may u s t e r l b = by (subst (BeganHere u) l.sight b)
+  where
+    by : BeganHere u (told (saw s l.rest) e r) → BeganHere u s ⊎ (r ≡ reply.Began u)
+    by x = elim (in_append x.0 s.mine (entry s.number e r ∷ []) x.1) [
+      | inl old ↦ inl (x.0, old, x.2)
+      | inr new ↦ elim new [ inl is ↦ inr (sym (ap (λ (z : Told). z.reply) is) ∙ x.2) | inr none ↦ absurd none ]
+    ]
+
+-- what began stays so
+tells-began : (may : CoreEvent → Bool) (u : UnitNo) (s t : Sight) (e : CoreEvent) (r : CoreReply) → Tells may s e r t → BeganHere u s → BeganHere u t
+tells-began may u s t e r l b = subst (BeganHere u) (sym l.sight) (b.0, in_left b.0 s.mine (entry s.number e r ∷ []) b.1, b.2)
+
+-- ---- numbers
+
+looks-next : (may : CoreEvent → Bool) (s t : Sight) → Looks may s t → (ends (run_seen s)).units.next ≤ (ends (run_seen t)).units.next
+looks-next may s t l = subst (λ (x : Sight). (ends (run_seen s)).units.next ≤ (ends (run_seen x)).units.next) (sym l.sight) (saw-next s l.rest)
+
+-- the run behind an event
+pub tells-run : (may : CoreEvent → Bool) (s t : Sight) (e : CoreEvent) (r : CoreReply) (l : Tells may s e r t) → run_seen t ≡ with_event (run_seen (saw s l.rest)) e
+tells-run may s t e r l = ap run_seen l.sight ∙ run-told (saw s l.rest) e r
+
+tells-next : (may : CoreEvent → Bool) (s t : Sight) (e : CoreEvent) (r : CoreReply) → Tells may s e r t → (ends (run_seen s)).units.next ≤ (ends (run_seen t)).units.next
+tells-next may s t e r l =
+    let one : (ends (run_seen s)).units.next ≤ (ends (run_seen (saw s l.rest))).units.next = saw-next s l.rest in
+    let two : (ends (run_seen (saw s l.rest))).units.next ≤ (ends (with_event (run_seen (saw s l.rest)) e)).units.next = next-more (run_seen (saw s l.rest)) e in
+    let same : (ends (run_seen t)).units.next ≡ (ends (with_event (run_seen (saw s l.rest)) e)).units.next = ap (λ (r : Run). (ends r).units.next) (tells-run may s t e r l) in
+    omega (arith, one, two, same)
+
+-- ---- a look
+
+module _ (types : ProgramTree) (may : CoreEvent → Bool) (s t : Sight) (agents : List Agent) (c : IsCrew types s agents) where
+  looks-so : Looks may s t → IsCrewSo types s t agents
+  looks-so l = record {
+    counts = looks-counts may s t l c.counts;
+    sound = subst (λ (x : Sight). IsLegalRun x.first) (sym l.sight) c.sound;
+    only = subst (λ (x : Sight). OnlyWorks x.mine) (sym l.sight) c.only;
+    next = looks-next may s t l;
+    below = c.below;
+    began = λ u b. subst (BeganHere u) (sym l.sight) b;
+    known = all-each (Knows types s) (Knows types t) agents (λ a m k. knows-looks may types a.carried a.doing s t l c.counts k) c.known;
+    own = c.own;
+    older = c.older;
+    rest = λ u b. elim (c.rest u b) [ inl m ↦ inl m | inr k ↦ inr (looks-through may u s t l c.counts k) ];
+  }
+
+  -- all of a crew is known behind a look
+  pub looks-crew : Looks may s t → IsCrew types t agents
+  looks-crew l = crew-so types s t agents (λ u b. looks-back may u s t l b) (looks-so l)
+
+  -- behind an event of no unit, that loads nothing
+  pub tells-so : (e : CoreEvent) (r : CoreReply) → Tells may s e r t → is_work e ≡ true → is_load e ≡ false → ((u : UnitNo) → is_own u e ≡ false) → IsCrewSo types s t agents
+  tells-so e r l work plain none = record {
+    counts = tells-counts may s t e r l c.counts;
+    sound = subst (λ (x : Sight). IsLegalRun x.first) (sym l.sight) c.sound;
+    only = (works-tells (λ (b : Basis). ⊥) may s t e r l work (λ b no p. absurd no)).only c.only;
+    next = tells-next may s t e r l;
+    below = c.below;
+    began = λ u b. tells-began may u s t e r l b;
+    known = all-each (Knows types s) (Knows types t) agents (λ a m k. knows-tells may types a.carried a.doing s t e r l (is-harmless a.carried.unit e (none a.carried.unit) plain) c.counts k) c.known;
+    own = c.own;
+    older = c.older;
+    rest = λ u b. elim (c.rest u b) [ inl m ↦ inl m | inr k ↦ inr (tells-through may u s t e r l (is-harmless u e (none u) plain) c.counts k) ];
+  }
+
+  -- ---- the step of the unit at an index
+
+  module _ (i : ℕ) (old new : Agent) (q : slice_get agents i ≡ Some old) (same : new.carried ≡ old.carried) where
+    -- it began here
+    pub own-here : BeganHere old.carried.unit s
+    own-here = all-at (IsOwnUnit s) agents i old q c.own
+
+    -- it is one of the crew
+    member-here : Member old.carried.unit (units_carried agents)
+    member-here = at-member (units_carried agents) i old.carried.unit (map-at (λ (a : Agent). a.carried.unit) agents i old q)
+
+    -- a unit that is through stays so, or is the one that steps
+    rest-acts : (u : UnitNo) → Acts may types old.carried.unit s t → IfAlone (leaves_unit u) s (λ r. IsThrough r u) → Member u (units_carried agents) ⊎ IfAlone (leaves_unit u) t (λ r. IsThrough r u)
+    rest-acts u (inl l) k = inr (looks-through may u s t l c.counts k)
+    rest-acts u (inr (e, (r, p))) k = by (is_own u e) refl
+      where
+        by : (b : Bool) → is_own u e ≡ b → Member u (units_carried agents) ⊎ IfAlone (leaves_unit u) t (λ r. IsThrough r u)
+        by true o = inl (subst (λ (x : UnitNo). Member x (units_carried agents)) (sym (moves-one old.carried.unit u e p.own o)) member-here)
+        by false o = inr (tells-through may u s t e r p.told (is-harmless u e o (moves-own old.carried.unit e p.own).1) c.counts k)
+
+    acts-next : Acts may types old.carried.unit s t → (ends (run_seen s)).units.next ≤ (ends (run_seen t)).units.next
+    acts-next (inl l) = looks-next may s t l
+    acts-next (inr (e, (r, p))) = tells-next may s t e r p.told
+
+    -- all is known, of those units that began before
+    pub acts-so : Acts may types old.carried.unit s t → Knows types t new → IsCrewSo types s t (slice_set agents i new)
+    acts-so acts knows =
+        let works = works-acts may types old.carried.unit s t acts own-here in
+        let units = units-set agents i old new q same in record {
+          counts = acts-counts may types old.carried.unit s t acts c.counts;
+          sound = subst IsLegalRun (sym works.first) c.sound;
+          only = works.only c.only;
+          next = acts-next acts;
+          below = c.below;
+          began = λ u b. acts-began may types old.carried.unit u s t acts b;
+          known = steps-known types may s t c.counts agents i old new acts q knows c.older c.known;
+          own = all-set (IsOwnUnit s) agents i new c.own (subst (λ (x : Carried). BeganHere x.unit s) (sym same) own-here);
+          older = subst AreOlder (sym units) c.older;
+          rest = λ u b. subst (λ (us : List UnitNo). Member u us ⊎ IfAlone (leaves_unit u) t (λ r. IsThrough r u)) (sym units)
+              (elim (c.rest u b) [ inl m ↦ inl m | inr k ↦ rest-acts u acts k ]);
+        }

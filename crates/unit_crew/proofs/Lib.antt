@@ -1,0 +1,5 @@
+pub mod Staying
+pub mod Works
+pub mod Known
+pub mod Begun
+pub mod Endings

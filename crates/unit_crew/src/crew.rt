@@ -1,0 +1,149 @@
+ghost use Rattle.std.specs.Prelude.{◌≡◌, ◌<◌, ◌≤◌, IfOk, length, filter, count_by, not};
+ghost use Rattle.script_tree.specs.Programs.{program_tree};
+ghost use Rattle.txn_agent.specs.declared.agent.Agent.{Agent as AnAgent};
+ghost use Rattle.txn_agent.specs.Stepping.{has_freed_all, is_freeing};
+ghost use Rattle.unit_crew.specs.Crews.{IsCrew, IsOfTypes, WorksOn};
+
+use base_types::Origin;
+use core_access::Access;
+use script_check::Checked;
+use settle_loop::{Gate, GatePlace};
+use std::alloc::{AllocError, Global};
+use txn_agent::Advanced;
+use unit_carrier::Agents;
+use worker_signals::Signals;
+
+/// How many events a unit makes at most before it is looked for a stop.
+const MOST_STEPS: usize = 64;
+
+/// The unit of the agent at this index goes on by at most one event; a child that it begins is carried too. Answers whether it
+/// moved. Others are told of the event before its place is reached.
+fn step<A: Access, G: Gate>(
+    alloc: Global,
+    checked: &Checked,
+    access: &mut A,
+    agents: &mut Agents,
+    gate: &G,
+    signals: &Signals,
+    index: usize,
+) -> Result<bool, AllocError>
+    requires fit { A.is_fit access.old }
+    requires within { index < length agents.old.list.items }
+    requires crew { IsCrew (program_tree checked.now) (A.sight access.old) agents.old.list.items }
+    ensures fit { A.is_fit access.new }
+    ensures aside { A.aside access.new ≡ A.aside access.old }
+    ensures works { WorksOn (IsOfTypes (program_tree checked.now)) (A.sight access.old) (A.sight access.new) }
+    ensures crew { IfOk result (λ _. IsCrew (program_tree checked.now) (A.sight access.new) agents.new.list.items) }
+    ensures more { IfOk result (λ _. length agents.old.list.items ≤ length agents.new.list.items) }
+{
+    let agent = &mut agents.list[index];
+    let unit = agent.unit();
+    let children = agent.children();
+    match agent.advance(alloc, checked, access)? {
+        Advanced::Began { child, call, depth } => {
+            let origin = Origin::Child {
+                parent: unit,
+                index: children,
+                depth,
+            };
+            signals.changed();
+            agents.carry(alloc, checked, child, origin, call, false)?;
+            gate.reach(GatePlace::Begun { unit: child });
+            return Ok(true);
+        }
+        Advanced::Granted { grain, source } => {
+            signals.changed();
+            gate.reach(GatePlace::Granted {
+                unit,
+                grain,
+                source,
+            });
+            return Ok(true);
+        }
+        Advanced::Moved => {
+            signals.changed();
+            return Ok(true);
+        }
+        Advanced::Waits { holder: _holder } => return Ok(false),
+        Advanced::WaitsFor { child: _child } => return Ok(false),
+        Advanced::Ended => return Ok(false),
+    }
+}
+
+/// The unit of the agent at this index goes on as far as it can, by at most so many events; where the run is halted, only to
+/// give back locks. Answers whether it moved.
+fn go_far<A: Access, G: Gate>(
+    alloc: Global,
+    checked: &Checked,
+    access: &mut A,
+    agents: &mut Agents,
+    gate: &G,
+    signals: &Signals,
+    halted: bool,
+    index: usize,
+) -> Result<bool, AllocError>
+    requires fit { A.is_fit access.old }
+    requires within { index < length agents.old.list.items }
+    requires crew { IsCrew (program_tree checked.now) (A.sight access.old) agents.old.list.items }
+    ensures fit { A.is_fit access.new }
+    ensures aside { A.aside access.new ≡ A.aside access.old }
+    ensures works { WorksOn (IsOfTypes (program_tree checked.now)) (A.sight access.old) (A.sight access.new) }
+    ensures crew { IfOk result (λ _. IsCrew (program_tree checked.now) (A.sight access.new) agents.new.list.items) }
+    ensures more { IfOk result (λ _. length agents.old.list.items ≤ length agents.new.list.items) }
+{
+    if halted && !agents.list[index].is_freeing() {
+        return Ok(false);
+    }
+    for count in 0..MOST_STEPS {
+        if !step(alloc, checked, access, agents, gate, signals, index)? {
+            return Ok(count > 0);
+        }
+    }
+    Ok(true)
+}
+
+/// Each unit goes on as far as it can. Answers whether one moved.
+pub(crate) fn go_on<A: Access, G: Gate>(
+    alloc: Global,
+    checked: &Checked,
+    access: &mut A,
+    agents: &mut Agents,
+    gate: &G,
+    signals: &Signals,
+    halted: bool,
+) -> Result<bool, AllocError>
+    requires fit { A.is_fit access.old }
+    requires crew { IsCrew (program_tree checked.now) (A.sight access.old) agents.old.list.items }
+    ensures fit { A.is_fit access.new }
+    ensures aside { A.aside access.new ≡ A.aside access.old }
+    ensures works { WorksOn (IsOfTypes (program_tree checked.now)) (A.sight access.old) (A.sight access.new) }
+    ensures crew { IfOk result (λ _. IsCrew (program_tree checked.now) (A.sight access.new) agents.new.list.items) }
+{
+    let mut moved = false;
+    for index in 0..agents.list.len() {
+        let went = go_far(alloc, checked, access, agents, gate, signals, halted, index)?;
+        moved = moved | went;
+    }
+    Ok(moved)
+}
+
+/// Drops the agents whose units have given back all their locks.
+pub(crate) fn drop_freed(agents: &mut Agents)
+    ensures { agents.new.list.items ≡ filter (λ (a : AnAgent). not (has_freed_all a.doing)) agents.old.list.items }
+{
+    agents.list.retain(|agent| !agent.has_freed_all());
+}
+
+/// How many of the units are over.
+#[tactic(auto, using(std::proofs::lemmas::List::Sums::count_by_more_yes, std::proofs::lemmas::List::Sums::count_by_more_no))]
+pub(crate) fn freeing_in(agents: &Agents) -> usize
+    ensures { result ≡ count_by (λ (a : AnAgent). is_freeing a.doing) agents.now.list.items }
+{
+    let mut found = 0usize;
+    for agent in agents.list.as_slice() {
+        if agent.is_freeing() {
+            found += 1;
+        }
+    }
+    found
+}
