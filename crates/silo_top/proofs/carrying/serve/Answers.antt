@@ -36,6 +36,11 @@ returns-in-Err-read_input-clause-promises g c = λ told old before behind none.
     unbegun_promised (turns_manner c.args.width c.args.picks.now) c.args.opened old (g.H.Host.world c.args.host.now) (g.H.Host.world c.read_input.new.host) before after c.input_status.result behind (c.read_input.ensures.only told)
     (λ file. g.met.H.Host.seen_may_stay c.args.host.now file told) c.requires.above (subst (λ (e : Ending). EndsUnbegun e (length old.input) before after) (sym c.input_status.ensures) ends)
 
+pub returns-in-Err-read_lines-clause-promises : goal.returns-in-Err-read_lines-clause-promises
+returns-in-Err-read_lines-clause-promises g c = λ told old before behind none.
+    unbegun_promised (turns_manner c.args.width c.args.picks.now) c.args.opened old (g.H.Host.world c.args.host.now) (g.H.Host.world c.read_input.new.host) before (g.H.Host.faults c.read_input.new.host) Status.Memory behind (c.read_input.ensures.only told)
+    (λ file. g.met.H.Host.seen_may_stay c.args.host.now file told) c.requires.above (starved_ends (length old.input) before (g.H.Host.faults c.args.host.now) (g.H.Host.faults c.read_input.new.host) none c.in-Ok-read_input.ensures.calm)
+
 pub run_turns-requires-clause-fits : goal.run_turns-requires-clause-fits
 run_turns-requires-clause-fits g c = λ told.
     let b = c.requires.behind told in
@@ -45,4 +50,40 @@ run_turns-requires-clause-fits g c = λ told.
 
 pub returns-clause-promises : goal.returns-clause-promises
 returns-clause-promises g c = λ told old before behind none.
-    let a = c.new-lines.ensures in let b = c.run_turns.ensures.record_kept in ?
+    let w0 = g.H.Host.world c.args.host.now in
+    let w1 = g.H.Host.world c.read_input.new.host in
+    let w2 = g.H.Host.world c.run_turns.new.host in
+    let f1 = g.H.Host.faults c.read_input.new.host in
+    let f2 = g.H.Host.faults c.run_turns.new.host in
+    let whole : old.input ≡ c.deref.result.now = sym behind.run.input ∙ c.in-Ok-read_input.ensures.whole told ∙ sym c.deref.ensures.value in
+    served c.args.width c.args.picks.now c.args.opened c.in-Ok.started old w0 w1 w2 before f1 f2 c.turns_status.result c.run_turns.result behind c.in-Ok.ensures.start (c.read_input.ensures.only told)
+    (λ file. g.met.H.Host.seen_may_stay c.args.host.now file told) (λ file. g.met.H.Host.seen_may_stay c.run_turns.new.host file told) (c.in-Ok-read_input.ensures.end told)
+    (omega (arith, ap length whole, c.deref.ensures.len, c.in-Ok-read_input.ensures.within)) c.turns_status.ensures c.in-Ok-read_lines.lines (run_of c.run_turns.new.core) c.run_turns.new.settler c.in-Ok.ensures.quiet c.requires.wide c.requires.above (λ d. c.in-Ok-read_input.ensures.calm d ∙ none d)
+    (subst (λ (l : List ℕ). AreReadFrom (program_tree c.args.opened.checked) 0 (lines_of l) c.in-Ok-read_lines.lines) (sym whole)
+    (subst (λ (k : ProgramTree). AreReadFrom k 0 (lines_of c.deref.result.now) c.in-Ok-read_lines.lines) (ap program_tree c.in-Ok.ensures.start.checked) c.in-Ok-read_lines.ensures))
+    (subst (λ (t : Bool). (o : Outset) (b : Books) → IsOutset o (program_tree c.args.opened.checked) (run_of c.in-Ok.started.core) c.in-Ok-read_lines.lines c.args.width c.args.picks.now
+    → CanTurn (run_of c.in-Ok.started.core) c.in-Ok.started.settler c.in-Ok-read_lines.lines → IsFreshRecord o b (run_of c.in-Ok.started.core)
+    → KeepsTurns t o b (run_of c.in-Ok.started.core) c.in-Ok.started.settler f1 w1
+    → TurnsGoOn t o b (run_of c.in-Ok.started.core) (run_of c.run_turns.new.core) c.in-Ok.started.settler c.run_turns.new.settler f2 w1 w2 c.run_turns.result) told
+    (subst (λ (k : ProgramTree). (o : Outset) (b : Books) → IsOutset o k (run_of c.in-Ok.started.core) c.in-Ok-read_lines.lines c.args.width c.args.picks.now
+    → CanTurn (run_of c.in-Ok.started.core) c.in-Ok.started.settler c.in-Ok-read_lines.lines → IsFreshRecord o b (run_of c.in-Ok.started.core)
+    → KeepsTurns g.H.Host.tells o b (run_of c.in-Ok.started.core) c.in-Ok.started.settler f1 w1
+    → TurnsGoOn g.H.Host.tells o b (run_of c.in-Ok.started.core) (run_of c.run_turns.new.core) c.in-Ok.started.settler c.run_turns.new.settler f2 w1 w2 c.run_turns.result) (ap program_tree c.in-Ok.ensures.start.checked) c.run_turns.ensures.record_kept))
+    (subst (λ (t : Bool). TurnsBeside t (run_of c.in-Ok.started.core) (run_of c.run_turns.new.core) c.in-Ok.started.settler c.run_turns.new.settler f1 f2 w1 w2 c.run_turns.result) told c.run_turns.ensures.beside)
+
+pub returns-clause-answers : goal.returns-clause-answers
+returns-clause-answers g c =
+    let w1 = g.H.Host.world c.read_input.new.host in
+    let w2 = g.H.Host.world c.run_turns.new.host in
+    let f0 = g.H.Host.faults c.args.host.now in
+    let f1 = g.H.Host.faults c.read_input.new.host in
+    let f2 = g.H.Host.faults c.run_turns.new.host in
+    subst (λ (e : Ending). AnswersRun e f0 f2) (sym c.turns_status.ensures)
+    (answered g.H.Host.tells c.args.width c.args.picks.now c.args.opened c.in-Ok.started c.deref.result.now c.in-Ok-read_lines.lines (g.H.Host.world c.args.host.now) w1 w2 f0 f1 f2 c.run_turns.result (run_of c.run_turns.new.core) c.run_turns.new.settler
+    c.in-Ok.ensures.start (λ told. c.read_input.ensures.only told) c.in-Ok-read_input.ensures.calm c.requires.wide c.requires.above
+    (subst (λ (k : ProgramTree). AreReadFrom k 0 (lines_of c.deref.result.now) c.in-Ok-read_lines.lines) (ap program_tree c.in-Ok.ensures.start.checked) c.in-Ok-read_lines.ensures)
+    (subst (λ (k : ProgramTree). (o : Outset) (b : Books) → IsOutset o k (run_of c.in-Ok.started.core) c.in-Ok-read_lines.lines c.args.width c.args.picks.now
+    → CanTurn (run_of c.in-Ok.started.core) c.in-Ok.started.settler c.in-Ok-read_lines.lines → IsFreshRecord o b (run_of c.in-Ok.started.core)
+    → KeepsTurns g.H.Host.tells o b (run_of c.in-Ok.started.core) c.in-Ok.started.settler f1 w1
+    → TurnsGoOn g.H.Host.tells o b (run_of c.in-Ok.started.core) (run_of c.run_turns.new.core) c.in-Ok.started.settler c.run_turns.new.settler f2 w1 w2 c.run_turns.result) (ap program_tree c.in-Ok.ensures.start.checked) c.run_turns.ensures.record_kept)
+    c.run_turns.ensures.beside)

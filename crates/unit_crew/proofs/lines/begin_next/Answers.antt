@@ -1,5 +1,6 @@
-use Rattle.std.proofs.Common.{◌≡◌, ◌∙◌, sym, inl, inr, Some}
-use Rattle.std.specs.Prelude.{slice_get}
+use Rattle.std.proofs.Common.{◌≡◌, ◌≤◌, ◌-◌, ◌∙◌, sym, ap, subst, arith}
+use Rattle.core_model.specs.Legal.{Run, ends}
+use Rattle.core_access.specs.Sights.{Sight}
 use Rattle.script_tree.specs.Programs.{program_tree}
 use Rattle.unit_crew.specs.Crews.{IsBasisOf}
 use Rattle.unit_crew.proofs.Begun.{starts-crew, works-starts}
@@ -18,7 +19,11 @@ pub returns-in-None-clause-crew : goal.returns-in-None-clause-crew
 returns-in-None-clause-crew g c = looks-crew (program_tree c.args.checked.now) g.A.Access.may_come (g.A.Access.sight c.args.access.now) (g.A.Access.sight c.next_line.new.access) c.args.agents.now.list.items c.requires.crew c.next_line.ensures.looked
 
 pub returns-in-None-clause-past : goal.returns-in-None-clause-past
-returns-in-None-clause-past g c = ?
+returns-in-None-clause-past g c = λ none.
+    let at : c.saturating_sub-place.result ≡ c.in_ok-next.next - 1 - c.args.before = omega arith in
+    past-lines (g.A.Access.sight c.next_line.new.access) c.args.before c.in_ok-next.next c.saturating_sub-place.result (g.L.Lines.lines c.args.lines.now)
+    (subst (λ (r : Run). c.args.before ≤ (ends r).units.lines) (sym (ap (λ (x : Sight). x.first) c.next_line.ensures.looked.sight)) c.requires.before)
+    c.in_ok-next.ensures.next at (sym c.in-None.is ∙ c.in_ok-line_at.ensures.line)
 
 pub returns-in_err-began-in-Some-clause-works : goal.returns-in_err-began-in-Some-clause-works
 returns-in_err-began-in-Some-clause-works g c =
