@@ -1,6 +1,6 @@
 use Rattle.std.proofs.Common.{◌≡◌, [], sym}
 use Rattle.host_trait.specs.World.{World}
-use Rattle.silo_top.specs.Answering.{turns_manner}
+use Rattle.silo_top.specs.Asking.{carriage_manner}
 use Rattle.silo_top.specs.Statuses.{status_ending}
 use Rattle.silo_top.specs.Serving.{IsBehindOpening}
 use Rattle.bank_load.specs.Requests.{load_texts}
@@ -33,7 +33,7 @@ pub returns-in-Ok-clause-answers : goal.returns-in-Ok-clause-answers
 returns-in-Ok-clause-answers g c = answers_behind (status_ending c.carry_load.result) (g.H.Host.faults c.args.host.now) (g.H.Host.faults c.open_silo.new.host) (g.H.Host.faults c.carry_load.new.host) c.in-Ok.ensures.calm c.carry_load.ensures.answers
 
 pub returns-in-Err-clause-carries : goal.returns-in-Err-clause-carries
-returns-in-Err-clause-carries g c = λ told new. unopened_carries c.args.transfers c.args.seed (turns_manner c.args.width []) (load_texts c.args.transfers c.args.seed) c.args.bank (g.H.Host.world c.args.host.now) (g.H.Host.world c.open_silo.new.host)
+returns-in-Err-clause-carries g c = λ told new. unopened_carries c.args.transfers c.args.seed (carriage_manner c.args.how.now) (load_texts c.args.transfers c.args.seed) c.args.bank (g.H.Host.world c.args.host.now) (g.H.Host.world c.open_silo.new.host)
     (g.H.Host.faults c.args.host.now) (g.H.Host.faults c.open_silo.new.host) c.in-Err.fault c.open_status.result c.requires.bank c.open_status.ensures (c.open_silo.ensures.run told) (c.in-Err.ensures.refused told) c.in-Err.ensures.fault
 
 pub returns-in-Err-clause-answers : goal.returns-in-Err-clause-answers

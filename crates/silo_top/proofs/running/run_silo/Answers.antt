@@ -5,8 +5,8 @@ use Rattle.promise_spec.specs.Calls.{Understands}
 use Rattle.command_words.specs.CutParts.{texts_of}
 use Rattle.command_words.specs.declared.faults.WordsFault.{WordsFault}
 use Rattle.silo_top.specs.declared.asking.Asked.{Asked}
-use Rattle.silo_top.specs.Answering.{is_built, is_taken, turns_manner, observed_call}
-use Rattle.silo_top.specs.Asking.{asked_command, MayBeCarried}
+use Rattle.silo_top.specs.Answering.{is_built, is_taken, observed_call}
+use Rattle.silo_top.specs.Asking.{asked_command, carriage_manner, MayBeCarried}
 use Rattle.silo_top.specs.Statuses.{status_ending}
 use Rattle.silo_top.proofs.Calling.{obeyed_serves, exact_answers, run_answers, run_serves, load_serves, refused_serves, refused_answers, starved_serves, starved_answers}
 use Rattle.silo_top.proofs.running.run_silo.Goals as goal
@@ -48,21 +48,24 @@ pub returns-in-Ok-Audit-clause-answers : goal.returns-in-Ok-Audit-clause-answers
 returns-in-Ok-Audit-clause-answers g c = exact_answers (texts_of c.args.words.now) Audit (understood (texts_of c.args.words.now) c.in-Ok-Audit.field-0 Asked.Audit c.in-Ok-Audit.field-0-is c.in-Ok-Audit.ensures.asked) (g.H.Host.faults c.args.host.now) (g.H.Host.faults c.audit.new.host) (status_ending c.audit.result) (λ q. c.audit.ensures.good q) c.audit.ensures.exact
 
 pub returns-in-Ok-Run-clause-serves : goal.returns-in-Ok-Run-clause-serves
-returns-in-Ok-Run-clause-serves g c = λ told m asked is. run_serves (texts_of c.args.words.now) c.in-Ok-Run.width c.in-Ok-Run.picks (understood (texts_of c.args.words.now) c.in-Ok-Run.field-0 (Asked.Run c.in-Ok-Run.width c.in-Ok-Run.picks) c.in-Ok-Run.field-0-is c.in-Ok-Run.ensures.asked) m asked
+returns-in-Ok-Run-clause-serves g c = λ told m asked is. run_serves (texts_of c.args.words.now) (carriage_manner c.in-Ok-Run.how) (understood (texts_of c.args.words.now) c.in-Ok-Run.field-0 (Asked.Run c.in-Ok-Run.how) c.in-Ok-Run.field-0-is c.in-Ok-Run.ensures.asked) m asked
     (g.H.Host.world c.args.host.now) (g.H.Host.world c.run.new.host) (g.H.Host.faults c.args.host.now) (g.H.Host.faults c.run.new.host) c.run.result is (c.run.ensures.promises told)
 
 pub returns-in-Ok-Run-clause-answers : goal.returns-in-Ok-Run-clause-answers
-returns-in-Ok-Run-clause-answers g c = run_answers (texts_of c.args.words.now) (Run (turns_manner c.in-Ok-Run.width c.in-Ok-Run.picks)) (understood (texts_of c.args.words.now) c.in-Ok-Run.field-0 (Asked.Run c.in-Ok-Run.width c.in-Ok-Run.picks) c.in-Ok-Run.field-0-is c.in-Ok-Run.ensures.asked) (g.H.Host.faults c.args.host.now) (g.H.Host.faults c.run.new.host) (status_ending c.run.result) (λ begun. begun) c.run.ensures.answers
+returns-in-Ok-Run-clause-answers g c = run_answers (texts_of c.args.words.now) (Run (carriage_manner c.in-Ok-Run.how)) (understood (texts_of c.args.words.now) c.in-Ok-Run.field-0 (Asked.Run c.in-Ok-Run.how) c.in-Ok-Run.field-0-is c.in-Ok-Run.ensures.asked) (g.H.Host.faults c.args.host.now) (g.H.Host.faults c.run.new.host) (status_ending c.run.result) (λ begun. begun) c.run.ensures.answers
 
 pub returns-in-Ok-Load-clause-serves : goal.returns-in-Ok-Load-clause-serves
-returns-in-Ok-Load-clause-serves g c = λ told m asked is. load_serves (texts_of c.args.words.now) c.in-Ok-Load.transfers c.in-Ok-Load.seed c.in-Ok-Load.width (understood (texts_of c.args.words.now) c.in-Ok-Load.field-0 (Asked.Load c.in-Ok-Load.transfers c.in-Ok-Load.seed c.in-Ok-Load.width) c.in-Ok-Load.field-0-is c.in-Ok-Load.ensures.asked) m asked
+returns-in-Ok-Load-clause-serves g c = λ told m asked is. load_serves (texts_of c.args.words.now) c.in-Ok-Load.transfers c.in-Ok-Load.seed (carriage_manner c.in-Ok-Load.how) (understood (texts_of c.args.words.now) c.in-Ok-Load.field-0 (Asked.Load c.in-Ok-Load.transfers c.in-Ok-Load.seed c.in-Ok-Load.how) c.in-Ok-Load.field-0-is c.in-Ok-Load.ensures.asked) m asked
     (g.H.Host.world c.args.host.now) (g.H.Host.world c.load.new.host) (g.H.Host.faults c.args.host.now) (g.H.Host.faults c.load.new.host) c.load.result is (c.load.ensures.loads told)
 
 pub returns-in-Ok-Load-clause-answers : goal.returns-in-Ok-Load-clause-answers
-returns-in-Ok-Load-clause-answers g c = run_answers (texts_of c.args.words.now) (Load c.in-Ok-Load.transfers c.in-Ok-Load.seed (turns_manner c.in-Ok-Load.width [])) (understood (texts_of c.args.words.now) c.in-Ok-Load.field-0 (Asked.Load c.in-Ok-Load.transfers c.in-Ok-Load.seed c.in-Ok-Load.width) c.in-Ok-Load.field-0-is c.in-Ok-Load.ensures.asked) (g.H.Host.faults c.args.host.now) (g.H.Host.faults c.load.new.host) (status_ending c.load.result) (λ begun. begun) c.load.ensures.answers
+returns-in-Ok-Load-clause-answers g c = run_answers (texts_of c.args.words.now) (Load c.in-Ok-Load.transfers c.in-Ok-Load.seed (carriage_manner c.in-Ok-Load.how)) (understood (texts_of c.args.words.now) c.in-Ok-Load.field-0 (Asked.Load c.in-Ok-Load.transfers c.in-Ok-Load.seed c.in-Ok-Load.how) c.in-Ok-Load.field-0-is c.in-Ok-Load.ensures.asked) (g.H.Host.faults c.args.host.now) (g.H.Host.faults c.load.new.host) (status_ending c.load.result) (λ begun. begun) c.load.ensures.answers
 
-pub load-requires-clause-wide : goal.load-requires-clause-wide
-load-requires-clause-wide g c = (subst MayBeCarried c.in-Ok-Load.field-0-is c.in-Ok-Load.ensures.bounds).0
+pub load-requires-clause-how : goal.load-requires-clause-how
+load-requires-clause-how g c = (subst MayBeCarried c.in-Ok-Load.field-0-is c.in-Ok-Load.ensures.bounds).0
+
+pub run-requires-clause-how : goal.run-requires-clause-how
+run-requires-clause-how g c = subst MayBeCarried c.in-Ok-Run.field-0-is c.in-Ok-Run.ensures.bounds
 
 pub load-requires-clause-many : goal.load-requires-clause-many
 load-requires-clause-many g c = (subst MayBeCarried c.in-Ok-Load.field-0-is c.in-Ok-Load.ensures.bounds).1
