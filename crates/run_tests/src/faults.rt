@@ -8,8 +8,9 @@ use base_types::GrainId;
 use host_memory::{CallKind, MemoryHost};
 use host_trait::{Channel, FileId};
 use silo_top::Status;
-use std::alloc::Global;
+use std::sync::Wait;
 use std::test::Fail;
+use std::thread::Threads;
 
 const SECOND: FileId = FileId::Grain {
     slot: 0,
@@ -106,10 +107,10 @@ fn may_stand(books: i64, status: Status, output: &str, whole: &str) -> bool {
     books == books_after(output, replies) || books == books_after(whole, replies)
 }
 
-fn check_images(alloc: Global, host: &MemoryHost, status: Status, whole: &str) -> Result<(), Fail> {
+fn check_images<R: Threads + Wait + Sync + Alloc>(rt: &R, host: &MemoryHost, status: Status, whole: &str) -> Result<(), Fail> {
     for pick in 0..16u64 {
         let mut image = image_of(host, host.calls(), pick)?;
-        let books = read_books(alloc, &mut image)?;
+        let books = read_books(rt, &mut image)?;
         expect(
             may_stand(books, status, output_of(host), whole),
             "an image's books",
@@ -119,20 +120,20 @@ fn check_images(alloc: Global, host: &MemoryHost, status: Status, whole: &str) -
 }
 
 // The run with one failing call: its status is this one, and where it is done each line is answered.
-fn check_fault(
-    alloc: Global,
+fn check_fault<R: Threads + Wait + Sync + Alloc>(
+    rt: &R,
     host: &mut MemoryHost,
     status: Status,
     whole: &str,
 ) -> Result<(), Fail> {
-    expect(carry(alloc, host)? == status, "the status")?;
+    expect(carry(rt, host)? == status, "the status")?;
     let replies = count_lines(output_of(host));
     expect(replies == 6 || status != Status::Done, "the replies")?;
-    check_images(alloc, host, status, whole)
+    check_images(rt, host, status, whole)
 }
 
-fn fail_at(
-    alloc: Global,
+fn fail_at<R: Threads + Wait + Sync + Alloc>(
+    rt: &R,
     before: &MemoryHost,
     whole: &str,
     (what, channel, nth): (CallKind, Channel, u64),
@@ -140,32 +141,32 @@ fn fail_at(
 ) -> Result<(), Fail> {
     let mut host = image_of(before, before.calls(), 0)?;
     host.fail_on(what, channel, nth)?;
-    check_fault(alloc, &mut host, status, whole)
+    check_fault(rt, &mut host, status, whole)
 }
 
 // Each of the rows' calls: how many there are.
-fn check_faults(alloc: Global, before: &MemoryHost, whole: &str) -> Result<u64, Fail> {
+fn check_faults<R: Threads + Wait + Sync + Alloc>(rt: &R, before: &MemoryHost, whole: &str) -> Result<u64, Fail> {
     let mut count = 0u64;
     for (what, channel, first, last, status) in ROWS {
         for nth in first..=last {
-            fail_at(alloc, before, whole, (what, channel, nth), status)?;
+            fail_at(rt, before, whole, (what, channel, nth), status)?;
             count = count.wrapping_add(1);
         }
     }
     Ok(count)
 }
 
-fn check_run(alloc: Global, before: &MemoryHost, whole: &mut MemoryHost) -> Result<(), Fail> {
-    let status = carry(alloc, whole)?;
+fn check_run<R: Threads + Wait + Sync + Alloc>(rt: &R, before: &MemoryHost, whole: &mut MemoryHost) -> Result<(), Fail> {
+    let status = carry(rt, whole)?;
     expect(status == Status::Done, "the whole run's status")?;
-    let count = check_faults(alloc, before, output_of(whole))?;
+    let count = check_faults(rt, before, output_of(whole))?;
     expect(count == whole.calls(), "each call is one of the rows'")
 }
 
 #[test]
 fn each_failed_call_leaves_what_is_answered(rt: HostRuntime) -> Result<(), Fail> {
     let alloc = rt.alloc();
-    let before = new_books(alloc)?;
+    let before = new_books(&rt)?;
     let mut whole = image_of(&before, before.calls(), 0)?;
-    check_run(alloc, &before, &mut whole)
+    check_run(&rt, &before, &mut whole)
 }

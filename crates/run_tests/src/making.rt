@@ -4,8 +4,9 @@ use host_memory::MemoryHost;
 use program_file::ProgramFault;
 use script_check::CheckFault;
 use silo_top::Status;
-use std::alloc::Global;
+use std::sync::Wait;
 use std::test::Fail;
+use std::thread::Threads;
 
 // Whether the folder is a silo of the bank program with an empty log.
 fn is_new_silo(host: &MemoryHost, text: &[u8]) -> bool {
@@ -16,19 +17,19 @@ fn is_new_silo(host: &MemoryHost, text: &[u8]) -> bool {
     }
 }
 
-fn init_again(alloc: Global, host: &mut MemoryHost, text: &[u8]) -> Result<Status, Fail> {
+fn init_again<R: Threads + Wait + Sync + Alloc>(rt: &R, host: &mut MemoryHost, text: &[u8]) -> Result<Status, Fail> {
     host.set_input(text)?;
-    command(alloc, host, &["init"])
+    command(rt, host, &["init"])
 }
 
 #[test]
 fn a_silo_is_made_once(rt: HostRuntime) -> Result<(), Fail> {
     let alloc = rt.alloc();
     let text = program_text(alloc)?;
-    let mut host = new_silo(alloc)?;
+    let mut host = new_silo(&rt)?;
     assert!(rt; is_new_silo(&host, text.as_bytes()));
     assert_eq!(rt;
-        init_again(alloc, &mut host, text.as_bytes())?,
+        init_again(&rt, &mut host, text.as_bytes())?,
         Status::AlreadyASilo
     );
     assert!(rt; is_new_silo(&host, text.as_bytes()));
@@ -40,10 +41,10 @@ fn a_silo_is_made_once(rt: HostRuntime) -> Result<(), Fail> {
 fn a_folder_that_is_no_silo_is_refused(rt: HostRuntime) -> Result<(), Fail> {
     let alloc = rt.alloc();
     let mut empty = MemoryHost::new(alloc, b"{\n")?;
-    assert_eq!(rt; command(alloc, &mut empty, &["run"])?, Status::NotASilo);
+    assert_eq!(rt; command(&rt, &mut empty, &["run"])?, Status::NotASilo);
     let mut short = MemoryHost::new(alloc, b"{\n")?;
     short.set_file(MANAGER, b"\x01OTXLOG01\0\0\0\0\0\0")?;
-    assert_eq!(rt; command(alloc, &mut short, &["run"])?, Status::NotASilo);
+    assert_eq!(rt; command(&rt, &mut short, &["run"])?, Status::NotASilo);
     assert!(rt; short.output().is_empty());
     Ok(())
 }
@@ -54,7 +55,7 @@ fn a_bad_program_is_named_at_its_place(rt: HostRuntime) -> Result<(), Fail> {
     let mut host = MemoryHost::new(alloc, b"type a { method m() create plain { return x; } }")?;
     let fault = ProgramFault::Unchecked(CheckFault::UnknownName { at: 42 });
     let status = Status::BadProgram { fault };
-    assert_eq!(rt; command(alloc, &mut host, &["init"])?, status);
+    assert_eq!(rt; command(&rt, &mut host, &["init"])?, status);
     assert!(rt; host.file(MANAGER).is_none());
     assert!(rt; host.file(PROGRAM).is_none());
     assert_eq!(rt; status.number(), 10);
@@ -79,7 +80,7 @@ fn other_words_are_bad_use(rt: HostRuntime) -> Result<(), Fail> {
     for words in lists {
         let mut host = MemoryHost::new(alloc, b"type t { field f = 0; }")?;
         assert_eq!(rt;
-            command(alloc, &mut host, words)?,
+            command(&rt, &mut host, words)?,
             Status::BadUse,
             "{words:?}"
         );

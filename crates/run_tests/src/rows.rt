@@ -4,7 +4,9 @@ use host_memory::{CallKind, MemoryHost};
 use host_trait::Channel;
 use silo_top::Status;
 use std::alloc::Global;
+use std::sync::Wait;
 use std::test::Fail;
+use std::thread::Threads;
 
 // Lines that several rows have.
 const DEPOSIT: &str = r#"{"args":[5],"call":"account/1.deposit"}"#;
@@ -358,19 +360,21 @@ fn are_lines(alloc: Global, text: &str, lines: &[&str]) -> Result<bool, Fail> {
 }
 
 // Carries out the row's words over its input, from a silo that was made just now.
-fn carry_out(alloc: Global, host: &mut MemoryHost, row: &Row) -> Result<Status, Fail> {
+fn carry_out<R: Threads + Wait + Sync + Alloc>(rt: &R, host: &mut MemoryHost, row: &Row) -> Result<Status, Fail> {
+    let alloc = rt.alloc();
     let input = input_of(alloc, row.lines)?;
     host.set_input(input.as_bytes())?;
     if let Some((what, channel, nth)) = row.fails {
         host.fail_on(what, channel, nth)?;
     }
-    command(alloc, host, row.words)
+    command(rt, host, row.words)
 }
 
 // What of the row this run doesn't give, and nothing where it gives all.
-fn missed(alloc: Global, host: &mut MemoryHost, row: &Row) -> Result<&'static str, Fail> {
+fn missed<R: Threads + Wait + Sync + Alloc>(rt: &R, host: &mut MemoryHost, row: &Row) -> Result<&'static str, Fail> {
+    let alloc = rt.alloc();
     let before = host.syncs();
-    let status = carry_out(alloc, host, row)?;
+    let status = carry_out(rt, host, row)?;
     if status != row.status {
         return Ok("the status");
     }
@@ -391,8 +395,8 @@ fn each_row_gives_all_that_it_says(rt: HostRuntime) -> Result<(), Fail> {
     let alloc = rt.alloc();
     for row in &ROWS {
         let name = row.name;
-        let mut host = new_silo(alloc)?;
-        assert_eq!(rt; missed(alloc, &mut host, row)?, "", "{name}");
+        let mut host = new_silo(&rt)?;
+        assert_eq!(rt; missed(&rt, &mut host, row)?, "", "{name}");
     }
     Ok(())
 }

@@ -4,8 +4,9 @@ use base_types::GrainId;
 use host_memory::MemoryHost;
 use host_trait::{FileId, Host};
 use silo_top::{Gate, GatePlace, Status, run_silo};
-use std::alloc::Global;
+use std::sync::Wait;
 use std::test::Fail;
+use std::thread::Threads;
 
 pub const MANAGER: FileId = FileId::Manager { slot: 0 };
 
@@ -25,26 +26,28 @@ impl Gate for OpenGate {
 }
 
 /// Carries out the command of these words.
-pub fn command<H: Host>(alloc: Global, host: &mut H, list: &[&str]) -> Result<Status, Fail> {
+pub fn command<R: Threads + Wait + Sync + Alloc, H: Host>(rt: &R, host: &mut H, list: &[&str]) -> Result<Status, Fail> {
+    let alloc = rt.alloc();
     let mut words = Vec::new(alloc);
     for word in list {
         words.push(String::from_str(alloc, word)?)?;
     }
-    Ok(run_silo(&alloc, alloc, &words, host, &OpenGate))
+    Ok(run_silo(rt, alloc, &words, host, &OpenGate))
 }
 
-fn make(alloc: Global, host: &mut MemoryHost) -> Result<(), Fail> {
-    match command(alloc, host, &["init"])? {
+fn make<R: Threads + Wait + Sync + Alloc>(rt: &R, host: &mut MemoryHost) -> Result<(), Fail> {
+    match command(rt, host, &["init"])? {
         Status::Done => Ok(()),
         _ => Err("no silo was made".into()),
     }
 }
 
 /// A folder that `init` has made a silo of the bank program.
-pub fn new_silo(alloc: Global) -> Result<MemoryHost, Fail> {
+pub fn new_silo<R: Threads + Wait + Sync + Alloc>(rt: &R) -> Result<MemoryHost, Fail> {
+    let alloc = rt.alloc();
     let text = program_text(alloc)?;
     let mut host = MemoryHost::new(alloc, text.as_bytes())?;
-    make(alloc, &mut host)?;
+    make(rt, &mut host)?;
     Ok(host)
 }
 

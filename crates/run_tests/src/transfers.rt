@@ -2,8 +2,9 @@
 use crate::setting::{command, new_silo, output_of};
 use host_memory::MemoryHost;
 use silo_top::Status;
-use std::alloc::Global;
+use std::sync::Wait;
 use std::test::Fail;
+use std::thread::Threads;
 
 /// The words of the run.
 pub const WORDS: &[&str] = &["run", "--width", "4"];
@@ -46,16 +47,16 @@ pub fn expect(holds: bool, what: &str) -> Result<(), Fail> {
     Err(what.into())
 }
 
-fn deposit_all(alloc: Global, host: &mut MemoryHost) -> Result<(), Fail> {
+fn deposit_all<R: Threads + Wait + Sync + Alloc>(rt: &R, host: &mut MemoryHost) -> Result<(), Fail> {
     host.set_input(DEPOSITS.as_bytes())?;
-    let status = command(alloc, host, &["run"])?;
+    let status = command(rt, host, &["run"])?;
     expect(status == Status::Done, "the deposits")
 }
 
 /// A silo with the three accounts.
-pub fn new_books(alloc: Global) -> Result<MemoryHost, Fail> {
-    let mut host = new_silo(alloc)?;
-    deposit_all(alloc, &mut host)?;
+pub fn new_books<R: Threads + Wait + Sync + Alloc>(rt: &R) -> Result<MemoryHost, Fail> {
+    let mut host = new_silo(rt)?;
+    deposit_all(rt, &mut host)?;
     Ok(host)
 }
 
@@ -68,9 +69,9 @@ pub fn image_of(host: &MemoryHost, after: u64, pick: u64) -> Result<MemoryHost, 
 }
 
 /// Carries the lines.
-pub fn carry(alloc: Global, host: &mut MemoryHost) -> Result<Status, Fail> {
+pub fn carry<R: Threads + Wait + Sync + Alloc>(rt: &R, host: &mut MemoryHost) -> Result<Status, Fail> {
     host.set_input(LINES.as_bytes())?;
-    command(alloc, host, WORDS)
+    command(rt, host, WORDS)
 }
 
 // What a reply line adds to the books.
@@ -118,9 +119,9 @@ fn value_in(output: &str) -> Option<i64> {
 }
 
 /// The books that a run over an image reads.
-pub fn read_books(alloc: Global, image: &mut MemoryHost) -> Result<i64, Fail> {
+pub fn read_books<R: Threads + Wait + Sync + Alloc>(rt: &R, image: &mut MemoryHost) -> Result<i64, Fail> {
     image.set_input(BOOKS.as_bytes())?;
-    let status = command(alloc, image, &["run"])?;
+    let status = command(rt, image, &["run"])?;
     expect(status == Status::Done, "an image opens")?;
     match value_in(output_of(image)) {
         Some(books) => Ok(books),

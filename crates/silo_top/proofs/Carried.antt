@@ -1,5 +1,5 @@
 -- What carrying lines in turns leaves, told in whichever manner.
-use Rattle.std.proofs.Common.{◌≡◌, inl, inr, ℕ, ◌<◌, ◌≤◌, Bool, true, false, List, Result, Ok, Err, subst, arith, refl}
+use Rattle.std.proofs.Common.{◌≡◌, inl, inr, ℕ, ◌<◌, ◌≤◌, Bool, true, false, List, [], Result, Ok, Err, subst, arith, refl, true≢false}
 use Rattle.host_trait.specs.declared.channels.Channel.{Channel}
 use Rattle.host_trait.specs.World.{World}
 use Rattle.request_wire.specs.declared.requests.Line.{Line}
@@ -13,7 +13,7 @@ use Rattle.run_books.specs.declared.faults.RunFault.TheVariants.{InDoubt, WriteF
 use Rattle.run_books.specs.Beginnings.{Outset, IsOutset, CanTurn}
 use Rattle.run_books.specs.Beside.{TurnsBeside, EmitsAs}
 use Rattle.run_books.specs.Books.{Books}
-use Rattle.run_books.specs.Records.{RecordGoesOn, TurnsEndAs}
+use Rattle.run_books.specs.Records.{KeepsRecord, RecordGoesOn, TurnsEndAs}
 use Rattle.interleaver.specs.Turns.{KeepsTurns, IsFreshRecord, TurnsGoOn}
 use Rattle.interleaver.proofs.Unstopped.{turns-record}
 use Rattle.silo_top.specs.Answering.{turns_manner, workers_manner}
@@ -70,3 +70,25 @@ module _ {T : Type 0} (tells : Bool) (types : ProgramTree) (lines : List Line) (
         on = record { books = g.books; record_kept = turns-record g.record_kept; lasts = g.lasts; ended = ends_so o g.books r' s' f' core result g.ended };
         turns = λ one. g.record_kept.turns;
       }
+
+-- ---- by workers
+
+module _ {T : Type 0} (tells : Bool) (types : ProgramTree) (lines : List Line) (r : Run) (s s' : Settler) (f f' : Channel → ℕ) (w w' : World) (core : Core) (result : Result T RunFault) where
+  -- what `run_with_workers` says of its record where the core comes back
+  abbrev pub RecordKept : Run → Type 0
+  RecordKept r' = (o : Outset) (b : Books) → IsOutset o types r lines 1 [] → CanTurn r s lines → b.rest ≡ [] → KeepsRecord tells o b r s f w → RecordGoesOn tells o b r r' s s' f' w w' result
+
+  workers_carried : (r' : Run) → RecordKept r' → CarriesOn tells workers_manner types lines r r' s s' f f' w w' (with_core core result)
+  workers_carried r' kept o b st =
+      let g = kept o b st.outset st.can st.fresh.rest (turns-record st.kept) in
+      record {
+        on = record { books = g.books; record_kept = g.record_kept; lasts = g.lasts; ended = ends_so o g.books r' s' f' core result g.ended };
+        turns = λ one. absurd (true≢false one);
+      }
+
+-- nothing was done, for want of memory
+lost_carried : (tells : Bool) (types : ProgramTree) (lines : List Line) (r : Run) (s : Settler) (f : Channel → ℕ) (w : World) → CarriesOn {T = Core} tells workers_manner types lines r r s s f f w w (Err Memory)
+lost_carried tells types lines r s f w o b st = record {
+  on = record { books = b; record_kept = turns-record st.kept; lasts = λ told head l. l; ended = st.fresh.rest };
+  turns = λ one. absurd (true≢false one);
+}

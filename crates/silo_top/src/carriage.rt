@@ -16,13 +16,14 @@ use interleaver::{RunFault, run_turns};
 use run_lines::Lines;
 use script_check::Checked;
 use settle_loop::{Gate, Settler};
+use silo_workers::run_with_workers;
 use std::alloc::Global;
 use std::sync::Wait;
 use std::thread::Threads;
 
 /// Carries all lines so, and hands the core back where all is carried and written.
-pub(crate) fn carry_all<R: Threads + Wait + Sync, H: Host, G: Gate + Sync, L: Lines + Copy + Send + Sync>(
-    _rt: &R,
+pub(crate) fn carry_all<R: Threads + Wait + Sync, H: Host, G: Gate + Sync, L: Lines + Copy + Sync>(
+    rt: &R,
     alloc: Global,
     checked: &Checked,
     core: Core,
@@ -53,6 +54,18 @@ pub(crate) fn carry_all<R: Threads + Wait + Sync, H: Host, G: Gate + Sync, L: Li
                 Err(fault) => return Err(fault),
             }
         }
-        Carriage::Workers(_workers) => return Err(RunFault::Memory),
+        Carriage::Workers(workers) => {
+            let (back, ended) = run_with_workers(
+                rt, alloc, checked, core, settler, &lines, host, gate, *workers as usize,
+            );
+            match ended {
+                Err(fault) => return Err(fault),
+                Ok(()) => {}
+            }
+            match back {
+                Some(core) => return Ok(core),
+                None => unreachable!(),
+            }
+        }
     }
 }
