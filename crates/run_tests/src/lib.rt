@@ -6,6 +6,8 @@ mod bank;
 #[cfg(test)]
 mod faults;
 #[cfg(test)]
+mod gates;
+#[cfg(test)]
 mod making;
 #[cfg(test)]
 mod rows;
@@ -17,5 +19,7 @@ mod standing;
 mod stops;
 #[cfg(test)]
 mod transfers;
+#[cfg(test)]
+mod workers;
 #[cfg(test)]
 mod words;

@@ -25,14 +25,28 @@ impl Gate for OpenGate {
     fn reach(&self, _place: GatePlace) {}
 }
 
-/// Carries out the command of these words.
-pub fn command<R: Threads + Wait + Sync + Alloc, H: Host>(rt: &R, host: &mut H, list: &[&str]) -> Result<Status, Fail> {
+/// Carries out the command of these words, with a gate.
+pub fn command_by<R: Threads + Wait + Sync + Alloc, H: Host, G: Gate + Sync>(
+    rt: &R,
+    host: &mut H,
+    gate: &G,
+    list: &[&str],
+) -> Result<Status, Fail> {
     let alloc = rt.alloc();
     let mut words = Vec::new(alloc);
     for word in list {
         words.push(String::from_str(alloc, word)?)?;
     }
-    Ok(run_silo(rt, alloc, &words, host, &OpenGate))
+    Ok(run_silo(rt, alloc, &words, host, gate))
+}
+
+/// Carries out the command of these words.
+pub fn command<R: Threads + Wait + Sync + Alloc, H: Host>(
+    rt: &R,
+    host: &mut H,
+    list: &[&str],
+) -> Result<Status, Fail> {
+    command_by(rt, host, &OpenGate, list)
 }
 
 fn make<R: Threads + Wait + Sync + Alloc>(rt: &R, host: &mut MemoryHost) -> Result<(), Fail> {
