@@ -127,10 +127,10 @@ carried_so chosen options are manner = by chosen.workers refl
     by (Some n) q =
         let threaded : (manner_of options).threaded ≡ true = ap (λ (m : Manner). m.threaded) (sym manner) ∙ ap is_some q in
         let t = threads_by chosen.workers options are.taken are.within threaded in
-        let same : Some t.0.0 ≡ Some n = sym t.0.1.0 ∙ q in
+        let same : Some t.0.0 ≡ Some n = sym t.0.1 ∙ q in
         let number : t.0.0 ≡ n = some_same t.0.0 n same in (
           manner ∙ one_manner options (are.alone t.1) threaded,
-          (subst (λ (k : ℕ). 1 ≤ k) number t.0.1.1.0, subst (λ (k : ℕ). k ≤ 16) number t.0.1.1.1),
+          (subst (λ (k : ℕ). 1 ≤ k) number t.0.2, subst (λ (k : ℕ). k ≤ 16) number t.0.3),
         )
 
 -- ---- what was read

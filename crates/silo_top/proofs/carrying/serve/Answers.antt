@@ -36,7 +36,7 @@ returns-in-Err-read_input-clause-promises g c = λ told old before behind none.
     (λ file. g.met.H.Host.seen_may_stay c.args.host.now file told) c.requires.above (subst (λ (e : Ending). EndsUnbegun e (length old.input) before after) (sym c.input_status.ensures) ends)
 
 pub carry_all-requires-clause-fits : goal.carry_all-requires-clause-fits
-carry_all-requires-clause-fits g c = λ told.
+carry_all-requires-clause-fits g c l u = λ told.
     let b = c.requires.behind told in
     let only = c.read_input.ensures.only told in
     fits_at (seen_in b.0.disk) c.args.opened c.in-Ok.started (g.H.Host.world c.read_input.new.host).disk b.1.opened c.in-Ok.ensures.start

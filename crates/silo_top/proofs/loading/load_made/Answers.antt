@@ -10,7 +10,7 @@ use Rattle.silo_top.proofs.LoadMade.{unopened_carries, unopened_answers, lies_wi
 use Rattle.silo_top.proofs.loading.load_made.Goals as goal
 
 pub carry_load-requires-clause-within : goal.carry_load-requires-clause-within
-carry_load-requires-clause-within g c = λ told. lies_within c.in-Ok.opened c.args.bank (g.H.Host.world c.args.host.now) (g.H.Host.world c.open_silo.new.host) (record {
+carry_load-requires-clause-within g c l u = λ told. lies_within c.in-Ok.opened c.args.bank (g.H.Host.world c.args.host.now) (g.H.Host.world c.open_silo.new.host) (record {
   opened = c.in-Ok.ensures.opened told;
   settled = c.in-Ok.ensures.settled told;
   count = c.in-Ok.ensures.count told;

@@ -33,7 +33,7 @@ returns-in-Err-Memory-clause-promises g c = λ told. refused_promised (carriage_
     c.in-Err-Memory.field-0 Status.Memory (ap ending_of (sym c.in-Err-Memory.field-0-is)) (c.open_silo.ensures.run told) (c.in-Err-Memory.ensures.refused told) c.in-Err-Memory.ensures.fault
 
 pub serve-requires-clause-behind : goal.serve-requires-clause-behind
-serve-requires-clause-behind g c = λ told. (
+serve-requires-clause-behind g c l u = λ told. (
   g.H.Host.world c.args.host.now,
   record {
     opened = c.in-Ok.ensures.opened told;

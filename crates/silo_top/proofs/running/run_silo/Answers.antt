@@ -62,13 +62,13 @@ pub returns-in-Ok-Load-clause-answers : goal.returns-in-Ok-Load-clause-answers
 returns-in-Ok-Load-clause-answers g c = run_answers (texts_of c.args.words.now) (Load c.in-Ok-Load.transfers c.in-Ok-Load.seed (carriage_manner c.in-Ok-Load.how)) (understood (texts_of c.args.words.now) c.in-Ok-Load.field-0 (Asked.Load c.in-Ok-Load.transfers c.in-Ok-Load.seed c.in-Ok-Load.how) c.in-Ok-Load.field-0-is c.in-Ok-Load.ensures.asked) (g.H.Host.faults c.args.host.now) (g.H.Host.faults c.load.new.host) (status_ending c.load.result) (λ begun. begun) c.load.ensures.answers
 
 pub load-requires-clause-how : goal.load-requires-clause-how
-load-requires-clause-how g c = (subst MayBeCarried c.in-Ok-Load.field-0-is c.in-Ok-Load.ensures.bounds).0
+load-requires-clause-how g c l u = (subst MayBeCarried c.in-Ok-Load.field-0-is c.in-Ok-Load.ensures.bounds).0
 
 pub run-requires-clause-how : goal.run-requires-clause-how
-run-requires-clause-how g c = subst MayBeCarried c.in-Ok-Run.field-0-is c.in-Ok-Run.ensures.bounds
+run-requires-clause-how g c l u = subst MayBeCarried c.in-Ok-Run.field-0-is c.in-Ok-Run.ensures.bounds
 
 pub load-requires-clause-many : goal.load-requires-clause-many
-load-requires-clause-many g c = (subst MayBeCarried c.in-Ok-Load.field-0-is c.in-Ok-Load.ensures.bounds).1
+load-requires-clause-many g c l u = (subst MayBeCarried c.in-Ok-Load.field-0-is c.in-Ok-Load.ensures.bounds).1
 
 pub returns-in-Err-BadUse-clause-serves : goal.returns-in-Err-BadUse-clause-serves
 returns-in-Err-BadUse-clause-serves g c = λ told m asked is. refused_serves (texts_of c.args.words.now) m asked (g.H.Host.world c.args.host.now) (g.H.Host.faults c.args.host.now) (c.in-Err-BadUse.ensures.bad_use (ap unread c.in-Err-BadUse.field-0-is))
