@@ -10,6 +10,7 @@ pub mod Calling
 pub mod Promised
 pub mod Unbegun
 pub mod Unread
+pub mod Shared
 pub mod Ended
 pub mod OpensWith
 pub mod LastsAtStart

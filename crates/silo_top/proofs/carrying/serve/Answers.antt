@@ -1,3 +1,4 @@
+use denote.Param.Send.{copied_sync}
 use Rattle.std.proofs.Common.{◌≡◌, ℕ, ◌<◌, Bool, true, List, length, refl, sym, ◌∙◌, ap, subst, arith}
 use Rattle.host_trait.specs.World.{Disk}
 use Rattle.log_reading.specs.Steps.{seen_in}
@@ -17,6 +18,7 @@ use Rattle.silo_top.proofs.Carried.{carriage_wide}
 use Rattle.silo_top.proofs.OpensWith.{fits_at}
 use Rattle.silo_top.proofs.Read.{AreReadFrom, lines_are_read}
 use Rattle.silo_top.proofs.Served.{served}
+use Rattle.silo_top.proofs.Shared.{lines_sync}
 use Rattle.silo_top.proofs.Unbegun.{unbegun_promised, EndsUnbegun}
 use Rattle.silo_top.proofs.Unread.{unread_ends}
 use Rattle.silo_top.proofs.Unopened.{asked_untouched, unopened_promised}
@@ -79,3 +81,6 @@ returns-clause-answers g c =
     (answered g.H.Host.tells how c.args.opened c.in-Ok.started c.as_slice.result.now (input_lines types c.as_slice.result.now) (g.H.Host.world c.args.host.now) w1 w2 f0 f1 f2 c.carry_all.result carried.left c.carry_all.new.settler
     c.in-Ok.ensures.start (λ told. c.read_input.ensures.only told) c.in-Ok-read_input.ensures.calm (carriage_wide c.args.how.now c.requires.how) c.requires.above
     (lines_are_read types 0 (lines_of c.as_slice.result.now)) carried.carries carried.beside)
+
+pub carry_all-requires-sync-L : goal.carry_all-requires-sync-L
+carry_all-requires-sync-L g c κs within = copied_sync _ _ (lines_sync _)
