@@ -7,8 +7,8 @@
 # worst: what a unit takes each of whose steps evaluates an expression as long as a text lets it be, from 50 of its evaluations.
 # stack: the least stack, of 512 KB and less, with which the deepest programs are read, checked, carried and dropped.
 # By default it does all, in about a minute behind the build. The program is built, and so proved, in a copy of the sources, so that it is no crate of this repository. The seconds
-# are of the processor's time, and the quickest of forty readings or five units; memory is kept from one to the next, so that the system's pages
-# are not timed.
+# are of the processor's time, and the quickest of forty readings, of five units, or of 25 for steps; memory is kept from one to the next, so that
+# the system's pages are not timed.
 top=$(cd "$(dirname "${BASH_SOURCE[0]}")/.." && pwd)
 work=$(mktemp -d) || exit 1
 trap 'rm -rf "$work"' EXIT
@@ -326,17 +326,25 @@ unit() {
   [ -n "$micros" ] || fail "$1: the program failed"
 }
 
+# The texts are timed in turns, so that what else the machine does falls on all of them.
 steps() {
-  local count number one
-  for count in 1 100 1000 10000; do
-    unit "steps-$count" 0
-    [ "$count" = 1 ] && one=$micros
-    awk -v count="$count" -v micros="$micros" 'BEGIN { printf "%d locals: %.2f million steps a second\n", count, 10000 / micros }'
+  local at text count number
+  local -A least=()
+  for at in 1 2 3 4 5; do
+    for text in steps-1 steps-100 steps-1000 steps-10000 calls-0 calls-63; do
+      case $text in
+        steps-*) unit "$text" 0 ;;
+        *) unit "$text" 9 ;;
+      esac
+      [ -n "${least[$text]}" ] && [ "${least[$text]}" -le "$micros" ] || least[$text]=$micros
+    done
   done
-  [ "$micros" -le $((2 * one)) ] || bad+=" (10,000 locals)"
+  for count in 1 100 1000 10000; do
+    awk -v count="$count" -v micros="${least[steps-$count]}" 'BEGIN { printf "%d locals: %.2f million steps a second\n", count, 10000 / micros }'
+  done
+  [ "${least[steps-10000]}" -le $((2 * ${least[steps-1]})) ] || bad+=" (10,000 locals)"
   for number in 0 63; do
-    unit "calls-$number" 9
-    awk -v number="$number" -v micros="$micros" 'BEGIN { printf "method %d of type %d: %.2f million steps a second\n", number, number, 10000 / micros }'
+    awk -v number="$number" -v micros="${least[calls-$number]}" 'BEGIN { printf "method %d of type %d: %.2f million steps a second\n", number, number, 10000 / micros }'
   done
 }
 

@@ -54,44 +54,56 @@ fn item_at(
     Ok(Some((item, end)))
 }
 
+// An item that was read, and where it ends.
+type Found = Result<(Item, usize), CodecFault>;
+
+fn value_at(alloc: Global, bytes: &[u8], at: usize) -> Found {
+    let (value, end) = get_value(alloc, bytes, at)?;
+    Ok((Item::Value(value), end))
+}
+
+fn state_at(alloc: Global, bytes: &[u8], at: usize) -> Found {
+    let (state, end) = get_state(alloc, bytes, at)?;
+    Ok((Item::State(state), end))
+}
+
+fn call_at(alloc: Global, bytes: &[u8], at: usize) -> Found {
+    let (call, end) = get_call(alloc, bytes, at)?;
+    Ok((Item::Call(call), end))
+}
+
+fn origin_at(bytes: &[u8], at: usize, numbers: Numbers) -> Found {
+    let (origin, end) = get_origin(bytes, at, numbers)?;
+    Ok((Item::Origin(origin), end))
+}
+
+fn answer_at(alloc: Global, bytes: &[u8], at: usize) -> Found {
+    let (answer, end) = get_answer(alloc, bytes, at)?;
+    Ok((Item::Outcome(answer), end))
+}
+
+fn result_at(alloc: Global, bytes: &[u8], at: usize) -> Found {
+    let (outcome, end) = get_result(alloc, bytes, at)?;
+    Ok((Item::Outcome(outcome), end))
+}
+
 fn long_item_at(
     alloc: Global,
     kind: &str,
     bytes: &[u8],
     at: usize,
 ) -> Result<Option<(Item, usize)>, CodecFault> {
-    let (item, end) = match kind {
-        "value" => {
-            let (value, end) = get_value(alloc, bytes, at)?;
-            (Item::Value(value), end)
-        }
-        "state" => {
-            let (state, end) = get_state(alloc, bytes, at)?;
-            (Item::State(state), end)
-        }
-        "call" => {
-            let (call, end) = get_call(alloc, bytes, at)?;
-            (Item::Call(call), end)
-        }
-        "origin" => {
-            let (origin, end) = get_origin(bytes, at, Numbers::Logged)?;
-            (Item::Origin(origin), end)
-        }
-        "any-origin" => {
-            let (origin, end) = get_origin(bytes, at, Numbers::Free)?;
-            (Item::Origin(origin), end)
-        }
-        "answer" => {
-            let (answer, end) = get_answer(alloc, bytes, at)?;
-            (Item::Outcome(answer), end)
-        }
-        "result" => {
-            let (outcome, end) = get_result(alloc, bytes, at)?;
-            (Item::Outcome(outcome), end)
-        }
+    let found = match kind {
+        "value" => value_at(alloc, bytes, at),
+        "state" => state_at(alloc, bytes, at),
+        "call" => call_at(alloc, bytes, at),
+        "origin" => origin_at(bytes, at, Numbers::Logged),
+        "any-origin" => origin_at(bytes, at, Numbers::Free),
+        "answer" => answer_at(alloc, bytes, at),
+        "result" => result_at(alloc, bytes, at),
         _ => return Ok(None),
     };
-    Ok(Some((item, end)))
+    Ok(Some(found?))
 }
 
 fn put_item(into: &mut Vec<u8>, item: &Item) -> Result<(), AllocError> {
@@ -128,19 +140,33 @@ fn is_spelled(alloc: Global, item: &Item, bytes: Option<&[u8]>) -> Result<bool, 
     Ok(bytes == Some(spelled.as_slice()))
 }
 
+// Writes an item, where it ends, and whether it is spelled otherwise than these bytes.
+fn add_found(
+    alloc: Global,
+    out: &mut String,
+    item: &Item,
+    end: usize,
+    spelling: Option<&[u8]>,
+) -> Result<(), AllocError> {
+    add_item(out, item)?;
+    write!(out, " up to {end}")?;
+    if is_spelled(alloc, item, spelling)? {
+        return Ok(());
+    }
+    out.push_str(", spelled otherwise")
+}
+
+fn add_fault(out: &mut String, fault: CodecFault) -> Result<(), AllocError> {
+    write!(out, "{fault}")
+}
+
 /// Writes the item at the place that the case says, where it ends, and whether its spelling is what was read; or its fault.
 pub fn add_field(alloc: Global, out: &mut String, case: &Case) -> Result<(), AllocError> {
     let bytes = case.bytes.as_slice();
     let at = usize::try_from(case.number(0)).unwrap_or(0);
-    let (item, end) = match item_at(alloc, case.word, bytes, at) {
-        Ok(Some(found)) => found,
-        Ok(None) => return out.push_str("no such case"),
-        Err(fault) => return write!(out, "{fault}"),
-    };
-    add_item(out, &item)?;
-    write!(out, " up to {end}")?;
-    if is_spelled(alloc, &item, bytes.get(at..end))? {
-        return Ok(());
+    match item_at(alloc, case.word, bytes, at) {
+        Ok(Some((item, end))) => add_found(alloc, out, &item, end, bytes.get(at..end)),
+        Ok(None) => out.push_str("no such case"),
+        Err(fault) => add_fault(out, fault),
     }
-    out.push_str(", spelled otherwise")
 }

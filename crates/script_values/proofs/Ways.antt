@@ -2,13 +2,13 @@
 use Rattle.std.proofs.Common.{◌≡◌, ℕ, zero, suc, ◌+◌, ◌<◌, ◌/◌, ◌%◌, Bool, true, false, List, Option, Some, None, ◌⊎◌, inl, inr, refl, sym, ap, ◌∙◌, subst, arith, nat_eq}
 use Rattle.std.specs.Prelude.{if◌then◌else◌, slice_get, slice_index}
 use Rattle.std.specs.Option.{is_some}
-use Rattle.script_values.specs.declared.nodes.Node.{Node}
+use Rattle.script_values.specs.declared.nodes.NameNode.{NameNode}
 use Rattle.script_values.specs.declared.nodes.End.{End}
 use Rattle.script_values.specs.declared.nodes.End.TheVariants.{At, Free, Nowhere}
 use Rattle.script_scopes.specs.Names.{Scope}
-use Rattle.script_values.specs.Nodes.{is_named, named_at, kid_of, free_at, last_end, end_from, place_end}
+use Rattle.script_values.specs.Nodes.{stands_for, named_at, kid_of, free_at, last_end, end_from, place_end}
 
-free_none : (o : Option Node) (i rest : ℕ) → place_end (free_at o i rest) ≡ None
+free_none : (o : Option NameNode) (i rest : ℕ) → place_end (free_at o i rest) ≡ None
 free_none None i rest = refl
 free_none (Some node) i rest = refl
 
@@ -40,13 +40,13 @@ at_end true c i free on f e g = absurd cc
 at_end false true i free on f e g = f
 at_end false false i free on f e g = absurd cc
 
-pub at_new : (named : ℕ → Bool) (at : ℕ → Option Node) (n : ℕ) → named n ≡ false → ((rest : ℕ) → kid_of (at n) rest ≡ 0) → (left rest : ℕ) → place_end (end_from named at left rest n) ≡ None
+pub at_new : (named : ℕ → Bool) (at : ℕ → Option NameNode) (n : ℕ) → named n ≡ false → ((rest : ℕ) → kid_of (at n) rest ≡ 0) → (left rest : ℕ) → place_end (end_from named at left rest n) ≡ None
 unfolding end_from
 at_new named at n other kids zero rest = last_none (named n) n other
 at_new named at n other kids (suc left) rest = at_end (named n) (nat_eq (kid_of (at n) rest) 0) n (free_at (at n) n rest) (end_from named at left (rest / 4) (kid_of (at n) rest)) (free_none (at n) n rest) other (zero_is_zero (kid_of (at n) rest) (kids rest))
 
 -- a node more doesn't change the place of a name that isn't its own
-module _ (named named' : ℕ → Bool) (at at' : ℕ → Option Node) (n : ℕ) (same : (i : ℕ) → named' i ≡ named i) (other : named' n ≡ false) (fresh : (rest : ℕ) → kid_of (at' n) rest ≡ 0) (kids : (i rest : ℕ) → (kid_of (at' i) rest ≡ kid_of (at i) rest) ⊎ ((kid_of (at i) rest ≡ 0) × (kid_of (at' i) rest ≡ n))) where
+module _ (named named' : ℕ → Bool) (at at' : ℕ → Option NameNode) (n : ℕ) (same : (i : ℕ) → named' i ≡ named i) (other : named' n ≡ false) (fresh : (rest : ℕ) → kid_of (at' n) rest ≡ 0) (kids : (i rest : ℕ) → (kid_of (at' i) rest ≡ kid_of (at i) rest) ⊎ ((kid_of (at i) rest ≡ 0) × (kid_of (at' i) rest ≡ n))) where
   kept_step : (i rest left : ℕ) → ((r j : ℕ) → place_end (end_from named' at' left r j) ≡ place_end (end_from named at left r j)) → ((kid_of (at' i) rest ≡ kid_of (at i) rest) ⊎ ((kid_of (at i) rest ≡ 0) × (kid_of (at' i) rest ≡ n))) →
       place_end (if named i then At i else (if nat_eq (kid_of (at' i) rest) 0 then free_at (at' i) i rest else end_from named' at' left (rest / 4) (kid_of (at' i) rest)))
       ≡ place_end (if named i then At i else (if nat_eq (kid_of (at i) rest) 0 then free_at (at i) i rest else end_from named at left (rest / 4) (kid_of (at i) rest)))
@@ -73,11 +73,11 @@ last_taken : (b : Bool) (i p w : ℕ) → (if b then At i else Nowhere) ≡ Free
 last_taken true i p w e = cc
 last_taken false i p w e = cc
 
-free_is : (o : Option Node) (i rest p w : ℕ) → free_at o i rest ≡ Free p w → (is_some o ≡ true) × (i ≡ p) × (rest % 4 ≡ w)
+free_is : (o : Option NameNode) (i rest p w : ℕ) → free_at o i rest ≡ Free p w → (is_some o ≡ true) × (i ≡ p) × (rest % 4 ≡ w)
 free_is None i rest p w e = absurd cc
 free_is (Some node) i rest p w e = (refl, cc, cc)
 
-pub record IsFree (at : ℕ → Option Node) (p w : ℕ) : Type 0 where
+pub record IsFree (at : ℕ → Option NameNode) (p w : ℕ) : Type 0 where
   pub there : is_some (at p) ≡ true
   pub way : w < 4
   pub none : (rest : ℕ) → rest % 4 ≡ w → kid_of (at p) rest ≡ 0
@@ -88,11 +88,11 @@ rest_below rest = omega arith
 zero_of : (k : ℕ) → nat_eq k 0 ≡ true → k ≡ 0
 zero_of k e = grind (arith, e)
 
-kid_by_digit : (o : Option Node) (r s : ℕ) → r % 4 ≡ s % 4 → kid_of o r ≡ kid_of o s
+kid_by_digit : (o : Option NameNode) (r s : ℕ) → r % 4 ≡ s % 4 → kid_of o r ≡ kid_of o s
 kid_by_digit None r s e = refl
 kid_by_digit (Some node) r s e = ap (λ (d : ℕ). slice_index node.kids d) e
 
-free_step : (at : ℕ → Option Node) (b c : Bool) (i rest p w : ℕ) (on : End) → nat_eq (kid_of (at i) rest) 0 ≡ c → (if b then At i else (if c then free_at (at i) i rest else on)) ≡ Free p w → (on ≡ Free p w → IsFree at p w) → IsFree at p w
+free_step : (at : ℕ → Option NameNode) (b c : Bool) (i rest p w : ℕ) (on : End) → nat_eq (kid_of (at i) rest) 0 ≡ c → (if b then At i else (if c then free_at (at i) i rest else on)) ≡ Free p w → (on ≡ Free p w → IsFree at p w) → IsFree at p w
 free_step at true c i rest p w on z e go = absurd cc
 free_step at false true i rest p w on z e go =
     let is = free_is (at i) i rest p w e in
@@ -104,13 +104,13 @@ free_step at false true i rest p w on z e go =
     })
 free_step at false false i rest p w on z e go = go e
 
-pub free_found : (named : ℕ → Bool) (at : ℕ → Option Node) (p w left rest i : ℕ) → end_from named at left rest i ≡ Free p w → IsFree at p w
+pub free_found : (named : ℕ → Bool) (at : ℕ → Option NameNode) (p w left rest i : ℕ) → end_from named at left rest i ≡ Free p w → IsFree at p w
 unfolding end_from
 free_found named at p w zero rest i e = absurd (last_taken (named i) i p w e)
 free_found named at p w (suc left) rest i e = free_step at (named i) (nat_eq (kid_of (at i) rest) 0) i rest p w (end_from named at left (rest / 4) (kid_of (at i) rest)) refl e (λ on. free_found named at p w left (rest / 4) (kid_of (at i) rest) on)
 
 -- the way of a name leads to the node that it gets
-pub at_here : (named : ℕ → Bool) (at : ℕ → Option Node) (n : ℕ) → named n ≡ true → (left rest : ℕ) → end_from named at left rest n ≡ At n
+pub at_here : (named : ℕ → Bool) (at : ℕ → Option NameNode) (n : ℕ) → named n ≡ true → (left rest : ℕ) → end_from named at left rest n ≡ At n
 unfolding end_from
 at_here named at n is zero rest = ap (λ (b : Bool). let e : End = if b then At n else Nowhere in e) is
 at_here named at n is (suc left) rest = ap (λ (b : Bool). if b then At n else (if nat_eq (kid_of (at n) rest) 0 then free_at (at n) n rest else end_from named at left (rest / 4) (kid_of (at n) rest))) is
@@ -120,7 +120,7 @@ goes_on true c i free on end e f o = absurd cc
 goes_on false true i free on end e f o = absurd cc
 goes_on false false i free on end e f o = o
 
-module _ (named named' : ℕ → Bool) (at at' : ℕ → Option Node) (n p w : ℕ) (others : (i : ℕ) → nat_eq i n ≡ false → named' i ≡ named i) (here : named' n ≡ true) (past : (rest : ℕ) → kid_of (at n) rest ≡ 0) (apart : nat_eq p n ≡ false) (nonzero : nat_eq n 0 ≡ false) (gains : (rest : ℕ) → rest % 4 ≡ w → kid_of (at' p) rest ≡ n) (kids : (i rest : ℕ) → (kid_of (at' i) rest ≡ kid_of (at i) rest) ⊎ ((kid_of (at i) rest ≡ 0) × (kid_of (at' i) rest ≡ n))) where
+module _ (named named' : ℕ → Bool) (at at' : ℕ → Option NameNode) (n p w : ℕ) (others : (i : ℕ) → nat_eq i n ≡ false → named' i ≡ named i) (here : named' n ≡ true) (past : (rest : ℕ) → kid_of (at n) rest ≡ 0) (apart : nat_eq p n ≡ false) (nonzero : nat_eq n 0 ≡ false) (gains : (rest : ℕ) → rest % 4 ≡ w → kid_of (at' p) rest ≡ n) (kids : (i rest : ℕ) → (kid_of (at' i) rest ≡ kid_of (at i) rest) ⊎ ((kid_of (at i) rest ≡ 0) × (kid_of (at' i) rest ≡ n))) where
   abbrev Reaches : ℕ → ℕ → ℕ → Type 0
   Reaches left rest i = (if named' i then At i else (if nat_eq (kid_of (at' i) rest) 0 then free_at (at' i) i rest else end_from named' at' left (rest / 4) (kid_of (at' i) rest))) ≡ At n
 
@@ -158,45 +158,45 @@ module _ (named named' : ℕ → Bool) (at at' : ℕ → Option Node) (n p w : �
   reaches (suc left) rest i e = reach_step (named i) (nat_eq (kid_of (at i) rest) 0) i rest left refl refl e (λ on. reaches left (rest / 4) (kid_of (at i) rest) on)
 
 -- one step of a way
-pub step_named : (named : ℕ → Bool) (at : ℕ → Option Node) (n rest i : ℕ) → named i ≡ true → end_from named at n rest i ≡ At i
+pub step_named : (named : ℕ → Bool) (at : ℕ → Option NameNode) (n rest i : ℕ) → named i ≡ true → end_from named at n rest i ≡ At i
 step_named named at n rest i is = at_here named at i is n rest
 
-pub step_free : (named : ℕ → Bool) (at : ℕ → Option Node) (n m rest i : ℕ) → n ≡ m + 1 → named i ≡ false → kid_of (at i) rest ≡ 0 → end_from named at n rest i ≡ free_at (at i) i rest
+pub step_free : (named : ℕ → Bool) (at : ℕ → Option NameNode) (n m rest i : ℕ) → n ≡ m + 1 → named i ≡ false → kid_of (at i) rest ≡ 0 → end_from named at n rest i ≡ free_at (at i) i rest
 unfolding end_from
 step_free named at zero m rest i e b z = absurd (omega (arith, e))
 step_free named at (suc k) m rest i e b z =
     ap (λ (b : Bool). if b then At i else (if nat_eq (kid_of (at i) rest) 0 then free_at (at i) i rest else end_from named at k (rest / 4) (kid_of (at i) rest))) b
     ∙ ap (λ (c : Bool). if c then free_at (at i) i rest else end_from named at k (rest / 4) (kid_of (at i) rest)) (zero_is_zero (kid_of (at i) rest) z)
 
-pub step_on : (named : ℕ → Bool) (at : ℕ → Option Node) (n m rest i : ℕ) → n ≡ m + 1 → named i ≡ false → nat_eq (kid_of (at i) rest) 0 ≡ false → end_from named at n rest i ≡ end_from named at m (rest / 4) (kid_of (at i) rest)
+pub step_on : (named : ℕ → Bool) (at : ℕ → Option NameNode) (n m rest i : ℕ) → n ≡ m + 1 → named i ≡ false → nat_eq (kid_of (at i) rest) 0 ≡ false → end_from named at n rest i ≡ end_from named at m (rest / 4) (kid_of (at i) rest)
 unfolding end_from
 step_on named at zero m rest i e b z = absurd (omega (arith, e))
 step_on named at (suc k) m rest i e b z =
     let same : k ≡ m = omega (arith, e) in
     goes_on (named i) (nat_eq (kid_of (at i) rest) 0) i (free_at (at i) i rest) (end_from named at k (rest / 4) (kid_of (at i) rest)) (end_from named at m (rest / 4) (kid_of (at i) rest)) b z (ap (λ (j : ℕ). end_from named at j (rest / 4) (kid_of (at i) rest)) same)
 
-pub step_last : (named : ℕ → Bool) (at : ℕ → Option Node) (n rest i : ℕ) → n ≡ 0 → end_from named at n rest i ≡ last_end named i
+pub step_last : (named : ℕ → Bool) (at : ℕ → Option NameNode) (n rest i : ℕ) → n ≡ 0 → end_from named at n rest i ≡ last_end named i
 unfolding end_from
 step_last named at zero rest i e = refl
 step_last named at (suc k) rest i e = absurd (omega (arith, e))
 
 -- the same, at what the code finds of a node
-module _ (nodes : List Node) (names : Scope) (name : List ℕ) (digest n rest i : ℕ) where
+module _ (nodes : List NameNode) (names : Scope) (name : List ℕ) (digest n rest i : ℕ) where
   pub ends_nowhere : (m : ℕ) → n ≡ m + 1 → slice_get nodes i ≡ None → end_from (named_at nodes names name digest) (slice_get nodes) n rest i ≡ Nowhere
   ends_nowhere m e none =
-      step_free (named_at nodes names name digest) (slice_get nodes) n m rest i e (ap (λ (o : Option Node). is_named o (slice_get names i) name digest) none) (ap (λ (o : Option Node). kid_of o rest) none)
-      ∙ ap (λ (o : Option Node). free_at o i rest) none
+      step_free (named_at nodes names name digest) (slice_get nodes) n m rest i e (ap (λ (o : Option NameNode). stands_for o (slice_get names i) name digest) none) (ap (λ (o : Option NameNode). kid_of o rest) none)
+      ∙ ap (λ (o : Option NameNode). free_at o i rest) none
 
-  pub ends_named : (node : Node) → slice_get nodes i ≡ Some node → is_named (Some node) (slice_get names i) name digest ≡ true → end_from (named_at nodes names name digest) (slice_get nodes) n rest i ≡ At i
-  ends_named node is named = step_named (named_at nodes names name digest) (slice_get nodes) n rest i (ap (λ (o : Option Node). is_named o (slice_get names i) name digest) is ∙ named)
+  pub ends_named : (node : NameNode) → slice_get nodes i ≡ Some node → stands_for (Some node) (slice_get names i) name digest ≡ true → end_from (named_at nodes names name digest) (slice_get nodes) n rest i ≡ At i
+  ends_named node is named = step_named (named_at nodes names name digest) (slice_get nodes) n rest i (ap (λ (o : Option NameNode). stands_for o (slice_get names i) name digest) is ∙ named)
 
-  pub ends_free : (m : ℕ) (node : Node) → n ≡ m + 1 → slice_get nodes i ≡ Some node → is_named (Some node) (slice_get names i) name digest ≡ false → slice_index node.kids (rest % 4) ≡ 0 → end_from (named_at nodes names name digest) (slice_get nodes) n rest i ≡ Free i (rest % 4)
+  pub ends_free : (m : ℕ) (node : NameNode) → n ≡ m + 1 → slice_get nodes i ≡ Some node → stands_for (Some node) (slice_get names i) name digest ≡ false → slice_index node.kids (rest % 4) ≡ 0 → end_from (named_at nodes names name digest) (slice_get nodes) n rest i ≡ Free i (rest % 4)
   ends_free m node e is other none =
-      step_free (named_at nodes names name digest) (slice_get nodes) n m rest i e (ap (λ (o : Option Node). is_named o (slice_get names i) name digest) is ∙ other) (ap (λ (o : Option Node). kid_of o rest) is ∙ none)
-      ∙ ap (λ (o : Option Node). free_at o i rest) is
+      step_free (named_at nodes names name digest) (slice_get nodes) n m rest i e (ap (λ (o : Option NameNode). stands_for o (slice_get names i) name digest) is ∙ other) (ap (λ (o : Option NameNode). kid_of o rest) is ∙ none)
+      ∙ ap (λ (o : Option NameNode). free_at o i rest) is
 
-  pub ends_beyond : (m next : ℕ) (node : Node) → n ≡ m + 1 → slice_get nodes i ≡ Some node → is_named (Some node) (slice_get names i) name digest ≡ false → next ≡ slice_index node.kids (rest % 4) → nat_eq next 0 ≡ false → end_from (named_at nodes names name digest) (slice_get nodes) n rest i ≡ end_from (named_at nodes names name digest) (slice_get nodes) m (rest / 4) next
+  pub ends_beyond : (m next : ℕ) (node : NameNode) → n ≡ m + 1 → slice_get nodes i ≡ Some node → stands_for (Some node) (slice_get names i) name digest ≡ false → next ≡ slice_index node.kids (rest % 4) → nat_eq next 0 ≡ false → end_from (named_at nodes names name digest) (slice_get nodes) n rest i ≡ end_from (named_at nodes names name digest) (slice_get nodes) m (rest / 4) next
   ends_beyond m next node e is other kid some =
-      let to : kid_of (slice_get nodes i) rest ≡ next = ap (λ (o : Option Node). kid_of o rest) is ∙ sym kid in
-      step_on (named_at nodes names name digest) (slice_get nodes) n m rest i e (ap (λ (o : Option Node). is_named o (slice_get names i) name digest) is ∙ other) (ap (λ (k : ℕ). nat_eq k 0) to ∙ some)
+      let to : kid_of (slice_get nodes i) rest ≡ next = ap (λ (o : Option NameNode). kid_of o rest) is ∙ sym kid in
+      step_on (named_at nodes names name digest) (slice_get nodes) n m rest i e (ap (λ (o : Option NameNode). stands_for o (slice_get names i) name digest) is ∙ other) (ap (λ (k : ℕ). nat_eq k 0) to ∙ some)
       ∙ ap (λ (k : ℕ). end_from (named_at nodes names name digest) (slice_get nodes) m (rest / 4) k) to

@@ -13,7 +13,9 @@ use script_check::value_of;
 use script_tree::{Chars, Expr};
 use std::alloc::Global;
 
-/// What a name stands for: the parameter or local, else the field.
+/// What a name stands for: the parameter or local, else the field. It is a call of its own so that an expression in
+/// an expression takes less stack.
+#[inline(never)]
 fn named(alloc: Global, name: &Chars, scope: &Scope) -> Result<Value, Stop>
     ensures { GivesOrStops result (value_named (surroundings scope.now) name.now) }
 {

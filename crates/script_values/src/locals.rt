@@ -3,9 +3,9 @@ ghost use Rattle.std.specs.Option.{option_copied, option_or};
 ghost use Rattle.script_scopes.specs.Places.{place_in, name_place};
 ghost use Rattle.script_values.specs.Expressions.{put_local, local_named};
 ghost use Rattle.script_values.specs.LocalNames.{names_of};
-ghost use Rattle.script_values.specs.Nodes.{name_digest, end_of, place_end, HasNodes};
+ghost use Rattle.script_values.specs.Nodes.{name_digest, way_end, place_end, HasNodes};
 
-use crate::nodes::{End, Node, add_node, digest_of, note, place, seek};
+use crate::nodes::{End, NameNode, add_node, digest_of, note, place, seek};
 use base_types::Value;
 use script_scopes::NamePlaces;
 use script_tree::Chars;
@@ -19,12 +19,13 @@ pub struct Local {
     pub value: Value,
 }
 
-/// Parameters and locals in the order in which they came. One is found in time in the logarithm of how many there
-/// are.
+/// Parameters and locals in the order in which they came, and beside each a node of a tree, down which names go. One
+/// is found in time in the logarithm of how many there are. The places of names whose ways would be too long are
+/// those of a map.
 #[derive(Drop)]
 pub struct LocalList {
     list: Vec<Local>,
-    nodes: Vec<Node>,
+    nodes: Vec<NameNode>,
     others: NamePlaces,
 }
 
@@ -134,7 +135,7 @@ fn give(list: &mut Vec<Local>, name: &Chars, at: usize, value: Value)
 // One local more, and its place.
 fn add(
     list: &mut Vec<Local>,
-    nodes: &mut Vec<Node>,
+    nodes: &mut Vec<NameNode>,
     others: &mut NamePlaces,
     local: Local,
     digest: u64,
@@ -142,7 +143,7 @@ fn add(
 ) -> Result<(), AllocError>
     requires has { HasNodes nodes.old.items list.old.items others.old }
     requires digest { digest ≡ name_digest local.name }
-    requires end { end ≡ end_of nodes.old.items (names_of list.old.items) local.name digest }
+    requires end { end ≡ way_end nodes.old.items (names_of list.old.items) local.name digest }
     requires none { option_or (place_end end) (place_in others.old local.name) ≡ None }
     ensures items { list.new.items ≡ (if is_ok result then list.old.items ++ local ∷ [] else list.old.items) }
     ensures has { HasNodes nodes.new.items list.new.items others.new }

@@ -3,7 +3,7 @@ ghost use Rattle.std.specs.Map.{update};
 ghost use Rattle.std.specs.Option.{option_copied, option_or};
 ghost use Rattle.script_scopes.specs.Places.{place_in};
 ghost use Rattle.script_values.specs.LocalNames.{names_of};
-ghost use Rattle.script_values.specs.Nodes.{stirred, name_digest, node_of, has_name, is_named, named_at, last_end, end_of, place_end, found, GainsKid};
+ghost use Rattle.script_values.specs.Nodes.{stirred, name_digest, node_of, has_name, stands_for, named_at, last_end, way_end, place_end, place_found, GainsKid};
 
 use crate::locals::Local;
 use script_scopes::NamePlaces;
@@ -13,10 +13,10 @@ use std::alloc::AllocError;
 /// How many nodes lie behind the first on the way to a name, at the most.
 const DEPTH: u32 = 31;
 
-/// A local in the tree of all. A name goes down it by the digits of its digest. One that isn't linked stands for no
-/// name: that of its local has a place already.
+/// A local in the tree of all. A name goes down it by the digits of its digest. A node that isn't linked stands for no
+/// name: its local's has a place elsewhere.
 #[derive(Drop)]
-pub struct Node {
+pub struct NameNode {
     pub digest: u64,
     pub kids: [u32; 4],
     pub linked: bool,
@@ -52,7 +52,7 @@ pub fn digest_of(name: &Chars) -> u64
 }
 
 /// The kid of a node on the way of these digits. 0 is none.
-fn kid(node: &Node, rest: u64) -> usize
+fn kid(node: &NameNode, rest: u64) -> usize
     ensures { result ≡ slice_index node.now.kids (rest % 4) }
 {
     node.kids[(rest % 4) as usize] as usize
@@ -68,19 +68,19 @@ fn has_name(list: &[Local], at: usize, name: &Chars) -> bool
 }
 
 /// Whether a node is that of this name.
-fn is_named(node: &Node, list: &[Local], at: usize, name: &Chars, digest: u64) -> bool
-    ensures { result ≡ is_named (Some node.now) (slice_get (names_of list.now) at) name.now digest }
+fn stands_for(node: &NameNode, list: &[Local], at: usize, name: &Chars, digest: u64) -> bool
+    ensures { result ≡ stands_for (Some node.now) (slice_get (names_of list.now) at) name.now digest }
 {
     node.linked && node.digest == digest && has_name(list, at, name)
 }
 
-fn last_end(nodes: &[Node], list: &[Local], name: &Chars, digest: u64, i: usize) -> End
+fn last_end(nodes: &[NameNode], list: &[Local], name: &Chars, digest: u64, i: usize) -> End
     ensures { result ≡ last_end (named_at nodes.now (names_of list.now) name.now digest) i }
 {
     match nodes.get(i) {
         None => End::Nowhere,
         Some(node) => {
-            if is_named(node, list, i, name, digest) {
+            if stands_for(node, list, i, name, digest) {
                 return End::At { place: i };
             }
             End::Nowhere
@@ -88,15 +88,15 @@ fn last_end(nodes: &[Node], list: &[Local], name: &Chars, digest: u64, i: usize)
     }
 }
 
-fn node_at(nodes: &[Node], i: usize) -> Option<&Node>
+fn node_at(nodes: &[NameNode], i: usize) -> Option<&NameNode>
     ensures { option_copied result ≡ slice_get nodes.now i }
 {
     nodes.get(i)
 }
 
 /// Where the way of a name ends.
-pub fn seek(nodes: &[Node], list: &[Local], name: &Chars, digest: u64) -> End
-    ensures { result ≡ end_of nodes.now (names_of list.now) name.now digest }
+pub fn seek(nodes: &[NameNode], list: &[Local], name: &Chars, digest: u64) -> End
+    ensures { result ≡ way_end nodes.now (names_of list.now) name.now digest }
 {
     let mut rest = digest;
     let mut i = 0usize;
@@ -104,7 +104,7 @@ pub fn seek(nodes: &[Node], list: &[Local], name: &Chars, digest: u64) -> End
         let Some(node) = node_at(nodes, i) else {
             return End::Nowhere;
         };
-        if node.digest == digest && is_named(node, list, i, name, digest) {
+        if node.digest == digest && stands_for(node, list, i, name, digest) {
             return End::At { place: i };
         }
         let next = kid(node, rest);
@@ -132,10 +132,10 @@ pub fn place(others: &NamePlaces, name: &Chars, end: End) -> Option<usize>
 }
 
 /// A node more, which is no kid.
-pub fn add_node(nodes: &mut Vec<Node>, digest: u64, linked: bool) -> Result<(), AllocError>
+pub fn add_node(nodes: &mut Vec<NameNode>, digest: u64, linked: bool) -> Result<(), AllocError>
     ensures { nodes.new.items ≡ (if is_ok result then nodes.old.items ++ node_of digest linked ∷ [] else nodes.old.items) }
 {
-    nodes.push(Node {
+    nodes.push(NameNode {
         digest,
         kids: [0u32; 4],
         linked,
@@ -144,7 +144,7 @@ pub fn add_node(nodes: &mut Vec<Node>, digest: u64, linked: bool) -> Result<(), 
 }
 
 // A node gets a kid.
-fn give_kid(nodes: &mut Vec<Node>, at: usize, way: usize, number: u32)
+fn give_kid(nodes: &mut Vec<NameNode>, at: usize, way: usize, number: u32)
     requires at { at < length nodes.old.items }
     requires way { way < 4 }
     ensures { GainsKid nodes.old.items nodes.new.items at way number }
@@ -155,7 +155,7 @@ fn give_kid(nodes: &mut Vec<Node>, at: usize, way: usize, number: u32)
 
 // One node more, as a kid.
 fn link(
-    nodes: &mut Vec<Node>,
+    nodes: &mut Vec<NameNode>,
     digest: u64,
     at: usize,
     way: usize,
@@ -173,7 +173,7 @@ fn link(
 
 /// A new name gets the place behind the others.
 pub fn note(
-    nodes: &mut Vec<Node>,
+    nodes: &mut Vec<NameNode>,
     others: &mut NamePlaces,
     list: &[Local],
     name: &Chars,
@@ -182,12 +182,12 @@ pub fn note(
 ) -> Result<(), AllocError>
     requires even { length nodes.old.items ≡ length list.now }
     requires digest { digest ≡ name_digest name.now }
-    requires end { end ≡ end_of nodes.old.items (names_of list.now) name.now digest }
+    requires end { end ≡ way_end nodes.old.items (names_of list.now) name.now digest }
     requires none { option_or (place_end end) (place_in others.old name.now) ≡ None }
     ensures even { OnOk result (length nodes.new.items ≡ length list.now + 1) }
     ensures ok { OnOk result ((other : List ℕ) →
-        found nodes.new.items (names_of list.now ++ name.now ∷ []) others.new other
-        ≡ update bytes_eq (found nodes.old.items (names_of list.now) others.old) name.now (Some (length list.now)) other) }
+        place_found nodes.new.items (names_of list.now ++ name.now ∷ []) others.new other
+        ≡ update bytes_eq (place_found nodes.old.items (names_of list.now) others.old) name.now (Some (length list.now)) other) }
     ensures err { OnErr result (nodes.new.items ≡ nodes.old.items) }
     ensures others { OnErr result ((other : List ℕ) → place_in others.new other ≡ place_in others.old other) }
 {
@@ -204,7 +204,7 @@ pub fn note(
     }
     nodes.reserve(1)?;
     others.note(alloc, name, list.len())?;
-    nodes.push_reserved(Node {
+    nodes.push_reserved(NameNode {
         digest,
         kids: [0u32; 4],
         linked: false,

@@ -1,6 +1,6 @@
 -- The books of a run whose settler goes on among others, step by step.
-use Rattle.std.proofs.Common.{◌≡◌, ◌⊎◌, inl, inr, ℕ, zero, suc, ◌≤◌, ◌<◌, List, [], ◌∷◌, length, Bool, true, false, true≢false, Option, Some, None, refl, sym, ap, ◌∙◌, subst, arith}
-use Rattle.std.specs.Prelude.{IsTrue, Result, Ok, Err, if◌then◌else◌, is_some, nat_lt, ◌&&◌}
+use Rattle.std.proofs.Common.{◌≡◌, ℕ, ◌≤◌, ◌<◌, length, Bool, true, false, true≢false, Option, Some, None, refl, sym, ap, ◌∙◌, subst, arith}
+use Rattle.std.specs.Prelude.{Result, Ok, Err, if◌then◌else◌, is_some, nat_lt, ◌&&◌}
 use Rattle.std.proofs.lemmas.Bool.{lt-ltb}
 use Rattle.base_types.specs.declared.shapes.Shape.{Shape}
 use Rattle.host_trait.specs.declared.channels.Channel.{Channel}
@@ -11,7 +11,7 @@ use Rattle.core_model.specs.CoreState.{CoreState, Batch}
 use Rattle.core_model.specs.Events.{applies}
 use Rattle.core_model.specs.Learning.{next_learn}
 use Rattle.core_model.specs.Legal.{Run, ends}
-use Rattle.core_model.specs.Settler.{Step, Seals, Writes, Takes, Rests, settler_step, batch_step, last_step, learn_step, undecided_step, first_unvoted}
+use Rattle.core_model.specs.Settler.{Seals, Writes, Takes, Rests, settler_step, batch_step, last_step, learn_step, undecided_step, first_unvoted}
 use Rattle.core_model.specs.declared.events.CoreEvent.{CoreEvent}
 use Rattle.core_model.specs.declared.events.CoreEvent.TheVariants.{Take}
 use Rattle.core_access.specs.Sights.{Sight, run_seen}
@@ -26,13 +26,10 @@ use Rattle.run_books.specs.declared.faults.RunFault.{RunFault}
 use Rattle.run_books.specs.declared.faults.RunFault.TheVariants.{InDoubt, WriteFault, Memory}
 use Rattle.run_books.specs.Beginnings.{Outset}
 use Rattle.run_books.specs.Books.{Books}
-use Rattle.run_books.specs.Images.{LastsSo}
-use Rattle.run_books.specs.Records.{KeepsBooks, HasDoubted}
-use Rattle.run_books.specs.Settling.{AreEven, BooksGoOn}
-use Rattle.run_books.specs.Sharing.{SeesOn, CanShare, MayRely, StepKeeps, SharedStepsKeep}
+use Rattle.run_books.specs.Sharing.{MayRely, StepKeeps, SharedStepsKeep}
 use Rattle.run_books.proofs.Relying.{counts-on}
 use Rattle.shared_settling.specs.Among.{SettlesAmong, CanSettleAmong, SaysAmong, SettledAmong}
-use Rattle.shared_settling.proofs.Passing.{step-among, step-going}
+use Rattle.shared_settling.proofs.Passing.{step-going}
 
 -- ---- a doubt that stands where nothing is left to do
 

@@ -5,3 +5,4 @@ pub mod StepsBeside
 pub mod OthersStill
 pub mod Alone
 pub mod Going
+pub mod Ended

@@ -1,22 +1,21 @@
 -- The books, and what a fault says of them, behind entries of others and a stop.
-use Rattle.std.proofs.Common.{◌≡◌, ◌⊎◌, ⊎_elim, inl, inr, ℕ, ◌<◌, ◌≤◌, List, [], ◌∷◌, ◌++◌, length, Bool, true, false, true≢false, refl, sym, ap, ◌∙◌, subst, Some}
-use Rattle.std.specs.Prelude.{Result, Err, not}
+use Rattle.std.proofs.Common.{◌≡◌, ◌⊎◌, ⊎_elim, inl, inr, ℕ, ◌<◌, ◌≤◌, List, [], ◌∷◌, ◌++◌, length, Bool, true, false, true≢false, refl, sym, ap, ◌∙◌, subst}
+use Rattle.std.specs.Prelude.{Err, not}
 use Rattle.host_trait.specs.declared.channels.Channel.{Channel}
 use Rattle.host_trait.specs.World.{World}
-use Rattle.core_model.specs.CoreState.{CoreState, Entry}
+use Rattle.core_model.specs.CoreState.{Entry}
 use Rattle.core_model.specs.declared.events.CoreEvent.{CoreEvent}
 use Rattle.core_model.specs.declared.events.CoreEvent.TheVariants.{Halt}
 use Rattle.core_model.specs.declared.events.CoreReply.{CoreReply}
 use Rattle.core_model.specs.Laws.{extended}
 use Rattle.core_model.specs.Legal.{Run, ends}
-use Rattle.turn_cell.specs.History.{In, entry}
+use Rattle.turn_cell.specs.History.{entry}
 use Rattle.core_access.specs.Histories.{Told, run_after}
 use Rattle.core_access.specs.Settling.{is_settling, leaves_settling}
-use Rattle.core_access.specs.Sights.{Sight, run_seen, saw, told, AllPass, Looks, Tells, Counts}
+use Rattle.core_access.specs.Sights.{Sight, run_seen, AllPass, Looks, Tells, Counts}
 use Rattle.core_access.proofs.Entries.{run-on}
 use Rattle.core_access.proofs.Settling.{others-leave}
 use Rattle.core_access.proofs.Sights.{looks-before, tells-before, pass-append}
-use Rattle.promise_spec.specs.Causes.{HasDoubt}
 use Rattle.promise_spec.specs.UnitRule.{KeepsUnitRule}
 use Rattle.promise_spec.proofs.Doubts.{doubt_left}
 use Rattle.settler_rules.proofs.Commits.{doubt-stays}
@@ -77,7 +76,7 @@ goes-still : (tells : Bool) (o : Outset) (rest : List Told) (b : Books) (r : Run
 goes-still tells o [] b r settler counts now above units all k = record { goes = record { books = b; kept = k; lasts = λ t head l. l }; rest = refl }
 goes-still tells o (x ∷ rest) b r settler counts now above units all k =
     let one = others-still tells o b r x.event settler counts now above (after-units r (x ∷ rest) (basis_of o) units) (after-units (extended r (x.event ∷ [])) rest (basis_of o) units)
-        (is-other x.event (all x (inl refl))) k in
+    (is-other x.event (all x (inl refl))) k in
     let more = goes-still tells o rest one.0.books (extended r (x.event ∷ [])) settler counts now above units (λ y i. all y (inr i)) one.0.kept in
     record {
       goes = record { books = more.goes.books; kept = more.goes.kept; lasts = λ t head l. more.goes.lasts t head (one.0.lasts t head l) };

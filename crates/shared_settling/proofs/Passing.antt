@@ -12,14 +12,13 @@ use Rattle.core_model.specs.Events.{applies}
 use Rattle.core_model.specs.Laws.{extended}
 use Rattle.core_model.specs.Legal.{Run, ends}
 use Rattle.core_model.specs.Settler.{MakesEvent, Step, Votes, Decides, Seals, Learns, Writes, Takes, Rests, settler_step}
-use Rattle.turn_cell.specs.History.{In, entry}
+use Rattle.turn_cell.specs.History.{entry}
 use Rattle.core_access.specs.Histories.{Told, run_after}
 use Rattle.core_access.specs.Settling.{is_settling}
 use Rattle.core_access.specs.Sights.{Sight, run_seen, saw, told, AllPass, Looks, Tells, Counts, IsAlone}
 use Rattle.core_access.proofs.Entries.{run-on}
 use Rattle.core_access.proofs.Sights.{looks-before, tells-before, looks-counts, tells-counts, pass-append, run-told}
 use Rattle.promise_spec.specs.UnitRule.{Basis}
-use Rattle.worker_rules.specs.Stories.{is_load}
 use Rattle.worker_rules.specs.Sharing.{KeepsPromise}
 use Rattle.worker_rules.specs.Work.{is_work}
 use Rattle.worker_rules.proofs.Promising.{looks-promise, tells-promise, settles-promise}
@@ -32,7 +31,7 @@ use Rattle.settle_loop.specs.declared.settler.StopCause.TheVariants.{InDoubt, Wr
 use Rattle.run_books.specs.Sharing.{SeesOn}
 use Rattle.run_books.proofs.BooksCore.{is_halt, moves-run, unapplied-run}
 use Rattle.run_books.proofs.Relying.{sees-none, sees-look, sees-tell, sees-both}
-use Rattle.shared_settling.specs.Among.{SettlesAmong, StopsAmong}
+use Rattle.shared_settling.specs.Among.{SettlesAmong}
 
 -- ---- the calls of a step
 

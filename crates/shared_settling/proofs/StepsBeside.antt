@@ -1,6 +1,6 @@
 -- What a step of the settler among others leaves beside the books.
-use Rattle.std.proofs.Common.{◌≡◌, ℕ, List, ◌++◌, Bool, sym, ap, ◌∙◌, subst}
-use Rattle.std.specs.Prelude.{Result, Ok, Err}
+use Rattle.std.proofs.Common.{◌≡◌, ℕ, Bool, ◌∙◌, subst}
+use Rattle.std.specs.Prelude.{Result, Err}
 use Rattle.base_types.specs.declared.shapes.Shape.{Shape}
 use Rattle.host_trait.specs.declared.channels.Channel.{Channel}
 use Rattle.host_trait.specs.World.{World}
@@ -16,7 +16,7 @@ use Rattle.run_books.specs.Beside.{TurnsBeside}
 use Rattle.run_books.specs.Sharing.{SeesOn}
 use Rattle.run_books.proofs.Fronts.{events_told, after-is}
 use Rattle.run_books.proofs.Relying.{run-sees}
-use Rattle.shared_settling.proofs.Leaving.{IsAnswerTo, step-beside, core-beside, failed-on}
+use Rattle.shared_settling.proofs.Leaving.{IsAnswerTo, step-beside, failed-on}
 use Rattle.shared_settling.proofs.Passing.{step-among}
 
 -- the run goes on by the events of what was seen

@@ -24,7 +24,7 @@ use settle_loop::{Gate, Settler};
 use std::sync::Wait;
 use worker_signals::Signals;
 
-/// Puts a stop, which the others see when they look. Where there is no memory for it they see that memory ran out.
+/// Puts a stop, which the others see when they look. Where there is no memory for it, that is told.
 fn stop<A: Access>(access: &mut A, signals: &Signals)
     requires fit { A.is_fit access.old }
     ensures fit { A.is_fit access.new }

@@ -16,7 +16,7 @@ use Rattle.core_model.specs.declared.events.CoreReply.TheVariants as reply
 use Rattle.core_model.specs.Legal.{Run, ends}
 use Rattle.std.proofs.lemmas.Bool.{cond-false}
 use Rattle.core_access.specs.Histories.{reply_in}
-use Rattle.core_access.specs.Sights.{Sight, Counts, Looks, Tells, run_seen, saw}
+use Rattle.core_access.specs.Sights.{Sight, Counts, IfAlone, Looks, Tells, run_seen, saw}
 use Rattle.script_tree.specs.Programs.{ProgramTree}
 use Rattle.script_meaning.specs.Play.{IsTransaction}
 use Rattle.request_wire.specs.declared.requests.Line.{Line}
@@ -24,7 +24,7 @@ use Rattle.turn_rules.specs.Going.{with_event}
 use Rattle.turn_rules.specs.Turning.{AreOlder}
 use Rattle.turn_rules.proofs.Growth.{ends-more}
 use Rattle.turn_rules.proofs.Numbers.{older-last}
-use Rattle.worker_rules.specs.Sharing.{BeganHere}
+use Rattle.worker_rules.specs.Sharing.{leaves_unit, BeganHere}
 use Rattle.worker_rules.specs.Stories.{NoneLoads}
 use Rattle.worker_rules.specs.Work.{OnlyWorks}
 use Rattle.worker_rules.proofs.Numbers.{began-next}
@@ -52,7 +52,7 @@ use Rattle.unit_crew.proofs.Works.{works-puts}
 
 -- two replies that differ
 granted-began : {A : Type 0} (r : CoreReply) (u : UnitNo) → began_by r ≡ None → r ≡ reply.Began u → A
-granted-began r u no q = (let e : None ≡ Some u = sym no ∙ ap began_by q in absurd cc)
+granted-began r u unnamed q = (let e : None ≡ Some u = sym unnamed ∙ ap began_by q in absurd cc)
 
 -- an event that doesn't apply begins none
 missed-began : {A : Type 0} (r : Run) (e : CoreEvent) (u : UnitNo) → applies (ends r) e ≡ false → reply_in r e ≡ reply.Began u → A
@@ -64,7 +64,7 @@ missed-began r e u a q =
 module _ (may : CoreEvent → Bool) (types : ProgramTree) (u : UnitNo) (kids : ℕ) (s t : Sight) (v : UnitNo) where
   -- an event whose reply names none
   puts-back : (e : CoreEvent) (r : CoreReply) → began_by r ≡ None → Puts may types u s e r t → BeganHere v t → BeganHere v s
-  puts-back e r no p b = elim (tells-back may v s t e r p.told b) [ inl old ↦ old | inr q ↦ granted-began r v no q ]
+  puts-back e r unnamed p b = elim (tells-back may v s t e r p.told b) [ inl old ↦ old | inr q ↦ granted-began r v unnamed q ]
 
   misses-back : Misses may types u s t → BeganHere v t → BeganHere v s
   misses-back m b = elim (tells-back may v m.seen t m.e m.r m.put.told b) [
@@ -138,7 +138,7 @@ module _ (types : ProgramTree) (may : CoreEvent → Bool) (s t : Sight) (origin 
         (all-last (IsOwnUnit t) agents k.agent (all-each (IsOwnUnit s) (IsOwnUnit t) agents (λ a m x. c.began a.carried.unit x) c.own)
         (subst (λ (x : Carried). BeganHere x.unit t) (sym k.carried) (new-began may s t (Begin origin call plain) unit l)));
     older = subst AreOlder (sym units) (older-last (units_carried agents) unit older c.older);
-    rest = λ v b. subst (λ (us : List UnitNo). Member v us ⊎ ((a : _) → IsThrough (run_seen t) v)) (sym units) (elim (now-begun v b) [
+    rest = λ v b. subst (λ (us : List UnitNo). Member v us ⊎ IfAlone (leaves_unit v) t (λ r. IsThrough r v)) (sym units) (elim (now-begun v b) [
       | inl old ↦ elim (c.rest v old) [ inl m ↦ inl (member-left v (units_carried agents) (unit ∷ []) m) | inr x ↦ inr x ]
       | inr is ↦ inl (member-right v (units_carried agents) (unit ∷ []) (inl is))
     ]);
@@ -159,6 +159,7 @@ module _ (types : ProgramTree) (may : CoreEvent → Bool) (s t : Sight) (origin 
           omega (arith, low, up, n)
 
       member-left : (x : UnitNo) (us vs : List UnitNo) → Member x us → Member x (us ++ vs)
+      member-left x [] vs m = absurd m
       member-left x (y ∷ us) vs (inl q) = inl q
       member-left x (y ∷ us) vs (inr m) = inr (member-left x us vs m)
 

@@ -1,9 +1,12 @@
 -- What is known of a crew, as calls follow one another: by the step of one of its units, and by a line's event.
-use Rattle.std.proofs.Common.{◌≡◌, ◌⊎◌, ℕ, ◌≤◌, ◌<◌, List, [], ◌∷◌, ◌++◌, inl, inr, Bool, true, false, refl, sym, ap, ◌∙◌, subst, arith, Some}
+use Rattle.std.proofs.Common.{◌≡◌, ◌⊎◌, ℕ, zero, suc, ◌≤◌, ◌<◌, List, [], ◌∷◌, ◌++◌, inl, inr, Bool, true, false, refl, sym, ap, ◌∙◌, subst, arith, Some}
 use Rattle.std.specs.Prelude.{slice_get, slice_set}
 use Rattle.std.specs.List.{AllByRecursion}
-use Rattle.core_model.specs.CoreState.{UnitNo, Member}
+use Rattle.base_types.specs.declared.calls.Origin.TheVariants.{Line, Child}
+use Rattle.cell_model.proofs.Units.{same_unit-true}
+use Rattle.core_model.specs.CoreState.{UnitNo, Member, same_unit}
 use Rattle.core_model.specs.declared.events.CoreEvent.{CoreEvent}
+use Rattle.core_model.specs.declared.events.CoreEvent.TheVariants.{Bad, Begin, Grant, Refuse, Finish, EndPlain, EndSnapshot, Release, Take, Vote, Decide, Sealed, NotSealed, Doubt, Learn, Emitted, Halt, Want, Load}
 use Rattle.core_model.specs.declared.events.CoreReply.{CoreReply}
 use Rattle.core_model.specs.declared.events.CoreReply.TheVariants as reply
 use Rattle.core_model.specs.Legal.{Run, ends}
@@ -11,7 +14,7 @@ use Rattle.core_access.specs.Histories.{Told}
 use Rattle.core_access.specs.Sights.{Sight, Counts, IfAlone, Looks, Tells, run_seen, saw, told}
 use Rattle.core_access.proofs.Sights.{looks-counts, tells-counts, run-told}
 use Rattle.script_tree.specs.Programs.{ProgramTree}
-use Rattle.promise_spec.specs.TurnRule.{OfUnit, mover_of}
+use Rattle.promise_spec.specs.TurnRule.{OfLine, OfUnit, OfSettler, mover_of}
 use Rattle.promise_spec.specs.UnitRule.{Basis}
 use Rattle.turn_cell.specs.History.{In, entry}
 use Rattle.turn_cell.proofs.Lists.{in_append, in_left}
@@ -26,16 +29,59 @@ use Rattle.txn_agent.specs.declared.work.Carried.{Carried}
 use Rattle.txn_agent.specs.Linked.{IsLegalRun, Knows}
 use Rattle.txn_agent.specs.Stepping.{Acts}
 use Rattle.txn_agent.proofs.Composed.{acts-counts}
-use Rattle.txn_agent.proofs.Promised.{acts-began, knows-looks, knows-tells, moves-one, moves-own}
+use Rattle.txn_agent.proofs.Promised.{acts-began, knows-looks, knows-tells}
 use Rattle.unit_carrier.specs.Carrying.{units_carried}
 use Rattle.unit_carrier.proofs.Finding.{all-at, all-set}
-use Rattle.unit_carrier.proofs.Known.{all-each, next-more}
-use Rattle.unit_carrier.proofs.Places.{at-member, steps-known, units-set}
+use Rattle.unit_carrier.proofs.Known.{all-each, moving-loads, next-more}
+use Rattle.unit_carrier.proofs.Places.{steps-known, units-set}
 use Rattle.unit_carrier.proofs.Finding.{map-at}
 use Rattle.unit_crew.specs.Crews.{IsCrew, IsOfTypes, IsOwnUnit, WorksOn}
 use Rattle.unit_crew.specs.Through.{IsThrough}
 use Rattle.unit_crew.proofs.Staying.{looks-through, saw-next, tells-through}
 use Rattle.unit_crew.proofs.Works.{works-acts, works-looks, works-tells}
+
+-- ---- whose event it is
+
+own-by : (u v w : UnitNo) → OfUnit v ≡ OfUnit u → same_unit v w ≡ true → w ≡ u
+own-by u v w q s = sym (same_unit-true v w s) ∙ (let e : v ≡ u = cc in e)
+
+line-not : {A : Type 0} (u : UnitNo) → OfLine ≡ OfUnit u → A
+line-not u e = absurd cc
+
+settler-not : {A : Type 0} (u : UnitNo) → OfSettler ≡ OfUnit u → A
+settler-not u e = absurd cc
+
+-- a unit's event is one of no other unit
+moves-one : (u w : UnitNo) (e : CoreEvent) → mover_of e ≡ OfUnit u → is_own w e ≡ true → w ≡ u
+moves-one u w (Bad n why) q o = line-not u q
+moves-one u w (Begin (Line n) call plain) q o = line-not u q
+moves-one u w (Begin (Child parent index depth) call plain) q o = own-by u parent w q o
+moves-one u w (Grant v g mode) q o = own-by u v w q o
+moves-one u w (Refuse v g mode) q o = own-by u v w q o
+moves-one u w (Finish v e) q o = own-by u v w q o
+moves-one u w (EndPlain v e) q o = own-by u v w q o
+moves-one u w (EndSnapshot v at outcome) q o = own-by u v w q o
+moves-one u w (Release v g) q o = own-by u v w q o
+moves-one u w Take q o = settler-not u q
+moves-one u w (Vote n g kept) q o = settler-not u q
+moves-one u w (Decide n) q o = settler-not u q
+moves-one u w (Sealed n) q o = settler-not u q
+moves-one u w (NotSealed n) q o = settler-not u q
+moves-one u w (Doubt n) q o = settler-not u q
+moves-one u w (Learn v g) q o = settler-not u q
+moves-one u w Emitted q o = settler-not u q
+moves-one u w Halt q o = settler-not u q
+moves-one u w (Want v g) q o = settler-not u q
+moves-one u w (Load g v state) q o = settler-not u q
+
+-- what stands at a place is in the list
+at-member : {A : Type 0} (xs : List A) (i : ℕ) (x : A) → slice_get xs i ≡ Some x → Member x xs
+at-member [] i x q = absurd cc
+at-member {A} (y ∷ xs) zero x q = inl (same x y (sym q))
+  where
+    same : (a b : A) → Some a ≡ Some b → a ≡ b
+    same a b e = cc
+at-member (y ∷ xs) (suc i) x q = inr (at-member xs i x q)
 
 -- What is known of agents behind a call, of the units that began before it.
 pub record IsCrewSo (types : ProgramTree) (s t : Sight) (agents : List Agent) : Type 0 where
@@ -153,7 +199,7 @@ module _ (types : ProgramTree) (may : CoreEvent → Bool) (s t : Sight) (agents 
       where
         by : (b : Bool) → is_own u e ≡ b → Member u (units_carried agents) ⊎ IfAlone (leaves_unit u) t (λ r. IsThrough r u)
         by true o = inl (subst (λ (x : UnitNo). Member x (units_carried agents)) (sym (moves-one old.carried.unit u e p.own o)) member-here)
-        by false o = inr (tells-through may u s t e r p.told (is-harmless u e o (moves-own old.carried.unit e p.own).1) c.counts k)
+        by false o = inr (tells-through may u s t e r p.told (is-harmless u e o (moving-loads old.carried.unit e p.own)) c.counts k)
 
     acts-next : Acts may types old.carried.unit s t → (ends (run_seen s)).units.next ≤ (ends (run_seen t)).units.next
     acts-next (inl l) = looks-next may s t l

@@ -3,3 +3,4 @@ pub mod Works
 pub mod Known
 pub mod Begun
 pub mod Endings
+pub mod Outset

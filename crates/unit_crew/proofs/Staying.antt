@@ -1,5 +1,5 @@
 -- What stays of a unit that is through, and how a run goes on behind what was seen.
-use Rattle.std.proofs.Common.{◌≡◌, ◌≤◌, ℕ, List, [], ◌∷◌, ◌++◌, inl, inr, Bool, true, false, refl, sym, ap, ◌∙◌, subst, arith, le_refl}
+use Rattle.std.proofs.Common.{◌≡◌, ◌≤◌, ℕ, List, [], ◌∷◌, ◌++◌, inl, inr, Bool, true, false, Option, Some, None, refl, sym, ap, ◌∙◌, subst, arith, le_refl}
 use Rattle.std.specs.Prelude.{if◌then◌else◌}
 use Rattle.std.proofs.lemmas.Bool.{and_parts}
 use Rattle.base_types.specs.declared.calls.Origin.TheVariants.{Line as OfLine, Child}
@@ -31,7 +31,7 @@ use Rattle.unit_crew.specs.Through.{AreThrough, HasLetGo, IsHeldUp, IsThrough}
 -- ---- a unit that is through
 
 -- a unit of this number; the rest of how it began is of no matter here
-as-begun : UnitNo → Carried
+unfoldable pub as-begun : UnitNo → Carried
 as-begun u = record { unit = u; origin = OfLine 0; plain = false }
 
 pub let-go-over : (r : Run) (u : UnitNo) → HasLetGo r u → IsOver r (as-begun u) []
@@ -78,7 +78,7 @@ through-stays u s t n f number m w k =
 
 -- so all do
 pub all-stay : (s t : Sight) → Counts s → t.first ≡ s.first → t.number ≡ s.number → t.mine ≡ s.mine → StartsWith t.seen s.seen → AreThrough s → AreThrough t
-all-stay s t n f number m w all u b = through-stays u s t n f number m w (all u (b.0, subst (λ (l : List Told). In b.0 l) m b.1.0, b.1.1))
+all-stay s t n f number m w all u b = through-stays u s t n f number m w (all u (b.0, subst (λ (l : List Told). In b.0 l) m b.1, b.2))
 
 -- it has no event left
 pub through-ended : (r : Run) (u : UnitNo) → IsThrough r u → HasNoEventLeft (ends r) u

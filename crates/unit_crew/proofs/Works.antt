@@ -11,6 +11,7 @@ use Rattle.core_model.specs.declared.events.CoreReply.{CoreReply}
 use Rattle.core_model.specs.Legal.{Run}
 use Rattle.core_access.specs.Histories.{Told, run_after}
 use Rattle.core_access.specs.Sights.{Sight, Looks, Tells, run_seen, saw}
+use Rattle.core_access.proofs.Sights.{looks-counts, tells-counts}
 use Rattle.request_wire.specs.declared.requests.Line.{Line}
 use Rattle.script_tree.specs.Programs.{ProgramTree}
 use Rattle.script_meaning.specs.Play.{IsTransaction}
@@ -33,7 +34,7 @@ use Rattle.unit_crew.specs.Through.{Showed}
 module _ (Asked : Basis → Type 0) where
   -- no call
   pub works-none : (s : Sight) → WorksOn Asked s s
-  works-none s = record { first = refl; number = refl; seen = starts_self s.seen; only = λ o. o; promise = λ b q p. p }
+  works-none s = record { first = refl; number = refl; seen = starts_self s.seen; counts = λ n. n; only = λ o. o; promise = λ b q p. p }
 
   -- one behind the other
   pub works-on : (s t u : Sight) → WorksOn Asked s t → WorksOn Asked t u → WorksOn Asked s u
@@ -41,6 +42,7 @@ module _ (Asked : Basis → Type 0) where
     first = b.first ∙ a.first;
     number = b.number ∙ a.number;
     seen = starts_on s.seen t.seen u.seen a.seen b.seen;
+    counts = λ n. b.counts (a.counts n);
     only = λ o. b.only (a.only o);
     promise = λ x q p. b.promise x q (a.promise x q p);
   }
@@ -51,6 +53,7 @@ module _ (Asked : Basis → Type 0) where
     first = ap (λ (x : Sight). x.first) l.sight;
     number = ap (λ (x : Sight). x.number) l.sight;
     seen = (l.rest, ap (λ (x : Sight). x.seen) l.sight);
+    counts = λ n. looks-counts may s t l n;
     only = λ o. subst (λ (x : Sight). OnlyWorks x.mine) (sym l.sight) o;
     promise = λ b q p. looks-promise b may s t l p;
   }
@@ -66,6 +69,7 @@ module _ (Asked : Basis → Type 0) where
     first = ap (λ (x : Sight). x.first) l.sight;
     number = ap (λ (x : Sight). x.number) l.sight;
     seen = starts_on s.seen (s.seen ++ l.rest) t.seen (l.rest, refl) (entry s.number e r ∷ [], ap (λ (x : Sight). x.seen) l.sight);
+    counts = λ n. tells-counts may s t e r l n;
     only = λ o. subst (λ (x : Sight). OnlyWorks x.mine) (sym l.sight) (only-more s.mine (entry s.number e r) work o);
     promise = keeps;
   }
@@ -79,7 +83,7 @@ module _ (Asked : Basis → Type 0) where
 
 -- what is kept by more bases is kept by fewer
 pub works-fewer : (P Q : Basis → Type 0) (s t : Sight) → ((b : Basis) → P b → Q b) → WorksOn Q s t → WorksOn P s t
-works-fewer P Q s t f w = record { first = w.first; number = w.number; seen = w.seen; only = w.only; promise = λ b p k. w.promise b (f b p) k }
+works-fewer P Q s t f w = record { first = w.first; number = w.number; seen = w.seen; counts = w.counts; only = w.only; promise = λ b p k. w.promise b (f b p) k }
 
 -- what a unit's step leaves, by each basis that reads the lines
 pub works-types : (types : ProgramTree) (before : ℕ) (lines : List Line) (s t : Sight) → WorksOn (IsOfTypes types) s t → WorksOn (IsBasisOf types before lines) s t
@@ -118,3 +122,13 @@ works-puts may types before place lines line s t r here x = by line.what refl x.
         (λ b asked p. tells-promise b may s t (Bad line.number why) r (put (Bad line.number why) is) refl
         (λ u own. line-owns own)
         (λ alone applied. subst (ReadsLineAs b.types b.lines line.number) q (reads b asked)) p)
+
+-- where it may have been put, and memory was wanting
+pub works-refused : (may : CoreEvent → Bool) (types : ProgramTree) (before place : ℕ) (lines : List Line) (line : Line) (s t : Sight)
+    → slice_get lines place ≡ Some line → Looks may s t ⊎ ((r : CoreReply) × PutsLine may types line.number line.what s t r) → WorksOn (IsBasisOf types before lines) s t
+works-refused may types before place lines line s t here (inl l) = works-looks (IsBasisOf types before lines) may s t l
+works-refused may types before place lines line s t here (inr (r, x)) = works-puts may types before place lines line s t r here x
+
+-- the same lines
+pub works-same : (types : ProgramTree) (before : ℕ) (ls ls' : List Line) (s t : Sight) → ls ≡ ls' → WorksOn (IsBasisOf types before ls) s t → WorksOn (IsBasisOf types before ls') s t
+works-same types before ls ls' s t e w = works-fewer (IsBasisOf types before ls') (IsBasisOf types before ls) s t (λ b q. (q.0, subst (λ (x : List Line). ReadsLinesAs before x b) (sym e) q.1)) w

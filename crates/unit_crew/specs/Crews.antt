@@ -39,6 +39,7 @@ pub record WorksOn (Asked : Basis → Type 0) (s t : Sight) : Type 0 where
   pub first : t.first ≡ s.first
   pub number : t.number ≡ s.number
   pub seen : StartsWith t.seen s.seen
+  pub counts : Counts s → Counts t
   pub only : OnlyWorks s.mine → OnlyWorks t.mine
   pub promise : (b : Basis) → Asked b → KeepsPromise b s → KeepsPromise b t
 

@@ -2,12 +2,12 @@ use Rattle.std.proofs.Common.{◌≢◌, Bool, ◌&&◌, refl, arith, ◌≡◌,
 use denote.Ref.{Bor}
 use Rattle.std.specs.Prelude.{slice_get, slice_index}
 use Rattle.std.specs.Option.{option_copied}
-use Rattle.script_values.specs.declared.nodes.Node.{Node}
+use Rattle.script_values.specs.declared.nodes.NameNode.{NameNode}
 use Rattle.script_values.specs.LocalNames.{names_of}
-use Rattle.script_values.specs.Nodes.{has_name, is_named}
+use Rattle.script_values.specs.Nodes.{has_name, stands_for}
 use Rattle.script_values.proofs.Ways.{ends_nowhere, ends_named, ends_free, ends_beyond, step_last}
 use Rattle.script_values.specs.Nodes.{named_at}
-use Rattle.script_values.proofs.nodes.seek.Goals.{else-node-digest-via-then-node-digest+else-is_named, else-node-digest-via-else-node-digest}
+use Rattle.script_values.proofs.nodes.seek.Goals.{else-node-digest-via-then-node-digest+else-stands_for, else-node-digest-via-else-node-digest}
 use Rattle.script_values.proofs.nodes.seek.Goals as goal
 
 left_is : (g : ℕ) → g < 31 → 31 - g ≡ (31 - (g + 1)) + 1
@@ -18,7 +18,7 @@ and_false false b c e = refl
 and_false true false c e = refl
 and_false true true c e = absurd cc
 
-differs : (node : Node) (local : Option (List ℕ)) (name : List ℕ) (digest : ℕ) → node.digest ≢ digest → is_named (Some node) local name digest ≡ false
+differs : (node : NameNode) (local : Option (List ℕ)) (name : List ℕ) (digest : ℕ) → node.digest ≢ digest → stands_for (Some node) local name digest ≡ false
 differs node local name digest other =
     let e : nat_eq node.digest digest ≡ false = grind (arith, other) in
     and_false node.linked (nat_eq node.digest digest) (has_name local name) e
@@ -26,25 +26,25 @@ differs node local name digest other =
 pub returns-in_default : goal.returns-in_default
 returns-in_default c =
     let l = c.loop-gone in
-    let none : slice_get c.args.nodes.now l.i ≡ None = sym c.node_at.ensures ∙ ap (λ (o : Option (Bor Node)). option_copied o) c.in_default.is in
+    let none : slice_get c.args.nodes.now l.i ≡ None = sym c.node_at.ensures ∙ ap (λ (o : Option (Bor NameNode)). option_copied o) c.in_default.is in
     sym (ends_nowhere c.args.nodes.now (names_of c.args.list.now) c.args.name.now c.args.digest (31 - l.gone) l.rest l.i (31 - (l.gone + 1)) (left_is l.gone c.loop-gone-test.true) none) ∙ l.invariant
 
-pub returns-then-is_named : goal.returns-then-is_named
-returns-then-is_named c =
+pub returns-then-stands_for : goal.returns-then-stands_for
+returns-then-stands_for c =
     let l = c.loop-gone in
-    let node : Node = c.in-Some.node.now in
-    let is : slice_get c.args.nodes.now l.i ≡ Some node = sym c.node_at.ensures ∙ ap (λ (o : Option (Bor Node)). option_copied o) c.in-Some.is in
-    let named : is_named (Some node) (slice_get (names_of c.args.list.now) l.i) c.args.name.now c.args.digest ≡ true = sym c.is_named.ensures ∙ c.if-is_named.true in
+    let node : NameNode = c.in-Some.node.now in
+    let is : slice_get c.args.nodes.now l.i ≡ Some node = sym c.node_at.ensures ∙ ap (λ (o : Option (Bor NameNode)). option_copied o) c.in-Some.is in
+    let named : stands_for (Some node) (slice_get (names_of c.args.list.now) l.i) c.args.name.now c.args.digest ≡ true = sym c.stands_for.ensures ∙ c.if-stands_for.true in
     sym (ends_named c.args.nodes.now (names_of c.args.list.now) c.args.name.now c.args.digest (31 - l.gone) l.rest l.i node is named) ∙ l.invariant
 
 pub returns-then-next-eq0 : goal.returns-then-next-eq0
 returns-then-next-eq0 c =
     let l = c.loop-gone in
-    let node : Node = c.in-Some.node.now in
-    let is : slice_get c.args.nodes.now l.i ≡ Some node = sym c.node_at.ensures ∙ ap (λ (o : Option (Bor Node)). option_copied o) c.in-Some.is in
-    let other : is_named (Some node) (slice_get (names_of c.args.list.now) l.i) c.args.name.now c.args.digest ≡ false =
+    let node : NameNode = c.in-Some.node.now in
+    let is : slice_get c.args.nodes.now l.i ≡ Some node = sym c.node_at.ensures ∙ ap (λ (o : Option (Bor NameNode)). option_copied o) c.in-Some.is in
+    let other : stands_for (Some node) (slice_get (names_of c.args.list.now) l.i) c.args.name.now c.args.digest ≡ false =
     elim c.else-node-digest.branch [
-      | else-node-digest-via-then-node-digest+else-is_named w ↦ sym w.is_named.ensures ∙ w.if-is_named.false
+      | else-node-digest-via-then-node-digest+else-stands_for w ↦ sym w.stands_for.ensures ∙ w.if-stands_for.false
       | else-node-digest-via-else-node-digest w ↦ differs node (slice_get (names_of c.args.list.now) l.i) c.args.name.now c.args.digest w.if-node-digest.false
     ]
     in
@@ -54,11 +54,11 @@ returns-then-next-eq0 c =
 pub loop-gone-preserved : goal.loop-gone-preserved
 loop-gone-preserved c =
     let l = c.loop-gone in
-    let node : Node = c.in-Some.node.now in
-    let is : slice_get c.args.nodes.now l.i ≡ Some node = sym c.node_at.ensures ∙ ap (λ (o : Option (Bor Node)). option_copied o) c.in-Some.is in
-    let other : is_named (Some node) (slice_get (names_of c.args.list.now) l.i) c.args.name.now c.args.digest ≡ false =
+    let node : NameNode = c.in-Some.node.now in
+    let is : slice_get c.args.nodes.now l.i ≡ Some node = sym c.node_at.ensures ∙ ap (λ (o : Option (Bor NameNode)). option_copied o) c.in-Some.is in
+    let other : stands_for (Some node) (slice_get (names_of c.args.list.now) l.i) c.args.name.now c.args.digest ≡ false =
     elim c.else-node-digest.branch [
-      | else-node-digest-via-then-node-digest+else-is_named w ↦ sym w.is_named.ensures ∙ w.if-is_named.false
+      | else-node-digest-via-then-node-digest+else-stands_for w ↦ sym w.stands_for.ensures ∙ w.if-stands_for.false
       | else-node-digest-via-else-node-digest w ↦ differs node (slice_get (names_of c.args.list.now) l.i) c.args.name.now c.args.digest w.if-node-digest.false
     ]
     in

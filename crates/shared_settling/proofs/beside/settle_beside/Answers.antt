@@ -1,4 +1,4 @@
-use Rattle.std.proofs.Common.{◌≡◌, ◌∙◌, inl, inr, refl, sym, ap, Bool, true, false, List, []}
+use Rattle.std.proofs.Common.{◌∙◌, refl, ap, Bool, true, false, []}
 use Rattle.std.specs.Prelude.{Ok, Err}
 use Rattle.core_access.specs.Sights.{run_seen}
 use Rattle.run_books.specs.declared.faults.RunFault.TheVariants.{InDoubt, WriteFault, Memory}
@@ -30,13 +30,13 @@ loop-preserved-in-Ok-true g c =
       own = (among-both (g.A.Access.sight c.args.access.now) (g.A.Access.sight c.loop.access) (g.A.Access.sight c.settle_once.new.access) c.loop.invariant.own c.settle_once.ensures.own);
       promise = λ basis p. c.settle_once.ensures.promise basis (c.loop.invariant.promise basis p);
       books = (booked-on g.H.Host.tells c.args.shape.now (g.A.Access.sight c.args.access.now) (g.A.Access.sight c.loop.access) (g.A.Access.sight c.settle_once.new.access) c.args.settler.now c.loop.settler c.settle_once.new.settler
-    (g.H.Host.faults c.args.host.now) (g.H.Host.faults c.loop.host) (g.H.Host.faults c.settle_once.new.host)
-    (g.H.Host.world c.args.host.now) (g.H.Host.world c.loop.host) (g.H.Host.world c.settle_once.new.host)
-    c.loop.invariant.own c.settle_once.ensures.own c.loop.invariant.books c.settle_once.result (Ok true) (c.in-Ok-true.is ∙ ap Ok c.in-Ok-true.field-0-test) c.settle_once.ensures.books);
+          (g.H.Host.faults c.args.host.now) (g.H.Host.faults c.loop.host) (g.H.Host.faults c.settle_once.new.host)
+          (g.H.Host.world c.args.host.now) (g.H.Host.world c.loop.host) (g.H.Host.world c.settle_once.new.host)
+          c.loop.invariant.own c.settle_once.ensures.own c.loop.invariant.books c.settle_once.result (Ok true) (c.in-Ok-true.is ∙ ap Ok c.in-Ok-true.field-0-test) c.settle_once.ensures.books);
       beside = (beside-on g.H.Host.tells c.args.shape.now (g.A.Access.sight c.args.access.now) (g.A.Access.sight c.loop.access) (g.A.Access.sight c.settle_once.new.access) c.args.settler.now c.loop.settler c.settle_once.new.settler
-    (g.H.Host.faults c.args.host.now) (g.H.Host.faults c.loop.host) (g.H.Host.faults c.settle_once.new.host)
-    (g.H.Host.world c.args.host.now) (g.H.Host.world c.loop.host) (g.H.Host.world c.settle_once.new.host)
-    c.loop.invariant.beside c.settle_once.result (Ok true) (c.in-Ok-true.is ∙ ap Ok c.in-Ok-true.field-0-test) c.settle_once.ensures.beside);
+          (g.H.Host.faults c.args.host.now) (g.H.Host.faults c.loop.host) (g.H.Host.faults c.settle_once.new.host)
+          (g.H.Host.world c.args.host.now) (g.H.Host.world c.loop.host) (g.H.Host.world c.settle_once.new.host)
+          c.loop.invariant.beside c.settle_once.result (Ok true) (c.in-Ok-true.is ∙ ap Ok c.in-Ok-true.field-0-test) c.settle_once.ensures.beside);
       bounds = c.settle_once.ensures.bounds;
       fits = c.settle_once.ensures.fits;
       ready = λ file was. c.settle_once.ensures.ready file (c.loop.invariant.ready file was);
@@ -50,13 +50,13 @@ loop-preserved g c =
       own = (among-both (g.A.Access.sight c.args.access.now) (g.A.Access.sight c.loop.access) (g.A.Access.sight c.settle_once.new.access) c.loop.invariant.own c.settle_once.ensures.own);
       promise = λ basis p. c.settle_once.ensures.promise basis (c.loop.invariant.promise basis p);
       books = (λ o b can rely. settled-ok g.H.Host.tells o b (run_seen (g.A.Access.sight c.args.access.now)) (run_seen (g.A.Access.sight c.settle_once.new.access)) c.args.settler.now c.settle_once.new.settler (g.H.Host.faults c.settle_once.new.host) (g.H.Host.world c.args.host.now) (g.H.Host.world c.settle_once.new.host) {T = Bool} {U = Bool} false true (booked-on g.H.Host.tells c.args.shape.now (g.A.Access.sight c.args.access.now) (g.A.Access.sight c.loop.access) (g.A.Access.sight c.settle_once.new.access) c.args.settler.now c.loop.settler c.settle_once.new.settler
-    (g.H.Host.faults c.args.host.now) (g.H.Host.faults c.loop.host) (g.H.Host.faults c.settle_once.new.host)
-    (g.H.Host.world c.args.host.now) (g.H.Host.world c.loop.host) (g.H.Host.world c.settle_once.new.host)
-    c.loop.invariant.own c.settle_once.ensures.own c.loop.invariant.books c.settle_once.result (Ok false) (c.in-Ok-false.is ∙ ap Ok c.in-Ok-false.field-0-test) c.settle_once.ensures.books o b can rely));
+          (g.H.Host.faults c.args.host.now) (g.H.Host.faults c.loop.host) (g.H.Host.faults c.settle_once.new.host)
+          (g.H.Host.world c.args.host.now) (g.H.Host.world c.loop.host) (g.H.Host.world c.settle_once.new.host)
+          c.loop.invariant.own c.settle_once.ensures.own c.loop.invariant.books c.settle_once.result (Ok false) (c.in-Ok-false.is ∙ ap Ok c.in-Ok-false.field-0-test) c.settle_once.ensures.books o b can rely));
       beside = (beside-well g.H.Host.tells (run_seen (g.A.Access.sight c.args.access.now)) (run_seen (g.A.Access.sight c.settle_once.new.access)) c.args.settler.now c.settle_once.new.settler (g.H.Host.faults c.args.host.now) (g.H.Host.faults c.settle_once.new.host) (g.H.Host.world c.args.host.now) (g.H.Host.world c.settle_once.new.host) {T = Bool} {U = Bool} false (Ok true) (beside-on g.H.Host.tells c.args.shape.now (g.A.Access.sight c.args.access.now) (g.A.Access.sight c.loop.access) (g.A.Access.sight c.settle_once.new.access) c.args.settler.now c.loop.settler c.settle_once.new.settler
-    (g.H.Host.faults c.args.host.now) (g.H.Host.faults c.loop.host) (g.H.Host.faults c.settle_once.new.host)
-    (g.H.Host.world c.args.host.now) (g.H.Host.world c.loop.host) (g.H.Host.world c.settle_once.new.host)
-    c.loop.invariant.beside c.settle_once.result (Ok false) (c.in-Ok-false.is ∙ ap Ok c.in-Ok-false.field-0-test) c.settle_once.ensures.beside));
+          (g.H.Host.faults c.args.host.now) (g.H.Host.faults c.loop.host) (g.H.Host.faults c.settle_once.new.host)
+          (g.H.Host.world c.args.host.now) (g.H.Host.world c.loop.host) (g.H.Host.world c.settle_once.new.host)
+          c.loop.invariant.beside c.settle_once.result (Ok false) (c.in-Ok-false.is ∙ ap Ok c.in-Ok-false.field-0-test) c.settle_once.ensures.beside));
       bounds = c.settle_once.ensures.bounds;
       fits = c.settle_once.ensures.fits;
       ready = λ file was. c.settle_once.ensures.ready file (c.loop.invariant.ready file was);

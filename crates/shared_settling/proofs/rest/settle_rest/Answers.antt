@@ -1,4 +1,4 @@
-use Rattle.std.proofs.Common.{◌≡◌, ◌∙◌, refl, sym, ap, Bool, true, false, List, []}
+use Rattle.std.proofs.Common.{◌∙◌, sym, ap, Bool, true, false, []}
 use Rattle.std.specs.Prelude.{Ok, Err}
 use Rattle.std.proofs.lemmas.Result.{err_from_is_err_and}
 use Rattle.core_model.specs.Legal.{Run, ends}
@@ -31,13 +31,13 @@ loop-step-preserved g c =
     record {
       own = (among-both (own_sight (run_of c.args.core.now)) (own_sight (run_of c.loop-step.core)) (own_sight (run_of c.settle_once.new.access)) c.loop-step.invariant.own c.settle_once.ensures.own);
       books = (booked-on g.H.Host.tells c.args.shape.now (own_sight (run_of c.args.core.now)) (own_sight (run_of c.loop-step.core)) (own_sight (run_of c.settle_once.new.access)) c.args.settler.now c.loop-step.settler c.settle_once.new.settler
-    (g.H.Host.faults c.args.host.now) (g.H.Host.faults c.loop-step.host) (g.H.Host.faults c.settle_once.new.host)
-    (g.H.Host.world c.args.host.now) (g.H.Host.world c.loop-step.host) (g.H.Host.world c.settle_once.new.host)
-    c.loop-step.invariant.own c.settle_once.ensures.own c.loop-step.invariant.books c.settle_once.result (Ok true) (c.in_ok-settle_once.was ∙ ap Ok c.if-not-branch.false) c.settle_once.ensures.books);
+          (g.H.Host.faults c.args.host.now) (g.H.Host.faults c.loop-step.host) (g.H.Host.faults c.settle_once.new.host)
+          (g.H.Host.world c.args.host.now) (g.H.Host.world c.loop-step.host) (g.H.Host.world c.settle_once.new.host)
+          c.loop-step.invariant.own c.settle_once.ensures.own c.loop-step.invariant.books c.settle_once.result (Ok true) (c.in_ok-settle_once.was ∙ ap Ok c.if-not-branch.false) c.settle_once.ensures.books);
       beside = (beside-on g.H.Host.tells c.args.shape.now (own_sight (run_of c.args.core.now)) (own_sight (run_of c.loop-step.core)) (own_sight (run_of c.settle_once.new.access)) c.args.settler.now c.loop-step.settler c.settle_once.new.settler
-    (g.H.Host.faults c.args.host.now) (g.H.Host.faults c.loop-step.host) (g.H.Host.faults c.settle_once.new.host)
-    (g.H.Host.world c.args.host.now) (g.H.Host.world c.loop-step.host) (g.H.Host.world c.settle_once.new.host)
-    c.loop-step.invariant.beside c.settle_once.result (Ok true) (c.in_ok-settle_once.was ∙ ap Ok c.if-not-branch.false) c.settle_once.ensures.beside);
+          (g.H.Host.faults c.args.host.now) (g.H.Host.faults c.loop-step.host) (g.H.Host.faults c.settle_once.new.host)
+          (g.H.Host.world c.args.host.now) (g.H.Host.world c.loop-step.host) (g.H.Host.world c.settle_once.new.host)
+          c.loop-step.invariant.beside c.settle_once.result (Ok true) (c.in_ok-settle_once.was ∙ ap Ok c.if-not-branch.false) c.settle_once.ensures.beside);
       bounds = c.settle_once.ensures.bounds;
       fits = c.settle_once.ensures.fits;
       ready = λ file was. c.settle_once.ensures.ready file (c.loop-step.invariant.ready file was);

@@ -5,7 +5,7 @@ use Rattle.script_scopes.specs.Places.{name_place}
 use Rattle.script_values.specs.declared.locals.Local.{Local}
 use Rattle.script_values.specs.LocalNames.{names_of}
 use Rattle.script_values.specs.Expressions.{put_local}
-use Rattle.script_values.specs.Nodes.{found}
+use Rattle.script_values.specs.Nodes.{place_found}
 use Rattle.script_values.proofs.Placed.{keeps_names, put_behind}
 use Rattle.script_values.proofs.Added.{found_held}
 use Rattle.script_values.proofs.locals.LocalList.put.Goals as goal
@@ -20,7 +20,7 @@ invariant_of-self c =
     let long : length old ≡ length new = sym (length-map old (λ l. l.name)) ∙ sym (ap length same) ∙ length-map new (λ l. l.name) in
     record {
       even = c.self.invariant.even ∙ long;
-      places = λ q. ap (λ (n : Scope). found c.self.inside.nodes.items n c.self.inside.others q) same ∙ c.self.invariant.places q ∙ ap (λ (l : Scope). name_place q l) (sym same);
+      places = λ q. ap (λ (n : Scope). place_found c.self.inside.nodes.items n c.self.inside.others q) same ∙ c.self.invariant.places q ∙ ap (λ (l : Scope). name_place q l) (sym same);
     }
 
 pub returns-in_ok-add-in-None-clause-ok : goal.returns-in_ok-add-in-None-clause-ok

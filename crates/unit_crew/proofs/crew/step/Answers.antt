@@ -1,0 +1,92 @@
+use Rattle.std.proofs.Common.{◌≡◌, refl, subst, Some}
+use Rattle.std.specs.Prelude.{slice_get, slice_set}
+use Rattle.std.proofs.lemmas.Option.{slice_get_read}
+use Rattle.script_tree.specs.Programs.{program_tree}
+use Rattle.txn_agent.specs.declared.agent.Advanced.{Advanced}
+use Rattle.txn_agent.specs.Stepping.{AnswerSays, children_of}
+use Rattle.unit_crew.proofs.Begun.{child-crew, ended-back, granted-back, moved-back, waits-back, waits-for-back}
+use Rattle.unit_crew.proofs.Known.{acts-so, crew-so, own-here}
+use Rattle.unit_crew.proofs.Works.{works-acts}
+use Rattle.unit_crew.proofs.crew.step.Goals as goal
+
+pub returns-in_err-child-clause-works : goal.returns-in_err-child-clause-works
+returns-in_err-child-clause-works g c =
+    let q : slice_get c.args.agents.now.list.items c.args.index ≡ Some c.index_mut-agent.result.now = slice_get_read c.args.agents.now.list.items _ c.args.index c.index_mut-agent.result.now refl c.requires.within c.index_mut-agent.ensures.value in
+    works-acts g.A.Access.may_come (program_tree c.args.checked.now) c.index_mut-agent.result.now.carried.unit (g.A.Access.sight c.args.access.now) (g.A.Access.sight c.advance.new.access) c.advance.ensures.acts (own-here (program_tree c.args.checked.now) g.A.Access.may_come (g.A.Access.sight c.args.access.now) (g.A.Access.sight c.advance.new.access) c.args.agents.now.list.items c.requires.crew c.args.index c.index_mut-agent.result.now c.advance.new.self q c.advance.ensures.carried)
+
+pub returns-in_err-carry-in-Began-clause-works : goal.returns-in_err-carry-in-Began-clause-works
+returns-in_err-carry-in-Began-clause-works g c =
+    let q : slice_get c.args.agents.now.list.items c.args.index ≡ Some c.index_mut-agent.result.now = slice_get_read c.args.agents.now.list.items _ c.args.index c.index_mut-agent.result.now refl c.requires.within c.index_mut-agent.ensures.value in
+    works-acts g.A.Access.may_come (program_tree c.args.checked.now) c.index_mut-agent.result.now.carried.unit (g.A.Access.sight c.args.access.now) (g.A.Access.sight c.advance.new.access) c.advance.ensures.acts (own-here (program_tree c.args.checked.now) g.A.Access.may_come (g.A.Access.sight c.args.access.now) (g.A.Access.sight c.advance.new.access) c.args.agents.now.list.items c.requires.crew c.args.index c.index_mut-agent.result.now c.advance.new.self q c.advance.ensures.carried)
+
+pub returns-in-Began-clause-works : goal.returns-in-Began-clause-works
+returns-in-Began-clause-works g c =
+    let q : slice_get c.args.agents.now.list.items c.args.index ≡ Some c.index_mut-agent.result.now = slice_get_read c.args.agents.now.list.items _ c.args.index c.index_mut-agent.result.now refl c.requires.within c.index_mut-agent.ensures.value in
+    works-acts g.A.Access.may_come (program_tree c.args.checked.now) c.index_mut-agent.result.now.carried.unit (g.A.Access.sight c.args.access.now) (g.A.Access.sight c.advance.new.access) c.advance.ensures.acts (own-here (program_tree c.args.checked.now) g.A.Access.may_come (g.A.Access.sight c.args.access.now) (g.A.Access.sight c.advance.new.access) c.args.agents.now.list.items c.requires.crew c.args.index c.index_mut-agent.result.now c.advance.new.self q c.advance.ensures.carried)
+
+pub returns-in-Granted-clause-works : goal.returns-in-Granted-clause-works
+returns-in-Granted-clause-works g c =
+    let q : slice_get c.args.agents.now.list.items c.args.index ≡ Some c.index_mut-agent.result.now = slice_get_read c.args.agents.now.list.items _ c.args.index c.index_mut-agent.result.now refl c.requires.within c.index_mut-agent.ensures.value in
+    works-acts g.A.Access.may_come (program_tree c.args.checked.now) c.index_mut-agent.result.now.carried.unit (g.A.Access.sight c.args.access.now) (g.A.Access.sight c.advance.new.access) c.advance.ensures.acts (own-here (program_tree c.args.checked.now) g.A.Access.may_come (g.A.Access.sight c.args.access.now) (g.A.Access.sight c.advance.new.access) c.args.agents.now.list.items c.requires.crew c.args.index c.index_mut-agent.result.now c.advance.new.self q c.advance.ensures.carried)
+
+pub returns-in-Moved-clause-works : goal.returns-in-Moved-clause-works
+returns-in-Moved-clause-works g c =
+    let q : slice_get c.args.agents.now.list.items c.args.index ≡ Some c.index_mut-agent.result.now = slice_get_read c.args.agents.now.list.items _ c.args.index c.index_mut-agent.result.now refl c.requires.within c.index_mut-agent.ensures.value in
+    works-acts g.A.Access.may_come (program_tree c.args.checked.now) c.index_mut-agent.result.now.carried.unit (g.A.Access.sight c.args.access.now) (g.A.Access.sight c.advance.new.access) c.advance.ensures.acts (own-here (program_tree c.args.checked.now) g.A.Access.may_come (g.A.Access.sight c.args.access.now) (g.A.Access.sight c.advance.new.access) c.args.agents.now.list.items c.requires.crew c.args.index c.index_mut-agent.result.now c.advance.new.self q c.advance.ensures.carried)
+
+pub returns-in-Waits-clause-works : goal.returns-in-Waits-clause-works
+returns-in-Waits-clause-works g c =
+    let q : slice_get c.args.agents.now.list.items c.args.index ≡ Some c.index_mut-agent.result.now = slice_get_read c.args.agents.now.list.items _ c.args.index c.index_mut-agent.result.now refl c.requires.within c.index_mut-agent.ensures.value in
+    works-acts g.A.Access.may_come (program_tree c.args.checked.now) c.index_mut-agent.result.now.carried.unit (g.A.Access.sight c.args.access.now) (g.A.Access.sight c.advance.new.access) c.advance.ensures.acts (own-here (program_tree c.args.checked.now) g.A.Access.may_come (g.A.Access.sight c.args.access.now) (g.A.Access.sight c.advance.new.access) c.args.agents.now.list.items c.requires.crew c.args.index c.index_mut-agent.result.now c.advance.new.self q c.advance.ensures.carried)
+
+pub returns-in-WaitsFor-clause-works : goal.returns-in-WaitsFor-clause-works
+returns-in-WaitsFor-clause-works g c =
+    let q : slice_get c.args.agents.now.list.items c.args.index ≡ Some c.index_mut-agent.result.now = slice_get_read c.args.agents.now.list.items _ c.args.index c.index_mut-agent.result.now refl c.requires.within c.index_mut-agent.ensures.value in
+    works-acts g.A.Access.may_come (program_tree c.args.checked.now) c.index_mut-agent.result.now.carried.unit (g.A.Access.sight c.args.access.now) (g.A.Access.sight c.advance.new.access) c.advance.ensures.acts (own-here (program_tree c.args.checked.now) g.A.Access.may_come (g.A.Access.sight c.args.access.now) (g.A.Access.sight c.advance.new.access) c.args.agents.now.list.items c.requires.crew c.args.index c.index_mut-agent.result.now c.advance.new.self q c.advance.ensures.carried)
+
+pub returns-in-Ended-clause-works : goal.returns-in-Ended-clause-works
+returns-in-Ended-clause-works g c =
+    let q : slice_get c.args.agents.now.list.items c.args.index ≡ Some c.index_mut-agent.result.now = slice_get_read c.args.agents.now.list.items _ c.args.index c.index_mut-agent.result.now refl c.requires.within c.index_mut-agent.ensures.value in
+    works-acts g.A.Access.may_come (program_tree c.args.checked.now) c.index_mut-agent.result.now.carried.unit (g.A.Access.sight c.args.access.now) (g.A.Access.sight c.advance.new.access) c.advance.ensures.acts (own-here (program_tree c.args.checked.now) g.A.Access.may_come (g.A.Access.sight c.args.access.now) (g.A.Access.sight c.advance.new.access) c.args.agents.now.list.items c.requires.crew c.args.index c.index_mut-agent.result.now c.advance.new.self q c.advance.ensures.carried)
+
+pub returns-in-Began-clause-crew : goal.returns-in-Began-clause-crew
+returns-in-Began-clause-crew g c =
+    let q : slice_get c.args.agents.now.list.items c.args.index ≡ Some c.index_mut-agent.result.now = slice_get_read c.args.agents.now.list.items _ c.args.index c.index_mut-agent.result.now refl c.requires.within c.index_mut-agent.ensures.value in
+    child-crew (program_tree c.args.checked.now) g.A.Access.may_come (g.A.Access.sight c.args.access.now) (g.A.Access.sight c.advance.new.access) c.args.agents.now.list.items c.requires.crew c.args.index c.index_mut-agent.result.now c.advance.new.self q c.advance.ensures.carried c.in-Began.child c.in-Began.call c.in-Began.depth
+    (subst (λ (x : Advanced). AnswerSays g.A.Access.may_come (program_tree c.args.checked.now) c.index_mut-agent.result.now.carried.unit (children_of c.index_mut-agent.result.now.doing) (g.A.Access.sight c.args.access.now) (g.A.Access.sight c.advance.new.access) x) c.in-Began.is c.in_ok-child.ensures.told)
+    c.unit-unit.result c.unit-unit.ensures c.children-children.result c.children-children.ensures c.in_ok-child.ensures.knows c.carry.new.self.list.items c.in_ok-carry-in-Began.ensures
+
+pub returns-in-Granted-clause-crew : goal.returns-in-Granted-clause-crew
+returns-in-Granted-clause-crew g c =
+    let q : slice_get c.args.agents.now.list.items c.args.index ≡ Some c.index_mut-agent.result.now = slice_get_read c.args.agents.now.list.items _ c.args.index c.index_mut-agent.result.now refl c.requires.within c.index_mut-agent.ensures.value in
+    crew-so (program_tree c.args.checked.now) (g.A.Access.sight c.args.access.now) (g.A.Access.sight c.advance.new.access) (slice_set c.args.agents.now.list.items c.args.index c.advance.new.self)
+    (λ v. granted-back g.A.Access.may_come (program_tree c.args.checked.now) c.index_mut-agent.result.now.carried.unit (children_of c.index_mut-agent.result.now.doing) (g.A.Access.sight c.args.access.now) (g.A.Access.sight c.advance.new.access) v c.in-Granted.grain c.in-Granted.source (subst (λ (x : Advanced). AnswerSays g.A.Access.may_come (program_tree c.args.checked.now) c.index_mut-agent.result.now.carried.unit (children_of c.index_mut-agent.result.now.doing) (g.A.Access.sight c.args.access.now) (g.A.Access.sight c.advance.new.access) x) c.in-Granted.is c.in_ok-child.ensures.told))
+    (acts-so (program_tree c.args.checked.now) g.A.Access.may_come (g.A.Access.sight c.args.access.now) (g.A.Access.sight c.advance.new.access) c.args.agents.now.list.items c.requires.crew c.args.index c.index_mut-agent.result.now c.advance.new.self q c.advance.ensures.carried c.advance.ensures.acts c.in_ok-child.ensures.knows)
+
+pub returns-in-Moved-clause-crew : goal.returns-in-Moved-clause-crew
+returns-in-Moved-clause-crew g c =
+    let q : slice_get c.args.agents.now.list.items c.args.index ≡ Some c.index_mut-agent.result.now = slice_get_read c.args.agents.now.list.items _ c.args.index c.index_mut-agent.result.now refl c.requires.within c.index_mut-agent.ensures.value in
+    crew-so (program_tree c.args.checked.now) (g.A.Access.sight c.args.access.now) (g.A.Access.sight c.advance.new.access) (slice_set c.args.agents.now.list.items c.args.index c.advance.new.self)
+    (λ v. moved-back g.A.Access.may_come (program_tree c.args.checked.now) c.index_mut-agent.result.now.carried.unit (children_of c.index_mut-agent.result.now.doing) (g.A.Access.sight c.args.access.now) (g.A.Access.sight c.advance.new.access) v (subst (λ (x : Advanced). AnswerSays g.A.Access.may_come (program_tree c.args.checked.now) c.index_mut-agent.result.now.carried.unit (children_of c.index_mut-agent.result.now.doing) (g.A.Access.sight c.args.access.now) (g.A.Access.sight c.advance.new.access) x) c.in-Moved.is c.in_ok-child.ensures.told))
+    (acts-so (program_tree c.args.checked.now) g.A.Access.may_come (g.A.Access.sight c.args.access.now) (g.A.Access.sight c.advance.new.access) c.args.agents.now.list.items c.requires.crew c.args.index c.index_mut-agent.result.now c.advance.new.self q c.advance.ensures.carried c.advance.ensures.acts c.in_ok-child.ensures.knows)
+
+pub returns-in-Waits-clause-crew : goal.returns-in-Waits-clause-crew
+returns-in-Waits-clause-crew g c =
+    let q : slice_get c.args.agents.now.list.items c.args.index ≡ Some c.index_mut-agent.result.now = slice_get_read c.args.agents.now.list.items _ c.args.index c.index_mut-agent.result.now refl c.requires.within c.index_mut-agent.ensures.value in
+    crew-so (program_tree c.args.checked.now) (g.A.Access.sight c.args.access.now) (g.A.Access.sight c.advance.new.access) (slice_set c.args.agents.now.list.items c.args.index c.advance.new.self)
+    (λ v. waits-back g.A.Access.may_come (program_tree c.args.checked.now) c.index_mut-agent.result.now.carried.unit (children_of c.index_mut-agent.result.now.doing) (g.A.Access.sight c.args.access.now) (g.A.Access.sight c.advance.new.access) v c.in-Waits._holder (subst (λ (x : Advanced). AnswerSays g.A.Access.may_come (program_tree c.args.checked.now) c.index_mut-agent.result.now.carried.unit (children_of c.index_mut-agent.result.now.doing) (g.A.Access.sight c.args.access.now) (g.A.Access.sight c.advance.new.access) x) c.in-Waits.is c.in_ok-child.ensures.told))
+    (acts-so (program_tree c.args.checked.now) g.A.Access.may_come (g.A.Access.sight c.args.access.now) (g.A.Access.sight c.advance.new.access) c.args.agents.now.list.items c.requires.crew c.args.index c.index_mut-agent.result.now c.advance.new.self q c.advance.ensures.carried c.advance.ensures.acts c.in_ok-child.ensures.knows)
+
+pub returns-in-WaitsFor-clause-crew : goal.returns-in-WaitsFor-clause-crew
+returns-in-WaitsFor-clause-crew g c =
+    let q : slice_get c.args.agents.now.list.items c.args.index ≡ Some c.index_mut-agent.result.now = slice_get_read c.args.agents.now.list.items _ c.args.index c.index_mut-agent.result.now refl c.requires.within c.index_mut-agent.ensures.value in
+    crew-so (program_tree c.args.checked.now) (g.A.Access.sight c.args.access.now) (g.A.Access.sight c.advance.new.access) (slice_set c.args.agents.now.list.items c.args.index c.advance.new.self)
+    (λ v. waits-for-back g.A.Access.may_come (program_tree c.args.checked.now) c.index_mut-agent.result.now.carried.unit (children_of c.index_mut-agent.result.now.doing) (g.A.Access.sight c.args.access.now) (g.A.Access.sight c.advance.new.access) v c.in-WaitsFor._child (subst (λ (x : Advanced). AnswerSays g.A.Access.may_come (program_tree c.args.checked.now) c.index_mut-agent.result.now.carried.unit (children_of c.index_mut-agent.result.now.doing) (g.A.Access.sight c.args.access.now) (g.A.Access.sight c.advance.new.access) x) c.in-WaitsFor.is c.in_ok-child.ensures.told))
+    (acts-so (program_tree c.args.checked.now) g.A.Access.may_come (g.A.Access.sight c.args.access.now) (g.A.Access.sight c.advance.new.access) c.args.agents.now.list.items c.requires.crew c.args.index c.index_mut-agent.result.now c.advance.new.self q c.advance.ensures.carried c.advance.ensures.acts c.in_ok-child.ensures.knows)
+
+pub returns-in-Ended-clause-crew : goal.returns-in-Ended-clause-crew
+returns-in-Ended-clause-crew g c =
+    let q : slice_get c.args.agents.now.list.items c.args.index ≡ Some c.index_mut-agent.result.now = slice_get_read c.args.agents.now.list.items _ c.args.index c.index_mut-agent.result.now refl c.requires.within c.index_mut-agent.ensures.value in
+    crew-so (program_tree c.args.checked.now) (g.A.Access.sight c.args.access.now) (g.A.Access.sight c.advance.new.access) (slice_set c.args.agents.now.list.items c.args.index c.advance.new.self)
+    (λ v. ended-back g.A.Access.may_come (program_tree c.args.checked.now) c.index_mut-agent.result.now.carried.unit (children_of c.index_mut-agent.result.now.doing) (g.A.Access.sight c.args.access.now) (g.A.Access.sight c.advance.new.access) v (subst (λ (x : Advanced). AnswerSays g.A.Access.may_come (program_tree c.args.checked.now) c.index_mut-agent.result.now.carried.unit (children_of c.index_mut-agent.result.now.doing) (g.A.Access.sight c.args.access.now) (g.A.Access.sight c.advance.new.access) x) c.in-Ended.is c.in_ok-child.ensures.told))
+    (acts-so (program_tree c.args.checked.now) g.A.Access.may_come (g.A.Access.sight c.args.access.now) (g.A.Access.sight c.advance.new.access) c.args.agents.now.list.items c.requires.crew c.args.index c.index_mut-agent.result.now c.advance.new.self q c.advance.ensures.carried c.advance.ensures.acts c.in_ok-child.ensures.knows)
