@@ -88,7 +88,7 @@ pub(crate) fn serve<H: Host, G: Gate>(
         Ok(input) => input,
         Err(fault) => return input_status(fault),
     };
-    let mut lines = InputLines::new(&started.checked, input.as_slice());
+    let mut lines = InputLines::new(&started.checked, &input);
     turns_status(run_turns(
         alloc,
         &started.checked,

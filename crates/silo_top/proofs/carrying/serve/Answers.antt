@@ -21,7 +21,18 @@ use Rattle.silo_top.specs.declared.status.Status.{Status}
 use Rattle.silo_top.proofs.Unbegun.{unbegun_promised, EndsUnbegun}
 use Rattle.silo_top.proofs.Unread.{unread_ends, starved_ends}
 use Rattle.silo_top.proofs.Unopened.{asked_untouched, unopened_promised}
+use Rattle.request_wire.specs.declared.requests.Line.{Line}
+use Rattle.run_lines.specs.Reading.{input_lines}
+use Rattle.run_lines.specs.declared.input.InputLines.{InputLines}
+use Rattle.silo_top.proofs.Read.{lines_are_read}
 use Rattle.silo_top.proofs.carrying.serve.Goals as goal
+
+abbrev lines_in : InputLines → List Line
+lines_in l = input_lines (program_tree l.checked.now) l.input.now
+
+-- the lines of an input are what its texts read as
+are_in : (types : ProgramTree) (input : List ℕ) (l : InputLines) → lines_in l ≡ input_lines types input → AreReadFrom types 0 (lines_of input) (lines_in l)
+are_in types input l same = subst (AreReadFrom types 0 (lines_of input)) (sym same) (lines_are_read types 0 (lines_of input))
 
 pub returns-in-Err-clause-promises : goal.returns-in-Err-clause-promises
 returns-in-Err-clause-promises g c = λ told old before behind none.
@@ -35,11 +46,6 @@ returns-in-Err-read_input-clause-promises g c = λ told old before behind none.
     (λ is. subst (λ (l : List ℕ). input_limit < length l) behind.run.input (c.in-Err-read_input.ensures.too_long is told)) in
     unbegun_promised (turns_manner c.args.width c.args.picks.now) c.args.opened old (g.H.Host.world c.args.host.now) (g.H.Host.world c.read_input.new.host) before after c.input_status.result behind (c.read_input.ensures.only told)
     (λ file. g.met.H.Host.seen_may_stay c.args.host.now file told) c.requires.above (subst (λ (e : Ending). EndsUnbegun e (length old.input) before after) (sym c.input_status.ensures) ends)
-
-pub returns-in-Err-read_lines-clause-promises : goal.returns-in-Err-read_lines-clause-promises
-returns-in-Err-read_lines-clause-promises g c = λ told old before behind none.
-    unbegun_promised (turns_manner c.args.width c.args.picks.now) c.args.opened old (g.H.Host.world c.args.host.now) (g.H.Host.world c.read_input.new.host) before (g.H.Host.faults c.read_input.new.host) Status.Memory behind (c.read_input.ensures.only told)
-    (λ file. g.met.H.Host.seen_may_stay c.args.host.now file told) c.requires.above (starved_ends (length old.input) before (g.H.Host.faults c.args.host.now) (g.H.Host.faults c.read_input.new.host) none c.in-Ok-read_input.ensures.calm)
 
 pub run_turns-requires-clause-fits : goal.run_turns-requires-clause-fits
 run_turns-requires-clause-fits g c = λ told.
@@ -58,15 +64,16 @@ returns-clause-promises g c = λ told old before behind none.
     let whole : old.input ≡ c.deref.result.now = sym behind.run.input ∙ c.in-Ok-read_input.ensures.whole told ∙ sym c.deref.ensures.value in
     served c.args.width c.args.picks.now c.args.opened c.in-Ok.started old w0 w1 w2 before f1 f2 c.turns_status.result c.run_turns.result behind c.in-Ok.ensures.start (c.read_input.ensures.only told)
     (λ file. g.met.H.Host.seen_may_stay c.args.host.now file told) (λ file. g.met.H.Host.seen_may_stay c.run_turns.new.host file told) (c.in-Ok-read_input.ensures.end told)
-    (omega (arith, ap length whole, c.deref.ensures.len, c.in-Ok-read_input.ensures.within)) c.turns_status.ensures c.in-Ok-read_lines.lines (run_of c.run_turns.new.core) c.run_turns.new.settler c.in-Ok.ensures.quiet c.requires.wide c.requires.above (λ d. c.in-Ok-read_input.ensures.calm d ∙ none d)
-    (subst (λ (l : List ℕ). AreReadFrom (program_tree c.args.opened.checked) 0 (lines_of l) c.in-Ok-read_lines.lines) (sym whole)
-    (subst (λ (k : ProgramTree). AreReadFrom k 0 (lines_of c.deref.result.now) c.in-Ok-read_lines.lines) (ap program_tree c.in-Ok.ensures.start.checked) c.in-Ok-read_lines.ensures))
-    (subst (λ (t : Bool). (o : Outset) (b : Books) → IsOutset o (program_tree c.args.opened.checked) (run_of c.in-Ok.started.core) c.in-Ok-read_lines.lines c.args.width c.args.picks.now
-    → CanTurn (run_of c.in-Ok.started.core) c.in-Ok.started.settler c.in-Ok-read_lines.lines → IsFreshRecord o b (run_of c.in-Ok.started.core)
+    (omega (arith, ap length whole, c.deref.ensures.len, c.in-Ok-read_input.ensures.within)) c.turns_status.ensures (lines_in c.new-lines.result) (run_of c.run_turns.new.core) c.run_turns.new.settler c.in-Ok.ensures.quiet c.requires.wide c.requires.above (λ d. c.in-Ok-read_input.ensures.calm d ∙ none d)
+    (subst (λ (l : List ℕ). AreReadFrom (program_tree c.args.opened.checked) 0 (lines_of l) (lines_in c.new-lines.result)) (sym whole)
+    (subst (λ (k : ProgramTree). AreReadFrom k 0 (lines_of c.deref.result.now) (lines_in c.new-lines.result)) (ap program_tree c.in-Ok.ensures.start.checked)
+    (are_in (program_tree c.in-Ok.started.checked) c.deref.result.now c.new-lines.result c.new-lines.ensures)))
+    (subst (λ (t : Bool). (o : Outset) (b : Books) → IsOutset o (program_tree c.args.opened.checked) (run_of c.in-Ok.started.core) (lines_in c.new-lines.result) c.args.width c.args.picks.now
+    → CanTurn (run_of c.in-Ok.started.core) c.in-Ok.started.settler (lines_in c.new-lines.result) → IsFreshRecord o b (run_of c.in-Ok.started.core)
     → KeepsTurns t o b (run_of c.in-Ok.started.core) c.in-Ok.started.settler f1 w1
     → TurnsGoOn t o b (run_of c.in-Ok.started.core) (run_of c.run_turns.new.core) c.in-Ok.started.settler c.run_turns.new.settler f2 w1 w2 c.run_turns.result) told
-    (subst (λ (k : ProgramTree). (o : Outset) (b : Books) → IsOutset o k (run_of c.in-Ok.started.core) c.in-Ok-read_lines.lines c.args.width c.args.picks.now
-    → CanTurn (run_of c.in-Ok.started.core) c.in-Ok.started.settler c.in-Ok-read_lines.lines → IsFreshRecord o b (run_of c.in-Ok.started.core)
+    (subst (λ (k : ProgramTree). (o : Outset) (b : Books) → IsOutset o k (run_of c.in-Ok.started.core) (lines_in c.new-lines.result) c.args.width c.args.picks.now
+    → CanTurn (run_of c.in-Ok.started.core) c.in-Ok.started.settler (lines_in c.new-lines.result) → IsFreshRecord o b (run_of c.in-Ok.started.core)
     → KeepsTurns g.H.Host.tells o b (run_of c.in-Ok.started.core) c.in-Ok.started.settler f1 w1
     → TurnsGoOn g.H.Host.tells o b (run_of c.in-Ok.started.core) (run_of c.run_turns.new.core) c.in-Ok.started.settler c.run_turns.new.settler f2 w1 w2 c.run_turns.result) (ap program_tree c.in-Ok.ensures.start.checked) c.run_turns.ensures.record_kept))
     (subst (λ (t : Bool). TurnsBeside t (run_of c.in-Ok.started.core) (run_of c.run_turns.new.core) c.in-Ok.started.settler c.run_turns.new.settler f1 f2 w1 w2 c.run_turns.result) told c.run_turns.ensures.beside)
@@ -79,11 +86,12 @@ returns-clause-answers g c =
     let f1 = g.H.Host.faults c.read_input.new.host in
     let f2 = g.H.Host.faults c.run_turns.new.host in
     subst (λ (e : Ending). AnswersRun e f0 f2) (sym c.turns_status.ensures)
-    (answered g.H.Host.tells c.args.width c.args.picks.now c.args.opened c.in-Ok.started c.deref.result.now c.in-Ok-read_lines.lines (g.H.Host.world c.args.host.now) w1 w2 f0 f1 f2 c.run_turns.result (run_of c.run_turns.new.core) c.run_turns.new.settler
+    (answered g.H.Host.tells c.args.width c.args.picks.now c.args.opened c.in-Ok.started c.deref.result.now (lines_in c.new-lines.result) (g.H.Host.world c.args.host.now) w1 w2 f0 f1 f2 c.run_turns.result (run_of c.run_turns.new.core) c.run_turns.new.settler
     c.in-Ok.ensures.start (λ told. c.read_input.ensures.only told) c.in-Ok-read_input.ensures.calm c.requires.wide c.requires.above
-    (subst (λ (k : ProgramTree). AreReadFrom k 0 (lines_of c.deref.result.now) c.in-Ok-read_lines.lines) (ap program_tree c.in-Ok.ensures.start.checked) c.in-Ok-read_lines.ensures)
-    (subst (λ (k : ProgramTree). (o : Outset) (b : Books) → IsOutset o k (run_of c.in-Ok.started.core) c.in-Ok-read_lines.lines c.args.width c.args.picks.now
-    → CanTurn (run_of c.in-Ok.started.core) c.in-Ok.started.settler c.in-Ok-read_lines.lines → IsFreshRecord o b (run_of c.in-Ok.started.core)
+    (subst (λ (k : ProgramTree). AreReadFrom k 0 (lines_of c.deref.result.now) (lines_in c.new-lines.result)) (ap program_tree c.in-Ok.ensures.start.checked)
+    (are_in (program_tree c.in-Ok.started.checked) c.deref.result.now c.new-lines.result c.new-lines.ensures))
+    (subst (λ (k : ProgramTree). (o : Outset) (b : Books) → IsOutset o k (run_of c.in-Ok.started.core) (lines_in c.new-lines.result) c.args.width c.args.picks.now
+    → CanTurn (run_of c.in-Ok.started.core) c.in-Ok.started.settler (lines_in c.new-lines.result) → IsFreshRecord o b (run_of c.in-Ok.started.core)
     → KeepsTurns g.H.Host.tells o b (run_of c.in-Ok.started.core) c.in-Ok.started.settler f1 w1
     → TurnsGoOn g.H.Host.tells o b (run_of c.in-Ok.started.core) (run_of c.run_turns.new.core) c.in-Ok.started.settler c.run_turns.new.settler f2 w1 w2 c.run_turns.result) (ap program_tree c.in-Ok.ensures.start.checked) c.run_turns.ensures.record_kept)
     c.run_turns.ensures.beside)

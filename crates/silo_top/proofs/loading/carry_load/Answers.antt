@@ -33,28 +33,28 @@ pub returns-clause-carries : goal.returns-clause-carries
 returns-clause-carries g c = λ told old before behind bank none.
     let types : ProgramTree = program_tree c.args.opened.checked in
     let read : AreReadBy types (load_calls c.args.transfers c.args.seed) = load_read (bank_of types) c.args.transfers c.args.seed (bank_checked types c.requires.bank) refl in
-    let are : AreReadFrom types 0 (load_texts c.args.transfers c.args.seed) c.in-Ok-load_lines.lines =
-    subst (AreReadFrom types 0 (load_texts c.args.transfers c.args.seed)) (sym c.in-Ok-load_lines.ensures) (lines_read types 0 (load_calls c.args.transfers c.args.seed) read) in
-    let say = turns_of {T = Unit {0}} g.H.Host.tells (program_tree c.in-Ok.started.checked) types c.new-picks.result c.args.width c.in-Ok-load_lines.lines (run_of c.in-Ok.started.core) (run_of c.run_turns.new.core) c.in-Ok.started.settler c.run_turns.new.settler
+    let are : AreReadFrom types 0 (load_texts c.args.transfers c.args.seed) c.new-placed.result.list.now =
+    subst (AreReadFrom types 0 (load_texts c.args.transfers c.args.seed)) (sym (c.new-placed.ensures ∙ c.in-Ok-load_lines.ensures)) (lines_read types 0 (load_calls c.args.transfers c.args.seed) read) in
+    let say = turns_of {T = Unit {0}} g.H.Host.tells (program_tree c.in-Ok.started.checked) types c.new-picks.result c.args.width c.new-placed.result.list.now (run_of c.in-Ok.started.core) (run_of c.run_turns.new.core) c.in-Ok.started.settler c.run_turns.new.settler
     (g.H.Host.faults c.args.host.now) (g.H.Host.faults c.run_turns.new.host) (g.H.Host.world c.args.host.now) (g.H.Host.world c.run_turns.new.host) c.run_turns.result (ap program_tree c.in-Ok.ensures.start.checked) c.new-picks.ensures c.run_turns.ensures.record_kept in
-    let say_told = subst (λ (t : Bool). TurnsSay {T = Unit {0}} t types [] c.args.width c.in-Ok-load_lines.lines (run_of c.in-Ok.started.core) (run_of c.run_turns.new.core) c.in-Ok.started.settler c.run_turns.new.settler
+    let say_told = subst (λ (t : Bool). TurnsSay {T = Unit {0}} t types [] c.args.width c.new-placed.result.list.now (run_of c.in-Ok.started.core) (run_of c.run_turns.new.core) c.in-Ok.started.settler c.run_turns.new.settler
     (g.H.Host.faults c.args.host.now) (g.H.Host.faults c.run_turns.new.host) (g.H.Host.world c.args.host.now) (g.H.Host.world c.run_turns.new.host) c.run_turns.result) told say in
     let beside_told = subst (λ (t : Bool). TurnsBeside t (run_of c.in-Ok.started.core) (run_of c.run_turns.new.core) c.in-Ok.started.settler c.run_turns.new.settler
     (g.H.Host.faults c.args.host.now) (g.H.Host.faults c.run_turns.new.host) (g.H.Host.world c.args.host.now) (g.H.Host.world c.run_turns.new.host) c.run_turns.result) told c.run_turns.ensures.beside in
     failed_carries {T = Unit {0}} c.args.transfers c.args.seed c.args.width c.args.opened c.in-Ok.started old (g.H.Host.world c.args.host.now) (g.H.Host.world c.run_turns.new.host) before (g.H.Host.faults c.args.host.now) (g.H.Host.faults c.run_turns.new.host)
     c.run_turns.result behind c.in-Ok.ensures.start c.requires.bank bank (λ file. g.met.H.Host.seen_may_stay c.args.host.now file told) (λ file. g.met.H.Host.seen_may_stay c.run_turns.new.host file told) c.in-Ok.ensures.quiet
-    c.in-Ok-load_lines.lines are c.requires.wide c.requires.above none (run_of c.run_turns.new.core) c.run_turns.new.settler say_told beside_told (texts_ask types c.args.transfers c.args.seed read) c.in-Err-run_turns.fault c.in-Err-run_turns.is c.load_status.result c.load_status.ensures
+    c.new-placed.result.list.now are c.requires.wide c.requires.above none (run_of c.run_turns.new.core) c.run_turns.new.settler say_told beside_told (texts_ask types c.args.transfers c.args.seed read) c.in-Err-run_turns.fault c.in-Err-run_turns.is c.load_status.result c.load_status.ensures
 
 pub returns-clause-answers : goal.returns-clause-answers
 returns-clause-answers g c =
     let types : ProgramTree = program_tree c.args.opened.checked in
     let read : AreReadBy types (load_calls c.args.transfers c.args.seed) = load_read (bank_of types) c.args.transfers c.args.seed (bank_checked types c.requires.bank) refl in
-    let are : AreReadFrom types 0 (load_texts c.args.transfers c.args.seed) c.in-Ok-load_lines.lines =
-    subst (AreReadFrom types 0 (load_texts c.args.transfers c.args.seed)) (sym c.in-Ok-load_lines.ensures) (lines_read types 0 (load_calls c.args.transfers c.args.seed) read) in
-    let say = turns_of {T = Unit {0}} g.H.Host.tells (program_tree c.in-Ok.started.checked) types c.new-picks.result c.args.width c.in-Ok-load_lines.lines (run_of c.in-Ok.started.core) (run_of c.run_turns.new.core) c.in-Ok.started.settler c.run_turns.new.settler
+    let are : AreReadFrom types 0 (load_texts c.args.transfers c.args.seed) c.new-placed.result.list.now =
+    subst (AreReadFrom types 0 (load_texts c.args.transfers c.args.seed)) (sym (c.new-placed.ensures ∙ c.in-Ok-load_lines.ensures)) (lines_read types 0 (load_calls c.args.transfers c.args.seed) read) in
+    let say = turns_of {T = Unit {0}} g.H.Host.tells (program_tree c.in-Ok.started.checked) types c.new-picks.result c.args.width c.new-placed.result.list.now (run_of c.in-Ok.started.core) (run_of c.run_turns.new.core) c.in-Ok.started.settler c.run_turns.new.settler
     (g.H.Host.faults c.args.host.now) (g.H.Host.faults c.run_turns.new.host) (g.H.Host.world c.args.host.now) (g.H.Host.world c.run_turns.new.host) c.run_turns.result (ap program_tree c.in-Ok.ensures.start.checked) c.new-picks.ensures c.run_turns.ensures.record_kept in
     subst (λ (e : Ending). AnswersRun e (g.H.Host.faults c.args.host.now) (g.H.Host.faults c.run_turns.new.host)) (sym c.load_status.ensures)
-    (turns_faulted {T = Unit {0}} g.H.Host.tells c.args.width c.args.opened c.in-Ok.started (load_texts c.args.transfers c.args.seed) c.in-Ok-load_lines.lines (g.H.Host.world c.args.host.now) (g.H.Host.world c.run_turns.new.host)
+    (turns_faulted {T = Unit {0}} g.H.Host.tells c.args.width c.args.opened c.in-Ok.started (load_texts c.args.transfers c.args.seed) c.new-placed.result.list.now (g.H.Host.world c.args.host.now) (g.H.Host.world c.run_turns.new.host)
     (g.H.Host.faults c.args.host.now) (g.H.Host.faults c.run_turns.new.host) c.run_turns.result (run_of c.run_turns.new.core) c.run_turns.new.settler c.in-Ok.ensures.start c.in-Ok.ensures.quiet c.requires.wide c.requires.above are say c.run_turns.ensures.beside
     c.in-Err-run_turns.fault c.in-Err-run_turns.is)
 
@@ -62,17 +62,17 @@ pub returns-in-Ok-run_turns-clause-carries : goal.returns-in-Ok-run_turns-clause
 returns-in-Ok-run_turns-clause-carries g c = λ told old before behind bank none.
     let types : ProgramTree = program_tree c.args.opened.checked in
     let read : AreReadBy types (load_calls c.args.transfers c.args.seed) = load_read (bank_of types) c.args.transfers c.args.seed (bank_checked types c.requires.bank) refl in
-    let are : AreReadFrom types 0 (load_texts c.args.transfers c.args.seed) c.in-Ok-load_lines.lines =
-    subst (AreReadFrom types 0 (load_texts c.args.transfers c.args.seed)) (sym c.in-Ok-load_lines.ensures) (lines_read types 0 (load_calls c.args.transfers c.args.seed) read) in
-    let say = turns_of {T = Unit {0}} g.H.Host.tells (program_tree c.in-Ok.started.checked) types c.new-picks.result c.args.width c.in-Ok-load_lines.lines (run_of c.in-Ok.started.core) (run_of c.run_turns.new.core) c.in-Ok.started.settler c.run_turns.new.settler
+    let are : AreReadFrom types 0 (load_texts c.args.transfers c.args.seed) c.new-placed.result.list.now =
+    subst (AreReadFrom types 0 (load_texts c.args.transfers c.args.seed)) (sym (c.new-placed.ensures ∙ c.in-Ok-load_lines.ensures)) (lines_read types 0 (load_calls c.args.transfers c.args.seed) read) in
+    let say = turns_of {T = Unit {0}} g.H.Host.tells (program_tree c.in-Ok.started.checked) types c.new-picks.result c.args.width c.new-placed.result.list.now (run_of c.in-Ok.started.core) (run_of c.run_turns.new.core) c.in-Ok.started.settler c.run_turns.new.settler
     (g.H.Host.faults c.args.host.now) (g.H.Host.faults c.run_turns.new.host) (g.H.Host.world c.args.host.now) (g.H.Host.world c.run_turns.new.host) c.run_turns.result (ap program_tree c.in-Ok.ensures.start.checked) c.new-picks.ensures c.run_turns.ensures.record_kept in
-    let say_told = subst (λ (t : Bool). TurnsSay {T = Unit {0}} t types [] c.args.width c.in-Ok-load_lines.lines (run_of c.in-Ok.started.core) (run_of c.run_turns.new.core) c.in-Ok.started.settler c.run_turns.new.settler
+    let say_told = subst (λ (t : Bool). TurnsSay {T = Unit {0}} t types [] c.args.width c.new-placed.result.list.now (run_of c.in-Ok.started.core) (run_of c.run_turns.new.core) c.in-Ok.started.settler c.run_turns.new.settler
     (g.H.Host.faults c.args.host.now) (g.H.Host.faults c.run_turns.new.host) (g.H.Host.world c.args.host.now) (g.H.Host.world c.run_turns.new.host) c.run_turns.result) told say in
     let beside_told = subst (λ (t : Bool). TurnsBeside t (run_of c.in-Ok.started.core) (run_of c.run_turns.new.core) c.in-Ok.started.settler c.run_turns.new.settler
     (g.H.Host.faults c.args.host.now) (g.H.Host.faults c.run_turns.new.host) (g.H.Host.world c.args.host.now) (g.H.Host.world c.run_turns.new.host) c.run_turns.result) told c.run_turns.ensures.beside in
     summed_carries {T = Unit {0}} c.args.transfers c.args.seed c.args.width c.args.opened c.in-Ok.started old (g.H.Host.world c.args.host.now) (g.H.Host.world c.run_turns.new.host) before (g.H.Host.faults c.args.host.now) (g.H.Host.faults c.run_turns.new.host)
     c.run_turns.result behind c.in-Ok.ensures.start c.requires.bank bank (λ file. g.met.H.Host.seen_may_stay c.args.host.now file told) (λ file. g.met.H.Host.seen_may_stay c.run_turns.new.host file told) c.in-Ok.ensures.quiet
-    c.in-Ok-load_lines.lines are c.requires.wide c.requires.above none (run_of c.run_turns.new.core) c.run_turns.new.settler say_told beside_told (texts_ask types c.args.transfers c.args.seed read) tt c.in-Ok-run_turns.is c.print_summary.result (g.H.Host.world c.print_summary.new.host) (g.H.Host.faults c.print_summary.new.host) c.len-requests.result
+    c.new-placed.result.list.now are c.requires.wide c.requires.above none (run_of c.run_turns.new.core) c.run_turns.new.settler say_told beside_told (texts_ask types c.args.transfers c.args.seed read) tt c.in-Ok-run_turns.is c.print_summary.result (g.H.Host.world c.print_summary.new.host) (g.H.Host.faults c.print_summary.new.host) c.len-requests.result
     (c.len-requests.ensures ∙ ap length c.in-Ok-load_lines.ensures ∙ numbered_many 0 (load_calls c.args.transfers c.args.seed)) (c.print_summary.ensures.says told) c.print_summary.ensures.exact c.print_summary.ensures.may
 
 pub returns-in-Ok-run_turns-clause-answers : goal.returns-in-Ok-run_turns-clause-answers
