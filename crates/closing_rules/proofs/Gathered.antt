@@ -24,7 +24,7 @@ pub knew-more : (P : Sight → Type 0) (first : Run) (number : List ℕ) (s t mi
 knew-more P first number s t mine more k = record { shown = k.shown; begins = starts_on k.shown s t k.begins more; holds = k.holds }
 
 -- and less of it
-pub knew-less : (P Q : Sight → Type 0) → ((s : Sight) → P s → Q s) → (first : Run) (number : List ℕ) (seen mine : List Told) → Knew P first number seen mine → Knew Q first number seen mine
+abbrev pub knew-less : (P Q : Sight → Type 0) → ((s : Sight) → P s → Q s) → (first : Run) (number : List ℕ) (seen mine : List Told) → Knew P first number seen mine → Knew Q first number seen mine
 knew-less P Q less first number seen mine k = record { shown = k.shown; begins = k.begins; holds = less (sight_by first number k.shown mine) k.holds }
 
 -- what was shown, as more is seen

@@ -10,7 +10,6 @@ pub mod Calling
 pub mod Promised
 pub mod Unbegun
 pub mod Unread
-pub mod Shared
 pub mod Ended
 pub mod OpensWith
 pub mod LastsAtStart

@@ -1,6 +1,6 @@
 -- Which units begin by a step and by a line's event, and that they are carried.
 use Rattle.std.proofs.Common.{◌≡◌, ◌⊎◌, ℕ, ◌+◌, ◌≤◌, ◌<◌, List, [], ◌∷◌, ◌++◌, inl, inr, Bool, true, false, true≢false, refl, sym, ap, ◌∙◌, subst, arith, Option, Some, None, Ok, Err}
-use Rattle.std.specs.Prelude.{Result, slice_get, slice_set, if◌then◌else◌}
+use Rattle.std.specs.Prelude.{Result, slice_get, slice_set}
 use Rattle.std.specs.List.{AllByRecursion}
 use Rattle.base_types.specs.declared.calls.Call.{Call}
 use Rattle.base_types.specs.declared.calls.Origin.{Origin}
@@ -16,11 +16,10 @@ use Rattle.core_model.specs.declared.events.CoreReply.TheVariants as reply
 use Rattle.core_model.specs.Legal.{Run, ends}
 use Rattle.std.proofs.lemmas.Bool.{cond-false}
 use Rattle.core_access.specs.Histories.{reply_in}
-use Rattle.core_access.specs.Sights.{Sight, Counts, IfAlone, Looks, Tells, run_seen, saw}
+use Rattle.core_access.specs.Sights.{Sight, Counts, IfAlone, Tells, run_seen, saw}
 use Rattle.script_tree.specs.Programs.{ProgramTree}
 use Rattle.script_meaning.specs.Play.{IsTransaction}
 use Rattle.request_wire.specs.declared.requests.Line.{Line}
-use Rattle.turn_rules.specs.Going.{with_event}
 use Rattle.turn_rules.specs.Turning.{AreOlder}
 use Rattle.turn_rules.proofs.Growth.{ends-more}
 use Rattle.turn_rules.proofs.Numbers.{older-last}
@@ -30,18 +29,16 @@ use Rattle.worker_rules.specs.Work.{OnlyWorks}
 use Rattle.worker_rules.proofs.Numbers.{began-next}
 use Rattle.worker_rules.proofs.Workers.{work-loads}
 use Rattle.txn_agent.specs.declared.agent.Agent.{Agent}
-use Rattle.txn_agent.specs.declared.agent.Advanced.{Advanced}
 use Rattle.txn_agent.specs.declared.agent.Advanced.TheVariants as came
 use Rattle.txn_agent.specs.declared.work.Carried.{Carried}
 use Rattle.txn_agent.specs.Linked.{IfOwn, IsNew, IsLegalRun, Knows}
-use Rattle.txn_agent.specs.Stepping.{Acts, AnswerSays, Misses, Puts, Strays, children_of}
+use Rattle.txn_agent.specs.Stepping.{AnswerSays, Misses, Puts, children_of}
 use Rattle.txn_agent.proofs.Promised.{new-began, new-carried}
 use Rattle.unit_carrier.specs.Carrying.{CarriesOneMore, units_carried}
-use Rattle.unit_carrier.specs.Lines.{CarriesBegun, PutsLine, SpoilsLine, StartsCall, StartsLine, began_by}
+use Rattle.unit_carrier.specs.Lines.{CarriesBegun, PutsLine, StartsCall, StartsLine, began_by}
 use Rattle.unit_carrier.proofs.Beginning.{bad-none, began-is, plain-makes-none, puts-call}
 use Rattle.unit_carrier.proofs.Known.{all-each}
-use Rattle.unit_carrier.proofs.Places.{all-last, carries-units, units-last}
-use Rattle.cell_model.proofs.Units.{Member-append}
+use Rattle.unit_carrier.proofs.Places.{all-last, carries-units}
 use Rattle.unit_crew.specs.Crews.{IsBasisOf, IsCrew, IsOwnUnit, WorksOn}
 use Rattle.unit_crew.specs.Through.{IsThrough}
 use Rattle.unit_crew.proofs.Known.{IsCrewSo, acts-so, crew-so, looks-back, tells-back, tells-run, tells-so}

@@ -1,28 +1,27 @@
 -- Agents that are dropped, and how a round ends.
-use Rattle.std.proofs.Common.{◌≡◌, ◌⊎◌, ℕ, ◌+◌, ◌-◌, ◌≤◌, ◌<◌, zero, suc, List, [], ◌∷◌, length, inl, inr, Bool, true, false, true≢false, refl, sym, ap, ◌∙◌, subst, arith, count_by, Option, Some, None}
+use Rattle.std.proofs.Common.{◌≡◌, ◌⊎◌, ℕ, ◌+◌, ◌-◌, ◌≤◌, zero, suc, List, [], ◌∷◌, length, inl, inr, Bool, true, false, true≢false, refl, sym, ◌∙◌, subst, arith, count_by, Option, Some, None}
 use Rattle.std.specs.Prelude.{filter, not, ◌==◌, ◌||◌, slice_get, if◌then◌else◌, is_some}
 use Rattle.std.specs.List.{AllByRecursion}
 use Rattle.std.proofs.lemmas.Bool.{eqb-true}
 use Rattle.std.proofs.lemmas.List.Sums.{length-filter}
 use Rattle.core_model.specs.Asked.{IsGoing}
-use Rattle.core_model.specs.CoreState.{UnitNo, GrainId, Member, CoreState}
+use Rattle.core_model.specs.CoreState.{UnitNo, GrainId, Member}
 use Rattle.core_model.specs.Legal.{Run, ends}
 use Rattle.core_model.specs.declared.events.CoreEvent.{CoreEvent}
 use Rattle.core_access.specs.Sights.{Sight, Counts, IfAlone, Looks, run_seen}
 use Rattle.script_tree.specs.Programs.{ProgramTree}
 use Rattle.promise_spec.specs.UnitRule.{Basis}
-use Rattle.turn_rules.specs.Turning.{AreOlder}
 use Rattle.worker_rules.specs.Sharing.{leaves_unit, BeganHere}
 use Rattle.txn_agent.specs.declared.agent.Agent.{Agent}
 use Rattle.txn_agent.specs.declared.work.Carried.{Carried}
 use Rattle.txn_agent.specs.declared.work.Doing.{Doing}
 use Rattle.txn_agent.specs.declared.work.Doing.TheVariants.{Asks, Awaits, Frees, Stopped}
-use Rattle.txn_agent.specs.Linked.{IfOwn, IsOver, Knows, KnowsDoing}
+use Rattle.txn_agent.specs.Linked.{IsOver, Knows, KnowsDoing}
 use Rattle.txn_agent.specs.Stepping.{has_freed_all, is_freeing}
 use Rattle.unit_carrier.specs.Carrying.{units_carried}
 use Rattle.unit_carrier.proofs.Known.{all-filter, older-some}
 use Rattle.unit_crew.specs.Crews.{IsCrew, IsOwnUnit, WorksOn}
-use Rattle.unit_crew.specs.Through.{AreThrough, IsHalted, IsHeldUp, IsPastLine, IsThrough}
+use Rattle.unit_crew.specs.Through.{AreThrough, IsHalted, IsPastLine, IsThrough}
 use Rattle.unit_crew.proofs.Staying.{barred-held, lines-seen, looks-through, over-let-go, seen-going}
 
 -- ---- agents that are dropped

@@ -1,5 +1,5 @@
 -- What is known of a crew, as calls follow one another: by the step of one of its units, and by a line's event.
-use Rattle.std.proofs.Common.{◌≡◌, ◌⊎◌, ℕ, zero, suc, ◌≤◌, ◌<◌, List, [], ◌∷◌, ◌++◌, inl, inr, Bool, true, false, refl, sym, ap, ◌∙◌, subst, arith, Some}
+use Rattle.std.proofs.Common.{◌≡◌, ◌⊎◌, ℕ, zero, suc, ◌≤◌, ◌<◌, List, [], ◌∷◌, inl, inr, Bool, true, false, refl, sym, ap, ◌∙◌, subst, arith, Some}
 use Rattle.std.specs.Prelude.{slice_get, slice_set}
 use Rattle.std.specs.List.{AllByRecursion}
 use Rattle.base_types.specs.declared.calls.Origin.TheVariants.{Line, Child}
@@ -16,7 +16,7 @@ use Rattle.core_access.proofs.Sights.{looks-counts, tells-counts, run-told}
 use Rattle.script_tree.specs.Programs.{ProgramTree}
 use Rattle.promise_spec.specs.TurnRule.{OfLine, OfUnit, OfSettler, mover_of}
 use Rattle.promise_spec.specs.UnitRule.{Basis}
-use Rattle.turn_cell.specs.History.{In, entry}
+use Rattle.turn_cell.specs.History.{entry}
 use Rattle.turn_cell.proofs.Lists.{in_append, in_left}
 use Rattle.turn_rules.specs.Going.{is_own, with_event}
 use Rattle.turn_rules.specs.Turning.{AreOlder}
@@ -35,10 +35,10 @@ use Rattle.unit_carrier.proofs.Finding.{all-at, all-set}
 use Rattle.unit_carrier.proofs.Known.{all-each, moving-loads, next-more}
 use Rattle.unit_carrier.proofs.Places.{steps-known, units-set}
 use Rattle.unit_carrier.proofs.Finding.{map-at}
-use Rattle.unit_crew.specs.Crews.{IsCrew, IsOfTypes, IsOwnUnit, WorksOn}
+use Rattle.unit_crew.specs.Crews.{IsCrew, IsOwnUnit}
 use Rattle.unit_crew.specs.Through.{IsThrough}
 use Rattle.unit_crew.proofs.Staying.{looks-through, saw-next, tells-through}
-use Rattle.unit_crew.proofs.Works.{works-acts, works-looks, works-tells}
+use Rattle.unit_crew.proofs.Works.{works-acts, works-tells}
 
 -- ---- whose event it is
 

@@ -1,20 +1,19 @@
 -- A worker that has put nothing, and what its call comes to.
-use Rattle.std.proofs.Common.{◌≡◌, ◌⊎◌, ◌+◌, ℕ, List, [], length, inl, inr, sym, ap, subst, arith, ◌≤◌, Bool}
-use Rattle.core_model.specs.CoreState.{UnitNo}
+use Rattle.std.proofs.Common.{◌≡◌, ◌⊎◌, ◌+◌, ℕ, List, [], length, inl, inr, sym, ap, subst, arith, Bool}
 use Rattle.core_model.specs.declared.events.CoreEvent.{CoreEvent}
 use Rattle.core_access.specs.Histories.{Told}
 use Rattle.core_access.specs.Sights.{Sight, Counts, Looks}
 use Rattle.request_wire.specs.declared.requests.Line.{Line}
 use Rattle.script_tree.specs.Programs.{ProgramTree}
 use Rattle.promise_spec.specs.UnitRule.{Basis}
-use Rattle.turn_cell.specs.History.{In, entries_of}
+use Rattle.turn_cell.specs.History.{In}
 use Rattle.turn_rules.specs.Going.{MayCome}
-use Rattle.worker_rules.specs.Sharing.{BeganHere, KeepsPromise}
+use Rattle.worker_rules.specs.Sharing.{KeepsPromise}
 use Rattle.worker_rules.specs.Stories.{Promised}
 use Rattle.worker_rules.specs.Work.{OnlyWorks}
 use Rattle.worker_rules.proofs.Own.{promise-none}
 use Rattle.txn_agent.specs.Linked.{IsLegalRun}
-use Rattle.unit_crew.specs.Crews.{IsBasisOf, IsCrew, WorksOn}
+use Rattle.unit_crew.specs.Crews.{IsCrew, WorksOn}
 use Rattle.unit_crew.specs.Rounds.{IsOverAt}
 use Rattle.unit_crew.specs.Through.{AreThrough, IsHalted, IsPastLine, Showed}
 use Rattle.unit_crew.specs.declared.rounds.Round.{Round}

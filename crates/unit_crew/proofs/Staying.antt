@@ -1,5 +1,5 @@
 -- What stays of a unit that is through, and how a run goes on behind what was seen.
-use Rattle.std.proofs.Common.{◌≡◌, ◌≤◌, ℕ, List, [], ◌∷◌, ◌++◌, inl, inr, Bool, true, false, Option, Some, None, refl, sym, ap, ◌∙◌, subst, arith, le_refl}
+use Rattle.std.proofs.Common.{◌≡◌, ◌≤◌, ℕ, List, [], ◌∷◌, inl, inr, Bool, true, false, Option, Some, None, refl, sym, ap, ◌∙◌, subst, arith, le_refl}
 use Rattle.std.specs.Prelude.{if◌then◌else◌}
 use Rattle.std.proofs.lemmas.Bool.{and_parts}
 use Rattle.base_types.specs.declared.calls.Origin.TheVariants.{Line as OfLine, Child}
@@ -18,7 +18,7 @@ use Rattle.core_access.proofs.Knowing.{saw-knows, looks-knows, tells-knows}
 use Rattle.turn_cell.specs.History.{In, StartsWith}
 use Rattle.turn_rules.specs.Going.{with_event}
 use Rattle.turn_rules.proofs.Growth.{ends-more}
-use Rattle.worker_rules.specs.Sharing.{leaves_unit, BeganHere}
+use Rattle.worker_rules.specs.Sharing.{leaves_unit}
 use Rattle.worker_rules.proofs.Numbers.{step-next}
 use Rattle.txn_agent.specs.declared.work.Carried.{Carried}
 use Rattle.txn_agent.specs.Linked.{IsBarred, IsOver}

@@ -1,5 +1,5 @@
 -- What a call leaves of a worker's sight and of its promise.
-use Rattle.std.proofs.Common.{◌≡◌, ◌⊎◌, ⊎_elim, ◌+◌, ℕ, inl, inr, List, [], ◌∷◌, ◌++◌, Bool, true, false, true≢false, refl, sym, ap, ◌∙◌, subst, Some, Ok, Err}
+use Rattle.std.proofs.Common.{◌≡◌, ◌⊎◌, ⊎_elim, ℕ, inl, inr, List, [], ◌∷◌, ◌++◌, Bool, true, false, true≢false, refl, sym, ap, ◌∙◌, subst, Some, Ok, Err}
 use Rattle.std.specs.Prelude.{◌↔◌, slice_get, Result}
 use Rattle.base_types.specs.declared.calls.Call.{Call}
 use Rattle.base_types.specs.declared.calls.Origin.TheVariants.{Line as OfLine}
@@ -10,18 +10,16 @@ use Rattle.core_model.specs.declared.events.CoreEvent.TheVariants.{Bad, Begin}
 use Rattle.core_model.specs.declared.events.CoreReply.{CoreReply}
 use Rattle.core_model.specs.Legal.{Run}
 use Rattle.core_access.specs.Histories.{Told, run_after}
-use Rattle.core_access.specs.Sights.{Sight, Looks, Tells, run_seen, saw}
+use Rattle.core_access.specs.Sights.{Sight, Looks, Tells, run_seen}
 use Rattle.core_access.proofs.Sights.{looks-counts, tells-counts}
 use Rattle.request_wire.specs.declared.requests.Line.{Line}
 use Rattle.script_tree.specs.Programs.{ProgramTree}
 use Rattle.script_meaning.specs.Play.{IsTransaction}
 use Rattle.promise_spec.specs.Lines.{ReadsLineAs}
-use Rattle.promise_spec.specs.TurnRule.{OfUnit, mover_of}
 use Rattle.promise_spec.specs.UnitRule.{Basis}
-use Rattle.turn_cell.specs.History.{In, StartsWith, entry}
+use Rattle.turn_cell.specs.History.{entry}
 use Rattle.turn_cell.proofs.Histories.{starts_self, starts_on}
 use Rattle.turn_cell.proofs.Lists.{in_append}
-use Rattle.turn_rules.specs.Going.{MayCome}
 use Rattle.worker_rules.specs.Sharing.{BeganHere, KeepsPromise}
 use Rattle.worker_rules.specs.Work.{OnlyWorks, is_of_worker, is_work}
 use Rattle.worker_rules.proofs.Promising.{looks-promise, tells-promise}

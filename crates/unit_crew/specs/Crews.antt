@@ -2,7 +2,7 @@
 use Rattle.std.specs.Prelude.{◌≡◌, ◌⊎◌, ◌+◌, ◌<◌, ℕ, List, Some, slice_get}
 use Rattle.std.specs.List.{AllByRecursion}
 use Rattle.core_model.specs.CoreState.{UnitNo, Member}
-use Rattle.core_model.specs.Legal.{Run, ends}
+use Rattle.core_model.specs.Legal.{ends}
 use Rattle.core_access.specs.Sights.{Sight, Counts, IfAlone, run_seen}
 use Rattle.request_wire.specs.declared.requests.Line.{Line}
 use Rattle.script_tree.specs.Programs.{ProgramTree}

@@ -13,7 +13,7 @@ use txn_agent::Advanced;
 use unit_carrier::Agents;
 use worker_signals::Signals;
 
-/// How many events a unit makes at most before it is looked for a stop.
+/// How many events a unit makes at most before a stop is looked for.
 const MOST_STEPS: usize = 64;
 
 /// The unit of the agent at this index goes on by at most one event; a child that it begins is carried too. Answers whether it

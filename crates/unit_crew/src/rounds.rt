@@ -118,12 +118,14 @@ fn go_rounds<A: Access, L: Lines, G: Gate, R: Wait>(
 
 /// Carries lines of a run, one at a time and with all units that it begins, until no line is left, or it is seen that the run
 /// halts, and no unit that began here has an event left. Others may carry lines too, by accesses of their own: each takes the
-/// next one that is left, behind the `before` that the run has from earlier. A unit that waits for a lock or a child waits by
-/// the signals, as does a worker without a line; each event that is put is told by them.
+/// next one that is left, behind the `before` that the run has from earlier.
 ///
-/// The places of the gate are reached behind the calls that came to them.
+/// Where each unit waits for a lock or a child, it waits by the signals; each event that is put is told by them. The places of
+/// the gate are reached behind the calls that came to them.
 ///
-/// The one error is want of memory, which the signals are told too. What was put by then stands.
+/// # Errors
+///
+/// Want of memory alone, of which the signals are told too. What was put by then stands.
 pub fn carry_lines<A: Access, L: Lines, G: Gate, R: Wait>(
     rt: &R,
     alloc: Global,

@@ -1,7 +1,9 @@
-//! Tests of request lines and reply lines: which call a line asks of a program, where the input is cut, and the line of an
-//! entry. There is no code here but tests.
+//! Tests of request lines and reply lines: which call a line asks of a program, where the input is cut, the lines of a run by
+//! their places, and the line of an entry. There is no code here but tests.
 #![tactic(auto)]
 
+#[cfg(test)]
+mod places;
 #[cfg(test)]
 mod programs;
 #[cfg(test)]

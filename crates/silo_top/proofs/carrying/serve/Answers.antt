@@ -18,7 +18,7 @@ use Rattle.silo_top.proofs.Carried.{carriage_wide}
 use Rattle.silo_top.proofs.OpensWith.{fits_at}
 use Rattle.silo_top.proofs.Read.{AreReadFrom, lines_are_read}
 use Rattle.silo_top.proofs.Served.{served}
-use Rattle.silo_top.proofs.Shared.{lines_sync}
+use Rattle.run_lines.proofs.Shared.{lines_sync}
 use Rattle.silo_top.proofs.Unbegun.{unbegun_promised, EndsUnbegun}
 use Rattle.silo_top.proofs.Unread.{unread_ends}
 use Rattle.silo_top.proofs.Unopened.{asked_untouched, unopened_promised}
