@@ -107,7 +107,7 @@ fn may_stand(books: i64, status: Status, output: &str, whole: &str) -> bool {
     books == books_after(output, replies) || books == books_after(whole, replies)
 }
 
-fn check_images<R: Threads + Wait + Sync + Alloc>(rt: &R, host: &MemoryHost, status: Status, whole: &str) -> Result<(), Fail> {
+fn check_images<R: Threads + Wait + Sync + AllocGlobal>(rt: &R, host: &MemoryHost, status: Status, whole: &str) -> Result<(), Fail> {
     for pick in 0..16u64 {
         let mut image = image_of(host, host.calls(), pick)?;
         let books = read_books(rt, &mut image)?;
@@ -120,7 +120,7 @@ fn check_images<R: Threads + Wait + Sync + Alloc>(rt: &R, host: &MemoryHost, sta
 }
 
 // The run with one failing call: its status is this one, and where it is done each line is answered.
-fn check_fault<R: Threads + Wait + Sync + Alloc>(
+fn check_fault<R: Threads + Wait + Sync + AllocGlobal>(
     rt: &R,
     host: &mut MemoryHost,
     status: Status,
@@ -132,7 +132,7 @@ fn check_fault<R: Threads + Wait + Sync + Alloc>(
     check_images(rt, host, status, whole)
 }
 
-fn fail_at<R: Threads + Wait + Sync + Alloc>(
+fn fail_at<R: Threads + Wait + Sync + AllocGlobal>(
     rt: &R,
     before: &MemoryHost,
     whole: &str,
@@ -145,7 +145,7 @@ fn fail_at<R: Threads + Wait + Sync + Alloc>(
 }
 
 // Each of the rows' calls: how many there are.
-fn check_faults<R: Threads + Wait + Sync + Alloc>(rt: &R, before: &MemoryHost, whole: &str) -> Result<u64, Fail> {
+fn check_faults<R: Threads + Wait + Sync + AllocGlobal>(rt: &R, before: &MemoryHost, whole: &str) -> Result<u64, Fail> {
     let mut count = 0u64;
     for (what, channel, first, last, status) in ROWS {
         for nth in first..=last {
@@ -156,7 +156,7 @@ fn check_faults<R: Threads + Wait + Sync + Alloc>(rt: &R, before: &MemoryHost, w
     Ok(count)
 }
 
-fn check_run<R: Threads + Wait + Sync + Alloc>(rt: &R, before: &MemoryHost, whole: &mut MemoryHost) -> Result<(), Fail> {
+fn check_run<R: Threads + Wait + Sync + AllocGlobal>(rt: &R, before: &MemoryHost, whole: &mut MemoryHost) -> Result<(), Fail> {
     let status = carry(rt, whole)?;
     expect(status == Status::Done, "the whole run's status")?;
     let count = check_faults(rt, before, output_of(whole))?;

@@ -79,7 +79,7 @@ impl Gate for BothGranted {
     }
 }
 
-fn silo_with<R: Threads + Wait + Sync + Alloc>(rt: &R, input: &str) -> Result<MemoryHost, Fail> {
+fn silo_with<R: Threads + Wait + Sync + AllocGlobal>(rt: &R, input: &str) -> Result<MemoryHost, Fail> {
     let mut host = new_silo(rt)?;
     host.set_input(input.as_bytes())?;
     Ok(host)

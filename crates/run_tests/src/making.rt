@@ -17,7 +17,7 @@ fn is_new_silo(host: &MemoryHost, text: &[u8]) -> bool {
     }
 }
 
-fn init_again<R: Threads + Wait + Sync + Alloc>(rt: &R, host: &mut MemoryHost, text: &[u8]) -> Result<Status, Fail> {
+fn init_again<R: Threads + Wait + Sync + AllocGlobal>(rt: &R, host: &mut MemoryHost, text: &[u8]) -> Result<Status, Fail> {
     host.set_input(text)?;
     command(rt, host, &["init"])
 }
@@ -70,7 +70,8 @@ fn other_words_are_bad_use(rt: HostRuntime) -> Result<(), Fail> {
         &[],
         &["run", "--width", "0"],
         &["run", "--width", "2", "--workers", "2"],
-        &["run", "--workers", "2"],
+        &["run", "--workers", "0"],
+        &["run", "--workers", "17"],
         &["run", "now"],
         &["init", "now"],
         &["show", "now"],

@@ -26,7 +26,7 @@ impl Gate for OpenGate {
 }
 
 /// Carries out the command of these words, with a gate.
-pub fn command_by<R: Threads + Wait + Sync + Alloc, H: Host, G: Gate + Sync>(
+pub fn command_by<R: Threads + Wait + Sync + AllocGlobal, H: Host, G: Gate + Sync>(
     rt: &R,
     host: &mut H,
     gate: &G,
@@ -41,7 +41,7 @@ pub fn command_by<R: Threads + Wait + Sync + Alloc, H: Host, G: Gate + Sync>(
 }
 
 /// Carries out the command of these words.
-pub fn command<R: Threads + Wait + Sync + Alloc, H: Host>(
+pub fn command<R: Threads + Wait + Sync + AllocGlobal, H: Host>(
     rt: &R,
     host: &mut H,
     list: &[&str],
@@ -49,7 +49,7 @@ pub fn command<R: Threads + Wait + Sync + Alloc, H: Host>(
     command_by(rt, host, &OpenGate, list)
 }
 
-fn make<R: Threads + Wait + Sync + Alloc>(rt: &R, host: &mut MemoryHost) -> Result<(), Fail> {
+fn make<R: Threads + Wait + Sync + AllocGlobal>(rt: &R, host: &mut MemoryHost) -> Result<(), Fail> {
     match command(rt, host, &["init"])? {
         Status::Done => Ok(()),
         _ => Err("no silo was made".into()),
@@ -57,7 +57,7 @@ fn make<R: Threads + Wait + Sync + Alloc>(rt: &R, host: &mut MemoryHost) -> Resu
 }
 
 /// A folder that `init` has made a silo of the bank program.
-pub fn new_silo<R: Threads + Wait + Sync + Alloc>(rt: &R) -> Result<MemoryHost, Fail> {
+pub fn new_silo<R: Threads + Wait + Sync + AllocGlobal>(rt: &R) -> Result<MemoryHost, Fail> {
     let alloc = rt.alloc();
     let text = program_text(alloc)?;
     let mut host = MemoryHost::new(alloc, text.as_bytes())?;

@@ -47,14 +47,14 @@ pub fn expect(holds: bool, what: &str) -> Result<(), Fail> {
     Err(what.into())
 }
 
-fn deposit_all<R: Threads + Wait + Sync + Alloc>(rt: &R, host: &mut MemoryHost) -> Result<(), Fail> {
+fn deposit_all<R: Threads + Wait + Sync + AllocGlobal>(rt: &R, host: &mut MemoryHost) -> Result<(), Fail> {
     host.set_input(DEPOSITS.as_bytes())?;
     let status = command(rt, host, &["run"])?;
     expect(status == Status::Done, "the deposits")
 }
 
 /// A silo with the three accounts.
-pub fn new_books<R: Threads + Wait + Sync + Alloc>(rt: &R) -> Result<MemoryHost, Fail> {
+pub fn new_books<R: Threads + Wait + Sync + AllocGlobal>(rt: &R) -> Result<MemoryHost, Fail> {
     let mut host = new_silo(rt)?;
     deposit_all(rt, &mut host)?;
     Ok(host)
@@ -69,7 +69,7 @@ pub fn image_of(host: &MemoryHost, after: u64, pick: u64) -> Result<MemoryHost, 
 }
 
 /// Carries the lines.
-pub fn carry<R: Threads + Wait + Sync + Alloc>(rt: &R, host: &mut MemoryHost) -> Result<Status, Fail> {
+pub fn carry<R: Threads + Wait + Sync + AllocGlobal>(rt: &R, host: &mut MemoryHost) -> Result<Status, Fail> {
     host.set_input(LINES.as_bytes())?;
     command(rt, host, WORDS)
 }
@@ -119,7 +119,7 @@ fn value_in(output: &str) -> Option<i64> {
 }
 
 /// The books that a run over an image reads.
-pub fn read_books<R: Threads + Wait + Sync + Alloc>(rt: &R, image: &mut MemoryHost) -> Result<i64, Fail> {
+pub fn read_books<R: Threads + Wait + Sync + AllocGlobal>(rt: &R, image: &mut MemoryHost) -> Result<i64, Fail> {
     image.set_input(BOOKS.as_bytes())?;
     let status = command(rt, image, &["run"])?;
     expect(status == Status::Done, "an image opens")?;

@@ -11,7 +11,7 @@ use std::thread::Threads;
 const TRANSFERS: usize = 60;
 
 // Transfers between three accounts, round and round.
-fn transfer_lines<R: Alloc>(rt: &R) -> Result<String, Fail> {
+fn transfer_lines<R: AllocGlobal>(rt: &R) -> Result<String, Fail> {
     let mut text = String::new(rt.alloc());
     for at in 0..TRANSFERS {
         let line = match at % 3 {
@@ -30,7 +30,7 @@ fn sum_of(books: i64) -> i64 {
 }
 
 // Carries the transfers by so many workers, and answers the status.
-fn carry_by<R: Threads + Wait + Sync + Alloc>(
+fn carry_by<R: Threads + Wait + Sync + AllocGlobal>(
     rt: &R,
     host: &mut MemoryHost,
     workers: &str,
@@ -41,12 +41,12 @@ fn carry_by<R: Threads + Wait + Sync + Alloc>(
 }
 
 // How much the three accounts have together in what the host holds by now.
-fn money_in<R: Threads + Wait + Sync + Alloc>(rt: &R, host: &MemoryHost) -> Result<i64, Fail> {
+fn money_in<R: Threads + Wait + Sync + AllocGlobal>(rt: &R, host: &MemoryHost) -> Result<i64, Fail> {
     let mut image = image_of(host, host.calls(), 0)?;
     Ok(sum_of(read_books(rt, &mut image)?))
 }
 
-fn check_whole<R: Threads + Wait + Sync + Alloc>(
+fn check_whole<R: Threads + Wait + Sync + AllocGlobal>(
     rt: &R,
     before: &MemoryHost,
     workers: &str,
@@ -59,7 +59,7 @@ fn check_whole<R: Threads + Wait + Sync + Alloc>(
 }
 
 // A run whose call of this kind on this channel fails ends so, and what is held then has all the money.
-fn check_fault<R: Threads + Wait + Sync + Alloc>(
+fn check_fault<R: Threads + Wait + Sync + AllocGlobal>(
     rt: &R,
     before: &MemoryHost,
     what: CallKind,
