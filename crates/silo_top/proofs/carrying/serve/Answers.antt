@@ -1,4 +1,4 @@
-use denote.Param.Send.{copied_sync}
+use denote.Param.Send.{sendable}
 use Rattle.std.proofs.Common.{◌≡◌, ℕ, ◌<◌, Bool, true, List, length, refl, sym, ◌∙◌, ap, subst, arith}
 use Rattle.host_trait.specs.World.{Disk}
 use Rattle.log_reading.specs.Steps.{seen_in}
@@ -83,4 +83,4 @@ returns-clause-answers g c =
     (lines_are_read types 0 (lines_of c.as_slice.result.now)) carried.carries carried.beside)
 
 pub carry_all-requires-sync-L : goal.carry_all-requires-sync-L
-carry_all-requires-sync-L g c κs within = copied_sync _ _ (lines_sync _)
+carry_all-requires-sync-L g c κs within = search (sendable, lines_sync) depth 20

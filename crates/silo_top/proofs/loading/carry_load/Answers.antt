@@ -1,7 +1,10 @@
-use Rattle.std.proofs.Common.{◌≡◌, ℕ, Bool, true, List, Ok, Err, length, refl, sym, ◌∙◌, ap, subst}
+use Rattle.std.specs.Prelude.{IfOk}
+use Rattle.std.proofs.Common.{◌≡◌, ℕ, Bool, true, List, Result, Ok, Err, length, refl, sym, ◌∙◌, ap, subst}
 use Rattle.request_wire.specs.declared.requests.Line.{Line}
 use Rattle.script_tree.specs.Programs.{ProgramTree, program_tree}
 use Rattle.history_core.specs.Cores.{run_of}
+use Rattle.history_core.specs.declared.whole.Core.{Core}
+use Rattle.run_books.specs.declared.faults.RunFault.{RunFault}
 use Rattle.core_model.specs.Legal.{Run, ends}
 use Rattle.promise_spec.specs.Loads.{load_calls}
 use Rattle.promise_spec.specs.Endings.{Ending}
@@ -97,7 +100,7 @@ returns-in-Ok-carry_all-clause-carries g c = λ told old before behind bank none
     c.carry_all.result behind c.in-Ok.ensures.start c.requires.bank bank (λ file. g.met.H.Host.seen_may_stay c.args.host.now file told) (λ file. g.met.H.Host.seen_may_stay c.carry_all.new.host file told) c.in-Ok.ensures.quiet
     lines are (carriage_wide c.args.how.now c.requires.how) c.requires.above none told_so.left c.carry_all.new.settler told_so.carries told_so.beside (texts_ask types c.args.transfers c.args.seed read) c.in-Ok-carry_all.core c.in-Ok-carry_all.is c.print_summary.result (g.H.Host.world c.print_summary.new.host) (g.H.Host.faults c.print_summary.new.host) c.len-requests.result
     (c.len-requests.ensures ∙ ap length c.in-Ok-load_lines.ensures ∙ numbered_many 0 (load_calls c.args.transfers c.args.seed))
-    (subst (λ (r : Run). SaysSummary (summary_line (ends r).manager.settled c.len-requests.result (total_kept (ends r) 64)) (status_ending c.print_summary.result) w2 (g.H.Host.world c.print_summary.new.host)) c.in-Ok-carry_all.ensures.carried.core (c.print_summary.ensures.says told))
+    (subst (λ (r : Run). SaysSummary (summary_line (ends r).manager.settled c.len-requests.result (total_kept (ends r) 64)) (status_ending c.print_summary.result) w2 (g.H.Host.world c.print_summary.new.host)) (subst (λ (x : Result Core RunFault). IfOk x (λ k. run_of k ≡ told_so.left)) c.in-Ok-carry_all.is told_so.core) (c.print_summary.ensures.says told))
     c.print_summary.ensures.exact c.print_summary.ensures.may
 
 pub returns-in-Ok-carry_all-clause-answers : goal.returns-in-Ok-carry_all-clause-answers
