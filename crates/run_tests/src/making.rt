@@ -66,7 +66,7 @@ fn a_bad_program_is_named_at_its_place(rt: HostRuntime) -> Result<(), Fail> {
 #[test]
 fn other_words_are_bad_use(rt: HostRuntime) -> Result<(), Fail> {
     let alloc = rt.alloc();
-    let lists: [&[&str]; 9] = [
+    let lists: [&[&str]; 10] = [
         &[],
         &["run", "--width", "0"],
         &["run", "--width", "2", "--workers", "2"],

@@ -43,24 +43,6 @@ fn command_line(rt: &HostRuntime) -> Result<CommandLine, Status> {
     Ok(CommandLine { folder, words })
 }
 
-fn status_of(rt: &HostRuntime) -> Status {
-    let line = match command_line(rt) {
-        Ok(line) => line,
-        Err(status) => return status,
-    };
-    let made = FolderHost::new(
-        rt.alloc(),
-        rt,
-        rt.reader(),
-        io::writer(rt),
-        line.folder.as_str(),
-    );
-    let Ok(mut host) = made else {
-        return Status::Memory;
-    };
-    run_silo(rt, rt.alloc(), line.words.as_slice(), &mut host, &NoGate)
-}
-
 /// Says the status on standard error. Without memory, or where that stream fails, nothing is said.
 fn say(rt: &HostRuntime, status: Status) {
     let Ok(text) = status.text(rt.alloc()) else {
@@ -76,7 +58,22 @@ fn say(rt: &HostRuntime, status: Status) {
 }
 
 fn main(rt: HostRuntime) -> ExitCode {
-    let status = status_of(&rt);
+    let status = match command_line(&rt) {
+        Ok(CommandLine { folder, words }) => {
+            let made = FolderHost::new(
+                rt.alloc(),
+                &rt,
+                rt.reader(),
+                io::writer(&rt),
+                folder.as_str(),
+            );
+            match made {
+                Ok(mut host) => run_silo(&rt, rt.alloc(), words.as_slice(), &mut host, &NoGate),
+                Err(_) => Status::Memory,
+            }
+        }
+        Err(status) => status,
+    };
     if status != Status::Done {
         say(&rt, status);
     }
