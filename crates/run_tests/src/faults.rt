@@ -107,7 +107,12 @@ fn may_stand(books: i64, status: Status, output: &str, whole: &str) -> bool {
     books == books_after(output, replies) || books == books_after(whole, replies)
 }
 
-fn check_images<R: Threads + Wait + Sync + AllocGlobal>(rt: &R, host: &MemoryHost, status: Status, whole: &str) -> Result<(), Fail> {
+fn check_images<R: Threads + Wait + Sync + AllocGlobal>(
+    rt: &R,
+    host: &MemoryHost,
+    status: Status,
+    whole: &str,
+) -> Result<(), Fail> {
     for pick in 0..16u64 {
         let mut image = image_of(host, host.calls(), pick)?;
         let books = read_books(rt, &mut image)?;
@@ -145,7 +150,11 @@ fn fail_at<R: Threads + Wait + Sync + AllocGlobal>(
 }
 
 // Each of the rows' calls: how many there are.
-fn check_faults<R: Threads + Wait + Sync + AllocGlobal>(rt: &R, before: &MemoryHost, whole: &str) -> Result<u64, Fail> {
+fn check_faults<R: Threads + Wait + Sync + AllocGlobal>(
+    rt: &R,
+    before: &MemoryHost,
+    whole: &str,
+) -> Result<u64, Fail> {
     let mut count = 0u64;
     for (what, channel, first, last, status) in ROWS {
         for nth in first..=last {
@@ -156,7 +165,11 @@ fn check_faults<R: Threads + Wait + Sync + AllocGlobal>(rt: &R, before: &MemoryH
     Ok(count)
 }
 
-fn check_run<R: Threads + Wait + Sync + AllocGlobal>(rt: &R, before: &MemoryHost, whole: &mut MemoryHost) -> Result<(), Fail> {
+fn check_run<R: Threads + Wait + Sync + AllocGlobal>(
+    rt: &R,
+    before: &MemoryHost,
+    whole: &mut MemoryHost,
+) -> Result<(), Fail> {
     let status = carry(rt, whole)?;
     expect(status == Status::Done, "the whole run's status")?;
     let count = check_faults(rt, before, output_of(whole))?;

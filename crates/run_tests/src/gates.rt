@@ -79,7 +79,10 @@ impl Gate for BothGranted {
     }
 }
 
-fn silo_with<R: Threads + Wait + Sync + AllocGlobal>(rt: &R, input: &str) -> Result<MemoryHost, Fail> {
+fn silo_with<R: Threads + Wait + Sync + AllocGlobal>(
+    rt: &R,
+    input: &str,
+) -> Result<MemoryHost, Fail> {
     let mut host = new_silo(rt)?;
     host.set_input(input.as_bytes())?;
     Ok(host)
@@ -87,7 +90,8 @@ fn silo_with<R: Threads + Wait + Sync + AllocGlobal>(rt: &R, input: &str) -> Res
 
 #[test]
 fn a_unit_reads_what_is_not_on_disk(rt: HostRuntime) -> Result<(), Fail> {
-    let lines = "{\"args\":[5],\"call\":\"account/1.deposit\"}\n{\"args\":[],\"call\":\"account/1.read\"}\n";
+    let lines =
+        "{\"args\":[5],\"call\":\"account/1.deposit\"}\n{\"args\":[],\"call\":\"account/1.read\"}\n";
     let mut host = silo_with(&rt, lines)?;
     let gate = ReadBeforeSeal {
         sealing: AtomicBool::new(false),
@@ -98,13 +102,17 @@ fn a_unit_reads_what_is_not_on_disk(rt: HostRuntime) -> Result<(), Fail> {
     let missed = gate.missed.load(Ordering::SeqCst);
     assert!(rt; status == Status::Done);
     assert!(rt; !missed, "a place that wasn't reached");
-    assert_eq!(rt; output_of(&host), "{\"n\":1,\"reply\":5,\"unit\":1}\n{\"n\":2,\"reply\":5,\"unit\":2}\n");
+    assert_eq!(rt;
+        output_of(&host),
+        "{\"n\":1,\"reply\":5,\"unit\":1}\n{\"n\":2,\"reply\":5,\"unit\":2}\n"
+    );
     Ok(())
 }
 
 #[test]
 fn two_units_have_locks_at_once(rt: HostRuntime) -> Result<(), Fail> {
-    let lines = "{\"args\":[5],\"call\":\"account/1.deposit\"}\n{\"args\":[4],\"call\":\"account/2.deposit\"}\n";
+    let lines =
+        "{\"args\":[5],\"call\":\"account/1.deposit\"}\n{\"args\":[4],\"call\":\"account/2.deposit\"}\n";
     let mut host = silo_with(&rt, lines)?;
     let gate = BothGranted {
         first: AtomicBool::new(false),

@@ -20,6 +20,6 @@ mod stops;
 #[cfg(test)]
 mod transfers;
 #[cfg(test)]
-mod workers;
-#[cfg(test)]
 mod words;
+#[cfg(test)]
+mod workers;

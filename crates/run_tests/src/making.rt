@@ -17,7 +17,11 @@ fn is_new_silo(host: &MemoryHost, text: &[u8]) -> bool {
     }
 }
 
-fn init_again<R: Threads + Wait + Sync + AllocGlobal>(rt: &R, host: &mut MemoryHost, text: &[u8]) -> Result<Status, Fail> {
+fn init_again<R: Threads + Wait + Sync + AllocGlobal>(
+    rt: &R,
+    host: &mut MemoryHost,
+    text: &[u8],
+) -> Result<Status, Fail> {
     host.set_input(text)?;
     command(rt, host, &["init"])
 }

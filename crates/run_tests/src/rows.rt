@@ -360,7 +360,11 @@ fn are_lines(alloc: Global, text: &str, lines: &[&str]) -> Result<bool, Fail> {
 }
 
 // Carries out the row's words over its input, from a silo that was made just now.
-fn carry_out<R: Threads + Wait + Sync + AllocGlobal>(rt: &R, host: &mut MemoryHost, row: &Row) -> Result<Status, Fail> {
+fn carry_out<R: Threads + Wait + Sync + AllocGlobal>(
+    rt: &R,
+    host: &mut MemoryHost,
+    row: &Row,
+) -> Result<Status, Fail> {
     let alloc = rt.alloc();
     let input = input_of(alloc, row.lines)?;
     host.set_input(input.as_bytes())?;
@@ -371,7 +375,11 @@ fn carry_out<R: Threads + Wait + Sync + AllocGlobal>(rt: &R, host: &mut MemoryHo
 }
 
 // What of the row this run doesn't give, and nothing where it gives all.
-fn missed<R: Threads + Wait + Sync + AllocGlobal>(rt: &R, host: &mut MemoryHost, row: &Row) -> Result<&'static str, Fail> {
+fn missed<R: Threads + Wait + Sync + AllocGlobal>(
+    rt: &R,
+    host: &mut MemoryHost,
+    row: &Row,
+) -> Result<&'static str, Fail> {
     let alloc = rt.alloc();
     let before = host.syncs();
     let status = carry_out(rt, host, row)?;

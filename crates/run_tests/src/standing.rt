@@ -11,7 +11,11 @@ const DEPOSIT: &str = "{\"args\":[5],\"call\":\"account/1.deposit\"}\n";
 const READ: &str = "{\"args\":[],\"call\":\"account/1.read\"}\n";
 
 // Carries a line by a run of its own.
-fn answer<R: Threads + Wait + Sync + AllocGlobal>(rt: &R, host: &mut MemoryHost, line: &str) -> Result<Status, Fail> {
+fn answer<R: Threads + Wait + Sync + AllocGlobal>(
+    rt: &R,
+    host: &mut MemoryHost,
+    line: &str,
+) -> Result<Status, Fail> {
     host.set_input(line.as_bytes())?;
     command(rt, host, &["run"])
 }
@@ -32,7 +36,10 @@ fn a_deposit_stands_in_its_files(rt: HostRuntime) -> Result<(), Fail> {
 }
 
 // A deposit and a read of it in one batch, whose gate's sync fails.
-fn leave_in_doubt<R: Threads + Wait + Sync + AllocGlobal>(rt: &R, host: &mut MemoryHost) -> Result<(), Fail> {
+fn leave_in_doubt<R: Threads + Wait + Sync + AllocGlobal>(
+    rt: &R,
+    host: &mut MemoryHost,
+) -> Result<(), Fail> {
     let alloc = rt.alloc();
     let mut input = String::from_str(alloc, DEPOSIT)?;
     input.push_str(READ)?;
@@ -50,7 +57,10 @@ enum Left {
 }
 
 // Which of the two are in the log: a run's read tells it by its reply and its unit.
-fn left_in<R: Threads + Wait + Sync + AllocGlobal>(rt: &R, image: &mut MemoryHost) -> Result<Left, Fail> {
+fn left_in<R: Threads + Wait + Sync + AllocGlobal>(
+    rt: &R,
+    image: &mut MemoryHost,
+) -> Result<Left, Fail> {
     answer(rt, image, READ)?;
     Ok(match output_of(image) {
         "{\"n\":1,\"reply\":0,\"unit\":1}\n" => Left::Neither,

@@ -56,13 +56,22 @@ fn check_stop<R: Threads + Wait + Sync + AllocGlobal>(
     check_images(rt, host, whole, stop, count_lines(output))
 }
 
-fn stop_at<R: Threads + Wait + Sync + AllocGlobal>(rt: &R, before: &MemoryHost, stop: u64, whole: &MemoryHost) -> Result<(), Fail> {
+fn stop_at<R: Threads + Wait + Sync + AllocGlobal>(
+    rt: &R,
+    before: &MemoryHost,
+    stop: u64,
+    whole: &MemoryHost,
+) -> Result<(), Fail> {
     let mut host = image_of(before, before.calls(), 0)?;
     check_stop(rt, &mut host, stop, whole)
 }
 
 // The whole run, and a stop after each of its calls.
-fn check_stops<R: Threads + Wait + Sync + AllocGlobal>(rt: &R, before: &MemoryHost, whole: &mut MemoryHost) -> Result<(), Fail> {
+fn check_stops<R: Threads + Wait + Sync + AllocGlobal>(
+    rt: &R,
+    before: &MemoryHost,
+    whole: &mut MemoryHost,
+) -> Result<(), Fail> {
     let status = carry(rt, whole)?;
     expect(status == Status::Done, "the whole run's status")?;
     let replies = count_lines(output_of(whole));

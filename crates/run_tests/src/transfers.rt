@@ -47,7 +47,10 @@ pub fn expect(holds: bool, what: &str) -> Result<(), Fail> {
     Err(what.into())
 }
 
-fn deposit_all<R: Threads + Wait + Sync + AllocGlobal>(rt: &R, host: &mut MemoryHost) -> Result<(), Fail> {
+fn deposit_all<R: Threads + Wait + Sync + AllocGlobal>(
+    rt: &R,
+    host: &mut MemoryHost,
+) -> Result<(), Fail> {
     host.set_input(DEPOSITS.as_bytes())?;
     let status = command(rt, host, &["run"])?;
     expect(status == Status::Done, "the deposits")
@@ -69,7 +72,10 @@ pub fn image_of(host: &MemoryHost, after: u64, pick: u64) -> Result<MemoryHost, 
 }
 
 /// Carries the lines.
-pub fn carry<R: Threads + Wait + Sync + AllocGlobal>(rt: &R, host: &mut MemoryHost) -> Result<Status, Fail> {
+pub fn carry<R: Threads + Wait + Sync + AllocGlobal>(
+    rt: &R,
+    host: &mut MemoryHost,
+) -> Result<Status, Fail> {
     host.set_input(LINES.as_bytes())?;
     command(rt, host, WORDS)
 }
@@ -119,7 +125,10 @@ fn value_in(output: &str) -> Option<i64> {
 }
 
 /// The books that a run over an image reads.
-pub fn read_books<R: Threads + Wait + Sync + AllocGlobal>(rt: &R, image: &mut MemoryHost) -> Result<i64, Fail> {
+pub fn read_books<R: Threads + Wait + Sync + AllocGlobal>(
+    rt: &R,
+    image: &mut MemoryHost,
+) -> Result<i64, Fail> {
     image.set_input(BOOKS.as_bytes())?;
     let status = command(rt, image, &["run"])?;
     expect(status == Status::Done, "an image opens")?;

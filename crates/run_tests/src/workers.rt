@@ -41,7 +41,10 @@ fn carry_by<R: Threads + Wait + Sync + AllocGlobal>(
 }
 
 // How much the three accounts have together in what the host holds by now.
-fn money_in<R: Threads + Wait + Sync + AllocGlobal>(rt: &R, host: &MemoryHost) -> Result<i64, Fail> {
+fn money_in<R: Threads + Wait + Sync + AllocGlobal>(
+    rt: &R,
+    host: &MemoryHost,
+) -> Result<i64, Fail> {
     let mut image = image_of(host, host.calls(), 0)?;
     Ok(sum_of(read_books(rt, &mut image)?))
 }
@@ -70,7 +73,10 @@ fn check_fault<R: Threads + Wait + Sync + AllocGlobal>(
     host.fail_on(what, channel, 3)?;
     let ended = carry_by(rt, &mut host, "4")?;
     expect(ended == status, "the status of a fault")?;
-    expect(money_in(rt, &host)? == money_in(rt, before)?, "the money behind a fault")
+    expect(
+        money_in(rt, &host)? == money_in(rt, before)?,
+        "the money behind a fault",
+    )
 }
 
 #[test]
@@ -87,5 +93,11 @@ fn faults_beside_workers_end_the_run_as_they_do_alone(rt: HostRuntime) -> Result
     let log = Channel::File(MANAGER);
     let doubt = Status::DiskFault { file: MANAGER };
     check_fault(&rt, &before, CallKind::Sync, log, doubt)?;
-    check_fault(&rt, &before, CallKind::Emit, Channel::Output, Status::WriteFault)
+    check_fault(
+        &rt,
+        &before,
+        CallKind::Emit,
+        Channel::Output,
+        Status::WriteFault,
+    )
 }

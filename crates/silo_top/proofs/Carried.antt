@@ -124,7 +124,6 @@ module _ (tells : Bool) (types : ProgramTree) (lines : List Line) (r : Run) (s s
         core = tt;
       })))
 
-
 module _ {T : Type 0} (tells : Bool) (types : ProgramTree) (lines : List Line) (r : Run) (s s' : Settler) (f f' : Channel → ℕ) (w w' : World) (how : Carriage) where
   -- in turns
   pub turns_all : (core : Core) (result : Result T RunFault) (width : ℕ) (picks : List ℕ) → how ≡ Turns width picks

@@ -56,7 +56,15 @@ pub(crate) fn carry_all<R: Threads + Wait + Sync, H: Host, G: Gate + Sync, L: Li
         }
         Carriage::Workers(workers) => {
             let (back, ended) = run_with_workers(
-                rt, alloc, checked, core, settler, &lines, host, gate, *workers as usize,
+                rt,
+                alloc,
+                checked,
+                core,
+                settler,
+                &lines,
+                host,
+                gate,
+                *workers as usize,
             );
             match ended {
                 Err(fault) => return Err(fault),

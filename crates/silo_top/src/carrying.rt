@@ -100,6 +100,14 @@ pub(crate) fn serve<R: Threads + Wait + Sync, H: Host, G: Gate + Sync>(
     } = started;
     let lines = InputLines::new(&checked, input.as_slice());
     turns_status(carry_all(
-        rt, alloc, &checked, core, &mut settler, lines, host, gate, how,
+        rt,
+        alloc,
+        &checked,
+        core,
+        &mut settler,
+        lines,
+        host,
+        gate,
+        how,
     ))
 }

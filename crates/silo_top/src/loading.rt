@@ -110,7 +110,15 @@ fn carry_load<R: Threads + Wait + Sync, H: Host, G: Gate + Sync>(
     } = started;
     let placed = ListLines::new(&lines);
     match carry_all(
-        rt, alloc, &checked, core, &mut settler, placed, host, gate, how,
+        rt,
+        alloc,
+        &checked,
+        core,
+        &mut settler,
+        placed,
+        host,
+        gate,
+        how,
     ) {
         Ok(core) => print_summary(alloc, &core, requests, host),
         Err(fault) => load_status(fault),

@@ -1,0 +1,6 @@
+pub mod Sends
+pub mod Returned
+pub mod Crowded
+pub mod Whole
+pub mod Rested
+pub mod Begun

@@ -1,0 +1,4 @@
+pub mod Reaching
+pub mod Working
+pub mod Beside
+pub mod Ending

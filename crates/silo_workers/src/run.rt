@@ -1,0 +1,115 @@
+ghost use Rattle.std.specs.Prelude.{◌≡◌, ◌≤◌, [], None, Err, IsTrue, IfOk, IfSome};
+ghost use Rattle.host_trait.specs.Files.{StaysReady};
+ghost use Rattle.batch_disk.specs.Writers.{IsInBounds, FitsDisk};
+ghost use Rattle.core_model.specs.Legal.{ends};
+ghost use Rattle.core_access.specs.OneHolder.{own_sight};
+ghost use Rattle.history_core.specs.Cores.{run_of};
+ghost use Rattle.script_tree.specs.Programs.{program_tree};
+ghost use Rattle.txn_agent.specs.Linked.{IsLegalRun};
+ghost use Rattle.worker_rules.specs.Stories.{NoneLoads};
+ghost use Rattle.run_books.specs.Beginnings.{Outset, IsOutset, CanTurn};
+ghost use Rattle.run_books.specs.Beside.{TurnsBeside};
+ghost use Rattle.run_books.specs.Books.{Books};
+ghost use Rattle.run_books.specs.Records.{KeepsRecord, RecordGoesOn};
+ghost use Rattle.run_books.specs.declared.faults.RunFault.TheVariants.{Memory};
+
+use crate::crowd::gather;
+use crate::ending::end_run;
+use base_types::Ends;
+use core_model::{CoreAnswer, CoreQuestion};
+use history_core::Core;
+use host_trait::Host;
+use run_books::RunFault;
+use run_lines::Lines;
+use script_check::Checked;
+use settle_loop::{Gate, Settler};
+use std::alloc::{AllocError, Global};
+use std::marker::PhantomData;
+use std::mem::replace;
+use std::sync::Wait;
+use std::thread::Threads;
+use turn_cell::{TurnCell, TurnObject};
+
+/// How many lines a core has taken so far.
+fn lines_so_far(core: &Core) -> Result<u64, AllocError>
+    ensures { IfOk result (λ lines. lines ≡ (ends (run_of core.now)).units.lines) }
+{
+    match core.ask(&CoreQuestion::NextLine)? {
+        CoreAnswer::NextLine(next) => Ok(next - 1),
+        _ => unreachable!(),
+    }
+}
+
+/// Carries all lines by so many worker threads, 16 at most, each of which begins the next line that is left, carries its units,
+/// and looks again while it must wait; the calling thread settles what they do, and what is left once they have ended.
+///
+/// It answers `Ok` where each line has its entry, all is written and nobody can move. The core comes back, unless there is no
+/// memory to share it: then no event was put, and the host is as before.
+///
+/// It returns if what it waits for comes: each worker's turn, and the ends of the units that a unit waits for.
+///
+/// # Errors
+///
+/// - `InDoubt`: a batch was left in doubt, and all that is settled is written.
+/// - `WriteFault`: the output failed.
+/// - `Memory`: memory ran out, here or at a worker, or no worker could be started. What was put into the core and done to the
+///   host by then stands.
+pub fn run_with_workers<R: Threads + Wait + Sync, H: Host, G: Gate + Sync, L: Lines + Copy + Sync>(
+    rt: &R,
+    alloc: Global,
+    checked: &Checked,
+    core: Core,
+    settler: &mut Settler,
+    lines: &L,
+    host: &mut H,
+    gate: &G,
+    workers: usize,
+) -> (Option<Core>, Result<(), RunFault>)
+    requires few { workers ≤ 16 }
+    requires legal { IsLegalRun (own_sight (run_of core)).first }
+    requires loads { NoneLoads (own_sight (run_of core)).mine }
+    requires bounds { IsInBounds settler.old.writer }
+    requires fits { IsTrue H.tells → FitsDisk settler.old.writer (H.world host.old).disk }
+
+    // The run's record, however it ends.
+    ensures record_kept { (o : Outset) (b : Books) → IsOutset o (program_tree checked.now) (run_of core) (L.lines lines.now) 1 []
+        → CanTurn (run_of core) settler.old (L.lines lines.now) → b.rest ≡ []
+        → KeepsRecord H.tells o b (run_of core) settler.old (H.faults host.old) (H.world host.old)
+        → IfSome result.0 (λ c. RecordGoesOn H.tells o b (run_of core) (run_of c) settler.old settler.new (H.faults host.new) (H.world host.old) (H.world host.new) result.1) }
+
+    // And what it leaves beside that.
+    ensures beside { IfSome result.0 (λ c. TurnsBeside H.tells (run_of core) (run_of c) settler.old settler.new (H.faults host.old) (H.faults host.new) (H.world host.old) (H.world host.new) result.1) }
+    ensures lost { result.0 ≡ None → (result.1 ≡ Err Memory) × (settler.new ≡ settler.old) × (host.new ≡ host.old) }
+
+    ensures bounds { IsInBounds settler.new.writer }
+    ensures fits { IsTrue H.tells → FitsDisk settler.new.writer (H.world host.new).disk }
+    ensures ready { StaysReady (H.is_ready host.old) (H.is_ready host.new) }
+{
+    let _named: PhantomData<(CoreQuestion, CoreAnswer)> = PhantomData;
+    let _program = checked.program();
+    let before = match lines_so_far(&core) {
+        Ok(before) => before,
+        Err(AllocError) => return (Some(core), Err(RunFault::Memory)),
+    };
+    let shape = match checked.shape() {
+        Ok(shape) => shape,
+        Err(AllocError) => return (Some(core), Err(RunFault::Memory)),
+    };
+    let blank = match Settler::new(alloc, 0, Ends::new(alloc), true) {
+        Ok(blank) => blank,
+        Err(AllocError) => return (Some(core), Err(RunFault::Memory)),
+    };
+    match TurnCell::new(alloc, core) {
+        Ok((cell, pass)) => {
+            let own = replace(settler, blank);
+            let (mut core, gathered, own) = gather(
+                rt, alloc, checked, &shape, lines, before, cell, pass, own, host, gate, workers,
+            );
+            *settler = own;
+            core.show_few();
+            let ended = end_run(&shape, &mut core, settler, host, gate, gathered);
+            (Some(core), ended)
+        }
+        Err(AllocError) => (None, Err(RunFault::Memory)),
+    }
+}
