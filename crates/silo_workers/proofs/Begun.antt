@@ -1,5 +1,5 @@
 -- Where a run with workers begins.
-use Rattle.std.proofs.Common.{◌≡◌, inl, inr, ℕ, zero, suc, Option, None, length, ◌≤◌, List, [], ◌∷◌, Bool, true, false, refl, sym, ap, ◌∙◌, subst, arith}
+use Rattle.std.proofs.Common.{◌≡◌, inl, inr, ℕ, zero, suc, Option, None, length, List, [], ◌∷◌, Bool, refl, sym, ap, ◌∙◌, subst, arith}
 use Rattle.base_types.specs.declared.shapes.Shape.{Shape}
 use Rattle.base_types.specs.declared.shapes.TypeShape.{TypeShape}
 use Rattle.host_trait.specs.declared.channels.Channel.{Channel}
@@ -8,7 +8,6 @@ use Rattle.request_wire.specs.declared.requests.Line.{Line}
 use Rattle.core_model.specs.Legal.{Run, ends}
 use Rattle.core_access.specs.Histories.{Told, run_after}
 use Rattle.core_access.specs.OneHolder.{own_sight}
-use Rattle.core_access.specs.Sights.{Sight}
 use Rattle.core_access.proofs.OneHolder.{own-run}
 use Rattle.script_check.specs.Accepted.{IsAcceptedProgram}
 use Rattle.script_check.specs.Shapes.{type_shapes}
@@ -24,7 +23,7 @@ use Rattle.run_books.specs.Books.{Books}
 use Rattle.run_books.specs.Records.{KeepsRecord}
 use Rattle.run_books.proofs.Resting.{even-at-rest}
 use Rattle.shared_settling.specs.Among.{CanSettleAmong}
-use Rattle.unit_crew.specs.Crews.{IsBasisOf, ReadsLinesAs}
+use Rattle.unit_crew.specs.Crews.{IsBasisOf}
 use Rattle.closing_rules.specs.Gathering.{sight_by}
 use Rattle.silo_workers.specs.Ending.{IsOfProgram}
 use Rattle.std.specs.Prelude.{slice_get, Some, ◌+◌}

@@ -1,6 +1,6 @@
 -- The passes of several workers, joined.
-use Rattle.std.proofs.Common.{◌≡◌, ℕ, List, [], ◌∷◌, ◌++◌, Bool, true, false, true≢false, refl, sym, ap, ◌∙◌, subst, append-nil}
-use Rattle.std.specs.Prelude.{Result, Ok, Err, IsTrue}
+use Rattle.std.proofs.Common.{◌≡◌, ℕ, List, [], ◌∷◌, Bool, refl, sym, ap, ◌∙◌, subst, append-nil}
+use Rattle.std.specs.Prelude.{Ok}
 use Rattle.base_types.specs.declared.shapes.Shape.{Shape}
 use Rattle.host_trait.specs.declared.channels.Channel.{Channel}
 use Rattle.host_trait.specs.World.{World}
@@ -12,20 +12,18 @@ use Rattle.turn_cell.specs.declared.view.View.{View}
 use Rattle.turn_cell.specs.History.{StartsWith}
 use Rattle.turn_cell.specs.Hands.{first_hand}
 use Rattle.turn_cell.specs.Passes.{splitter_view, split_off_view, Joins, Closes}
-use Rattle.turn_cell.proofs.Histories.{starts_on}
 use Rattle.core_access.specs.Histories.{Told, reply_in, run_after}
 use Rattle.core_access.specs.Sights.{Sight, run_seen}
 use Rattle.core_access.specs.ByPass.{sight_of}
 use Rattle.promise_spec.specs.UnitRule.{Basis}
 use Rattle.settle_loop.specs.declared.settler.Settler.{Settler}
-use Rattle.run_books.specs.declared.faults.RunFault.{RunFault}
 use Rattle.run_books.specs.Beside.{TurnsBeside}
 use Rattle.run_books.proofs.Relying.{sees-none}
-use Rattle.closing_rules.specs.Closed.{PutsNothing, HasBegunLines}
+use Rattle.closing_rules.specs.Closed.{HasBegunLines}
 use Rattle.closing_rules.specs.Gathering.{Returns, GathersSights}
 use Rattle.closing_rules.proofs.Closes.{closed-lines}
 use Rattle.closing_rules.proofs.Gathered.{shown-more, gathers-less, gathers-split, closes-known}
-use Rattle.silo_workers.specs.Beside.{SettlesBeside, HasSettled}
+use Rattle.silo_workers.specs.Beside.{SettlesBeside}
 use Rattle.silo_workers.specs.Working.{HasWorked, SaysOfUnits, SaysOfLines, IsGathered, both_ends}
 use Rattle.silo_workers.specs.declared.work.WorkEnd.{WorkEnd}
 use Rattle.silo_workers.specs.declared.work.WorkEnd.TheVariants.{Idle, Through, Lacking}

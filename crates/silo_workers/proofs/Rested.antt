@@ -1,6 +1,6 @@
 -- What is left is settled alone, and then all is done.
-use Rattle.std.proofs.Common.{◌≡◌, ◌⊎◌, inl, inr, ℕ, ◌≤◌, ◌<◌, ◌^◌, Option, Some, None, List, [], ◌∷◌, ◌++◌, length, Bool, true, false, true≢false, refl, sym, ap, ◌∙◌, subst, arith}
-use Rattle.std.specs.Prelude.{Result, Ok, Err, IsTrue, is_some}
+use Rattle.std.proofs.Common.{◌≡◌, inl, inr, ℕ, ◌≤◌, ◌<◌, Option, Some, None, List, [], ◌∷◌, ◌++◌, Bool, true, false, true≢false, refl, sym, ap, ◌∙◌, subst, arith}
+use Rattle.std.specs.Prelude.{Result, Ok, Err, is_some}
 use Rattle.base_types.specs.declared.shapes.Shape.{Shape}
 use Rattle.host_trait.specs.declared.channels.Channel.{Channel}
 use Rattle.host_trait.specs.World.{World}
@@ -10,8 +10,6 @@ use Rattle.core_model.specs.Legal.{Run, ends}
 use Rattle.core_model.specs.Settler.{settler_step, Rests}
 use Rattle.core_model.specs.declared.events.CoreEvent.{CoreEvent}
 use Rattle.core_model.specs.declared.events.CoreEvent.TheVariants.{Bad, Begin, Grant, Refuse, Finish, EndPlain, EndSnapshot, Release, Take, Vote, Decide, Sealed, NotSealed, Doubt, Learn, Emitted, Halt, Want, Load}
-use Rattle.core_model.specs.declared.events.CoreReply.TheVariants.{Began}
-use Rattle.core_model.specs.Events.{reply_to}
 use Rattle.turn_cell.specs.History.{In}
 use Rattle.turn_cell.proofs.Lists.{in_right}
 use Rattle.turn_cell.proofs.Histories.{legal_back}
@@ -19,7 +17,6 @@ use Rattle.turn_rules.specs.Going.{with_event, MayCome}
 use Rattle.core_access.specs.Histories.{Told, reply_in, run_after, IsTrue as IsHistoryOf}
 use Rattle.core_access.specs.OneHolder.{own_sight}
 use Rattle.core_access.specs.Settling.{is_settling}
-use Rattle.core_access.specs.Sights.{Sight, run_seen, IsHistory, AllPass}
 use Rattle.core_access.proofs.Entries.{run-on}
 use Rattle.core_access.proofs.OneHolder.{own-run, own-history}
 use Rattle.promise_spec.specs.Cores.{HasBegun}
@@ -30,18 +27,16 @@ use Rattle.run_books.specs.declared.faults.RunFault.{RunFault}
 use Rattle.run_books.specs.declared.faults.RunFault.TheVariants.{InDoubt, WriteFault, Memory}
 use Rattle.run_books.specs.Beginnings.{Outset, basis_of}
 use Rattle.run_books.specs.Books.{Books}
-use Rattle.run_books.specs.Records.{KeepsBooks, KeepsRecord, HasCarriedAll, TurnsEndAs, RecordGoesOn}
-use Rattle.run_books.specs.Settling.{BooksGoOn}
+use Rattle.run_books.specs.Records.{HasCarriedAll, TurnsEndAs, RecordGoesOn}
 use Rattle.shared_settling.specs.Among.{SettlesAmong, CanSettleRest, SaysAmong, SettledAmong}
-use Rattle.shared_settling.specs.Endings.{HasNoMover}
 use Rattle.shared_settling.proofs.Ended.{carried-all}
 use Rattle.history_core.specs.Cores.{HasFewNumbers}
-use Rattle.closing_rules.specs.Closed.{IsDone, HasBegunLines}
+use Rattle.closing_rules.specs.Closed.{IsDone}
 use Rattle.closing_rules.proofs.Onwards.{going-before, lines-after}
 use Rattle.closing_rules.proofs.Stories.{Story, begun-after, none-began, reply-there, settles-no-begin, done-after}
-use Rattle.silo_workers.specs.Ending.{IsOfProgram, HasGathered}
+use Rattle.silo_workers.specs.Ending.{HasGathered}
 use Rattle.silo_workers.specs.declared.work.WorkEnd.{WorkEnd}
-use Rattle.silo_workers.specs.declared.work.WorkEnd.TheVariants.{Idle, Through, Lacking}
+use Rattle.silo_workers.specs.declared.work.WorkEnd.TheVariants.{Through}
 
 -- an event of the settler's may come anywhere
 settling-may : (b : Basis) (run : Run) (e : CoreEvent) → is_settling e ≡ true → MayCome b run e

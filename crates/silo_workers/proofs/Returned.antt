@@ -1,15 +1,14 @@
 -- What the calls of a pass leave of it.
-use Rattle.std.proofs.Common.{◌≡◌, ◌⊎◌, inl, inr, ℕ, ◌≤◌, List, [], ◌∷◌, ◌++◌, Bool, true, false, refl, sym, ap, ◌∙◌, subst, length, arith, append-nil}
+use Rattle.std.proofs.Common.{◌≡◌, inl, inr, ℕ, ◌≤◌, List, [], ◌∷◌, Bool, true, false, refl, sym, ap, ◌∙◌, subst, length, arith}
 use Rattle.std.specs.Prelude.{Result, Ok, Err, IfOk, not, ◌&&◌}
 use Rattle.cell_model.specs.Locks.{holds_lock}
 use Rattle.core_model.specs.CoreState.{UnitNo, GrainId, CoreState}
-use Rattle.core_model.specs.Asked.{IsGoing}
 use Rattle.core_model.specs.declared.effects.Read.{Read}
 use Rattle.core_model.specs.declared.events.CoreEvent.{CoreEvent}
 use Rattle.core_model.specs.declared.events.CoreReply.{CoreReply}
 use Rattle.core_model.specs.Laws.{extended}
 use Rattle.core_model.specs.Legal.{Run, ends}
-use Rattle.core_model.specs.Tests.{all, is_free}
+use Rattle.core_model.specs.Tests.{all}
 use Rattle.turn_cell.specs.declared.view.View.{View}
 use Rattle.turn_cell.specs.History.{In, StartsWith, entries_of}
 use Rattle.turn_cell.specs.Passes.{Adds}
@@ -24,12 +23,11 @@ use Rattle.worker_rules.specs.Sharing.{KeepsPromise}
 use Rattle.worker_rules.specs.Stories.{Promised}
 use Rattle.worker_rules.specs.Work.{OnlyWorks}
 use Rattle.worker_rules.proofs.Own.{promise-none}
-use Rattle.unit_crew.specs.Through.{HasLetGo, IsHeldUp, IsThrough, AreThrough}
+use Rattle.unit_crew.specs.Through.{IsThrough, AreThrough}
 use Rattle.closing_rules.specs.Closed.{IsDone, AreDone, PutsNothing}
 use Rattle.closing_rules.specs.Gathering.{Returns}
 use Rattle.silo_workers.specs.Reaching.{PassAside, aside_of}
-use Rattle.silo_workers.specs.Working.{HasWorked, SaysOfUnits}
-use Rattle.silo_workers.specs.declared.work.WorkEnd.{WorkEnd}
+use Rattle.silo_workers.specs.Working.{HasWorked}
 use Rattle.silo_workers.specs.declared.work.WorkEnd.TheVariants.{Idle, Through, Lacking}
 
 -- an event that was put

@@ -1,11 +1,10 @@
 -- A closed core: its run keeps the unit rule and the books, and its units and lines are done.
-use Rattle.std.proofs.Common.{◌≡◌, ◌⊎◌, inl, inr, ⊎_elim, ℕ, ◌≤◌, ◌<◌, ◌^◌, List, [], ◌∷◌, ◌++◌, length, Bool, true, false, true≢false, refl, sym, ap, ◌∙◌, subst, arith, append-nil}
+use Rattle.std.proofs.Common.{◌≡◌, ◌⊎◌, inl, inr, ⊎_elim, ℕ, ◌≤◌, ◌<◌, ◌^◌, List, [], ◌∷◌, ◌++◌, length, Bool, false, refl, sym, ap, ◌∙◌, subst, arith, append-nil}
 use Rattle.std.specs.Prelude.{Result, Ok, Err}
 use mathlib.Core.List.{append_assoc}
 use Rattle.base_types.specs.declared.shapes.Shape.{Shape}
 use Rattle.host_trait.specs.declared.channels.Channel.{Channel}
 use Rattle.host_trait.specs.World.{World}
-use Rattle.core_model.specs.CoreState.{UnitNo}
 use Rattle.core_model.specs.declared.events.CoreEvent.{CoreEvent}
 use Rattle.core_model.specs.declared.events.CoreEvent.TheVariants.{Halt}
 use Rattle.core_model.specs.Laws.{extended}
@@ -16,14 +15,11 @@ use Rattle.turn_rules.specs.Going.{MayCome}
 use Rattle.turn_rules.specs.Quiet.{IsQuiet}
 use Rattle.turn_rules.proofs.Lawful.{legal-run}
 use Rattle.core_access.specs.Histories.{Told, run_after}
-use Rattle.core_access.specs.Settling.{is_settling}
-use Rattle.core_access.specs.Sights.{Sight, run_seen, Counts, IsAlone, AllPass}
+use Rattle.core_access.specs.Sights.{Sight, run_seen, Counts}
 use Rattle.core_access.specs.ByPass.{all_come}
-use Rattle.promise_spec.specs.Cores.{HasBegun}
 use Rattle.promise_spec.specs.UnitRule.{Basis, KeepsUnitRule}
 use Rattle.worker_rules.specs.Sharing.{KeepsPromise}
-use Rattle.worker_rules.specs.Stories.{Promised}
-use Rattle.worker_rules.specs.Work.{is_work, OnlyWorks}
+use Rattle.worker_rules.specs.Work.{OnlyWorks}
 use Rattle.worker_rules.proofs.Own.{promise-none}
 use Rattle.worker_rules.proofs.Workers.{work-stops}
 use Rattle.settle_loop.specs.declared.settler.Settler.{Settler}
@@ -39,14 +35,14 @@ use Rattle.run_books.proofs.Relying.{counts-on, relies-before}
 use Rattle.run_books.proofs.Seen.{going-all}
 use Rattle.shared_settling.specs.Among.{SettlesAmong, StopsAmong, EndsAmong, CanSettleAmong, SettledAmong}
 use Rattle.shared_settling.proofs.OthersStill.{fault-on}
-use Rattle.closing_rules.specs.Closed.{IsClosed, PutsNothing, SettlesOrStops, IsDone, AreDone, HasBegunLines}
+use Rattle.closing_rules.specs.Closed.{IsClosed, PutsNothing, SettlesOrStops, AreDone, HasBegunLines}
 use Rattle.closing_rules.specs.Gathering.{sight_by}
-use Rattle.closing_rules.proofs.Closes.{closed-less, closed-rule, settles-alone, settles-before, works-since, last-since, closed-done, quiet-done, closed-same}
-use Rattle.silo_workers.specs.Beside.{SettlesBeside, HasSettled}
+use Rattle.closing_rules.proofs.Closes.{closed-less, closed-rule, settles-alone, works-since, last-since, closed-done, quiet-done, closed-same}
+use Rattle.silo_workers.specs.Beside.{HasSettled}
 use Rattle.silo_workers.specs.Ending.{IsOfProgram, HasGathered}
 use Rattle.silo_workers.specs.Working.{HasWorked, SaysOfUnits, IsGathered}
 use Rattle.silo_workers.specs.declared.work.WorkEnd.{WorkEnd}
-use Rattle.silo_workers.specs.declared.work.WorkEnd.TheVariants.{Idle, Through, Lacking}
+use Rattle.silo_workers.specs.declared.work.WorkEnd.TheVariants.{Idle, Through}
 
 -- ---- what the one who settles put
 

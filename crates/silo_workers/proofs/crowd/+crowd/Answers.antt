@@ -8,7 +8,7 @@ use Rattle.atomic_table.proofs.send_lease.SendLease.TheSendSync as lease
 use Rattle.run_lines.proofs.Shared.{checked_sync}
 use Rattle.silo_workers.proofs.Sends.{core_send, captures_send}
 use Rattle.silo_workers.proofs.crowd.+crowd.Lts-crowd as lts
-use Rattle.std.proofs.Common.{rules, ◌+◌, length, sym, ap, subst}
+use Rattle.std.proofs.Common.{rules, ◌+◌, length, sym, subst}
 use Rattle.core_model.specs.declared.events.CoreEvent.{CoreEvent}
 use Rattle.core_model.specs.declared.events.CoreReply.{CoreReply}
 use Rattle.core_access.specs.ByPass.{sight_of}

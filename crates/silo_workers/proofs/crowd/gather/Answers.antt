@@ -1,8 +1,4 @@
-use Rattle.core_access.specs.ByPass.{sight_of}
-use Rattle.core_access.specs.Sights.{Sight}
 use Rattle.history_core.specs.Cores.{run_of}
-use Rattle.script_tree.specs.Programs.{program_tree}
-use Rattle.unit_crew.specs.Crews.{IsBasisOf}
 use Rattle.closing_rules.proofs.Gathered.{whole-gathered}
 use Rattle.silo_workers.proofs.Crowded.{is-gathered}
 use Rattle.silo_workers.proofs.crowd.gather.Goals as goal

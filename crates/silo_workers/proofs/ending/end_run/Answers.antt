@@ -1,4 +1,4 @@
-use Rattle.std.proofs.Common.{◌≡◌, Ok, Err, false, Result, sym, ap, ◌∙◌, subst}
+use Rattle.std.proofs.Common.{◌≡◌, Ok, false, Result, subst}
 use Rattle.std.specs.Prelude.{IfOk}
 use Rattle.core_model.specs.Legal.{ends}
 use Rattle.core_model.specs.Settler.{settler_step, Rests}

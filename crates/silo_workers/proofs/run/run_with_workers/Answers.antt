@@ -1,13 +1,10 @@
-use Rattle.std.proofs.Common.{rules, ◌≡◌, ℕ, ◌+◌, length, [], sym, ap, ◌∙◌, subst, refl, true, false}
+use Rattle.std.proofs.Common.{rules, ◌≡◌, ℕ, ◌+◌, length, [], sym, ap, ◌∙◌, subst, refl}
 use Rattle.core_model.specs.declared.events.CoreEvent.{CoreEvent}
 use Rattle.core_model.specs.declared.events.CoreReply.{CoreReply}
-use Rattle.core_model.specs.Legal.{Run}
 use Rattle.core_access.specs.ByPass.{sight_of}
 use Rattle.history_core.specs.Cores.{CoreData, run_of}
 use Rattle.script_tree.specs.Programs.{program_tree}
 use Rattle.turn_cell.specs.declared.view.View.{View}
-use Rattle.turn_cell.specs.Passes.{view}
-use Rattle.turn_cell.specs.Hands.{first_hand}
 use Rattle.txn_agent.specs.Linked.{IsLegalRun}
 use Rattle.unit_crew.specs.Crews.{IsBasisOf}
 use Rattle.closing_rules.specs.Gathering.{sight_by}
