@@ -41,7 +41,7 @@ with tempfile.TemporaryDirectory() as room:
 
     # 2: bad use. The folder isn't touched.
     unused = folder("unused")
-    for words in ([], [unused], [unused, "runs"], [unused, "run", "run"], [unused, "init", "x"], [unused, "run", "--width", "0"], [unused, "run", "--width"], [unused, "run", "--turns", "1,"], [unused, "run", "--workers", "2"], [unused, "show", "x"], [unused, "load", "0", "7"], [unused, "--help"], [unused, b"\xff"]):
+    for words in ([], [unused], [unused, "runs"], [unused, "run", "run"], [unused, "init", "x"], [unused, "run", "--width", "0"], [unused, "run", "--width"], [unused, "run", "--turns", "1,"], [unused, "run", "--workers", "0"], [unused, "show", "x"], [unused, "load", "0", "7"], [unused, "--help"], [unused, b"\xff"]):
         rows.row(f"words {words[1:]}", run(*words, given=deposit(5)), says(2, b"bad use"))
     rows.row("an unused folder", os.listdir(unused), [])
 
