@@ -9,7 +9,7 @@ use Rattle.core_model.specs.declared.events.CoreEvent.TheVariants.{Bad, Begin, G
 use Rattle.core_model.specs.Events.{applies, does, step}
 use Rattle.core_model.specs.Legal.{Run, begins, ends}
 use Rattle.core_model.specs.Laws.{extended}
-use Rattle.core_model.proofs.Further.{run-append}
+use Rattle.core_laws.proofs.Further.{run-append}
 use Rattle.access_tests.specs.declared.line_core.LineCore.{LineCore}
 use Rattle.access_tests.specs.Lines.{line_run, is_carried, applies_to, counted_if, may_apply, lines_with, written_with, halted_with, Stands, IsFit}
 

@@ -28,7 +28,7 @@ use Rattle.script_meaning.specs.Play.{initial_of}
 use Rattle.promise_spec.specs.Records.{new_silo}
 use Rattle.promise_spec.specs.Loads.{account, bank_text}
 use Rattle.bank_load.specs.Banks.{bank_names}
-use Rattle.core_model.proofs.Decoded.{none-true}
+use Rattle.core_laws.proofs.Decoded.{none-true}
 
 size_is : length bank_text ≡ 1130
 size_is = refl

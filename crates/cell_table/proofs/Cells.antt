@@ -10,7 +10,7 @@ use Rattle.base_types.specs.declared.calls.GrainId.{GrainId}
 use Rattle.base_types.specs.Stores.{grain_cmp}
 use Rattle.cell_model.specs.Cells.{Cell}
 use Rattle.core_model.specs.CoreState.{put_grain}
-use Rattle.core_model.proofs.Puts.{grain-at}
+use Rattle.core_laws.proofs.Puts.{grain-at}
 use Rattle.grain_cell.specs.Room.{CellInRoom}
 use Rattle.cell_table.specs.declared.table.CellTable.{CellTable}
 use Rattle.cell_table.specs.Table.{cell_in, cell_or, opens_with}

@@ -9,8 +9,8 @@ use Rattle.core_model.specs.declared.events.CoreReply.TheVariants.{Began}
 use Rattle.core_model.specs.Legal.{Run, IsLegal, ends}
 use Rattle.core_model.specs.Lines.{IsSettled}
 use Rattle.core_model.specs.Tests.{is_over, is_free}
-use Rattle.core_model.proofs.Batching.{unfree-holds}
-use Rattle.core_model.proofs.Ends.{kept-ends}
+use Rattle.core_laws.proofs.Batching.{unfree-holds}
+use Rattle.core_laws.proofs.Ends.{kept-ends}
 use Rattle.promise_spec.specs.Cores.{HasBegun}
 use Rattle.promise_spec.specs.UnitRule.{Basis, KeepsUnitRule}
 use Rattle.turn_cell.specs.History.{In, entries_of}
@@ -29,7 +29,7 @@ use Rattle.worker_rules.proofs.Own.{of-log}
 use Rattle.worker_rules.proofs.Promising.{leaves-is}
 use Rattle.worker_rules.proofs.Whole.{all-ruled, alone-with}
 use Rattle.closing_rules.specs.Gathering.{sight_by, Knew, WasShown}
-use Rattle.closing_rules.specs.Closed.{IsClosed, PutsNothing, SettlesOrStops, IsDone, AreDone, HasBegunLines}
+use Rattle.closing_rules.specs.Closed.{IsClosed, PutsNothing, SettlesOrStops, IsOverAndFree, AreOverAndFree, HasBegunLines}
 use Rattle.closing_rules.proofs.Gathered.{knew-less}
 use Rattle.closing_rules.proofs.Onwards.{going-before, lines-after}
 use Rattle.closing_rules.proofs.Stories.{Story, story-rest, story-end, story-sound, begun-after, reply-there, none-began, settles-no-begin, done-after}
@@ -110,7 +110,7 @@ module _ (first last : Run) (c : IsClosed Counts (λ s. OnlyWorks s.mine) first 
 -- ---- the units
 
 -- who is settled and holds nothing is done
-pub quiet-done : (r : Run) (u : UnitNo) → IsLegal (λ (e : Effect). true) r → IsQuiet (ends r) → HasBegun (ends r) u → IsDone u r
+pub quiet-done : (r : Run) (u : UnitNo) → IsLegal (λ (e : Effect). true) r → IsQuiet (ends r) → HasBegun (ends r) u → IsOverAndFree u r
 quiet-done r u legal q born going = (over (q.settled u born), free)
   where
     over : IsSettled (ends r) u → is_over ((ends r).units.phase u) ≡ true
@@ -124,8 +124,8 @@ quiet-done r u legal q born going = (over (q.settled u born), free)
       | inr a ↦ (let t = unfree-holds (ends r) u a in absurd (q.free u t.0 t.1.0 t.1.1 t.1.2))
     ]
 
-module _ (b : Basis) (first last : Run) (c : IsClosed (λ s. SettlesOrStops s.mine × KeepsPromise b s) (λ s. KeepsPromise b s × AreDone s) first last)
-    (above : 0 < first.base) (rule : KeepsUnitRule b first) (before : (u : UnitNo) → HasBegun (ends first) u → IsDone u first) where
+module _ (b : Basis) (first last : Run) (c : IsClosed (λ s. SettlesOrStops s.mine × KeepsPromise b s) (λ s. KeepsPromise b s × AreOverAndFree s) first last)
+    (above : 0 < first.base) (rule : KeepsUnitRule b first) (before : (u : UnitNo) → HasBegun (ends first) u → IsOverAndFree u first) where
   abbrev promises : IsClosed (KeepsPromise b) (KeepsPromise b) first last
   promises = closed-less _ (KeepsPromise b) _ (KeepsPromise b) (λ s p. p.1) (λ s p. p.0) first last c
 
@@ -157,22 +157,22 @@ module _ (b : Basis) (first last : Run) (c : IsClosed (λ s. SettlesOrStops s.mi
       (c.own.holds.0 x (in_entries c.log [] x (sym is) i))
 
   -- a unit that a worker began is done
-  worker-done : (u : UnitNo) (x : Told) → In x c.log → x.reply ≡ Began u → Knew (λ s. KeepsPromise b s × AreDone s) first x.by c.log (entries_of x.by c.log) → IsDone u (run_after first c.log)
+  worker-done : (u : UnitNo) (x : Told) → In x c.log → x.reply ≡ Began u → Knew (λ s. KeepsPromise b s × AreOverAndFree s) first x.by c.log (entries_of x.by c.log) → IsOverAndFree u (run_after first c.log)
   worker-done u x i q k =
       let mine : List Told = entries_of x.by c.log in
       let s : Sight = sight_by first x.by k.shown mine in
       let here : In x mine = in_entries c.log x.by x refl i in
       let whole : IsAlone (leaves_unit u) (sight_by first x.by c.log mine) = alone-with (MayCome b) first c.log c.legal all x.by mine u refl x here q in
       let there : IsAlone (leaves_unit u) (saw (sight_by first x.by k.shown mine) k.begins.0) = subst (λ (l : List Told). IsAlone (leaves_unit u) (sight_by first x.by l mine)) k.begins.1 whole in
-      let now : IsDone u (run_after first k.shown) = k.holds.1 u (x, here, q) (saw-before (leaves_unit u) (sight_by first x.by k.shown mine) k.begins.0 k.holds.0.some there) in
+      let now : IsOverAndFree u (run_after first k.shown) = k.holds.1 u (x, here, q) (saw-before (leaves_unit u) (sight_by first x.by k.shown mine) k.begins.0 k.holds.0.some there) in
       let since = saw-harmless (leaves_unit u) (sight_by first x.by k.shown mine) k.begins.0 k.holds.0.some there in
       let rest : Story b (run_after first k.shown) k.begins.0 = story-rest b k.shown k.begins.0 first (subst (Story b first) k.begins.1 story) in
       let last-is : run_after first c.log ≡ run_after (run_after first k.shown) k.begins.0 = ap (run_after first) k.begins.1 ∙ run-on k.shown k.begins.0 first in
-      subst (IsDone u) (sym last-is) (done-after b k.begins.0 (run_after first k.shown) u rest (λ y j. (leaves-is u y.event (since y j)).0) now)
+      subst (IsOverAndFree u) (sym last-is) (done-after b k.begins.0 (run_after first k.shown) u rest (λ y j. (leaves-is u y.event (since y j)).0) now)
 
   -- so is each unit
-  pub closed-done : (u : UnitNo) → HasBegun (ends last) u → IsDone u last
-  closed-done u born = subst (IsDone u) (sym c.left) (elim (begun-after b c.log first u story (subst (λ (r : Run). HasBegun (ends r) u) c.left born)) [
+  pub closed-done : (u : UnitNo) → HasBegun (ends last) u → IsOverAndFree u last
+  closed-done u born = subst (IsOverAndFree u) (sym c.left) (elim (begun-after b c.log first u story (subst (λ (r : Run). HasBegun (ends r) u) c.left born)) [
     | inl old ↦ done-after b c.log first u story (old-others u old) (before u old)
     | inr y ↦ ⊎_elim
         (λ t. absurd (settler-begins u y.0 y.1 t y.2))

@@ -11,7 +11,7 @@ use Rattle.core_model.specs.declared.events.CoreEvent.TheVariants.{Begin}
 use Rattle.core_model.specs.declared.events.CoreReply.TheVariants.{Began}
 use Rattle.core_model.specs.Events.{applies, does, step, reply_to, reply_with, reply_without}
 use Rattle.core_model.specs.Legal.{Run, IsLegal, ends}
-use Rattle.core_model.proofs.Ends.{kept-ends}
+use Rattle.core_laws.proofs.Ends.{kept-ends}
 use Rattle.promise_spec.specs.Cores.{HasBegun}
 use Rattle.promise_spec.specs.Gotten.{got_in}
 use Rattle.promise_spec.specs.UnitRule.{Basis, KeepsUnitRule}
@@ -29,7 +29,7 @@ use Rattle.core_access.specs.Histories.{Told, reply_in, run_after, IsTrue}
 use Rattle.core_access.specs.Settling.{is_settling}
 use Rattle.worker_rules.specs.Stories.{IsRuled}
 use Rattle.worker_rules.proofs.Numbers.{began-next}
-use Rattle.closing_rules.specs.Closed.{IsDone}
+use Rattle.closing_rules.specs.Closed.{IsOverAndFree}
 use Rattle.closing_rules.proofs.Onwards.{going-event}
 
 -- The run keeps the unit rule, and behind it the history is true and each of its events is due.
@@ -141,7 +141,7 @@ settles-no-begin _ q = refl
 
 -- ---- who is done
 
-done-event : (b : Basis) (r : Run) (x : Told) (log : List Told) (u : UnitNo) → Story b r (x ∷ log) → is_own u x.event ≡ false → IsDone u r → IsDone u (with_event r x.event)
+done-event : (b : Basis) (r : Run) (x : Told) (log : List Told) (u : UnitNo) → Story b r (x ∷ log) → is_own u x.event ≡ false → IsOverAndFree u r → IsOverAndFree u (with_event r x.event)
 done-event b r x log u s other done going =
     let d = done (going-event r x.event going) in
     let still : IsStill u (ends r) (ends (with_event r x.event)) = subst (IsStill u (ends r)) (sym (ends-more r x.event))
@@ -152,7 +152,7 @@ done-event b r x log u s other done going =
     )
 
 -- one is so behind a history without events of the unit
-pub done-after : (b : Basis) (log : List Told) (r : Run) (u : UnitNo) → Story b r log → ((x : Told) → In x log → is_own u x.event ≡ false) → IsDone u r → IsDone u (run_after r log)
+pub done-after : (b : Basis) (log : List Told) (r : Run) (u : UnitNo) → Story b r log → ((x : Told) → In x log → is_own u x.event ≡ false) → IsOverAndFree u r → IsOverAndFree u (run_after r log)
 done-after b [] r u s others done = done
 done-after b (x ∷ log) r u s others done =
     done-after b log (with_event r x.event) u (story-tail b r x log s) (λ y i. others y (inr i)) (done-event b r x log u s (others x (inl refl)) done)

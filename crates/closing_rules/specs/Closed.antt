@@ -30,12 +30,12 @@ abbrev pub SettlesOrStops : List Told → Type 0
 SettlesOrStops mine = (x : Told) → In x mine → (is_settling x.event ≡ true) ⊎ (x.event ≡ Halt)
 
 -- the unit is over and holds no lock, unless there is a doubt or a stop
-abbrev pub IsDone : UnitNo → Run → Type 0
-IsDone u r = IsGoing (ends r) → (is_over ((ends r).units.phase u) ≡ true) × (is_free (ends r) u ≡ true)
+abbrev pub IsOverAndFree : UnitNo → Run → Type 0
+IsOverAndFree u r = IsGoing (ends r) → (is_over ((ends r).units.phase u) ≡ true) × (is_free (ends r) u ≡ true)
 
 -- so is each unit that began by an entry of one's own, if nobody else made an event of it
-abbrev pub AreDone : Sight → Type 0
-AreDone s = (u : UnitNo) → BeganHere u s → IfAlone (leaves_unit u) s (IsDone u)
+abbrev pub AreOverAndFree : Sight → Type 0
+AreOverAndFree s = (u : UnitNo) → BeganHere u s → IfAlone (leaves_unit u) s (IsOverAndFree u)
 
 -- so many lines have begun, unless there is a doubt or a stop
 abbrev pub HasBegunLines : ℕ → Run → Type 0

@@ -12,7 +12,7 @@ ghost use Rattle.worker_rules.specs.Sharing.{KeepsPromise};
 ghost use Rattle.worker_rules.specs.Stories.{AllPromise};
 ghost use Rattle.worker_rules.specs.Work.{is_work, OnlyWorks};
 ghost use Rattle.closing_rules.specs.Gathering.{sight_by, WasShown};
-ghost use Rattle.closing_rules.specs.Closed.{IsClosed, PutsNothing, SettlesOrStops, IsDone, AreDone, HasBegunLines};
+ghost use Rattle.closing_rules.specs.Closed.{IsClosed, PutsNothing, SettlesOrStops, IsOverAndFree, AreOverAndFree, HasBegunLines};
 
 /// Where no pass put anything, the closed core's run is what it was.
 pub fn nothing_put_changes_nothing()
@@ -37,9 +37,9 @@ pub fn who_settles_is_alone()
 /// Where each worker's units are done, if nobody else made an event of them, and the first pass only settled, each unit that has
 /// begun by the closed core's run is done, if those were so that had begun before.
 pub fn all_units_are_done()
-    ensures all { (b : Basis) (first last : Run) → IsClosed (λ s. SettlesOrStops s.mine × KeepsPromise b s) (λ s. KeepsPromise b s × AreDone s) first last
-        → 0 < first.base → KeepsUnitRule b first → ((u : UnitNo) → HasBegun (ends first) u → IsDone u first) → (u : UnitNo) → HasBegun (ends last) u → IsDone u last }
-    ensures quiet { (b : Basis) (r : Run) (u : UnitNo) → 0 < r.base → KeepsUnitRule b r → IsQuiet (ends r) → HasBegun (ends r) u → IsDone u r }
+    ensures all { (b : Basis) (first last : Run) → IsClosed (λ s. SettlesOrStops s.mine × KeepsPromise b s) (λ s. KeepsPromise b s × AreOverAndFree s) first last
+        → 0 < first.base → KeepsUnitRule b first → ((u : UnitNo) → HasBegun (ends first) u → IsOverAndFree u first) → (u : UnitNo) → HasBegun (ends last) u → IsOverAndFree u last }
+    ensures quiet { (b : Basis) (r : Run) (u : UnitNo) → 0 < r.base → KeepsUnitRule b r → IsQuiet (ends r) → HasBegun (ends r) u → IsOverAndFree u r }
 {}
 
 /// As many lines have begun by the last run as had when a worker looked, unless there is a doubt or a stop.

@@ -6,7 +6,7 @@ use Rattle.core_model.specs.declared.events.CoreReply.{CoreReply}
 use Rattle.core_model.specs.Legal.{Run, ends}
 use Rattle.core_model.specs.Laws.{extended}
 use Rattle.core_model.specs.Replies.{OnlyExtends}
-use Rattle.core_model.proofs.Replied.{extends-ends}
+use Rattle.core_laws.proofs.Replied.{extends-ends}
 use Rattle.turn_cell.specs.History.{entry}
 use Rattle.core_access.specs.Histories.{Told, run_after}
 use Rattle.core_access.specs.Sights.{Sight, run_seen, Looks, Tells}

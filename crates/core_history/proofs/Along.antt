@@ -5,7 +5,7 @@ use Rattle.core_model.specs.declared.events.CoreEvent.{CoreEvent}
 use Rattle.core_model.specs.CoreState.{GrainId, CoreState}
 use Rattle.core_model.specs.Changes.{swept, swept_by}
 use Rattle.core_model.specs.Events.{applies, is_allowed, can, does, step, run, reply_to, reply_with, reply_without}
-use Rattle.core_model.proofs.Decoded.{Change, decode}
+use Rattle.core_laws.proofs.Decoded.{Change, decode}
 use Rattle.core_history.specs.Histories.{Applied, with_event, history_from}
 use Rattle.core_history.proofs.Words.{more}
 

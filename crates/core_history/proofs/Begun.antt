@@ -11,8 +11,8 @@ use Rattle.core_model.specs.declared.phases.Phase.TheVariants.{Unborn, Running, 
 use Rattle.core_model.specs.CoreState.{UnitNo, Call, CoreState, Member, put}
 use Rattle.core_model.specs.Lines.{HasBegunFor}
 use Rattle.core_model.specs.Changes.{new_unit}
-use Rattle.core_model.proofs.Decoded.{Change, begin, refuse, finish, end_plain, end_snapshot}
-use Rattle.core_model.proofs.Puts.{put-at, put-is, put-other}
+use Rattle.core_laws.proofs.Decoded.{Change, begin, refuse, finish, end_plain, end_snapshot}
+use Rattle.core_laws.proofs.Puts.{put-at, put-is, put-other}
 use Rattle.core_history.specs.Histories.{Applied}
 use Rattle.core_history.specs.Units.{BeganFor}
 use Rattle.core_history.proofs.Words.{more}

@@ -20,14 +20,14 @@ use Rattle.core_model.specs.Dead.{Dead, itself}
 use Rattle.core_model.specs.Holders.{DifferInUnit}
 use Rattle.core_model.specs.Causes.{Settles, HasCause, IsRefusedLock}
 use Rattle.core_model.specs.Changes.{entry_for, entries_in, told, result_told, decisions_of, with_decisions, judged, verdict_of, refusal}
-use Rattle.core_model.proofs.Decoded.{Change, bad, refuse, end_plain, end_snapshot, decide_none, seal_batch, spoil_batch, doubt_batch, ask-refused}
-use Rattle.core_model.proofs.Basics.{Dead-more}
-use Rattle.core_model.proofs.Alive.{good-alive}
-use Rattle.core_model.proofs.Failures.{failed-some, failed-none}
-use Rattle.core_model.proofs.Reasons.{Reason, Reasons, argued-decided, member-finished}
-use Rattle.core_model.proofs.Split.{no_doubt}
-use Rattle.core_model.proofs.Kept.{inv-judged, inv-decided}
-use Rattle.core_model.proofs.Caused.{entry-parts, entries-parts, dead-bad, refused-cause}
+use Rattle.core_laws.proofs.Decoded.{Change, bad, refuse, end_plain, end_snapshot, decide_none, seal_batch, spoil_batch, doubt_batch, ask-refused}
+use Rattle.core_laws.proofs.Basics.{Dead-more}
+use Rattle.core_laws.proofs.Alive.{good-alive}
+use Rattle.core_laws.proofs.Failures.{failed-some, failed-none}
+use Rattle.core_laws.proofs.Reasons.{Reason, Reasons, argued-decided, member-finished}
+use Rattle.core_laws.proofs.Split.{no_doubt}
+use Rattle.core_laws.proofs.Kept.{inv-judged, inv-decided}
+use Rattle.core_laws.proofs.Caused.{entry-parts, entries-parts, dead-bad, refused-cause}
 use Rattle.core_history.specs.Histories.{Applied}
 use Rattle.core_history.specs.Units.{BeganFor, reads_in}
 use Rattle.core_history.specs.Fates.{IsDeadIn}

@@ -13,17 +13,17 @@ use Rattle.core_model.specs.Serial.{IsTrueLoad, batch_begin}
 use Rattle.core_model.specs.Changes.{seal, spoil, leave, verdict_of}
 use Rattle.core_model.specs.Events.{step}
 use Rattle.core_model.specs.Legal.{Run, IsLegal, begins}
-use Rattle.core_model.proofs.Kept.{Kept, kept-step, inv-open, inv-judged, size-open}
-use Rattle.core_model.proofs.Dependencies.{Depends, depends-step}
-use Rattle.core_model.proofs.Batches.{Batched, batched-step}
-use Rattle.core_model.proofs.Reasons.{Argued, argued-step, Reason, Reasons}
-use Rattle.core_model.proofs.Held.{Tidy, tidy-step}
-use Rattle.core_model.proofs.Split.{Split, split-step}
-use Rattle.core_model.proofs.Verdicts.{Turned, turned-step}
-use Rattle.core_model.proofs.Batching.{Unheld, unheld-step}
-use Rattle.core_model.proofs.Ends.{kept-begins}
-use Rattle.core_model.proofs.Orders.{in_part}
-use Rattle.core_model.proofs.Caused.{member-place}
+use Rattle.core_laws.proofs.Kept.{Kept, kept-step, inv-open, inv-judged, size-open}
+use Rattle.core_laws.proofs.Dependencies.{Depends, depends-step}
+use Rattle.core_laws.proofs.Batches.{Batched, batched-step}
+use Rattle.core_laws.proofs.Reasons.{Argued, argued-step, Reason, Reasons}
+use Rattle.core_laws.proofs.Held.{Tidy, tidy-step}
+use Rattle.core_laws.proofs.Split.{Split, split-step}
+use Rattle.core_laws.proofs.Verdicts.{Turned, turned-step}
+use Rattle.core_laws.proofs.Batching.{Unheld, unheld-step}
+use Rattle.core_laws.proofs.Ends.{kept-begins}
+use Rattle.core_laws.proofs.Orders.{in_part}
+use Rattle.core_laws.proofs.Caused.{member-place}
 use Rattle.core_history.proofs.Placed.{placed-member}
 
 -- what the core model keeps along a legal run

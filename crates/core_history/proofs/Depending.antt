@@ -13,9 +13,9 @@ use Rattle.core_model.specs.declared.phases.Phase.TheVariants.{Running}
 use Rattle.core_model.specs.CoreState.{UnitNo, GrainId, Mode, Value, CoreState, Member, nobody, same_unit, top, put, put_grain}
 use Rattle.core_model.specs.Tests.{is_over, is_committed}
 use Rattle.core_model.specs.Changes.{cleaned, restacked, deps_with, is_sure, read_of}
-use Rattle.core_model.proofs.Decoded.{Change, lock, raise}
-use Rattle.core_model.proofs.Basics.{is_committed-true}
-use Rattle.core_model.proofs.Puts.{put-at, put-from, grain-same}
+use Rattle.core_laws.proofs.Decoded.{Change, lock, raise}
+use Rattle.core_laws.proofs.Basics.{is_committed-true}
+use Rattle.core_laws.proofs.Puts.{put-at, put-from, grain-same}
 use Rattle.core_history.specs.Histories.{Applied}
 use Rattle.core_history.specs.Units.{shown, has_read, reads_in}
 use Rattle.core_history.specs.Fates.{IsCommittedIn}

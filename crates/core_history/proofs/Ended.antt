@@ -13,15 +13,15 @@ use Rattle.core_model.specs.declared.phases.Verdict.TheVariants.{Open, Chosen, C
 use Rattle.core_model.specs.CoreState.{UnitNo, GrainId, Value, Write, Batch, CoreState, Member, put}
 use Rattle.core_model.specs.Tests.{is_bad, is_good, is_final, members}
 use Rattle.core_model.specs.Changes.{new_unit, decisions_of, judged, verdict_of, seal, spoil, leave}
-use Rattle.core_model.proofs.Decoded.{Change, begin, refuse, finish, end_plain, end_snapshot, release, emit, decide_some, decide_none, seal_batch, spoil_batch, doubt_batch}
-use Rattle.core_model.proofs.Puts.{put-from, put-other}
-use Rattle.core_model.proofs.Basics.{is_final-cases}
-use Rattle.core_model.proofs.Alive.{good-alive}
-use Rattle.core_model.proofs.Orders.{judged-other, in_part}
-use Rattle.core_model.proofs.Kept.{inv-open}
-use Rattle.core_model.proofs.Reasons.{Reasons, argued-decided}
-use Rattle.core_model.proofs.Split.{no_doubt}
-use Rattle.core_model.proofs.Aborting.{judged-aborted, decided-stops, ended-stops}
+use Rattle.core_laws.proofs.Decoded.{Change, begin, refuse, finish, end_plain, end_snapshot, release, emit, decide_some, decide_none, seal_batch, spoil_batch, doubt_batch}
+use Rattle.core_laws.proofs.Puts.{put-from, put-other}
+use Rattle.core_laws.proofs.Basics.{is_final-cases}
+use Rattle.core_laws.proofs.Alive.{good-alive}
+use Rattle.core_laws.proofs.Orders.{judged-other, in_part}
+use Rattle.core_laws.proofs.Kept.{inv-open}
+use Rattle.core_laws.proofs.Reasons.{Reasons, argued-decided}
+use Rattle.core_laws.proofs.Split.{no_doubt}
+use Rattle.core_laws.proofs.Aborting.{judged-aborted, decided-stops, ended-stops}
 use Rattle.core_history.specs.Histories.{Applied, Happened}
 use Rattle.core_history.specs.Batches.{InBatch}
 use Rattle.core_history.specs.Fates.{IsDeadIn}
@@ -32,7 +32,7 @@ use Rattle.core_history.proofs.Tells.{Tells}
 use Rattle.core_history.proofs.Placed.{batch-before, open-batch, open-member}
 use Rattle.core_history.proofs.Cores.{Core, chosen-undecided, member-judged}
 use Rattle.core_history.proofs.Fated.{Step, FatesOf, dead-more, dead-by, decided-dead, decided-reason, old-batch}
-use Rattle.core_model.proofs.Verdicts.{member-or-not}
+use Rattle.core_laws.proofs.Verdicts.{member-or-not}
 
 -- What the history tells of decided batches: who is aborted after its finish had a batch that has ended; in a batch in
 -- doubt nobody is to abort any more; and in a decided one somebody is to abort only where somebody is to commit.

@@ -19,16 +19,16 @@ use Rattle.core_model.specs.Chains.{WroteGrain}
 use Rattle.core_model.specs.Dead.{IsDead, itself, by_source as dead_source}
 use Rattle.core_model.specs.Changes.{new_batch, decisions_of, judged, verdict_of}
 use Rattle.core_model.specs.Events.{applies, batch_size, reply_with}
-use Rattle.core_model.proofs.Decoded.{Change, refuse, finish, take_batch, vote, decide_some, decide_none, seal_batch, spoil_batch, doubt_batch}
-use Rattle.core_model.proofs.Puts.{put-from, put-is, put-other}
-use Rattle.core_model.proofs.Basics.{is_final-cases}
-use Rattle.core_model.proofs.Growth.{Grows, seal-bad as seal-bads}
-use Rattle.core_model.proofs.Alive.{good-alive}
-use Rattle.core_model.proofs.Failures.{failed-some, failed-none}
-use Rattle.core_model.proofs.Consistency.{depends-earlier}
-use Rattle.core_model.proofs.Reasons.{Reason, argued-decided, member-finished}
-use Rattle.core_model.proofs.Orders.{judged-other}
-use Rattle.core_model.proofs.Split.{no_doubt, seal-final, leave-committed}
+use Rattle.core_laws.proofs.Decoded.{Change, refuse, finish, take_batch, vote, decide_some, decide_none, seal_batch, spoil_batch, doubt_batch}
+use Rattle.core_laws.proofs.Puts.{put-from, put-is, put-other}
+use Rattle.core_laws.proofs.Basics.{is_final-cases}
+use Rattle.core_laws.proofs.Growth.{Grows, seal-bad as seal-bads}
+use Rattle.core_laws.proofs.Alive.{good-alive}
+use Rattle.core_laws.proofs.Failures.{failed-some, failed-none}
+use Rattle.core_laws.proofs.Consistency.{depends-earlier}
+use Rattle.core_laws.proofs.Reasons.{Reason, argued-decided, member-finished}
+use Rattle.core_laws.proofs.Orders.{judged-other}
+use Rattle.core_laws.proofs.Split.{no_doubt, seal-final, leave-committed}
 use Rattle.core_history.specs.Histories.{Applied, Happened}
 use Rattle.core_history.specs.Units.{with_read, has_read, shown, reads_in, WroteIn}
 use Rattle.core_history.specs.Batches.{InBatch}
@@ -40,7 +40,7 @@ use Rattle.core_history.proofs.Taken.{Parted}
 use Rattle.core_history.proofs.Tells.{Tells}
 use Rattle.core_history.proofs.Placed.{batch-finished, batch-count, batch-before, batch-cases, open-batch, open-member}
 use Rattle.core_history.proofs.Cores.{Core, chosen-member, chosen-undecided, member-judged, spoil-aborted, seal-bad, leave-bad, spoil-bad, seal-committed, spoil-committed, reasons-at}
-use Rattle.core_model.proofs.Verdicts.{member-or-not}
+use Rattle.core_laws.proofs.Verdicts.{member-or-not}
 
 -- the batch that an event speaks of, 0 where it speaks of none
 abbrev pub number_of : CoreEvent → ℕ

@@ -20,12 +20,12 @@ use Rattle.core_model.specs.Tests.{is_aborted, is_committed, is_final, is_gone, 
 use Rattle.core_model.specs.Chains.{Chain, IsBottom, IsLink}
 use Rattle.core_model.specs.Serial.{IsTrueLoad}
 use Rattle.core_model.specs.Changes.{new_unit, restacked, cleaned, after_lock, after_release, loaded, read_of}
-use Rattle.core_model.proofs.Decoded.{Change, begin, lock, raise, refuse, finish, end_plain, end_snapshot, release, learn, load}
-use Rattle.core_model.proofs.Puts.{put-from, grain-at, grain-from}
-use Rattle.core_model.proofs.Basics.{is_aborted-true, is_final-cases}
-use Rattle.core_model.proofs.Invariant.{Inv, wrote-finished}
-use Rattle.core_model.proofs.Released.{cut-member, learnt-member}
-use Rattle.core_model.proofs.Removed.{Absent}
+use Rattle.core_laws.proofs.Decoded.{Change, begin, lock, raise, refuse, finish, end_plain, end_snapshot, release, learn, load}
+use Rattle.core_laws.proofs.Puts.{put-from, grain-at, grain-from}
+use Rattle.core_laws.proofs.Basics.{is_aborted-true, is_final-cases}
+use Rattle.core_laws.proofs.Invariant.{Inv, wrote-finished}
+use Rattle.core_laws.proofs.Released.{cut-member, learnt-member}
+use Rattle.core_laws.proofs.Removed.{Absent}
 use Rattle.core_history.specs.Histories.{Applied}
 use Rattle.core_history.specs.Units.{shown, with_read, reads_in}
 use Rattle.core_history.specs.Gone.{IsDecidedDead, TakesOff, StandsOn, itself, above, IsGone}

@@ -11,8 +11,8 @@ use Rattle.core_model.specs.CoreState.{UnitNo, GrainId, Mode, Hold, Batch, CoreS
 use Rattle.core_model.specs.Tests.{is_over, is_running}
 use Rattle.core_model.specs.Changes.{new_unit}
 use Rattle.core_model.specs.Events.{reply_with, decided_reply}
-use Rattle.core_model.proofs.Decoded.{Change, begin, lock, raise, refuse, finish, end_plain, end_snapshot, release, decide_some, decide_none}
-use Rattle.core_model.proofs.Puts.{put-at, grain-at}
+use Rattle.core_laws.proofs.Decoded.{Change, begin, lock, raise, refuse, finish, end_plain, end_snapshot, release, decide_some, decide_none}
+use Rattle.core_laws.proofs.Puts.{put-at, grain-at}
 use Rattle.core_history.proofs.Words.{or-false}
 use Rattle.core_history.specs.Units.{finisher, is_begin_of, is_end_of, mode_after}
 use Rattle.core_history.specs.States.{mode_of}

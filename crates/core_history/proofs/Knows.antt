@@ -10,8 +10,8 @@ use Rattle.core_model.specs.Dead.{IsDead}
 use Rattle.core_model.specs.Serial.{AllLoadsTrue}
 use Rattle.core_model.specs.Events.{applies, step}
 use Rattle.core_model.specs.Legal.{Run, IsLegal, begins, ends}
-use Rattle.core_model.proofs.Decoded.{Change}
-use Rattle.core_model.proofs.Growth.{grows-change}
+use Rattle.core_laws.proofs.Decoded.{Change}
+use Rattle.core_laws.proofs.Growth.{grows-change}
 use Rattle.core_history.specs.Histories.{Applied, history_of}
 use Rattle.core_history.specs.Fates.{IsDeadIn, IsCommittedIn}
 use Rattle.core_history.specs.Gone.{IsDecidedDead}

@@ -7,16 +7,16 @@ use Rattle.core_model.specs.declared.events.CoreEvent.TheVariants.{Take}
 use Rattle.core_model.specs.declared.phases.Phase.TheVariants.{Finished}
 use Rattle.core_model.specs.CoreState.{UnitNo, GrainId, nobody, Value, Batch, CoreState, Member}
 use Rattle.core_model.specs.Tests.{members, waiting}
-use Rattle.core_model.proofs.Invariant.{Inv}
-use Rattle.core_model.proofs.Orders.{in_drop, take_length, at_part, Member-take, Member-get}
-use Rattle.core_model.proofs.Kept.{Kept}
+use Rattle.core_laws.proofs.Invariant.{Inv}
+use Rattle.core_laws.proofs.Orders.{in_drop, take_length, at_part, Member-take, Member-get}
+use Rattle.core_laws.proofs.Kept.{Kept}
 use Rattle.core_history.specs.Histories.{Applied}
 use Rattle.core_history.specs.Batches.{InBatch, with_taken, batches_in, next_batch}
 use Rattle.core_history.specs.States.{parts, open_sizes, sizes_of}
 use Rattle.core_history.proofs.Words.{more, batches-more}
 use Rattle.core_history.proofs.Tells.{Tells}
 use Rattle.core_history.proofs.Taken.{parts-more, sizes-open}
-use Rattle.core_model.proofs.Voted.{Member-drop}
+use Rattle.core_laws.proofs.Voted.{Member-drop}
 
 parts-length : (ns : List ℕ) (us : List UnitNo) → length (parts ns us) ≡ length ns
 parts-length [] us = refl

@@ -14,8 +14,8 @@ use Rattle.core_model.specs.CoreState.{UnitNo, GrainId, Mode, Outcome, CoreState
 use Rattle.core_model.specs.Tests.{is_over}
 use Rattle.core_model.specs.Changes.{new_unit, cleaned, read_of}
 use Rattle.core_model.specs.Events.{reply_with}
-use Rattle.core_model.proofs.Decoded.{Change, begin, lock, raise, refuse, finish, end_plain, end_snapshot, release}
-use Rattle.core_model.proofs.Puts.{put-at, put-from, put-is, put-other, grain-same}
+use Rattle.core_laws.proofs.Decoded.{Change, begin, lock, raise, refuse, finish, end_plain, end_snapshot, release}
+use Rattle.core_laws.proofs.Puts.{put-at, put-from, put-is, put-other, grain-same}
 use Rattle.core_history.specs.Units.{shown, has_read, with_read, effect_after, writes_of}
 use Rattle.core_history.specs.States.{mode_of}
 use Rattle.core_history.proofs.Words.{or-false}

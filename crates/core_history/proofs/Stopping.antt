@@ -10,11 +10,11 @@ use Rattle.core_model.specs.CoreState.{UnitNo, GrainId, Mode, Value, Settled, Co
 use Rattle.core_model.specs.Tests.{ask_answer, members}
 use Rattle.core_model.specs.Causes.{IsAbort}
 use Rattle.core_model.specs.Changes.{told, decisions_of, judged, seal, spoil, leave, refusal}
-use Rattle.core_model.proofs.Decoded.{Change, refuse, decide_some, decide_none, seal_batch, spoil_batch, doubt_batch, ask-refused}
-use Rattle.core_model.proofs.Puts.{put-from}
-use Rattle.core_model.proofs.Basics.{Dead-more}
-use Rattle.core_model.proofs.Split.{no_doubt}
-use Rattle.core_model.proofs.Aborting.{judged-aborted, decided-stops, ended-stops, seal-commit, leave-commit}
+use Rattle.core_laws.proofs.Decoded.{Change, refuse, decide_some, decide_none, seal_batch, spoil_batch, doubt_batch, ask-refused}
+use Rattle.core_laws.proofs.Puts.{put-from}
+use Rattle.core_laws.proofs.Basics.{Dead-more}
+use Rattle.core_laws.proofs.Split.{no_doubt}
+use Rattle.core_laws.proofs.Aborting.{judged-aborted, decided-stops, ended-stops, seal-commit, leave-commit}
 use Rattle.core_history.specs.Histories.{Applied}
 use Rattle.core_history.specs.Causes.{CouldCommit, CauseIn, IsAbortedIn}
 use Rattle.core_history.proofs.Words.{more}

@@ -11,8 +11,8 @@ use Rattle.core_model.specs.Tests.{free_prefix, is_free, waiting}
 use Rattle.core_model.specs.Changes.{new_batch, decisions_of}
 use Rattle.core_model.specs.Events.{batch_size}
 use Rattle.core_model.specs.Consistent.{size_of}
-use Rattle.core_model.proofs.Orders.{free_prefix-length}
-use Rattle.core_model.proofs.Decoded.{Change, finish, take_batch, vote, decide_some, decide_none, seal_batch, spoil_batch, doubt_batch}
+use Rattle.core_laws.proofs.Orders.{free_prefix-length}
+use Rattle.core_laws.proofs.Decoded.{Change, finish, take_batch, vote, decide_some, decide_none, seal_batch, spoil_batch, doubt_batch}
 use Rattle.core_history.specs.Histories.{Applied}
 use Rattle.core_history.specs.Units.{finish_order, held, reads_in}
 use Rattle.core_history.specs.Batches.{holds_nothing, joined, waiting_in, next_batch, with_taken}

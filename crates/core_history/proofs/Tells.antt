@@ -7,7 +7,7 @@ use Rattle.core_model.specs.Tests.{is_over, is_running}
 use Rattle.core_model.specs.Changes.{new_unit}
 use Rattle.core_model.specs.Events.{applies, step, reply_with}
 use Rattle.core_model.specs.Legal.{Run, begins, ends}
-use Rattle.core_model.proofs.Decoded.{Change}
+use Rattle.core_laws.proofs.Decoded.{Change}
 use Rattle.core_history.specs.Histories.{Applied, history_of}
 use Rattle.core_history.specs.Units.{finish_order, has_begun, has_ended, runs, is_begin_of, is_end_of, mode_after, held, shown, with_read, reads_in, effect_in, writes_in, writes_of}
 use Rattle.core_history.specs.Batches.{batches_in, with_taken}

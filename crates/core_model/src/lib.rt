@@ -1,25 +1,16 @@
-//! The transactional core as a pure model: its state, what each event does, and the laws that hold after
-//! every list of events. `docs/CORE.md` tells the model and the proof in plain words.
+//! The transactional core as a pure model: its state, what each event does and answers, and the words in which its laws are
+//! told (`core_laws` has these). `docs/CORE.md` tells the model in plain words.
 //!
-//! There is no code here but types, their copies and laws: a law is a public function with an empty body,
-//! and its contract is what it is for.
+//! There is no code here but types and their copies.
 #![tactic(auto)]
 
 mod copies;
 mod effects;
 mod events;
-mod laws;
 mod phases;
 mod questions;
 
 pub use effects::{Effect, Read};
 pub use events::{CoreEvent, CoreReply};
-pub use laws::{
-    asking_is_told, batches_are_longest, batches_follow, causes_are_true, children_answer,
-    code_may_rely, committed_are_serial, core_is_consistent, entries_are_proper, fate_is_final,
-    holders_have_read, lines_are_answered_once, lists_only_grow, memory_is_bounded, plans_are_kept,
-    replies_tell, runs_are_computed, runs_without_limit_are_legal, settled_stacks_are_single,
-    settler_steps_apply, takes_apply, told_outcomes_are_final,
-};
 pub use phases::{Phase, Verdict};
 pub use questions::{AskAnswer, BatchView, CoreAnswer, CoreQuestion, KnownOutcome, SettlerWork};

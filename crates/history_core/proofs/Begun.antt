@@ -16,8 +16,8 @@ use Rattle.core_model.specs.Events.{can_begin}
 use Rattle.core_model.specs.declared.events.CoreEvent.TheVariants.{Begin}
 use Rattle.core_model.specs.declared.events.CoreReply.{CoreReply}
 use Rattle.core_model.specs.declared.events.CoreReply.TheVariants as reply
-use Rattle.core_model.proofs.Basics.{is_running-true}
-use Rattle.core_model.proofs.Puts.{put-from, put-other}
+use Rattle.core_laws.proofs.Basics.{is_running-true}
+use Rattle.core_laws.proofs.Puts.{put-from, put-other}
 use Rattle.unit_table.specs.Parts.{units_begun}
 use Rattle.unit_table.specs.Table.{units_of, verdict_in, result_in, next_in, phase_in}
 use Rattle.unit_table.specs.Rooms.{ParentRuns, LineIsCounted}

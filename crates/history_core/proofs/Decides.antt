@@ -17,9 +17,9 @@ use Rattle.core_model.specs.Tests.{is_bad, is_final, is_committed, is_over, is_v
 use Rattle.core_model.specs.Answers.{effect_of}
 use Rattle.core_model.specs.Changes.{closed, sealed, seal, verdict_of, judged, decisions_of, with_decisions, decided, decided_by, on_batch}
 use Rattle.core_model.specs.Events.{applies, does, is_open, decided_reply}
-use Rattle.core_model.proofs.Decoded.{Change, decide_some, decide_none, decode, none-true}
-use Rattle.core_model.proofs.Orders.{Member-take, judged-other}
-use Rattle.core_model.proofs.Verdicts.{member-or-not}
+use Rattle.core_laws.proofs.Decoded.{Change, decide_some, decide_none, decode, none-true}
+use Rattle.core_laws.proofs.Orders.{Member-take, judged-other}
+use Rattle.core_laws.proofs.Verdicts.{member-or-not}
 use Rattle.core_lists.specs.Room.{EntriesInRoom, PairsInRoom}
 use Rattle.core_lists.specs.States.{last_in, has_place, handed_in}
 use Rattle.cell_table.specs.Table.{cell_in}

@@ -15,9 +15,9 @@ use Rattle.core_model.specs.Tests.{is_running, is_final, is_committed, ask_answe
 use Rattle.core_model.specs.Answers.{effect_of}
 use Rattle.core_model.specs.Changes.{after_refusal, refused_by, refusal, after_end, entry_for}
 use Rattle.core_model.specs.Events.{applies, does}
-use Rattle.core_model.proofs.Basics.{is_running-true}
-use Rattle.core_model.proofs.Decoded.{Change, refuse, end_plain, end_snapshot, decode}
-use Rattle.core_model.proofs.Puts.{put-from, put-other}
+use Rattle.core_laws.proofs.Basics.{is_running-true}
+use Rattle.core_laws.proofs.Decoded.{Change, refuse, end_plain, end_snapshot, decode}
+use Rattle.core_laws.proofs.Puts.{put-from, put-other}
 use Rattle.core_lists.specs.Room.{EntriesInRoom}
 use Rattle.core_lists.specs.States.{handed_in}
 use Rattle.unit_table.specs.Parts.{units_over}

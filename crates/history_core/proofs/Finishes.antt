@@ -16,11 +16,11 @@ use Rattle.core_model.specs.Tests.{is_final, is_committed, is_running, waiting, 
 use Rattle.core_model.specs.Learning.{to_learn}
 use Rattle.core_model.specs.Answers.{effect_of}
 use Rattle.core_model.specs.Changes.{finished}
-use Rattle.core_model.proofs.Puts.{put-at, put-is, put-from, put-same, put-other}
-use Rattle.core_model.proofs.Decoded.{Change, finish, decode}
-use Rattle.core_model.proofs.Played.{parts-of}
+use Rattle.core_laws.proofs.Puts.{put-at, put-is, put-from, put-same, put-other}
+use Rattle.core_laws.proofs.Decoded.{Change, finish, decode}
+use Rattle.core_laws.proofs.Played.{parts-of}
 use Rattle.core_model.specs.Events.{applies, does}
-use Rattle.core_model.proofs.Basics.{is_running-true}
+use Rattle.core_laws.proofs.Basics.{is_running-true}
 use Rattle.core_lists.specs.States.{handed_in, has_place}
 use Rattle.core_lists.specs.declared.handed_states.HandedStates.{HandedStates}
 use Rattle.unit_table.specs.Parts.{units_over}

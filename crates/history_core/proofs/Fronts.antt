@@ -10,7 +10,7 @@ use Rattle.core_model.specs.declared.phases.Verdict.TheVariants.{Open, Chosen, C
 use Rattle.core_model.specs.Tests.{is_final, is_committed, is_over, state_written}
 use Rattle.core_model.specs.Answers.{effect_of}
 use Rattle.core_model.specs.Changes.{entries_in, entry_for, told, seal, spoil, leave}
-use Rattle.core_model.proofs.Puts.{put-at, put-is, put-other}
+use Rattle.core_laws.proofs.Puts.{put-at, put-is, put-other}
 use Rattle.history_core.specs.declared.closing.Closing.{Closing}
 use Rattle.history_core.specs.declared.closing.Closing.TheVariants as how
 use Rattle.history_core.specs.Closing.{state_after, last_among, grains_with, mapped}

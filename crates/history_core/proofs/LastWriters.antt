@@ -5,7 +5,7 @@ use Rattle.core_model.specs.declared.phases.Verdict.{Verdict}
 use Rattle.core_model.specs.declared.phases.Verdict.TheVariants.{Open, Chosen, Condemned, Committed, Aborted}
 use Rattle.core_model.specs.Tests.{is_committed, state_written}
 use Rattle.core_model.specs.Legal.{Run, ends}
-use Rattle.core_model.proofs.Orders.{Member-at, Member-get, take_length}
+use Rattle.core_laws.proofs.Orders.{Member-at, Member-get, take_length}
 use Rattle.history_core.specs.Closing.{state_after, last_among, last_state}
 use Rattle.history_core.specs.Kept.{IsCoreReached}
 use Rattle.history_core.specs.LastWriters.{IsLastOf}

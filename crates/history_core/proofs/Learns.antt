@@ -17,10 +17,10 @@ use Rattle.core_model.specs.Learning.{to_learn}
 use Rattle.core_model.specs.Events.{can_learn}
 use Rattle.core_model.specs.declared.events.CoreEvent.TheVariants.{Learn}
 use Rattle.core_model.specs.declared.events.CoreReply.TheVariants as reply
-use Rattle.core_model.proofs.Basics.{written-member}
-use Rattle.core_model.proofs.Puts.{put-at, put-is, put-other, put-same, grain-at, grain-is, grain-other}
-use Rattle.core_model.proofs.Orders.{Member-get, take_length}
-use Rattle.core_model.proofs.Plans.{flat-member, member-flat}
+use Rattle.core_laws.proofs.Basics.{written-member}
+use Rattle.core_laws.proofs.Puts.{put-at, put-is, put-other, put-same, grain-at, grain-is, grain-other}
+use Rattle.core_laws.proofs.Orders.{Member-get, take_length}
+use Rattle.core_laws.proofs.Plans.{flat-member, member-flat}
 use Rattle.core_lists.specs.Pairs.{is_pair, has_pair, without_first, other_pairs}
 use Rattle.core_lists.specs.Room.{PairsInRoom}
 use Rattle.grain_cell.specs.Room.{CellInRoom}

@@ -23,10 +23,10 @@ use Rattle.core_model.specs.Changes.{after_grant, after_raise, after_lock, resta
 use Rattle.core_model.specs.Events.{applies, read_reply}
 use Rattle.core_model.specs.declared.events.CoreEvent.TheVariants.{Grant}
 use Rattle.core_model.specs.declared.events.CoreReply.TheVariants as reply
-use Rattle.core_model.proofs.Basics.{is_running-true}
-use Rattle.core_model.proofs.Decoded.{ask-granted}
+use Rattle.core_laws.proofs.Basics.{is_running-true}
+use Rattle.core_laws.proofs.Decoded.{ask-granted}
 use Rattle.core_lists.specs.States.{handed_in}
-use Rattle.core_model.proofs.Puts.{grain-at, grain-same, grain-is, grain-other, grain-from, put-other}
+use Rattle.core_laws.proofs.Puts.{grain-at, grain-same, grain-is, grain-other, grain-from, put-other}
 use Rattle.grain_cell.specs.Room.{writers, meets, without_aborted}
 use Rattle.grain_cell.proofs.Writers.{found-cleans, none-cleans}
 use Rattle.cell_table.specs.Table.{cell_in}

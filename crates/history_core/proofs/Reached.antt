@@ -13,18 +13,18 @@ use Rattle.core_model.specs.Serial.{Plays, AllPlay}
 use Rattle.core_model.specs.Legal.{Run, IsLegal, ends}
 use Rattle.core_model.specs.Consistent.{IsConsistent, ClosedBatchesArePrefix}
 use Rattle.core_model.specs.Batches.{BatchesFollow}
-use Rattle.core_model.proofs.Voted.{follows-ends}
+use Rattle.core_laws.proofs.Voted.{follows-ends}
 use Rattle.core_model.specs.Holders.{HoldersHaveRead}
 use Rattle.core_model.specs.Laws.{NoLockIsHeldUntilCommit}
-use Rattle.core_model.proofs.Further.{no-lock-ends}
+use Rattle.core_laws.proofs.Further.{no-lock-ends}
 use Rattle.core_model.specs.Loadless.{HoldsWithoutLoads}
-use Rattle.core_model.proofs.Orders.{Member-at, Member-take}
-use Rattle.core_model.proofs.Loadless.{LoadlessAt}
-use Rattle.core_model.proofs.LoadlessRuns.{Steady, steady-ends}
-use Rattle.core_model.proofs.Relied.{holds-ends}
-use Rattle.core_model.proofs.WithoutLimit.{loads-without-limit}
-use Rattle.core_model.proofs.Consistency.{consistent-ends}
-use Rattle.core_model.proofs.Held.{holders-ends}
+use Rattle.core_laws.proofs.Orders.{Member-at, Member-take}
+use Rattle.core_laws.proofs.Loadless.{LoadlessAt}
+use Rattle.core_laws.proofs.LoadlessRuns.{Steady, steady-ends}
+use Rattle.core_laws.proofs.Relied.{holds-ends}
+use Rattle.core_laws.proofs.WithoutLimit.{loads-without-limit}
+use Rattle.core_laws.proofs.Consistency.{consistent-ends}
+use Rattle.core_laws.proofs.Held.{holders-ends}
 use Rattle.history_core.specs.Kept.{IsCoreReached}
 
 -- any effect is a play

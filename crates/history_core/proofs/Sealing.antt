@@ -17,8 +17,8 @@ use Rattle.core_model.specs.Consistent.{size_of}
 use Rattle.core_model.specs.Answers.{effect_of}
 use Rattle.core_model.specs.Changes.{closed, sealed, spoiled, in_doubt, leave, on_decided, on_decisions}
 use Rattle.core_model.specs.Events.{applies, does, is_allowed, is_judged, is_after_doubt, is_after_halt}
-use Rattle.core_model.proofs.Decoded.{Change, seal_batch, spoil_batch, doubt_batch, decode, none-true}
-use Rattle.core_model.proofs.Orders.{Member-take, take_length}
+use Rattle.core_laws.proofs.Decoded.{Change, seal_batch, spoil_batch, doubt_batch, decode, none-true}
+use Rattle.core_laws.proofs.Orders.{Member-take, take_length}
 use Rattle.core_lists.specs.States.{has_place}
 use Rattle.unit_table.specs.Table.{phase_in}
 use Rattle.open_batch.specs.declared.members.FinishedUnit.{FinishedUnit}

@@ -14,7 +14,7 @@ use Rattle.core_model.specs.Tests.{is_free, free_prefix, waiting, is_bad}
 use Rattle.core_model.specs.Answers.{effect_of}
 use Rattle.core_model.specs.Changes.{new_batch}
 use Rattle.core_model.specs.Events.{batch_size, applies, does, reply_with}
-use Rattle.core_model.proofs.Decoded.{none-true}
+use Rattle.core_laws.proofs.Decoded.{none-true}
 use Rattle.core_lists.specs.Room.{EntriesInRoom, PairsInRoom}
 use Rattle.core_lists.specs.States.{last_in, has_place}
 use Rattle.core_lists.specs.declared.last_states.LastStates.{LastStates}

@@ -13,7 +13,7 @@ use Rattle.run_books.specs.Settling.{CanSettle}
 use Rattle.run_books.proofs.LineCounts.{so-many, at-most}
 use Rattle.interleaver.proofs.Frames.{same-number}
 use Rattle.core_model.specs.Changes.{swept, swept_by}
-use Rattle.core_model.proofs.Decoded.{Change, bad, begin, lock, raise, refuse, finish, end_plain, end_snapshot, release, take_batch, vote, decide_some, decide_none, seal_batch, spoil_batch, doubt_batch, learn, emit, halt_run, want, load, decode}
+use Rattle.core_laws.proofs.Decoded.{Change, bad, begin, lock, raise, refuse, finish, end_plain, end_snapshot, release, take_batch, vote, decide_some, decide_none, seal_batch, spoil_batch, doubt_batch, learn, emit, halt_run, want, load, decode}
 use Rattle.settle_loop.specs.Works.{tells_doubt}
 use Rattle.settler_rules.proofs.Commits.{doubt-stays}
 use Rattle.turn_rules.specs.Going.{with_event}
@@ -36,7 +36,7 @@ use Rattle.std.specs.Prelude.{filter, map, ◌&&◌}
 use Rattle.promise_spec.specs.Gotten.{got_in}
 use Rattle.promise_spec.specs.TurnRule.{OfUnit, can_move}
 use Rattle.core_model.specs.Settler.{Seals, Writes, Takes, Rests, has_step, settler_step, batch_step, last_step, learn_step, undecided_step, first_unvoted}
-use Rattle.core_model.proofs.Lined.{once-ends}
+use Rattle.core_laws.proofs.Lined.{once-ends}
 use Rattle.promise_spec.specs.Causes.{HasDoubt}
 use Rattle.promise_spec.specs.TurnRule.{OfSettler, Mover}
 use Rattle.turn_rules.specs.Carried.{movers_of}

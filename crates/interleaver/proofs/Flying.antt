@@ -12,8 +12,8 @@ use Rattle.core_model.specs.declared.phases.Phase.TheVariants.{Unborn, Running, 
 use Rattle.core_model.specs.Tests.{any, is_decided, is_free, is_over, is_running, outcome_in}
 use Rattle.core_model.specs.Asked.{IsGoing}
 use Rattle.core_model.specs.Legal.{Run, ends}
-use Rattle.core_model.proofs.Told.{lines-ends}
-use Rattle.core_model.proofs.Batching.{free-holds, unfree-holds}
+use Rattle.core_laws.proofs.Told.{lines-ends}
+use Rattle.core_laws.proofs.Batching.{free-holds, unfree-holds}
 use Rattle.cell_model.proofs.Units.{same_unit-is, same_unit-true, same_grain-is, any-member, any-true}
 use Rattle.cell_model.specs.Locks.{holds_lock, is_hold_of}
 use Rattle.core_model.specs.CoreState.{GrainId, same_grain}

@@ -100,24 +100,3 @@ nothing-beside tells r s f w = record {
   calm = λ q. refl;
   hushed = λ q t. record { output = refl; moments = started (λ m. m.output ≡ w.output) w.past };
 }
-
--- an error says the same, whatever the answer might have been else
-pub beside-fault : {T U : Type 0} (tells : Bool) (r t : Run) (one three : Settler) (f h : Channel → ℕ) (u w : World) (x : RunFault)
-    → TurnsBeside {T = T} tells r t one three f h u w (Err x) → TurnsBeside {T = U} tells r t one three f h u w (Err x)
-beside-fault {T} {U} tells r t one three f h u w x b = record { more = b.more; core = b.core; quiet = b.quiet; input = b.input; past = b.past; pulled = b.pulled; emitted = by x b.emitted; calm = b.calm; hushed = b.hushed }
-  where
-    by : (y : RunFault) → EmitsAs {T = T} (Err y) (f Output) (h Output) → EmitsAs {T = U} (Err y) (f Output) (h Output)
-    by InDoubt e = e
-    by WriteFault e = tt
-    by Memory e = e
-
--- where all went well, no rise of the output's count is told
-pub beside-well : {T U : Type 0} (tells : Bool) (r t : Run) (one three : Settler) (f h : Channel → ℕ) (u w : World) (done : T) (result : Result U RunFault)
-    → TurnsBeside {T = T} tells r t one three f h u w (Ok done) → TurnsBeside {T = U} tells r t one three f h u w result
-beside-well {T} {U} tells r t one three f h u w done result b = record { more = b.more; core = b.core; quiet = b.quiet; input = b.input; past = b.past; pulled = b.pulled; emitted = by result b.emitted; calm = b.calm; hushed = b.hushed }
-  where
-    by : (y : Result U RunFault) → h Output ≡ f Output → EmitsAs {T = U} y (f Output) (h Output)
-    by (Ok d) e = e
-    by (Err InDoubt) e = e
-    by (Err WriteFault) e = tt
-    by (Err Memory) e = e

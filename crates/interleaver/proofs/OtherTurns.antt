@@ -7,7 +7,7 @@ use Rattle.core_model.specs.declared.events.CoreEvent.{CoreEvent}
 use Rattle.core_model.specs.Events.{applies, is_after_halt}
 use Rattle.core_model.specs.Legal.{Run, ends}
 use Rattle.core_model.specs.Settler.{settler_step, MakesEvent}
-use Rattle.core_model.proofs.Stepped.{step-applies}
+use Rattle.core_laws.proofs.Stepped.{step-applies}
 use Rattle.script_tree.specs.Programs.{ProgramTree}
 use Rattle.promise_spec.specs.Lines.{ReadsLineAs}
 use Rattle.promise_spec.specs.TurnRule.{OfSettler, KeepsTurnRule}

@@ -19,8 +19,8 @@ use Rattle.core_model.specs.declared.phases.Phase.TheVariants.{Finished, Refused
 use Rattle.core_model.specs.Tests.{is_free, is_over, is_running}
 use Rattle.core_model.specs.Legal.{Run, ends}
 use Rattle.core_model.specs.Lines.{EntriesAreOnce, IsSettled}
-use Rattle.core_model.proofs.Batching.{unfree-holds}
-use Rattle.core_model.proofs.Lined.{once-ends}
+use Rattle.core_laws.proofs.Batching.{unfree-holds}
+use Rattle.core_laws.proofs.Lined.{once-ends}
 use Rattle.script_check.specs.Accepted.{IsAcceptedProgram}
 use Rattle.script_tree.specs.Programs.{ProgramTree}
 use Rattle.promise_spec.specs.Cores.{HasBegun}

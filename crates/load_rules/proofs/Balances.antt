@@ -8,8 +8,8 @@ use Rattle.core_model.specs.Effects.{effect_of}
 use Rattle.core_model.specs.Tests.{is_committed, state_written}
 use Rattle.core_model.specs.Serial as model
 use Rattle.core_model.specs.Legal.{Run, IsLegal, ends}
-use Rattle.core_model.proofs.Ends.{serial-ends}
-use Rattle.core_model.proofs.Orders.{Member-at}
+use Rattle.core_laws.proofs.Ends.{serial-ends}
+use Rattle.core_laws.proofs.Orders.{Member-at}
 use Rattle.history_core.specs.Closing.{or_else, state_after, last_among, last_state}
 use Rattle.history_core.specs.Kept.{IsCoreReached}
 use Rattle.history_core.proofs.Reached.{rests, closed-within, committed-closed}

@@ -17,7 +17,7 @@ use Rattle.host_trait.specs.World.{Image}
 use Rattle.host_trait.proofs.Names.{same_grain-is, same_grain-refl}
 use Rattle.commit_log.specs.declared.records.CommitRecord.{CommitRecord}
 use Rattle.core_model.specs.Equality.{same_list, same_text, same_value, same_state, same_outcome}
-use Rattle.core_model.proofs.Basics.{same_list-true, same_state-true, same_outcome-true}
+use Rattle.core_laws.proofs.Basics.{same_list-true, same_state-true, same_outcome-true}
 use Rattle.log_reading.specs.Blocks.{records_in_file}
 use Rattle.log_reading.specs.Steps.{next_in}
 use Rattle.log_reading.proofs.Following.{follows_begins, follows_on}

@@ -23,7 +23,7 @@ use core_equality::Same;
 use host_trait::Host;
 use log_reading::{FolderFault, named_version, next_block};
 use script_check::Checked;
-use script_meaning::{Played, play};
+use script_player::{Played, play};
 use std::alloc::{AllocError, Global};
 
 /// A record that doesn't replay: its unit, the result that the log has and the one that its call gives over the store, and

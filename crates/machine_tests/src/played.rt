@@ -3,7 +3,7 @@ use crate::printing::{Deeds, line_of};
 use crate::settings::{Setting, program_of, setting_of};
 use crate::trouble::Trouble;
 use script_check::Checked;
-use script_meaning::play;
+use script_player::play;
 use std::alloc::{AllocError, Global};
 
 // What the plain player does, as a line.

@@ -6,7 +6,7 @@ use Rattle.cell_model.specs.Units.{same_grain, Member}
 use Rattle.cell_model.proofs.Units.{filter-member, filter-stays}
 use Rattle.core_model.specs.CoreState.{GrainId, Version}
 use Rattle.core_model.specs.Tests.{grains_of}
-use Rattle.core_model.proofs.Plans.{grains-only}
+use Rattle.core_laws.proofs.Plans.{grains-only}
 use Rattle.prepare_batch.specs.declared.pieces.Piece.{Piece}
 use Rattle.prepare_batch.specs.declared.works.FileWork.{FileWork}
 use Rattle.prepare_batch.specs.Pieces.{first_work, more_work, with_piece, with_pieces, pieces_by_grain}

@@ -15,7 +15,7 @@ use Rattle.prepare_batch.specs.declared.pieces.Piece.{Piece}
 use Rattle.cell_model.specs.Units.{same_grain, Member}
 use Rattle.core_model.specs.Tests.{is_before, with_grain, grains_of}
 use Rattle.core_model.specs.Steps.{AreAscending}
-use Rattle.core_model.proofs.Plans.{grains-in}
+use Rattle.core_laws.proofs.Plans.{grains-in}
 use Rattle.prepare_batch.specs.Pieces.{pieces_by_grain}
 
 -- ---- grains

@@ -16,12 +16,12 @@ use Rattle.core_model.specs.Consistent.{DependenciesComeEarlier}
 use Rattle.core_model.specs.Legal.{Run, IsLegal, ends}
 use Rattle.core_model.specs.Settler.{version_written, version_to_write, versions_to_write}
 use Rattle.core_model.specs.Told.{IsSteady}
-use Rattle.core_model.proofs.Consistency.{consistent-ends}
-use Rattle.core_model.proofs.Ends.{kept-ends}
-use Rattle.core_model.proofs.Plans.{flat-member, member-flat, planned-ends}
-use Rattle.core_model.proofs.Reasons.{member-finished}
-use Rattle.core_model.proofs.Relied.{holds-ends}
-use Rattle.core_model.proofs.Stepped.{ended-ends}
+use Rattle.core_laws.proofs.Consistency.{consistent-ends}
+use Rattle.core_laws.proofs.Ends.{kept-ends}
+use Rattle.core_laws.proofs.Plans.{flat-member, member-flat, planned-ends}
+use Rattle.core_laws.proofs.Reasons.{member-finished}
+use Rattle.core_laws.proofs.Relied.{holds-ends}
+use Rattle.core_laws.proofs.Stepped.{ended-ends}
 use Rattle.prepare_batch.specs.Work.{reads_from, untouched, versions_on, work_of}
 use Rattle.prepare_batch.specs.Planned.{WritesOnce, PlaysWriteOnce, core_work}
 

@@ -10,7 +10,7 @@ use Rattle.core_model.specs.declared.events.CoreEvent.TheVariants as event
 use Rattle.core_model.specs.declared.phases.Verdict.TheVariants as verdict
 use Rattle.core_model.specs.Changes.{seal}
 use Rattle.core_model.specs.Legal.{Run, IsLegal}
-use Rattle.core_model.proofs.Caused.{caused-ends}
+use Rattle.core_laws.proofs.Caused.{caused-ends}
 use Rattle.core_model.specs.CoreState.{Member, same_unit, same_grain, put, put_grain}
 use Rattle.host_trait.specs.declared.channels.Channel.{Channel}
 use Rattle.host_trait.specs.declared.channels.Channel.TheVariants.{File}

@@ -16,7 +16,7 @@ use Rattle.core_model.specs.Changes.{leave}
 use Rattle.core_model.specs.Legal.{Run, IsLegal}
 use Rattle.core_model.specs.Serial.{chosen}
 use Rattle.core_model.specs.CoreState.{Member, same_grain, put, put_grain}
-use Rattle.core_model.proofs.Caused.{caused-ends}
+use Rattle.core_laws.proofs.Caused.{caused-ends}
 use Rattle.host_trait.specs.Faults.{Rose}
 use Rattle.host_trait.specs.declared.channels.Channel.TheVariants.{File}
 use Rattle.host_trait.specs.declared.channels.FileId.{FileId}

@@ -9,7 +9,7 @@ use Rattle.core_model.specs.Changes.{swept, swept_by}
 use Rattle.core_model.specs.Answers.{next_learn}
 use Rattle.core_model.specs.Legal.{Run, begins, ends}
 use Rattle.core_model.specs.CoreState.{UnitNo, GrainId, Batch, CoreState}
-use Rattle.core_model.proofs.Decoded.{Change, bad, begin, lock, raise, refuse, finish, end_plain, end_snapshot, release, take_batch, vote, decide_some, decide_none, seal_batch, spoil_batch, doubt_batch, learn, emit, halt_run, want, load, decode}
+use Rattle.core_laws.proofs.Decoded.{Change, bad, begin, lock, raise, refuse, finish, end_plain, end_snapshot, release, take_batch, vote, decide_some, decide_none, seal_batch, spoil_batch, doubt_batch, learn, emit, halt_run, want, load, decode}
 use Rattle.script_tree.specs.Programs.{ProgramTree}
 use Rattle.promise_spec.specs.Cores.{AppliesAt, state_before}
 use Rattle.promise_spec.specs.TurnRule.{KeepsTurnRule, MakesEvent, batch_step, later_step}

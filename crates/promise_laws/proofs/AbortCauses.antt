@@ -6,7 +6,7 @@ use Rattle.core_model.specs.declared.phases.Verdict.TheVariants.{Aborted}
 use Rattle.core_model.specs.Events.{applies, step}
 use Rattle.core_model.specs.Legal.{Run, begins, ends}
 use Rattle.core_model.specs.Causes.{HasCause}
-use Rattle.core_model.proofs.Aborting.{StoppedFrom, stops-ends}
+use Rattle.core_laws.proofs.Aborting.{StoppedFrom, stops-ends}
 use Rattle.promise_spec.specs.Causes.{IsAbortedFor, AreCaused}
 use Rattle.promise_spec.specs.UnitRule.{Basis, KeepsUnitRule}
 use Rattle.promise_laws.specs.Legality.{is_play, applied_run}

@@ -12,13 +12,13 @@ use Rattle.core_model.specs.Tests.{is_good, is_committed}
 use Rattle.core_model.specs.Answers.{effect_of}
 use Rattle.core_model.specs.Serial as model
 use Rattle.core_model.specs.Legal.{Run, IsLegal, ends}
-use Rattle.core_model.proofs.Basics.{is_committed-true}
-use Rattle.core_model.proofs.Orders.{Member-at, Member-get}
-use Rattle.core_model.proofs.Kept.{Kept}
-use Rattle.core_model.proofs.Ends.{kept-ends, valid-ends, split-ends}
-use Rattle.core_model.proofs.Further.{committed-closed}
-use Rattle.core_model.proofs.Split.{split-order}
-use Rattle.core_model.proofs.SerialOrder.{serial-committed, serial-good}
+use Rattle.core_laws.proofs.Basics.{is_committed-true}
+use Rattle.core_laws.proofs.Orders.{Member-at, Member-get}
+use Rattle.core_laws.proofs.Kept.{Kept}
+use Rattle.core_laws.proofs.Ends.{kept-ends, valid-ends, split-ends}
+use Rattle.core_laws.proofs.Further.{committed-closed}
+use Rattle.core_laws.proofs.Split.{split-order}
+use Rattle.core_laws.proofs.SerialOrder.{serial-committed, serial-good}
 use Rattle.script_tree.specs.Programs.{ProgramTree}
 use Rattle.promise_spec.specs.Records.{Commit, States, after_writes, IsRecordOf, AreRecordsOf}
 use Rattle.promise_spec.specs.Family.{states_after}

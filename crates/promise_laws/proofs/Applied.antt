@@ -6,7 +6,7 @@ use Rattle.core_model.specs.CoreState.{Member, CoreState}
 use Rattle.core_model.specs.declared.events.CoreEvent.{CoreEvent}
 use Rattle.core_model.specs.Events.{applies, step, run}
 use Rattle.core_model.specs.Legal.{Run, begins}
-use Rattle.core_model.proofs.Replied.{no-change}
+use Rattle.core_laws.proofs.Replied.{no-change}
 use Rattle.promise_spec.specs.Cores.{AppliesAt, applied_from, how_many}
 use Rattle.promise_spec.proofs.Lists.{some_is, none_at}
 

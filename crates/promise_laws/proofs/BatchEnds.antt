@@ -21,18 +21,18 @@ use Rattle.core_model.specs.Changes.{new_unit, swept, swept_by}
 use Rattle.core_model.specs.Events.{applies, can, does, step, run, is_allowed, is_after_doubt}
 use Rattle.core_model.specs.Legal.{Run, IsLegal, begins, ends}
 use Rattle.core_model.specs.Replies.{OnlyExtends}
-use Rattle.core_model.proofs.Puts.{put-other}
-use Rattle.core_model.proofs.Decoded.{Change, bad, begin, lock, raise, refuse, finish, end_plain, end_snapshot, release, take_batch, vote, decide_some, decide_none, seal_batch, spoil_batch, doubt_batch, learn, emit, halt_run, want, load, decode}
-use Rattle.core_model.proofs.Orders.{in_take, in_drop}
-use Rattle.core_model.proofs.Kept.{Kept, decided_size}
-use Rattle.core_model.proofs.Growth.{grows-step}
-use Rattle.core_model.proofs.Split.{Split, no_doubt, split-order}
+use Rattle.core_laws.proofs.Puts.{put-other}
+use Rattle.core_laws.proofs.Decoded.{Change, bad, begin, lock, raise, refuse, finish, end_plain, end_snapshot, release, take_batch, vote, decide_some, decide_none, seal_batch, spoil_batch, doubt_batch, learn, emit, halt_run, want, load, decode}
+use Rattle.core_laws.proofs.Orders.{in_take, in_drop}
+use Rattle.core_laws.proofs.Kept.{Kept, decided_size}
+use Rattle.core_laws.proofs.Growth.{grows-step}
+use Rattle.core_laws.proofs.Split.{Split, no_doubt, split-order}
 use Rattle.core_model.specs.Laws.{extended}
-use Rattle.core_model.proofs.Further.{run-append}
-use Rattle.core_model.proofs.Replied.{extends-ends}
-use Rattle.core_model.proofs.Ends.{kept-ends, split-ends}
-use Rattle.core_model.proofs.Consistency.{consistent-ends}
-use Rattle.core_model.proofs.Voted.{follows-ends}
+use Rattle.core_laws.proofs.Further.{run-append}
+use Rattle.core_laws.proofs.Replied.{extends-ends}
+use Rattle.core_laws.proofs.Ends.{kept-ends, split-ends}
+use Rattle.core_laws.proofs.Consistency.{consistent-ends}
+use Rattle.core_laws.proofs.Voted.{follows-ends}
 use Rattle.promise_spec.specs.Records.{Commit, AreRecordsOf}
 use Rattle.script_tree.specs.Programs.{ProgramTree}
 use Rattle.promise_spec.specs.UnitRule.{Basis, IsDue, KeepsUnitRule}

@@ -14,9 +14,9 @@ use Rattle.core_model.specs.CoreState.{UnitNo, GrainId, Call, Member, Value, Cor
 use Rattle.core_model.specs.Tests.{is_good}
 use Rattle.core_model.specs.Answers.{effect_of}
 use Rattle.core_model.specs.Legal.{Run}
-use Rattle.core_model.proofs.Orders.{in_drop}
-use Rattle.core_model.proofs.Kept.{Kept}
-use Rattle.core_model.proofs.Split.{begin_of}
+use Rattle.core_laws.proofs.Orders.{in_drop}
+use Rattle.core_laws.proofs.Kept.{Kept}
+use Rattle.core_laws.proofs.Split.{begin_of}
 use Rattle.script_tree.specs.Programs.{ProgramTree}
 use Rattle.request_wire.specs.Names.{names_in}
 use Rattle.request_wire.specs.Request.{call_of}

@@ -14,8 +14,8 @@ use Rattle.core_model.specs.Equality.{same_list, same_text, same_value, same_sta
 use Rattle.core_model.specs.Events.{applies, step, run}
 use Rattle.core_model.specs.Serial.{Plays, AllPlay, IsTrueLoad, AllLoadsTrue}
 use Rattle.core_model.specs.Legal.{Run, IsLegal, begins, ends}
-use Rattle.core_model.proofs.Basics.{same_list-true, same_state-true, same_outcome-true}
-use Rattle.core_model.proofs.Replied.{no-change}
+use Rattle.core_laws.proofs.Basics.{same_list-true, same_state-true, same_outcome-true}
+use Rattle.core_laws.proofs.Replied.{no-change}
 use Rattle.script_tree.specs.Programs.{ProgramTree}
 use Rattle.script_meaning.specs.Play.{GrainState}
 use Rattle.promise_spec.specs.Gotten.{Got, got_from}

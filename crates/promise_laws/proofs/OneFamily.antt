@@ -18,10 +18,10 @@ use Rattle.core_model.specs.Laws.{ChildrenAreKnown, AnswersAreOutcomes}
 use Rattle.core_model.specs.Lines.{EntriesAreOnce}
 use Rattle.core_model.specs.Holders.{HoldersHaveRead}
 use Rattle.core_model.specs.Legal.{Run, IsLegal, ends}
-use Rattle.core_model.proofs.Orders.{Member-get}
-use Rattle.core_model.proofs.Further.{children-ends, answers-ends}
-use Rattle.core_model.proofs.Held.{holders-ends}
-use Rattle.core_model.proofs.Lined.{once-ends}
+use Rattle.core_laws.proofs.Orders.{Member-get}
+use Rattle.core_laws.proofs.Further.{children-ends, answers-ends}
+use Rattle.core_laws.proofs.Held.{holders-ends}
+use Rattle.core_laws.proofs.Lined.{once-ends}
 use Rattle.script_tree.specs.Programs.{ProgramTree}
 use Rattle.script_meaning.specs.Play.{GrainState, play_over}
 use Rattle.script_holding.specs.Holding.{same_grain}

@@ -25,14 +25,14 @@ use Rattle.core_model.specs.Legal.{Run, IsLegal, begins, ends}
 use Rattle.core_model.specs.Laws.{extended}
 use Rattle.core_model.specs.Tests.{is_over, state_written}
 use Rattle.core_model.specs.CoreState.{UnitNo, GrainId, Value, Write, Member, same_grain, put, Units, Batch, CoreState}
-use Rattle.core_model.proofs.Caused.{caused-ends}
-use Rattle.core_model.proofs.Consistency.{depends-ends}
-use Rattle.core_model.proofs.Decoded.{Change, bad, begin, lock, raise, refuse, finish, end_plain, end_snapshot, release, take_batch, vote, decide_some, decide_none, seal_batch, spoil_batch, doubt_batch, learn, emit, halt_run, want, load, decode}
-use Rattle.core_model.proofs.Ends.{kept-ends}
-use Rattle.core_model.proofs.Further.{legal-front, grows-ends}
-use Rattle.core_model.proofs.Growth.{Grows}
-use Rattle.core_model.proofs.Lined.{once-ends}
-use Rattle.core_model.proofs.Puts.{put-is, put-other, put-from}
+use Rattle.core_laws.proofs.Caused.{caused-ends}
+use Rattle.core_laws.proofs.Consistency.{depends-ends}
+use Rattle.core_laws.proofs.Decoded.{Change, bad, begin, lock, raise, refuse, finish, end_plain, end_snapshot, release, take_batch, vote, decide_some, decide_none, seal_batch, spoil_batch, doubt_batch, learn, emit, halt_run, want, load, decode}
+use Rattle.core_laws.proofs.Ends.{kept-ends}
+use Rattle.core_laws.proofs.Further.{legal-front, grows-ends}
+use Rattle.core_laws.proofs.Growth.{Grows}
+use Rattle.core_laws.proofs.Lined.{once-ends}
+use Rattle.core_laws.proofs.Puts.{put-is, put-other, put-from}
 use Rattle.script_tree.specs.Programs.{ProgramTree}
 use Rattle.promise_spec.specs.Cores.{applied_in}
 use Rattle.promise_spec.specs.Outputs.{HasUnit, IsGrainIn, MaySay, IsProper}

@@ -8,8 +8,8 @@ use Rattle.core_model.specs.declared.events.CoreEvent.{CoreEvent}
 use Rattle.core_model.specs.Events.{applies, step, run}
 use Rattle.core_model.specs.Legal.{Run, begins, ends}
 use Rattle.core_model.specs.Causes.{HasCause, HasLine, IsCaused}
-use Rattle.core_model.proofs.Caused.{caused-ends}
-use Rattle.core_model.proofs.Replied.{no-change}
+use Rattle.core_laws.proofs.Caused.{caused-ends}
+use Rattle.core_laws.proofs.Replied.{no-change}
 use Rattle.promise_spec.specs.Cores.{applied_from}
 use Rattle.promise_spec.specs.UnitRule.{Basis, KeepsUnitRule}
 use Rattle.promise_laws.specs.Legality.{is_play, applied_run}

@@ -13,7 +13,7 @@ use Rattle.core_model.specs.CoreState.{Member, same_grain}
 use Rattle.core_model.specs.Tests as core
 use Rattle.core_model.specs.Serial as model
 use Rattle.core_model.specs.Legal.{Run, IsLegal, ends}
-use Rattle.core_model.proofs.Ends.{serial-ends, serial-chosen-ends}
+use Rattle.core_laws.proofs.Ends.{serial-ends, serial-chosen-ends}
 use Rattle.script_tree.specs.Programs.{ProgramTree}
 use Rattle.script_meaning.specs.Play.{GrainState, Played, play_over, is_below}
 use Rattle.script_meaning.specs.Trails.{Has, states_of}

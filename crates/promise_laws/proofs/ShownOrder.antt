@@ -5,8 +5,8 @@ use Rattle.base_types.specs.declared.calls.Origin.TheVariants.{Line, Child}
 use Rattle.core_model.specs.declared.phases.Phase.TheVariants.{Unborn, Finished}
 use Rattle.core_model.specs.CoreState.{UnitNo, GrainId, Member, Value, CoreState}
 use Rattle.core_model.specs.Answers.{effect_of}
-use Rattle.core_model.proofs.Orders.{Member-get}
-use Rattle.core_model.proofs.Lined.{Rises}
+use Rattle.core_laws.proofs.Orders.{Member-get}
+use Rattle.core_laws.proofs.Lined.{Rises}
 use Rattle.cell_model.proofs.Units.{filter-member}
 use Rattle.script_tree.specs.Programs.{ProgramTree}
 use Rattle.promise_spec.specs.Programs.{Program}

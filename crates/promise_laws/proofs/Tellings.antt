@@ -18,15 +18,15 @@ use Rattle.core_model.specs.Changes.{entry_for, told, entries_in, result_told, r
 use Rattle.core_model.specs.Events.{applies, can, does, step, run, is_allowed}
 use Rattle.core_model.specs.Serial.{AllLoadsTrue}
 use Rattle.core_model.specs.Legal.{Run, IsLegal, begins, ends}
-use Rattle.core_model.proofs.Puts.{put-is}
-use Rattle.core_model.proofs.Invariant.{Inv}
-use Rattle.core_model.proofs.Decoded.{Change, bad, begin, lock, raise, refuse, finish, end_plain, end_snapshot, release, take_batch, vote, decide_some, decide_none, seal_batch, spoil_batch, doubt_batch, learn, emit, halt_run, want, load, decode, ask-refused}
-use Rattle.core_model.proofs.Kept.{Kept, kept-step, inv-judged, inv-decided}
-use Rattle.core_model.proofs.Growth.{Grows, grows-change}
-use Rattle.core_model.proofs.Dependencies.{Depends, depends-step}
-use Rattle.core_model.proofs.Reasons.{Reason, Reasons, Argued, argued-decided, argued-step}
-use Rattle.core_model.proofs.Caused.{entry-parts, entries-parts, member-place}
-use Rattle.core_model.proofs.Ends.{kept-begins}
+use Rattle.core_laws.proofs.Puts.{put-is}
+use Rattle.core_laws.proofs.Invariant.{Inv}
+use Rattle.core_laws.proofs.Decoded.{Change, bad, begin, lock, raise, refuse, finish, end_plain, end_snapshot, release, take_batch, vote, decide_some, decide_none, seal_batch, spoil_batch, doubt_batch, learn, emit, halt_run, want, load, decode, ask-refused}
+use Rattle.core_laws.proofs.Kept.{Kept, kept-step, inv-judged, inv-decided}
+use Rattle.core_laws.proofs.Growth.{Grows, grows-change}
+use Rattle.core_laws.proofs.Dependencies.{Depends, depends-step}
+use Rattle.core_laws.proofs.Reasons.{Reason, Reasons, Argued, argued-decided, argued-step}
+use Rattle.core_laws.proofs.Caused.{entry-parts, entries-parts, member-place}
+use Rattle.core_laws.proofs.Ends.{kept-begins}
 use Rattle.script_tree.specs.Programs.{ProgramTree}
 use Rattle.promise_spec.specs.Lines.{IsBadLine}
 use Rattle.promise_laws.proofs.UnitsByRule.{Says, AllSaid}

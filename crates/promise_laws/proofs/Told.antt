@@ -15,11 +15,11 @@ use Rattle.core_model.specs.declared.events.CoreEvent.TheVariants.{Begin}
 use Rattle.core_model.specs.Tests.{is_running, outcome_of}
 use Rattle.core_model.specs.Changes.{new_unit, begun}
 use Rattle.core_model.specs.Events.{can_begin}
-use Rattle.core_model.proofs.Basics.{is_running-true}
-use Rattle.core_model.proofs.Puts.{put-from, put-same, put-is, put-other}
-use Rattle.core_model.proofs.Kept.{Kept}
-use Rattle.core_model.proofs.Children.{Kin}
-use Rattle.core_model.proofs.Growth.{Grows, grows-outcome}
+use Rattle.core_laws.proofs.Basics.{is_running-true}
+use Rattle.core_laws.proofs.Puts.{put-from, put-same, put-is, put-other}
+use Rattle.core_laws.proofs.Kept.{Kept}
+use Rattle.core_laws.proofs.Children.{Kin}
+use Rattle.core_laws.proofs.Growth.{Grows, grows-outcome}
 use Rattle.script_tree.specs.Programs.{ProgramTree}
 use Rattle.script_meaning.specs.Play.{GrainState, Want, WantLock, WantRaise, WantUnit, Over, grains_with_states, next}
 use Rattle.script_meaning.specs.Laws.{IsMissing}

@@ -12,11 +12,11 @@ use Rattle.core_model.specs.Changes.{cleaned, restacked, after_lock, after_raise
 use Rattle.core_model.specs.Events.{applies, can, does, step, run, start, is_allowed}
 use Rattle.core_model.specs.Serial.{IsTrueLoad}
 use Rattle.core_model.specs.Legal.{Run, begins, ends}
-use Rattle.core_model.proofs.Puts.{put-other, put-same, grain-same}
-use Rattle.core_model.proofs.Kept.{Kept, kept-step, kept-start}
-use Rattle.core_model.proofs.Children.{Kin, kin-step}
-use Rattle.core_model.proofs.Growth.{Grows, grows-same, grows-change}
-use Rattle.core_model.proofs.Decoded.{Change, bad, begin, lock, raise, refuse, finish, end_plain, end_snapshot, release, take_batch, vote, decide_some, decide_none, seal_batch, spoil_batch, doubt_batch, learn, emit, halt_run, want, load, decode}
+use Rattle.core_laws.proofs.Puts.{put-other, put-same, grain-same}
+use Rattle.core_laws.proofs.Kept.{Kept, kept-step, kept-start}
+use Rattle.core_laws.proofs.Children.{Kin, kin-step}
+use Rattle.core_laws.proofs.Growth.{Grows, grows-same, grows-change}
+use Rattle.core_laws.proofs.Decoded.{Change, bad, begin, lock, raise, refuse, finish, end_plain, end_snapshot, release, take_batch, vote, decide_some, decide_none, seal_batch, spoil_batch, doubt_batch, learn, emit, halt_run, want, load, decode}
 use Rattle.script_tree.specs.Programs.{ProgramTree}
 use Rattle.promise_spec.specs.Gotten.{Got, GotLock, GotRaise, got_lock, got_by, got_from, wanted_by, wanted_lock, kids_got}
 use Rattle.promise_spec.specs.UnitRule.{Basis, IsDue, KeepsUnitRule}

@@ -20,14 +20,14 @@ use Rattle.core_model.specs.Consistent.{plain_effect, PlainRunsArePlays}
 use Rattle.core_model.specs.Legal.{Run, IsLegal, begins, ends}
 use Rattle.core_model.specs.Laws.{ChildrenAreKnown, AnswersAreOutcomes}
 use Rattle.core_model.specs.Lines as core
-use Rattle.core_model.proofs.Orders.{in_drop, Member-get}
-use Rattle.core_model.proofs.Kept.{Kept}
-use Rattle.core_model.proofs.Split.{Split, split-order}
-use Rattle.core_model.proofs.Ends.{kept-ends, split-ends}
-use Rattle.core_model.proofs.Further.{turned-ends, children-ends, answers-ends}
-use Rattle.core_model.proofs.Verdicts.{Turned}
-use Rattle.core_model.proofs.PlainPlayed.{plain-ends}
-use Rattle.core_model.proofs.Lined.{Rises, rises-part, once-ends}
+use Rattle.core_laws.proofs.Orders.{in_drop, Member-get}
+use Rattle.core_laws.proofs.Kept.{Kept}
+use Rattle.core_laws.proofs.Split.{Split, split-order}
+use Rattle.core_laws.proofs.Ends.{kept-ends, split-ends}
+use Rattle.core_laws.proofs.Further.{turned-ends, children-ends, answers-ends}
+use Rattle.core_laws.proofs.Verdicts.{Turned}
+use Rattle.core_laws.proofs.PlainPlayed.{plain-ends}
+use Rattle.core_laws.proofs.Lined.{Rises, rises-part, once-ends}
 use Rattle.script_tree.specs.Programs.{ProgramTree}
 use Rattle.script_meaning.specs.Play.{Played, play_over}
 use Rattle.promise_spec.specs.Programs.{Program}

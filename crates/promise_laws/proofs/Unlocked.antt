@@ -22,14 +22,14 @@ use Rattle.core_model.specs.declared.events.CoreEvent.TheVariants.{Begin, Load}
 use Rattle.core_model.specs.Events.{applies, can, does, step, is_allowed}
 use Rattle.core_model.specs.Serial.{IsTrueLoad}
 use Rattle.core_model.specs.Legal.{Run, begins}
-use Rattle.core_model.proofs.Puts.{put-at, put-from, grain-from}
-use Rattle.core_model.proofs.Invariant.{Inv}
-use Rattle.core_model.proofs.Decoded.{Change, bad, begin, lock, raise, refuse, finish, end_plain, end_snapshot, release, take_batch, vote, decide_some, decide_none, seal_batch, spoil_batch, doubt_batch, learn, emit, halt_run, want, load, decode, ask-refused}
-use Rattle.core_model.proofs.Caused.{entry-parts}
-use Rattle.core_model.proofs.Dependencies.{Depends, depends-step}
-use Rattle.core_model.proofs.Reasons.{Argued, argued-step}
-use Rattle.core_model.proofs.Kept.{Kept, kept-start, kept-step}
-use Rattle.core_model.proofs.Lined.{Once, once-change}
+use Rattle.core_laws.proofs.Puts.{put-at, put-from, grain-from}
+use Rattle.core_laws.proofs.Invariant.{Inv}
+use Rattle.core_laws.proofs.Decoded.{Change, bad, begin, lock, raise, refuse, finish, end_plain, end_snapshot, release, take_batch, vote, decide_some, decide_none, seal_batch, spoil_batch, doubt_batch, learn, emit, halt_run, want, load, decode, ask-refused}
+use Rattle.core_laws.proofs.Caused.{entry-parts}
+use Rattle.core_laws.proofs.Dependencies.{Depends, depends-step}
+use Rattle.core_laws.proofs.Reasons.{Argued, argued-step}
+use Rattle.core_laws.proofs.Kept.{Kept, kept-start, kept-step}
+use Rattle.core_laws.proofs.Lined.{Once, once-change}
 use Rattle.promise_spec.specs.Programs.{Program}
 use Rattle.promise_spec.specs.Records.{new_silo}
 use Rattle.promise_spec.specs.Cores.{AppliesAt, state_before}

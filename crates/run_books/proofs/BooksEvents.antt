@@ -21,7 +21,7 @@ use Rattle.core_model.specs.Laws.{extended}
 use Rattle.core_model.specs.Legal.{Run, ends}
 use Rattle.core_model.specs.Serial.{committed, chosen}
 use Rattle.core_model.specs.Settler.{to_commit, versions_to_write}
-use Rattle.core_model.proofs.Split.{no_doubt}
+use Rattle.core_laws.proofs.Split.{no_doubt}
 use Rattle.promise_spec.specs.Records.{Commit, AreRecordsOf}
 use Rattle.promise_spec.specs.Causes.{AreFaults, is_no, is_unsealed, is_vote, is_sealed}
 use Rattle.promise_spec.specs.Cores.{how_many}

@@ -21,9 +21,9 @@ use Rattle.core_model.specs.Laws.{extended}
 use Rattle.core_model.specs.Legal.{Run, ends}
 use Rattle.core_model.specs.Serial.{committed}
 use Rattle.core_model.specs.Settler.{to_commit, versions_to_write}
-use Rattle.core_model.proofs.Ends.{kept-ends}
-use Rattle.core_model.proofs.Further.{committed-closed}
-use Rattle.core_model.proofs.Orders.{in_drop}
+use Rattle.core_laws.proofs.Ends.{kept-ends}
+use Rattle.core_laws.proofs.Further.{committed-closed}
+use Rattle.core_laws.proofs.Orders.{in_drop}
 use Rattle.cell_model.proofs.Units.{filter-member}
 use Rattle.promise_laws.specs.Legality.{is_play, applied_run}
 use Rattle.promise_laws.proofs.Legal.{ends_alike, legal}

@@ -19,9 +19,9 @@ use Rattle.core_model.specs.Laws.{extended}
 use Rattle.core_model.specs.Legal.{Run, ends}
 use Rattle.core_model.specs.Serial.{committed, chosen, batch_begin}
 use Rattle.core_model.specs.Settler.{to_commit}
-use Rattle.core_model.proofs.Ends.{kept-ends}
-use Rattle.core_model.proofs.Orders.{in_drop}
-use Rattle.core_model.proofs.Told.{told-ends}
+use Rattle.core_laws.proofs.Ends.{kept-ends}
+use Rattle.core_laws.proofs.Orders.{in_drop}
+use Rattle.core_laws.proofs.Told.{told-ends}
 use Rattle.promise_laws.specs.Legality.{is_play, applied_run}
 use Rattle.promise_laws.proofs.Legal.{ends_alike, legal}
 use Rattle.promise_spec.specs.Records.{Commit, AreRecordsOf}

@@ -8,7 +8,7 @@ use Rattle.core_model.specs.declared.events.CoreEvent.{CoreEvent}
 use Rattle.core_model.specs.Laws.{extended}
 use Rattle.core_model.specs.Legal.{Run, ends}
 use Rattle.core_model.specs.Serial.{committed}
-use Rattle.core_model.proofs.Lined.{once-ends}
+use Rattle.core_laws.proofs.Lined.{once-ends}
 use Rattle.turn_rules.proofs.Lawful.{legal-run}
 use Rattle.promise_spec.specs.Programs.{shape_in}
 use Rattle.promise_spec.specs.Records.{AreRecordsOf}

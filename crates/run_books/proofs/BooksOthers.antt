@@ -16,7 +16,7 @@ use Rattle.core_model.specs.Events.{applies}
 use Rattle.core_model.specs.Laws.{extended}
 use Rattle.core_model.specs.Legal.{Run, ends}
 use Rattle.core_model.specs.Serial.{committed}
-use Rattle.core_model.proofs.Lined.{once-ends}
+use Rattle.core_laws.proofs.Lined.{once-ends}
 use Rattle.core_access.specs.Settling.{is_settling, LeavesBatches}
 use Rattle.core_access.proofs.Settling.{others-leave}
 use Rattle.turn_rules.proofs.Lawful.{legal-run}

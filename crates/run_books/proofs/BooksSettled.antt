@@ -19,7 +19,7 @@ use Rattle.core_model.specs.Events.{applies, is_after_halt}
 use Rattle.core_model.specs.Laws.{extended}
 use Rattle.core_model.specs.Legal.{Run, ends}
 use Rattle.core_model.specs.Settler.{versions_to_write, Step, Votes, Decides, Seals as SealStep, Learns, Writes, Takes, Rests, MakesEvent, settler_step}
-use Rattle.core_model.proofs.Stepped.{step-applies}
+use Rattle.core_laws.proofs.Stepped.{step-applies}
 use Rattle.core_access.specs.OneHolder.{none_comes, own_sight}
 use Rattle.core_access.specs.Sights.{Sight, run_seen, Looks}
 use Rattle.core_access.specs.Spared.{is_spared, has_room}

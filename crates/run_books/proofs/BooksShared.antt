@@ -20,9 +20,9 @@ use Rattle.core_model.specs.Laws.{extended}
 use Rattle.core_model.specs.Legal.{Run, ends}
 use Rattle.core_model.specs.Lines.{EntriesAreOnce}
 use Rattle.core_model.specs.Settler.{Step, Votes, Decides, Seals as SealStep, Learns, Writes, Takes, Rests, MakesEvent, settler_step}
-use Rattle.core_model.proofs.Lined.{once-ends}
-use Rattle.core_model.proofs.Replied.{reply-tells}
-use Rattle.core_model.proofs.Stepped.{step-applies}
+use Rattle.core_laws.proofs.Lined.{once-ends}
+use Rattle.core_laws.proofs.Replied.{reply-tells}
+use Rattle.core_laws.proofs.Stepped.{step-applies}
 use Rattle.core_access.specs.Histories.{Told, run_after, reply_in}
 use Rattle.core_access.specs.Settling.{leaves_settling}
 use Rattle.core_access.specs.Sights.{Sight, run_seen, saw, told, AllPass, Looks, Counts}

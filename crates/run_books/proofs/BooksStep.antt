@@ -14,7 +14,7 @@ use Rattle.core_model.specs.Events.{applies, is_after_doubt}
 use Rattle.core_model.specs.Laws.{extended}
 use Rattle.core_model.specs.Legal.{Run, ends}
 use Rattle.core_model.specs.Settler.{MakesEvent, settler_step, to_commit, versions_to_write}
-use Rattle.core_model.proofs.Split.{no_doubt}
+use Rattle.core_laws.proofs.Split.{no_doubt}
 use Rattle.promise_spec.specs.Programs.{shape_in}
 use Rattle.promise_spec.specs.Records.{Commit}
 use Rattle.promise_spec.specs.Crashes.{Acknowledges}

@@ -28,3 +28,4 @@ pub mod Relying
 pub mod Staying
 pub mod BooksShared
 pub mod Seen
+pub mod Leaving

@@ -29,7 +29,7 @@ use Rattle.run_books.specs.Beginnings.{Outset, basis_of}
 use Rattle.run_books.specs.Books.{Books, booked_journal, AreInDoubt, IsPutOut}
 use Rattle.run_books.specs.Records.{KeepsRecord, TurnsEndAs}
 use Rattle.request_wire.specs.Reply.{reply_line}
-use Rattle.core_model.proofs.Lined.{once-ends}
+use Rattle.core_laws.proofs.Lined.{once-ends}
 use Rattle.turn_rules.proofs.Lawful.{legal-run}
 use Rattle.run_books.specs.Closing.{IsCourseOf, turns_ending}
 

@@ -17,7 +17,7 @@ use Rattle.core_model.specs.Laws.{extended}
 use Rattle.core_model.specs.Legal.{Run, ends}
 use Rattle.core_model.specs.Replies.{OnlyExtends}
 use Rattle.core_model.specs.Settler.{Writes, Takes, Rests, settler_step, batch_step, later_step, last_step, learn_step, to_commit, versions_to_write}
-use Rattle.core_model.proofs.Replied.{extends-ends}
+use Rattle.core_laws.proofs.Replied.{extends-ends}
 use Rattle.core_access.specs.Histories.{Told, run_after}
 use Rattle.core_access.specs.Settling.{is_settling, leaves_settling, LeavesBatches}
 use Rattle.core_access.specs.Sights.{AllPass}

@@ -11,9 +11,6 @@ pub mod Sound
 pub mod Steady
 pub mod Bindings
 pub mod Programs
-pub mod Heard
-pub mod Steps
-pub mod Trees
 pub mod Lookups
 pub mod Written
 pub mod Once

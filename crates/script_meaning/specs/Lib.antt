@@ -5,6 +5,5 @@ pub mod Play
 pub mod Trails
 pub mod Laws
 pub mod Targets
-pub mod Playing
 pub mod Texts
 pub mod Worked

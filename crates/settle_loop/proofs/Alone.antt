@@ -6,8 +6,8 @@ use Rattle.core_model.specs.Legal.{ends}
 use Rattle.core_model.specs.Settler.{settler_step, MakesEvent}
 use Rattle.core_model.specs.declared.events.CoreEvent.{CoreEvent}
 use Rattle.core_model.specs.declared.events.CoreReply.{CoreReply}
-use Rattle.core_model.proofs.Replied.{reply-tells}
-use Rattle.core_model.proofs.Stepped.{step-applies}
+use Rattle.core_laws.proofs.Replied.{reply-tells}
+use Rattle.core_laws.proofs.Stepped.{step-applies}
 use Rattle.core_access.specs.OneHolder.{none_comes}
 use Rattle.core_access.specs.Sights.{Sight, run_seen, Tells}
 use Rattle.core_access.proofs.Sights.{reply-alone}

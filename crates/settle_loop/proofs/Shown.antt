@@ -4,7 +4,7 @@ use Rattle.std.specs.Prelude.{slice_get}
 use Rattle.core_model.specs.CoreState.{CoreState, Entry}
 use Rattle.core_model.specs.Settler.{Step, Votes, Decides, Seals, Learns, Writes, Takes, Rests, settler_step, step_of, has_step, work_in, write_work}
 use Rattle.core_model.specs.declared.questions.SettlerWork.{SettlerWork}
-use Rattle.core_model.proofs.Stepped.{step-shown}
+use Rattle.core_laws.proofs.Stepped.{step-shown}
 use Rattle.core_access.specs.Sights.{Sight, run_seen}
 use Rattle.settle_loop.specs.Works.{ShowsWork}
 use Rattle.settle_loop.specs.Turning.{state_shown}

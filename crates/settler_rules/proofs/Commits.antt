@@ -23,15 +23,15 @@ use Rattle.core_model.specs.Serial.{batch_begin, committed, chosen}
 use Rattle.core_model.specs.Settler.{to_commit}
 use Rattle.core_model.specs.Tests.{any, is_committed, is_good, members}
 use Rattle.core_model.specs.Told.{IsSteady, OnlyTheBatchIsJudged}
-use Rattle.core_model.proofs.Decoded.{Change, bad, begin, lock, raise, refuse, finish, end_plain, end_snapshot, release, take_batch, vote, decide_some, decide_none, seal_batch, spoil_batch, doubt_batch, learn, emit, halt_run, want, load, decode}
-use Rattle.core_model.proofs.Ends.{kept-ends, split-ends}
-use Rattle.core_model.proofs.Kept.{Kept, inv-open, members-open}
-use Rattle.core_model.proofs.Orders.{Member-at, judged-other}
-use Rattle.core_model.proofs.Puts.{put-from, put-other}
-use Rattle.core_model.proofs.Relied.{holds-ends}
-use Rattle.core_model.proofs.Split.{Split, no_doubt, split-order}
-use Rattle.core_model.proofs.Stepped.{shows-chosen}
-use Rattle.core_model.proofs.Verdicts.{member-or-not}
+use Rattle.core_laws.proofs.Decoded.{Change, bad, begin, lock, raise, refuse, finish, end_plain, end_snapshot, release, take_batch, vote, decide_some, decide_none, seal_batch, spoil_batch, doubt_batch, learn, emit, halt_run, want, load, decode}
+use Rattle.core_laws.proofs.Ends.{kept-ends, split-ends}
+use Rattle.core_laws.proofs.Kept.{Kept, inv-open, members-open}
+use Rattle.core_laws.proofs.Orders.{Member-at, judged-other}
+use Rattle.core_laws.proofs.Puts.{put-from, put-other}
+use Rattle.core_laws.proofs.Relied.{holds-ends}
+use Rattle.core_laws.proofs.Split.{Split, no_doubt, split-order}
+use Rattle.core_laws.proofs.Stepped.{shows-chosen}
+use Rattle.core_laws.proofs.Verdicts.{member-or-not}
 use Rattle.promise_laws.specs.Legality.{is_play, applied_run}
 use Rattle.promise_laws.proofs.Legal.{ends_alike, legal}
 use Rattle.promise_spec.specs.UnitRule.{Basis, KeepsUnitRule}

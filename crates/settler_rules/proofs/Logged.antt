@@ -24,9 +24,9 @@ use Rattle.core_model.specs.Legal.{Run, begins, ends}
 use Rattle.core_model.specs.Proper.{NeverAborts}
 use Rattle.core_model.specs.Settler.{to_commit, versions_to_write}
 use Rattle.core_model.specs.Tests.{is_good, members, state_written}
-use Rattle.core_model.proofs.Consistency.{consistent-ends}
-use Rattle.core_model.proofs.Numbers.{grown-run, in-kinds-ends, numbered-ends}
-use Rattle.core_model.proofs.Relied.{holds-ends}
+use Rattle.core_laws.proofs.Consistency.{consistent-ends}
+use Rattle.core_laws.proofs.Numbers.{grown-run, in-kinds-ends, numbered-ends}
+use Rattle.core_laws.proofs.Relied.{holds-ends}
 use Rattle.promise_laws.specs.Legality.{is_play, applied_run}
 use Rattle.promise_laws.proofs.Legal.{is_play-true, ends_alike, legal}
 use Rattle.promise_laws.proofs.Told.{Led}

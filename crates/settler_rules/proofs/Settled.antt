@@ -19,7 +19,7 @@ use Rattle.core_model.specs.declared.questions.SettlerWork.TheVariants as work
 use Rattle.core_model.specs.Legal.{Run, ends}
 use Rattle.core_model.specs.Proper.{HasUnitOf, MaySettle, IsProperEntry}
 use Rattle.core_model.specs.Settler.{Step, Votes, Decides, Seals, Learns, Writes, Takes, Rests, settler_step, work_in, write_work}
-use Rattle.core_model.proofs.Proper.{proper-ends}
+use Rattle.core_laws.proofs.Proper.{proper-ends}
 use Rattle.promise_laws.specs.Legality.{is_play, applied_run}
 use Rattle.promise_laws.proofs.Legal.{ends_alike, legal}
 use Rattle.promise_laws.proofs.Tellings.{Tells, telling-ends}

@@ -15,11 +15,11 @@ use Rattle.core_model.specs.Laws.{extended}
 use Rattle.core_model.specs.Legal.{Run, ends}
 use Rattle.core_model.specs.Settler.{to_commit}
 use Rattle.core_model.specs.Tests.{is_good, members}
-use Rattle.core_model.proofs.Decoded.{Change, bad, begin, lock, raise, refuse, finish, end_plain, end_snapshot, release, take_batch, vote, decide_some, decide_none, seal_batch, spoil_batch, doubt_batch, learn, emit, halt_run, want, load, decode}
-use Rattle.core_model.proofs.Ends.{kept-ends}
-use Rattle.core_model.proofs.Kept.{Kept, size-open}
-use Rattle.core_model.proofs.Puts.{put-other}
-use Rattle.core_model.proofs.Reasons.{member-finished, take-drop-push}
+use Rattle.core_laws.proofs.Decoded.{Change, bad, begin, lock, raise, refuse, finish, end_plain, end_snapshot, release, take_batch, vote, decide_some, decide_none, seal_batch, spoil_batch, doubt_batch, learn, emit, halt_run, want, load, decode}
+use Rattle.core_laws.proofs.Ends.{kept-ends}
+use Rattle.core_laws.proofs.Kept.{Kept, size-open}
+use Rattle.core_laws.proofs.Puts.{put-other}
+use Rattle.core_laws.proofs.Reasons.{member-finished, take-drop-push}
 use Rattle.promise_laws.specs.Legality.{is_play, applied_run}
 use Rattle.promise_laws.proofs.Legal.{ends_alike, legal}
 use Rattle.promise_spec.specs.UnitRule.{Basis, KeepsUnitRule}

@@ -10,11 +10,11 @@ use Rattle.core_model.specs.Events.{applies, run}
 use Rattle.core_model.specs.declared.events.CoreEvent.{CoreEvent}
 use Rattle.core_model.specs.Laws.{extended}
 use Rattle.core_model.specs.Legal.{Run, begins, ends}
-use Rattle.core_model.proofs.Puts.{put-at, put-other}
-use Rattle.core_model.proofs.Decoded.{Change, bad, begin, lock, raise, refuse, finish, end_plain, end_snapshot, release, take_batch, vote, decide_some, decide_none, seal_batch, spoil_batch, doubt_batch, learn, emit, halt_run, want, load}
-use Rattle.core_model.proofs.Everywhere.{run-keeps, with_here}
-use Rattle.core_model.proofs.Further.{run-append}
-use Rattle.core_model.proofs.Relied.{holds-ends}
+use Rattle.core_laws.proofs.Puts.{put-at, put-other}
+use Rattle.core_laws.proofs.Decoded.{Change, bad, begin, lock, raise, refuse, finish, end_plain, end_snapshot, release, take_batch, vote, decide_some, decide_none, seal_batch, spoil_batch, doubt_batch, learn, emit, halt_run, want, load}
+use Rattle.core_laws.proofs.Everywhere.{run-keeps, with_here}
+use Rattle.core_laws.proofs.Further.{run-append}
+use Rattle.core_laws.proofs.Relied.{holds-ends}
 use Rattle.settler_rules.specs.Voting.{VoteStands, HasLeft}
 
 pub some-is : {A : Type 0} (x y : A) → Some x ≡ Some y → x ≡ y

@@ -17,9 +17,9 @@ use Rattle.core_model.specs.Events.{applies, step, run}
 use Rattle.core_model.specs.Laws.{extended}
 use Rattle.core_model.specs.Legal.{Run, IsLegal, begins, ends}
 use Rattle.core_model.specs.Tests.{is_final, is_over, outcome_in, outcome_of}
-use Rattle.core_model.proofs.Further.{children-ends, committed-closed, grows-ends, legal-front}
-use Rattle.core_model.proofs.Growth.{Grows}
-use Rattle.core_model.proofs.Told.{told-ends}
+use Rattle.core_laws.proofs.Further.{children-ends, committed-closed, grows-ends, legal-front}
+use Rattle.core_laws.proofs.Growth.{Grows}
+use Rattle.core_laws.proofs.Told.{told-ends}
 use Rattle.promise_laws.specs.Legality.{is_play, applied_run}
 use Rattle.promise_laws.proofs.Legal.{ends_alike, legal}
 use Rattle.promise_spec.specs.Cores.{applied_from}

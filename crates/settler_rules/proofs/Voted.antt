@@ -13,9 +13,9 @@ use Rattle.core_model.specs.Laws.{extended}
 use Rattle.core_model.specs.Learning.{next_learn}
 use Rattle.core_model.specs.Legal.{Run, ends}
 use Rattle.core_model.specs.Settler.{Step, Votes, Decides, Seals, Learns, Writes, Takes, Rests, settler_step, batch_step, undecided_step, later_step, learn_step, last_step, first_unvoted, versions_to_write}
-use Rattle.core_model.proofs.Relied.{holds-ends}
-use Rattle.core_model.proofs.Stepped.{find-some, shows-versions}
-use Rattle.core_model.proofs.Voted.{Member-drop}
+use Rattle.core_laws.proofs.Relied.{holds-ends}
+use Rattle.core_laws.proofs.Stepped.{find-some, shows-versions}
+use Rattle.core_laws.proofs.Voted.{Member-drop}
 use Rattle.settler_rules.specs.Voting.{IsUnvoted, VoteStands, HasLeft}
 use Rattle.settler_rules.proofs.Standing.{some-is, ends-more, numbered-ends}
 

@@ -12,7 +12,7 @@ use Rattle.core_model.specs.declared.events.CoreEvent.TheVariants.{Take, Vote, D
 use Rattle.core_model.specs.Events.{applies, is_allowed, can, does, step}
 use Rattle.core_model.specs.Laws.{extended}
 use Rattle.core_model.specs.Legal.{Run, ends}
-use Rattle.core_model.proofs.Decoded.{Change, bad, begin, lock, raise, refuse, finish, end_plain, end_snapshot, release, take_batch, vote, decide_some, decide_none, seal_batch, spoil_batch, doubt_batch, learn, emit, halt_run, want, load, decode}
+use Rattle.core_laws.proofs.Decoded.{Change, bad, begin, lock, raise, refuse, finish, end_plain, end_snapshot, release, take_batch, vote, decide_some, decide_none, seal_batch, spoil_batch, doubt_batch, learn, emit, halt_run, want, load, decode}
 use Rattle.core_access.specs.Histories.{Told, run_after}
 use Rattle.core_access.specs.OneHolder.{own_sight}
 use Rattle.core_access.specs.Settling.{is_settling}

@@ -12,7 +12,7 @@ use Rattle.core_model.specs.Legal.{Run, ends}
 use Rattle.core_model.specs.Lines.{EntriesAreOnce}
 use Rattle.core_model.specs.Settler.{has_step, settler_step}
 use Rattle.core_model.specs.Tests.{is_running, is_over, is_free}
-use Rattle.core_model.proofs.Lined.{once-ends}
+use Rattle.core_laws.proofs.Lined.{once-ends}
 use Rattle.promise_spec.specs.Gotten.{got_in, wanted_by}
 use Rattle.promise_spec.specs.TurnRule.{OfUnit, OfSettler, can_move, is_unhindered, in_flight, line_can_begin, units_of}
 use Rattle.promise_spec.specs.UnitRule.{KeepsUnitRule}

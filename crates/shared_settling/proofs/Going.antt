@@ -21,7 +21,7 @@ use Rattle.run_books.specs.Sharing.{SeesOn, MayRely}
 use Rattle.run_books.proofs.Relying.{sees-look, sees-tell, sees-both, counts-on, relies-before}
 use Rattle.shared_settling.specs.Among.{SettlesAmong, StopsAmong, CanSettleAmong, SettledAmong}
 use Rattle.shared_settling.proofs.Keeping.{can-again, settled-on, settled-fault}
-use Rattle.shared_settling.proofs.Leaving.{one-after-another, beside-fault}
+use Rattle.run_books.proofs.Leaving.{one-after-another, beside-fault}
 use Rattle.shared_settling.proofs.OthersStill.{looked-on, stopped-on}
 use Rattle.shared_settling.proofs.Passing.{among-both, among-look, stop-promise}
 use Rattle.shared_settling.proofs.StepsBeside.{fault-leaves}

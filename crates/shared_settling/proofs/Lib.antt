@@ -1,4 +1,3 @@
-pub mod Leaving
 pub mod Passing
 pub mod Keeping
 pub mod StepsBeside

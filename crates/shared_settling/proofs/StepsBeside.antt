@@ -16,7 +16,7 @@ use Rattle.run_books.specs.Beside.{TurnsBeside}
 use Rattle.run_books.specs.Sharing.{SeesOn}
 use Rattle.run_books.proofs.Fronts.{events_told, after-is}
 use Rattle.run_books.proofs.Relying.{run-sees}
-use Rattle.shared_settling.proofs.Leaving.{IsAnswerTo, step-beside, failed-on}
+use Rattle.run_books.proofs.Leaving.{IsAnswerTo, step-beside, failed-on}
 use Rattle.shared_settling.proofs.Passing.{step-among}
 
 -- the run goes on by the events of what was seen

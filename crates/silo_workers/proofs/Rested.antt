@@ -31,7 +31,7 @@ use Rattle.run_books.specs.Records.{HasCarriedAll, TurnsEndAs, RecordGoesOn}
 use Rattle.shared_settling.specs.Among.{SettlesAmong, CanSettleRest, SaysAmong, SettledAmong}
 use Rattle.shared_settling.proofs.Ended.{carried-all}
 use Rattle.history_core.specs.Cores.{HasFewNumbers}
-use Rattle.closing_rules.specs.Closed.{IsDone}
+use Rattle.closing_rules.specs.Closed.{IsOverAndFree}
 use Rattle.closing_rules.proofs.Onwards.{going-before, lines-after}
 use Rattle.closing_rules.proofs.Stories.{Story, begun-after, none-began, reply-there, settles-no-begin, done-after}
 use Rattle.silo_workers.specs.Ending.{HasGathered}
@@ -95,8 +95,8 @@ module _ (r r' : Run) (among : SettlesAmong (own_sight r) (own_sight r')) where
     ]
 
     -- and who was done is
-    rest-done : (u : UnitNo) → IsDone u r → IsDone u r'
-    rest-done u done = subst (IsDone u) (sym rest-is) (done-after b among.own r u rest-story (λ x i. settling-none x.event (among.settling x i) u) done)
+    rest-done : (u : UnitNo) → IsOverAndFree u r → IsOverAndFree u r'
+    rest-done u done = subst (IsOverAndFree u) (sym rest-is) (done-after b among.own r u rest-story (λ x i. settling-none x.event (among.settling x i) u) done)
 
     rest-going : IsGoing (ends r') → IsGoing (ends r)
     rest-going going = going-before among.own r (subst (λ (x : Run). IsGoing (ends x)) rest-is going)

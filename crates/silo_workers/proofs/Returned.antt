@@ -24,7 +24,7 @@ use Rattle.worker_rules.specs.Stories.{Promised}
 use Rattle.worker_rules.specs.Work.{OnlyWorks}
 use Rattle.worker_rules.proofs.Own.{promise-none}
 use Rattle.unit_crew.specs.Through.{IsThrough, AreThrough}
-use Rattle.closing_rules.specs.Closed.{IsDone, AreDone, PutsNothing}
+use Rattle.closing_rules.specs.Closed.{IsOverAndFree, AreOverAndFree, PutsNothing}
 use Rattle.closing_rules.specs.Gathering.{Returns}
 use Rattle.silo_workers.specs.Reaching.{PassAside, aside_of}
 use Rattle.silo_workers.specs.Working.{HasWorked}
@@ -43,15 +43,15 @@ none-held : (u : UnitNo) (w : CoreState) (rs : List Read) → ((g : GrainId) →
 none-held u w [] none = refl
 none-held u w (r ∷ rs) none = ap (λ (b : Bool). not b && all (λ (x : Read). not (holds_lock u (w.cells.holds x.grain))) rs) (none r.grain) ∙ none-held u w rs none
 
-through-done : (r : Run) (u : UnitNo) → IsThrough r u → IsDone u r
+through-done : (r : Run) (u : UnitNo) → IsThrough r u → IsOverAndFree u r
 through-done r u (inl t) going = (t.over, none-held u (ends r) ((ends r).units.reads u) t.locks)
 through-done r u (inr t) going = absurd (t.stopped going)
 
-are-done : (s : Sight) → AreThrough s → AreDone s
+are-done : (s : Sight) → AreThrough s → AreOverAndFree s
 are-done s t u began alone = through-done _ u (t u began alone)
 
 -- where nothing was put, no unit began
-pub nothing-done : (s : Sight) → PutsNothing s → AreDone s
+pub nothing-done : (s : Sight) → PutsNothing s → AreOverAndFree s
 nothing-done s none u began = absurd (subst (In began.0) none began.1)
 
 -- ---- a pass

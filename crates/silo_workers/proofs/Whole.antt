@@ -35,7 +35,7 @@ use Rattle.run_books.proofs.Relying.{counts-on, relies-before}
 use Rattle.run_books.proofs.Seen.{going-all}
 use Rattle.shared_settling.specs.Among.{SettlesAmong, StopsAmong, EndsAmong, CanSettleAmong, SettledAmong}
 use Rattle.shared_settling.proofs.OthersStill.{fault-on}
-use Rattle.closing_rules.specs.Closed.{IsClosed, PutsNothing, SettlesOrStops, AreDone, HasBegunLines}
+use Rattle.closing_rules.specs.Closed.{IsClosed, PutsNothing, SettlesOrStops, AreOverAndFree, HasBegunLines}
 use Rattle.closing_rules.specs.Gathering.{sight_by}
 use Rattle.closing_rules.proofs.Closes.{closed-less, closed-rule, settles-alone, works-since, last-since, closed-done, quiet-done, closed-same}
 use Rattle.silo_workers.specs.Beside.{HasSettled}
@@ -150,9 +150,9 @@ module _ {T : Type 0} (tells : Bool) (shape : Shape) (before after : Settler) (c
     gathered-books = subst (λ (x : Run). SettledAmong {T = T} tells o b r x before after counts' now now' result) (sym last-is) (on-by result from-first)
 
     -- the units
-    abbrev carried : end ≡ Through → IsClosed (λ z. SettlesOrStops z.mine × KeepsPromise (basis_of o) z) (λ z. KeepsPromise (basis_of o) z × AreDone z) r r'
+    abbrev carried : end ≡ Through → IsClosed (λ z. SettlesOrStops z.mine × KeepsPromise (basis_of o) z) (λ z. KeepsPromise (basis_of o) z × AreOverAndFree z) r r'
     carried through = closed-less (HasSettled {T = T} started tells shape before after counts counts' now now' result s) (λ z. SettlesOrStops z.mine × KeepsPromise (basis_of o) z)
-        (HasWorked Asked end) (λ z. KeepsPromise (basis_of o) z × AreDone z)
+        (HasWorked Asked end) (λ z. KeepsPromise (basis_of o) z × AreOverAndFree z)
         (λ z h. (ends-settle s z result first-mine h.beside.own, h.beside.promise (basis_of o) (none-first (basis_of o))))
         (λ z h. (h.promise (basis_of o) asked, subst (λ (e : WorkEnd). SaysOfUnits e z) through h.units)) r r' c
 

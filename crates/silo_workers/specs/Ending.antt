@@ -14,7 +14,7 @@ use Rattle.run_books.specs.declared.faults.RunFault.{RunFault}
 use Rattle.run_books.specs.Beginnings.{Outset, basis_of}
 use Rattle.run_books.specs.Books.{Books}
 use Rattle.shared_settling.specs.Among.{SettledAmong}
-use Rattle.closing_rules.specs.Closed.{IsDone, HasBegunLines}
+use Rattle.closing_rules.specs.Closed.{IsOverAndFree, HasBegunLines}
 use Rattle.silo_workers.specs.declared.work.WorkEnd.{WorkEnd}
 use Rattle.silo_workers.specs.declared.work.WorkEnd.TheVariants.{Through}
 
@@ -31,5 +31,5 @@ pub record HasGathered {T : Type 0} (tells : Bool) (o : Outset) (b : Books) (sha
   pub program : IsOfProgram o shape r'
   pub units : KeepsUnitRule (basis_of o) r'
   pub books : SettledAmong tells o b r r' before after counts' now now' settled
-  pub done : end ≡ Through → (u : UnitNo) → HasBegun (ends r') u → IsDone u r'
+  pub done : end ≡ Through → (u : UnitNo) → HasBegun (ends r') u → IsOverAndFree u r'
   pub lines : end ≡ Through → HasBegunLines (length o.asked) r'

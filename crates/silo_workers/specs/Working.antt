@@ -6,7 +6,7 @@ use Rattle.core_access.specs.Sights.{Sight, Counts}
 use Rattle.promise_spec.specs.UnitRule.{Basis}
 use Rattle.worker_rules.specs.Sharing.{KeepsPromise}
 use Rattle.worker_rules.specs.Work.{OnlyWorks}
-use Rattle.closing_rules.specs.Closed.{IsClosed, PutsNothing, AreDone, HasBegunLines}
+use Rattle.closing_rules.specs.Closed.{IsClosed, PutsNothing, AreOverAndFree, HasBegunLines}
 use Rattle.closing_rules.specs.Gathering.{WasShown}
 use Rattle.silo_workers.specs.declared.work.WorkEnd.{WorkEnd}
 use Rattle.silo_workers.specs.declared.work.WorkEnd.TheVariants.{Idle, Through, Lacking}
@@ -14,7 +14,7 @@ use Rattle.silo_workers.specs.declared.work.WorkEnd.TheVariants.{Idle, Through, 
 -- what the end of the work says of one's units
 abbrev pub SaysOfUnits : WorkEnd → Sight → Type 0
 SaysOfUnits Idle s = PutsNothing s
-SaysOfUnits Through s = AreDone s
+SaysOfUnits Through s = AreOverAndFree s
 SaysOfUnits Lacking s = ⊤
 
 -- Events of lines and units alone were put, and were promised for each basis that was asked; and the end says so of the units.

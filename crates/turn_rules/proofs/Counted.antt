@@ -16,12 +16,12 @@ use Rattle.core_model.specs.declared.events.CoreEvent.TheVariants.{Begin, Grant}
 use Rattle.core_model.specs.Events.{applies, can, does, step, run, is_allowed}
 use Rattle.core_model.specs.Legal.{Run, IsLegal, begins, ends}
 use Rattle.core_model.specs.Serial.{AllLoadsTrue}
-use Rattle.core_model.proofs.Kept.{Kept, kept-step}
-use Rattle.core_model.proofs.Ends.{kept-begins}
+use Rattle.core_laws.proofs.Kept.{Kept, kept-step}
+use Rattle.core_laws.proofs.Ends.{kept-begins}
 use Rattle.core_model.specs.declared.effects.Effect.{Effect}
 use Rattle.base_types.specs.declared.entries.Settled.TheVariants.{Bad as Wrong}
-use Rattle.core_model.proofs.Puts.{put-is, put-other, put-same}
-use Rattle.core_model.proofs.Decoded.{Change, bad, begin, lock, raise, refuse, finish, end_plain, end_snapshot, release, take_batch, vote, decide_some, decide_none, seal_batch, spoil_batch, doubt_batch, learn, emit, halt_run, want, load, decode}
+use Rattle.core_laws.proofs.Puts.{put-is, put-other, put-same}
+use Rattle.core_laws.proofs.Decoded.{Change, bad, begin, lock, raise, refuse, finish, end_plain, end_snapshot, release, take_batch, vote, decide_some, decide_none, seal_batch, spoil_batch, doubt_batch, learn, emit, halt_run, want, load, decode}
 use Rattle.promise_spec.specs.Gotten.{Got, GotLock, GotRaise, GotChild, got_lock, got_by, got_from, got_in, kids_got}
 use Rattle.turn_rules.specs.Counted.{IsCounted}
 

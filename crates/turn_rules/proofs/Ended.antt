@@ -21,14 +21,14 @@ use Rattle.core_model.specs.Legal.{Run, IsLegal, ends}
 use Rattle.core_model.specs.Laws.{HoldsNothing}
 use Rattle.core_model.specs.Serial.{batch_begin}
 use Rattle.core_model.specs.Lines.{IsSettled}
-use Rattle.core_model.proofs.Basics.{is_final-cases}
-use Rattle.core_model.proofs.Ends.{kept-ends}
-use Rattle.core_model.proofs.Kept.{Kept}
-use Rattle.core_model.proofs.Orders.{in_drop, Member-at}
-use Rattle.core_model.proofs.Further.{children-ends}
-use Rattle.core_model.proofs.Lined.{once-ends}
-use Rattle.core_model.proofs.Consistency.{consistent-ends}
-use Rattle.core_model.proofs.Batching.{free-holds, unfree-holds}
+use Rattle.core_laws.proofs.Basics.{is_final-cases}
+use Rattle.core_laws.proofs.Ends.{kept-ends}
+use Rattle.core_laws.proofs.Kept.{Kept}
+use Rattle.core_laws.proofs.Orders.{in_drop, Member-at}
+use Rattle.core_laws.proofs.Further.{children-ends}
+use Rattle.core_laws.proofs.Lined.{once-ends}
+use Rattle.core_laws.proofs.Consistency.{consistent-ends}
+use Rattle.core_laws.proofs.Batching.{free-holds, unfree-holds}
 use Rattle.script_tree.specs.Programs.{ProgramTree}
 use Rattle.promise_spec.specs.Gotten.{Got, wanted_by, got_in, kids_got}
 use Rattle.core_model.specs.Settler.{has_step, settler_step}

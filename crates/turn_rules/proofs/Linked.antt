@@ -15,8 +15,8 @@ use Rattle.core_model.specs.declared.events.CoreEvent.{CoreEvent}
 use Rattle.core_model.specs.declared.events.CoreEvent.TheVariants.{Begin, Grant, Refuse, Finish, EndPlain, Release}
 use Rattle.core_model.specs.Events.{applies, step}
 use Rattle.core_model.specs.Legal.{Run, ends}
-use Rattle.core_model.proofs.Kept.{Kept}
-use Rattle.core_model.proofs.Growth.{grows-step, grows-outcome}
+use Rattle.core_laws.proofs.Kept.{Kept}
+use Rattle.core_laws.proofs.Growth.{grows-step, grows-outcome}
 use Rattle.script_tree.specs.Programs.{ProgramTree}
 use Rattle.script_meaning.specs.Trails.{Given, GivenLock, GivenRaise, GivenOutcome}
 use Rattle.promise_spec.specs.Gotten.{Got, GotLock, GotRaise, GotChild, got_lock, got_by, and_given, given_by, wanted_by, wanted_lock, got_in}

@@ -19,11 +19,11 @@ use Rattle.base_types.specs.declared.calls.Origin.TheVariants.{Line, Child}
 use Rattle.core_model.specs.Events.{applies, can, does, step, is_allowed}
 use Rattle.core_model.specs.Legal.{Run, ends}
 use Rattle.core_model.specs.Laws.{HoldsNothing}
-use Rattle.core_model.proofs.Basics.{is_running-true}
-use Rattle.core_model.proofs.Kept.{Kept}
-use Rattle.core_model.proofs.Replied.{extends-ends}
-use Rattle.core_model.proofs.Batching.{free-holds}
-use Rattle.core_model.proofs.Decoded.{Change, bad, begin, lock, raise, refuse, finish, end_plain, end_snapshot, release, take_batch, vote, decide_some, decide_none, seal_batch, spoil_batch, doubt_batch, learn, emit, halt_run, want, load, decode}
+use Rattle.core_laws.proofs.Basics.{is_running-true}
+use Rattle.core_laws.proofs.Kept.{Kept}
+use Rattle.core_laws.proofs.Replied.{extends-ends}
+use Rattle.core_laws.proofs.Batching.{free-holds}
+use Rattle.core_laws.proofs.Decoded.{Change, bad, begin, lock, raise, refuse, finish, end_plain, end_snapshot, release, take_batch, vote, decide_some, decide_none, seal_batch, spoil_batch, doubt_batch, learn, emit, halt_run, want, load, decode}
 use Rattle.script_tree.specs.Programs.{ProgramTree}
 use Rattle.promise_spec.specs.Gotten.{Got, wanted_by, got_in}
 use Rattle.core_model.specs.Settler.{has_step, settler_step}

@@ -5,7 +5,7 @@ use Rattle.core_model.specs.CoreState.{UnitNo, Call, Origin}
 use Rattle.core_model.specs.declared.effects.Effect.{Effect}
 use Rattle.core_model.specs.declared.events.CoreEvent.{CoreEvent}
 use Rattle.core_model.specs.Legal.{Run, IsLegal, ends}
-use Rattle.core_model.proofs.Ends.{kept-ends}
+use Rattle.core_laws.proofs.Ends.{kept-ends}
 use Rattle.script_tree.specs.Programs.{ProgramTree}
 use Rattle.script_meaning.specs.Play.{Want, next}
 use Rattle.script_meaning.specs.Trails.{Given, locks_of, answers_of}

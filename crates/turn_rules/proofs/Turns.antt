@@ -9,9 +9,9 @@ use Rattle.core_model.specs.declared.events.CoreEvent.TheVariants.{Begin}
 use Rattle.core_model.specs.Changes.{new_unit}
 use Rattle.core_model.specs.Events.{applies, can, run}
 use Rattle.core_model.specs.Legal.{Run, IsLegal, begins, ends}
-use Rattle.core_model.proofs.Kept.{Kept}
-use Rattle.core_model.proofs.Ends.{kept-ends}
-use Rattle.core_model.proofs.Replied.{no-change}
+use Rattle.core_laws.proofs.Kept.{Kept}
+use Rattle.core_laws.proofs.Ends.{kept-ends}
+use Rattle.core_laws.proofs.Replied.{no-change}
 use Rattle.promise_spec.specs.Cores.{applied_from}
 use Rattle.promise_spec.specs.Gotten.{got_in}
 use Rattle.promise_spec.specs.UnitRule.{Basis}

@@ -17,10 +17,10 @@ use Rattle.core_model.specs.Changes.{begun, new_unit, swept, swept_by}
 use Rattle.core_model.specs.Events.{applies, can, does, is_allowed, reply_with, reply_without, reply_to, run, step}
 use Rattle.core_model.specs.Legal.{Run, begins, ends}
 use Rattle.core_model.specs.Serial.{AllLoadsTrue}
-use Rattle.core_model.proofs.Puts.{put-other, put-same}
-use Rattle.core_model.proofs.Kept.{Kept, kept-step}
-use Rattle.core_model.proofs.Ends.{kept-begins}
-use Rattle.core_model.proofs.Decoded.{ask-granted}
+use Rattle.core_laws.proofs.Puts.{put-other, put-same}
+use Rattle.core_laws.proofs.Kept.{Kept, kept-step}
+use Rattle.core_laws.proofs.Ends.{kept-begins}
+use Rattle.core_laws.proofs.Decoded.{ask-granted}
 use Rattle.script_tree.specs.Programs.{ProgramTree}
 use Rattle.script_meaning.specs.Play.{IsTransaction}
 use Rattle.script_meaning.specs.Trails.{Given}

@@ -14,7 +14,7 @@ use Rattle.core_model.specs.declared.questions.AskAnswer.TheVariants as answer
 use Rattle.core_model.specs.Asked.{AskExactly}
 use Rattle.core_model.specs.Tests.{any, ask_answer, outcome_of}
 use Rattle.core_model.specs.Legal.{ends}
-use Rattle.core_model.proofs.Asked.{ask-ends}
+use Rattle.core_laws.proofs.Asked.{ask-ends}
 use Rattle.script_tree.specs.Programs.{ProgramTree}
 use Rattle.script_meaning.specs.Laws.{IsOfTypes}
 use Rattle.script_meaning.specs.Play.{Want, asks, next}

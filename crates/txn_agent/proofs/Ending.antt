@@ -24,8 +24,8 @@ use Rattle.core_model.specs.Changes.{refusal, refused_by, after_release, swept, 
 use Rattle.core_model.specs.Asked.{IsGoing}
 use Rattle.core_model.specs.Events.{applies, can, does, is_after_doubt, is_after_halt, is_allowed, is_free_answer, reply_with, reply_without, reply_to}
 use Rattle.core_model.specs.Legal.{Run, ends}
-use Rattle.core_model.proofs.Puts.{grain-at, put-same}
-use Rattle.core_model.proofs.Decoded.{none-true}
+use Rattle.core_laws.proofs.Puts.{grain-at, put-same}
+use Rattle.core_laws.proofs.Decoded.{none-true}
 use Rattle.script_tree.specs.Programs.{ProgramTree}
 use Rattle.script_meaning.specs.Play.{grains_with_states}
 use Rattle.script_meaning.specs.Trails.{Given, reads_of}

@@ -9,7 +9,7 @@ use Rattle.core_model.specs.Asked.{IsGoing}
 use Rattle.core_model.specs.Events.{applies, can, is_after_doubt, is_after_halt, is_allowed, reply_to}
 use Rattle.core_model.specs.Replies.{says_no}
 use Rattle.core_model.specs.Legal.{ends}
-use Rattle.core_model.proofs.Replied.{reply-tells}
+use Rattle.core_laws.proofs.Replied.{reply-tells}
 use Rattle.script_tree.specs.Programs.{ProgramTree}
 use Rattle.worker_rules.specs.Sharing.{leaves_unit}
 use Rattle.core_access.specs.OneHolder.{none_comes}

@@ -21,7 +21,7 @@ use Rattle.core_model.specs.Tests.{any, ask_answer}
 use Rattle.core_model.specs.Changes.{after_grant, after_lock, after_raise, restacked, cleaned, read_of, swept, swept_by}
 use Rattle.core_model.specs.Events.{applies, does, holds_alone, is_allowed, not_granted, reply_with, reply_without, reply_to}
 use Rattle.core_model.specs.Legal.{Run, ends}
-use Rattle.core_model.proofs.Puts.{grain-at, grain-same, put-same}
+use Rattle.core_laws.proofs.Puts.{grain-at, grain-same, put-same}
 use Rattle.script_tree.specs.Programs.{ProgramTree}
 use Rattle.script_meaning.specs.Play.{GrainState, IsTransaction, grains_with_states}
 use Rattle.script_meaning.specs.Trails.{Given, GivenLock, GivenRaise, exclusive_in, reads_of}

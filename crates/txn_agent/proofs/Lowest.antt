@@ -4,7 +4,7 @@ use Rattle.std.specs.Prelude.{if◌then◌else◌}
 use Rattle.std.proofs.lemmas.Bool.{cases_Bool, cond-true, cond-false}
 use Rattle.core_model.specs.CoreState.{GrainId, Member}
 use Rattle.core_model.specs.Tests.{is_before, first_of_two, first_grain}
-use Rattle.core_model.proofs.Failures.{before-true, before-false}
+use Rattle.core_laws.proofs.Failures.{before-true, before-false}
 
 from-false : (a b : GrainId) → ((a.kind < b.kind) ⊎ ((a.kind ≡ b.kind) × (a.key < b.key)) → ⊥) → is_before a b ≡ false
 from-false a b n = elim (cases_Bool (is_before a b)) [ inl e ↦ absurd (n (before-true a b e)) | inr e ↦ e ]

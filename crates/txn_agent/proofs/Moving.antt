@@ -13,7 +13,7 @@ use Rattle.core_model.specs.declared.questions.AskAnswer.{AskAnswer}
 use Rattle.core_model.specs.Tests.{any, ask_answer, is_decided, is_free, is_over, is_running, outcome_of}
 use Rattle.core_model.specs.Legal.{Run, ends}
 use Rattle.core_model.specs.declared.events.CoreEvent.{CoreEvent}
-use Rattle.core_model.proofs.Batching.{free-holds, unfree-holds}
+use Rattle.core_laws.proofs.Batching.{free-holds, unfree-holds}
 use Rattle.script_tree.specs.Programs.{ProgramTree}
 use Rattle.script_meaning.specs.Play.{Want, WantLock, WantRaise, WantUnit, Over, asks}
 use Rattle.script_meaning.specs.Trails.{Given, GivenLock, GivenRaise, GivenOutcome}

@@ -13,8 +13,8 @@ use Rattle.core_model.specs.Changes.{swept}
 use Rattle.core_model.specs.Events.{applies, does, holds_alone, step}
 use Rattle.core_model.specs.Legal.{Run, begins, ends}
 use Rattle.core_model.specs.Serial.{Plays, AllPlay, AllLoadsTrue, IsTrueLoad}
-use Rattle.core_model.proofs.Kept.{Kept}
-use Rattle.core_model.proofs.Ends.{kept-ends}
+use Rattle.core_laws.proofs.Kept.{Kept}
+use Rattle.core_laws.proofs.Ends.{kept-ends}
 use Rattle.script_tree.specs.Programs.{ProgramTree}
 use Rattle.script_meaning.specs.Trails.{Given}
 use Rattle.promise_spec.specs.Gotten.{got_by, got_in, given_by}

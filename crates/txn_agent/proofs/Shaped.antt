@@ -9,7 +9,7 @@ use Rattle.core_model.specs.Changes.{swept, swept_by}
 use Rattle.core_model.specs.Asked.{IsGoing}
 use Rattle.core_model.specs.Events.{applies, can, does, step, run, is_allowed}
 use Rattle.core_model.specs.Legal.{Run, begins, ends}
-use Rattle.core_model.proofs.Decoded.{Change, bad, begin, lock, raise, refuse, finish, end_plain, end_snapshot, release, take_batch, vote, decide_some, decide_none, seal_batch, spoil_batch, doubt_batch, learn, emit, halt_run, want, load, decode}
+use Rattle.core_laws.proofs.Decoded.{Change, bad, begin, lock, raise, refuse, finish, end_plain, end_snapshot, release, take_batch, vote, decide_some, decide_none, seal_batch, spoil_batch, doubt_batch, learn, emit, halt_run, want, load, decode}
 use Rattle.turn_rules.specs.Going.{with_event}
 use Rattle.turn_rules.proofs.Growth.{ends-more}
 

@@ -18,7 +18,7 @@ use Rattle.core_model.specs.Changes.{refusal}
 use Rattle.core_model.specs.Events.{applies, can, is_allowed, is_free_answer}
 use Rattle.core_model.specs.Tests.{ask_answer, is_free, is_over, is_running}
 use Rattle.core_model.specs.Legal.{Run, ends}
-use Rattle.core_model.proofs.Batching.{free-holds}
+use Rattle.core_laws.proofs.Batching.{free-holds}
 use Rattle.script_tree.specs.Programs.{ProgramTree}
 use Rattle.script_meaning.specs.Play.{Want, WantLock, WantRaise, WantUnit, Over}
 use Rattle.promise_spec.specs.Gotten.{Got, got_in, wanted_by, wanted_lock}

@@ -10,7 +10,7 @@ use Rattle.core_model.specs.Laws.{extended}
 use Rattle.core_model.specs.declared.events.CoreEvent.{CoreEvent}
 use Rattle.core_model.specs.declared.events.CoreEvent.TheVariants.{Load}
 use Rattle.core_model.specs.declared.events.CoreReply.{CoreReply}
-use Rattle.core_model.proofs.Proper.{grown-ends}
+use Rattle.core_laws.proofs.Proper.{grown-ends}
 use Rattle.std.proofs.lemmas.Bool.{cond_both}
 use Rattle.turn_cell.specs.History.{entry}
 use Rattle.turn_cell.proofs.Lists.{in_append}

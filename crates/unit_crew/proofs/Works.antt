@@ -26,7 +26,7 @@ use Rattle.worker_rules.proofs.Promising.{looks-promise, tells-promise}
 use Rattle.txn_agent.specs.Stepping.{Acts}
 use Rattle.txn_agent.proofs.Promised.{acts-promise}
 use Rattle.unit_carrier.specs.Lines.{PutsLine, IsEventOf}
-use Rattle.unit_crew.specs.Crews.{IsBasisOf, IsOfTypes, ReadsLinesAs, WorksOn}
+use Rattle.unit_crew.specs.Crews.{IsBasisOf, HasTypes, ReadsLinesAs, WorksOn}
 use Rattle.unit_crew.specs.Through.{Showed}
 
 module _ (Asked : Basis → Type 0) where
@@ -84,14 +84,14 @@ pub works-fewer : (P Q : Basis → Type 0) (s t : Sight) → ((b : Basis) → P 
 works-fewer P Q s t f w = record { first = w.first; number = w.number; seen = w.seen; counts = w.counts; only = w.only; promise = λ b p k. w.promise b (f b p) k }
 
 -- what a unit's step leaves, by each basis that reads the lines
-pub works-types : (types : ProgramTree) (before : ℕ) (lines : List Line) (s t : Sight) → WorksOn (IsOfTypes types) s t → WorksOn (IsBasisOf types before lines) s t
-works-types types before lines s t w = works-fewer (IsBasisOf types before lines) (IsOfTypes types) s t (λ b p. p.0) w
+pub works-types : (types : ProgramTree) (before : ℕ) (lines : List Line) (s t : Sight) → WorksOn (HasTypes types) s t → WorksOn (IsBasisOf types before lines) s t
+works-types types before lines s t w = works-fewer (IsBasisOf types before lines) (HasTypes types) s t (λ b p. p.0) w
 
 -- the step of a unit that began here
-pub works-acts : (may : CoreEvent → Bool) (types : ProgramTree) (u : UnitNo) (s t : Sight) → Acts may types u s t → BeganHere u s → WorksOn (IsOfTypes types) s t
-works-acts may types u s t (inl l) began = works-looks (IsOfTypes types) may s t l
+pub works-acts : (may : CoreEvent → Bool) (types : ProgramTree) (u : UnitNo) (s t : Sight) → Acts may types u s t → BeganHere u s → WorksOn (HasTypes types) s t
+works-acts may types u s t (inl l) began = works-looks (HasTypes types) may s t l
 works-acts may types u s t (inr (e, (r, x))) began =
-    works-tells (IsOfTypes types) may s t e r x.told (ap is_of_worker x.own)
+    works-tells (HasTypes types) may s t e r x.told (ap is_of_worker x.own)
     (λ b same p. acts-promise may b u s t (subst (λ (z : ProgramTree). Acts may z u s t) (sym same) (inr (e, (r, x)))) began p)
 
 -- a line's event is of no unit

@@ -20,8 +20,8 @@ use Rattle.unit_crew.specs.Through.{IsThrough}
 -- ---- lines
 
 -- the basis is of these types
-abbrev pub IsOfTypes : ProgramTree → Basis → Type 0
-IsOfTypes types b = b.types ≡ types
+abbrev pub HasTypes : ProgramTree → Basis → Type 0
+HasTypes types b = b.types ≡ types
 
 -- these lines stand behind so many of the basis, each with its number, and read so there
 abbrev pub ReadsLinesAs : ℕ → List Line → Basis → Type 0
@@ -30,7 +30,7 @@ ReadsLinesAs before lines b = (place : ℕ) (line : Line) → slice_get lines pl
 
 -- both
 abbrev pub IsBasisOf : ProgramTree → ℕ → List Line → Basis → Type 0
-IsBasisOf types before lines b = IsOfTypes types b × ReadsLinesAs before lines b
+IsBasisOf types before lines b = HasTypes types b × ReadsLinesAs before lines b
 
 -- ---- work
 

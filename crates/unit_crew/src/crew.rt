@@ -2,7 +2,7 @@ ghost use Rattle.std.specs.Prelude.{◌≡◌, ◌<◌, ◌≤◌, IfOk, length,
 ghost use Rattle.script_tree.specs.Programs.{program_tree};
 ghost use Rattle.txn_agent.specs.declared.agent.Agent.{Agent as AnAgent};
 ghost use Rattle.txn_agent.specs.Stepping.{has_freed_all, is_freeing};
-ghost use Rattle.unit_crew.specs.Crews.{IsCrew, IsOfTypes, WorksOn};
+ghost use Rattle.unit_crew.specs.Crews.{IsCrew, HasTypes, WorksOn};
 
 use base_types::Origin;
 use core_access::Access;
@@ -32,7 +32,7 @@ fn step<A: Access, G: Gate>(
     requires crew { IsCrew (program_tree checked.now) (A.sight access.old) agents.old.list.items }
     ensures fit { A.is_fit access.new }
     ensures aside { A.aside access.new ≡ A.aside access.old }
-    ensures works { WorksOn (IsOfTypes (program_tree checked.now)) (A.sight access.old) (A.sight access.new) }
+    ensures works { WorksOn (HasTypes (program_tree checked.now)) (A.sight access.old) (A.sight access.new) }
     ensures crew { IfOk result (λ _. IsCrew (program_tree checked.now) (A.sight access.new) agents.new.list.items) }
     ensures more { IfOk result (λ _. length agents.old.list.items ≤ length agents.new.list.items) }
 {
@@ -87,7 +87,7 @@ fn go_far<A: Access, G: Gate>(
     requires crew { IsCrew (program_tree checked.now) (A.sight access.old) agents.old.list.items }
     ensures fit { A.is_fit access.new }
     ensures aside { A.aside access.new ≡ A.aside access.old }
-    ensures works { WorksOn (IsOfTypes (program_tree checked.now)) (A.sight access.old) (A.sight access.new) }
+    ensures works { WorksOn (HasTypes (program_tree checked.now)) (A.sight access.old) (A.sight access.new) }
     ensures crew { IfOk result (λ _. IsCrew (program_tree checked.now) (A.sight access.new) agents.new.list.items) }
     ensures more { IfOk result (λ _. length agents.old.list.items ≤ length agents.new.list.items) }
 {
@@ -116,7 +116,7 @@ pub(crate) fn go_on<A: Access, G: Gate>(
     requires crew { IsCrew (program_tree checked.now) (A.sight access.old) agents.old.list.items }
     ensures fit { A.is_fit access.new }
     ensures aside { A.aside access.new ≡ A.aside access.old }
-    ensures works { WorksOn (IsOfTypes (program_tree checked.now)) (A.sight access.old) (A.sight access.new) }
+    ensures works { WorksOn (HasTypes (program_tree checked.now)) (A.sight access.old) (A.sight access.new) }
     ensures crew { IfOk result (λ _. IsCrew (program_tree checked.now) (A.sight access.new) agents.new.list.items) }
 {
     let mut moved = false;

@@ -3,7 +3,7 @@ use Rattle.std.proofs.Common.{◌≡◌, ℕ, zero, suc, ◌+◌, ◌-◌, ◌<�
 use Rattle.std.proofs.lemmas.Bool.{cond_both, ltb-true, ltb-false}
 use Rattle.std.proofs.lemmas.Option.{slice_get-get_or}
 use Rattle.core_model.specs.CoreState.{UnitNo, put}
-use Rattle.core_model.proofs.Puts.{put-at, put-is, put-other}
+use Rattle.core_laws.proofs.Puts.{put-at, put-is, put-other}
 use Rattle.unit_table.specs.declared.entry.UnitEntry.{UnitEntry}
 use Rattle.unit_table.specs.Table.{entry_among}
 

@@ -13,7 +13,7 @@ use Rattle.core_model.specs.declared.events.CoreEvent.TheVariants.{Bad, Begin, G
 use Rattle.core_model.specs.Events.{applies, is_allowed, can, does, step, reply_to, reply_with, reply_without, not_granted, decided_reply}
 use Rattle.core_model.specs.Tests.{ask_answer}
 use Rattle.core_model.specs.Legal.{Run, ends}
-use Rattle.core_model.proofs.Decoded.{Change, bad, begin, lock, raise, refuse, finish, end_plain, end_snapshot, release, take_batch, vote, decide_some, decide_none, seal_batch, spoil_batch, doubt_batch, learn, emit, halt_run, want, load, decode}
+use Rattle.core_laws.proofs.Decoded.{Change, bad, begin, lock, raise, refuse, finish, end_plain, end_snapshot, release, take_batch, vote, decide_some, decide_none, seal_batch, spoil_batch, doubt_batch, learn, emit, halt_run, want, load, decode}
 use Rattle.turn_cell.specs.History.{In}
 use Rattle.turn_rules.specs.Going.{with_event}
 use Rattle.turn_rules.proofs.Growth.{ends-more}

@@ -4,7 +4,7 @@ use Rattle.base_types.specs.declared.calls.UnitNo.{UnitNo}
 use Rattle.cell_model.specs.Cells.{Cell, cell_granted, cell_learned}
 use Rattle.cell_model.specs.Locks.{ask}
 use Rattle.core_model.specs.CoreState.{put_grain}
-use Rattle.core_model.proofs.Puts.{grain-same}
+use Rattle.core_laws.proofs.Puts.{grain-same}
 use Rattle.cell_table.specs.Table.{cell_in}
 use Rattle.history_core.specs.Granting.{cell_without}
 use Rattle.history_core.proofs.Locking.{put-twice}

@@ -11,8 +11,8 @@ use Rattle.run_books.specs.declared.faults.RunFault.{RunFault}
 use Rattle.run_books.specs.declared.faults.RunFault.TheVariants.{Memory}
 use Rattle.run_books.specs.Beside.{TurnsBeside}
 use Rattle.interleaver.specs.UnderWay.{TurnStage, WentOn, stage_of}
-use Rattle.interleaver.proofs.Besides.{one-after-another}
-use Rattle.interleaver.proofs.Onward.{on-after, done-after, fault-after, out-then, nothing-beside, beside-fault, beside-well, at-once, nothing-went}
+use Rattle.run_books.proofs.Leaving.{one-after-another, beside-fault, beside-well}
+use Rattle.interleaver.proofs.Onward.{on-after, done-after, fault-after, out-then, nothing-beside, at-once, nothing-went}
 use Rattle.interleaver.proofs.Starting.{start}
 use Rattle.interleaver.proofs.turns.run_turns.Goals as goal
 

@@ -7,7 +7,7 @@ use Rattle.core_model.specs.Equality.{same_list}
 use Rattle.log_reading.specs.Steps.{seen_in, live_slot}
 use Rattle.script_tree.specs.Programs.{program_tree}
 use Rattle.script_meaning.specs.Play.{Played, found_in}
-use Rattle.script_meaning.specs.Playing.{played_of}
+use Rattle.script_player.specs.Playing.{played_of}
 use Rattle.promise_spec.specs.Records.{Commit, States, written, put_state}
 use Rattle.promise_spec.specs.Serial.{played}
 use Rattle.promise_spec.specs.Openings.{commit_of}

@@ -4,7 +4,7 @@ use Rattle.core_access.specs.Sights.{run_seen}
 use Rattle.run_books.specs.declared.faults.RunFault.TheVariants.{InDoubt, WriteFault, Memory}
 use Rattle.shared_settling.proofs.Going.{booked-on, beside-on, stop-sees, stop-own, stop-promised, stop-booked, stop-beside}
 use Rattle.shared_settling.proofs.Keeping.{settled-none, settled-ok, settled-fault, settled-lack}
-use Rattle.shared_settling.proofs.Leaving.{run-stays, core-beside, beside-well, beside-fault}
+use Rattle.run_books.proofs.Leaving.{run-stays, core-beside, beside-well, beside-fault}
 use Rattle.shared_settling.proofs.Passing.{among-none, among-both, among-seen}
 use Rattle.shared_settling.proofs.beside.settle_beside.Goals as goal
 

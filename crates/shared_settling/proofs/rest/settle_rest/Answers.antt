@@ -11,7 +11,7 @@ use Rattle.run_books.specs.declared.faults.RunFault.TheVariants.{Memory}
 use Rattle.shared_settling.proofs.Alone.{alone-rule, can-alone, rely-alone, settled-alone, beside-alone}
 use Rattle.shared_settling.proofs.Going.{booked-on, beside-on}
 use Rattle.shared_settling.proofs.Keeping.{settled-none, settled-ok, settled-fault, settled-lack}
-use Rattle.shared_settling.proofs.Leaving.{run-stays, core-beside, beside-well, beside-fault}
+use Rattle.run_books.proofs.Leaving.{run-stays, core-beside, beside-well, beside-fault}
 use Rattle.shared_settling.proofs.Passing.{among-none, among-both}
 use Rattle.shared_settling.proofs.rest.settle_rest.Goals as goal
 

@@ -6,7 +6,7 @@ use Rattle.history_core.specs.Cores.{run_of}
 use Rattle.run_books.specs.declared.faults.RunFault.{RunFault}
 use Rattle.run_books.specs.Beginnings.{basis_of}
 use Rattle.run_books.specs.Beside.{TurnsBeside}
-use Rattle.shared_settling.proofs.Leaving.{one-after-another}
+use Rattle.run_books.proofs.Leaving.{one-after-another}
 use Rattle.silo_workers.specs.Ending.{HasGathered}
 use Rattle.silo_workers.specs.declared.work.WorkEnd.{WorkEnd}
 use Rattle.silo_workers.specs.declared.work.WorkEnd.TheVariants.{Through}

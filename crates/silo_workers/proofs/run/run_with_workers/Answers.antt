@@ -11,7 +11,7 @@ use Rattle.closing_rules.specs.Gathering.{sight_by}
 use Rattle.silo_workers.specs.Beside.{HasSettled}
 use Rattle.silo_workers.specs.Working.{HasWorked, IsGathered}
 use Rattle.settle_loop.specs.declared.settler.Settler.{Settler}
-use Rattle.shared_settling.proofs.Leaving.{core-beside, run-stays}
+use Rattle.run_books.proofs.Leaving.{core-beside, run-stays}
 use Rattle.silo_workers.proofs.Begun.{own-legal, reads-lines, of-program, can-among}
 use Rattle.silo_workers.proofs.Whole.{has-gathered, gathered-beside}
 use Rattle.silo_workers.proofs.run.run_with_workers.Goals as goal

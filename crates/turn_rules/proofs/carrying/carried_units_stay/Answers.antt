@@ -1,4 +1,4 @@
-use Rattle.core_model.proofs.Ends.{kept-ends}
+use Rattle.core_laws.proofs.Ends.{kept-ends}
 use Rattle.turn_rules.proofs.Counted.{counted-ends}
 use Rattle.turn_rules.proofs.Movers.{kept-on, kept-begun, drop-kept}
 use Rattle.turn_rules.proofs.carrying.carried_units_stay.Goals as goal

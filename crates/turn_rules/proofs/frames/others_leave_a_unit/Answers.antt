@@ -1,4 +1,4 @@
-use Rattle.core_model.proofs.Ends.{kept-ends}
+use Rattle.core_laws.proofs.Ends.{kept-ends}
 use Rattle.turn_rules.proofs.Frame.{got-stays}
 use Rattle.turn_rules.proofs.Linked.{outcomes-stay}
 use Rattle.turn_rules.proofs.Others.{given-on, still-on, wants-on}

@@ -1,4 +1,4 @@
-use Rattle.core_model.proofs.Ends.{kept-ends}
+use Rattle.core_laws.proofs.Ends.{kept-ends}
 use Rattle.turn_rules.proofs.Linked.{given-others, awaiting-others, freeing-others, heard}
 use Rattle.turn_rules.proofs.linking.links_stay.Goals as goal
 

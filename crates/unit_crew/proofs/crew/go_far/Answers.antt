@@ -1,20 +1,20 @@
 use Rattle.std.proofs.Common.{◌∙◌, arith}
 use Rattle.script_tree.specs.Programs.{program_tree}
-use Rattle.unit_crew.specs.Crews.{IsOfTypes}
+use Rattle.unit_crew.specs.Crews.{HasTypes}
 use Rattle.unit_crew.proofs.Works.{works-on}
 use Rattle.unit_crew.proofs.crew.go_far.Goals as goal
 
 pub returns-in_err-step-clause-works : goal.returns-in_err-step-clause-works
-returns-in_err-step-clause-works g c = works-on (IsOfTypes (program_tree c.args.checked.now)) (g.A.Access.sight c.args.access.now) (g.A.Access.sight c.loop-count.access) (g.A.Access.sight c.step.new.access) c.loop-count.invariant.works c.step.ensures.works
+returns-in_err-step-clause-works g c = works-on (HasTypes (program_tree c.args.checked.now)) (g.A.Access.sight c.args.access.now) (g.A.Access.sight c.loop-count.access) (g.A.Access.sight c.step.new.access) c.loop-count.invariant.works c.step.ensures.works
 
 pub returns-then-not-branch-clause-works : goal.returns-then-not-branch-clause-works
-returns-then-not-branch-clause-works g c = works-on (IsOfTypes (program_tree c.args.checked.now)) (g.A.Access.sight c.args.access.now) (g.A.Access.sight c.loop-count.access) (g.A.Access.sight c.step.new.access) c.loop-count.invariant.works c.step.ensures.works
+returns-then-not-branch-clause-works g c = works-on (HasTypes (program_tree c.args.checked.now)) (g.A.Access.sight c.args.access.now) (g.A.Access.sight c.loop-count.access) (g.A.Access.sight c.step.new.access) c.loop-count.invariant.works c.step.ensures.works
 
 pub loop-count-preserved : goal.loop-count-preserved
 loop-count-preserved g c = record {
   fit = c.step.ensures.fit;
   aside = c.step.ensures.aside ∙ c.loop-count.invariant.aside;
-  works = works-on (IsOfTypes (program_tree c.args.checked.now)) (g.A.Access.sight c.args.access.now) (g.A.Access.sight c.loop-count.access) (g.A.Access.sight c.step.new.access) c.loop-count.invariant.works c.step.ensures.works;
+  works = works-on (HasTypes (program_tree c.args.checked.now)) (g.A.Access.sight c.args.access.now) (g.A.Access.sight c.loop-count.access) (g.A.Access.sight c.step.new.access) c.loop-count.invariant.works c.step.ensures.works;
   crew = c.in_ok-step.ensures.crew;
   more = omega (arith, c.in_ok-step.ensures.more, c.loop-count.invariant.more);
 }

@@ -19,8 +19,9 @@ use Rattle.interleaver.specs.Flights.{IsNextMover, MovesWithin}
 use Rattle.run_books.specs.Beside.{TurnsBeside}
 use Rattle.interleaver.specs.UnderWay.{stage_of, SettlesBy, SettlesOne, SettledOn}
 use Rattle.interleaver.proofs.Unstopped.{way-unstopped}
-use Rattle.interleaver.proofs.Besides.{acts-beside, beside-err, beside-ok, none-beside}
+use Rattle.interleaver.proofs.Besides.{acts-beside, beside-err, none-beside}
 use Rattle.run_books.proofs.BooksOthers.{others-keep}
+use Rattle.run_books.proofs.Leaving.{beside-well}
 use Rattle.interleaver.proofs.Choosing.{none-out, nobody-says, says-lack, settles-known, unit-says, unit-out-says, settler-says, settler-out-says}
 use Rattle.interleaver.proofs.turns.Turns.move_one.Goals as goal
 
@@ -111,5 +112,5 @@ returns-in_err-settle-in-Settler-clause-beside g c =
 pub returns-in-Settler-clause-beside : goal.returns-in-Settler-clause-beside
 returns-in-Settler-clause-beside g c =
     subst (λ (x : Run). TurnsBeside {T = Bool} g.H.Host.tells x (run_of c.settle.new.core) c.args.settler.now c.settle.new.settler (g.H.Host.faults c.args.host.now) (g.H.Host.faults c.settle.new.host) (g.H.Host.world c.args.host.now) (g.H.Host.world c.settle.new.host) (Ok true)) c.next_mover.ensures.same
-    (beside-ok g.H.Host.tells (run_of c.next_mover.new.core) (run_of c.settle.new.core) c.args.settler.now c.settle.new.settler (g.H.Host.faults c.args.host.now) (g.H.Host.faults c.settle.new.host) (g.H.Host.world c.args.host.now) (g.H.Host.world c.settle.new.host) {T = Unit} {U = Bool} tt true
+    (beside-well g.H.Host.tells (run_of c.next_mover.new.core) (run_of c.settle.new.core) c.args.settler.now c.settle.new.settler (g.H.Host.faults c.args.host.now) (g.H.Host.faults c.settle.new.host) (g.H.Host.world c.args.host.now) (g.H.Host.world c.settle.new.host) {T = Unit} {U = Bool} tt (Ok true)
     (subst (TurnsBeside {T = Unit} g.H.Host.tells (run_of c.next_mover.new.core) (run_of c.settle.new.core) c.args.settler.now c.settle.new.settler (g.H.Host.faults c.args.host.now) (g.H.Host.faults c.settle.new.host) (g.H.Host.world c.args.host.now) (g.H.Host.world c.settle.new.host)) c.in_ok-settle-in-Settler.was c.settle.ensures.beside))

@@ -1,0 +1,9 @@
+use Rattle.core_laws.proofs.Consistency.{consistent-ends}
+use Rattle.core_laws.proofs.PlainPlayed.{plain-ends}
+use Rattle.core_laws.proofs.laws.core_is_consistent.Goals as goal
+
+pub returns : goal.returns
+returns c = record {
+  facts = λ plays r l. consistent-ends plays r l;
+  plain = λ plays r l. plain-ends plays r l;
+}

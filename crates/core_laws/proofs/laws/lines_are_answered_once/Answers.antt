@@ -1,0 +1,5 @@
+use Rattle.core_laws.proofs.Lined.{once-ends}
+use Rattle.core_laws.proofs.laws.lines_are_answered_once.Goals as goal
+
+pub returns : goal.returns
+returns c = λ plays r l. once-ends plays r l

@@ -1,0 +1,5 @@
+use Rattle.core_laws.proofs.Replied.{extends-ends}
+use Rattle.core_laws.proofs.laws.lists_only_grow.Goals as goal
+
+pub returns : goal.returns
+returns c = λ r more. extends-ends r more

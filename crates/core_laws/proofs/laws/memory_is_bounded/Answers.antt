@@ -1,0 +1,5 @@
+use Rattle.core_laws.proofs.Remembered.{bounded-ends}
+use Rattle.core_laws.proofs.laws.memory_is_bounded.Goals as goal
+
+pub returns : goal.returns
+returns c = λ plays r l. bounded-ends plays r l

@@ -1,0 +1,8 @@
+use Rattle.core_laws.proofs.Told.{told-ends, lines-ends}
+use Rattle.core_laws.proofs.laws.told_outcomes_are_final.Goals as goal
+
+pub returns : goal.returns
+returns c = record {
+  told = λ plays r l. told-ends plays r l;
+  lines = λ plays r l none. lines-ends plays r l none;
+}

@@ -1,8 +1,0 @@
-use Rattle.core_model.proofs.Asked.{ask-ends, grant-applies}
-use Rattle.core_model.proofs.laws.asking_is_told.Goals as goal
-
-pub returns : goal.returns
-returns c = record {
-  asked = λ plays r l u g mode. ask-ends plays r l u g mode;
-  granted = λ w u g mode. grant-applies w u g mode;
-}

@@ -1,5 +1,0 @@
-use Rattle.core_model.proofs.Voted.{follows-ends}
-use Rattle.core_model.proofs.laws.batches_follow.Goals as goal
-
-pub returns : goal.returns
-returns c = λ plays r l. follows-ends plays r l

@@ -1,5 +1,0 @@
-use Rattle.core_model.proofs.Relied.{holds-ends}
-use Rattle.core_model.proofs.laws.code_may_rely.Goals as goal
-
-pub returns : goal.returns
-returns c = λ r above. holds-ends r above

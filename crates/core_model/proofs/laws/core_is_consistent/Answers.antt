@@ -1,9 +1,0 @@
-use Rattle.core_model.proofs.Consistency.{consistent-ends}
-use Rattle.core_model.proofs.PlainPlayed.{plain-ends}
-use Rattle.core_model.proofs.laws.core_is_consistent.Goals as goal
-
-pub returns : goal.returns
-returns c = record {
-  facts = λ plays r l. consistent-ends plays r l;
-  plain = λ plays r l. plain-ends plays r l;
-}

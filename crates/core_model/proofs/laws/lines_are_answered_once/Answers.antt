@@ -1,5 +1,0 @@
-use Rattle.core_model.proofs.Lined.{once-ends}
-use Rattle.core_model.proofs.laws.lines_are_answered_once.Goals as goal
-
-pub returns : goal.returns
-returns c = λ plays r l. once-ends plays r l

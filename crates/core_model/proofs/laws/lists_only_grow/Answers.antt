@@ -1,5 +1,0 @@
-use Rattle.core_model.proofs.Replied.{extends-ends}
-use Rattle.core_model.proofs.laws.lists_only_grow.Goals as goal
-
-pub returns : goal.returns
-returns c = λ r more. extends-ends r more

@@ -1,5 +1,0 @@
-use Rattle.core_model.proofs.Remembered.{bounded-ends}
-use Rattle.core_model.proofs.laws.memory_is_bounded.Goals as goal
-
-pub returns : goal.returns
-returns c = λ plays r l. bounded-ends plays r l
