@@ -36,6 +36,7 @@ fn stop<A: Access>(access: &mut A, signals: &Signals)
         Ok(_reply) => {}
         Err(_back) => signals.fail(),
     }
+    signals.write_no_more();
     signals.changed();
 }
 
@@ -85,21 +86,23 @@ pub fn settle_beside<A: Access, H: Host, G: Gate, R: Wait>(
     ensures ready { StaysReady (H.is_ready host.old) (H.is_ready host.new) }
 {
     for _ in rt.forever() {
-        let seen = signals.seen();
+        let ended = signals.ended();
         let working = signals.working();
+        signals.write(settler.written());
         if signals.has_failed() {
             stop(access, signals);
             return Err(RunFault::Memory);
         }
         match settle_once(shape, settler, access, host, gate) {
-            Ok(true) => signals.changed(),
+            Ok(true) => {}
             Ok(false) => {
                 if working == 0 {
                     return Ok(());
                 }
-                signals.wait(rt, seen);
+                signals.rest(rt, ended);
             }
             Err(RunFault::InDoubt) => {
+                signals.write_no_more();
                 signals.changed();
                 return Err(RunFault::InDoubt);
             }

@@ -41,7 +41,8 @@ fn lines_so_far(core: &Core) -> Result<u64, AllocError>
 }
 
 /// Carries all lines by so many worker threads, 16 at most, each of which begins the next line that is left, carries its units,
-/// and looks again while it must wait; the calling thread settles what they do, and what is left once they have ended.
+/// and looks again while it must wait; the calling thread settles what they do, and what is left once they have ended. Where no
+/// thread can be started, the calling thread carries the lines itself, and settles then.
 ///
 /// It answers `Ok` where each line has its entry, all is written and nobody can move. The core comes back, unless there is no
 /// memory to share it: then no event was put, and the host is as before.
@@ -52,8 +53,8 @@ fn lines_so_far(core: &Core) -> Result<u64, AllocError>
 ///
 /// - `InDoubt`: a batch was left in doubt, and all that is settled is written.
 /// - `WriteFault`: the output failed.
-/// - `Memory`: memory ran out, here or at a worker, or no worker could be started. What was put into the core and done to the
-///   host by then stands.
+/// - `Memory`: memory ran out, here or at a worker, or `workers` is 0. What was put into the core and done to the host by then
+///   stands.
 pub fn run_with_workers<R: Threads + Wait + Sync, H: Host, G: Gate + Sync, L: Lines + Copy + Sync>(
     rt: &R,
     alloc: Global,

@@ -5,9 +5,13 @@ use crate::cell::{Pass, TurnCell};
 use crate::object::TurnObject;
 use crate::place::Place;
 use crate::steps::{Load, Publish, Release, Take};
+use std::hint::spin_loop;
 use std::snapshot::Snapshot;
 use std::sync::Wait;
 use std::thread::yield_now;
+
+// How often one looks again at once, before other threads may have the processor. A turn is over within a microsecond.
+const MOST_SPINS: u32 = 100;
 
 impl<T: TurnObject> TurnCell<T> {
     ghost use Rattle.turn_cell.specs.Places.{object_in};
@@ -35,6 +39,7 @@ impl<T: TurnObject> TurnCell<T> {
         ensures won { Takes T.state T.after T.reply pass.old.me result pass.new.me }
         ensures room { result < most }
     {
+        let mut tries = 0u32;
         for _ in rt.forever() {
             let word = self.table.shared.load::<Load<T>>(pass, 0);
             if word % 2 == 0
@@ -47,7 +52,13 @@ impl<T: TurnObject> TurnCell<T> {
             {
                 return word;
             }
-            yield_now();
+            if tries < MOST_SPINS {
+                tries += 1;
+                spin_loop();
+            } else {
+                tries = 0;
+                yield_now();
+            }
         }
         unreachable!()
     }

@@ -17,14 +17,13 @@ use worker_signals::Signals;
 const MOST_STEPS: usize = 64;
 
 /// The unit of the agent at this index goes on by at most one event; a child that it begins is carried too. Answers whether it
-/// moved. Others are told of the event before its place is reached.
+/// moved.
 fn step<A: Access, G: Gate>(
     alloc: Global,
     checked: &Checked,
     access: &mut A,
     agents: &mut Agents,
     gate: &G,
-    signals: &Signals,
     index: usize,
 ) -> Result<bool, AllocError>
     requires fit { A.is_fit access.old }
@@ -46,13 +45,11 @@ fn step<A: Access, G: Gate>(
                 index: children,
                 depth,
             };
-            signals.changed();
             agents.carry(alloc, checked, child, origin, call, false)?;
             gate.reach(GatePlace::Begun { unit: child });
             return Ok(true);
         }
         Advanced::Granted { grain, source } => {
-            signals.changed();
             gate.reach(GatePlace::Granted {
                 unit,
                 grain,
@@ -60,10 +57,7 @@ fn step<A: Access, G: Gate>(
             });
             return Ok(true);
         }
-        Advanced::Moved => {
-            signals.changed();
-            return Ok(true);
-        }
+        Advanced::Moved => return Ok(true),
         Advanced::Waits { holder: _holder } => return Ok(false),
         Advanced::WaitsFor { child: _child } => return Ok(false),
         Advanced::Ended => return Ok(false),
@@ -71,7 +65,7 @@ fn step<A: Access, G: Gate>(
 }
 
 /// The unit of the agent at this index goes on as far as it can, by at most so many events; where the run is halted, only to
-/// give back locks. Answers whether it moved.
+/// give back locks. Answers whether it moved, of which the others are told.
 fn go_far<A: Access, G: Gate>(
     alloc: Global,
     checked: &Checked,
@@ -95,10 +89,14 @@ fn go_far<A: Access, G: Gate>(
         return Ok(false);
     }
     for count in 0..MOST_STEPS {
-        if !step(alloc, checked, access, agents, gate, signals, index)? {
+        if !step(alloc, checked, access, agents, gate, index)? {
+            if count > 0 {
+                signals.changed();
+            }
             return Ok(count > 0);
         }
     }
+    signals.changed();
     Ok(true)
 }
 

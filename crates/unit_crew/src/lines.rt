@@ -38,13 +38,12 @@ pub(crate) fn begin_next<A: Access, L: Lines, G: Gate>(
     ensures none { IfOk result (λ left. left ≡ false → agents.new.list.items ≡ agents.old.list.items) }
 {
     let next = next_line(access)?;
+    signals.begin_line(next);
     let place = next.saturating_sub(1).saturating_sub(before);
     match lines.line_at(alloc, place as usize)? {
         None => return Ok(false),
         Some(line) => {
-            let began = start_line(alloc, checked, access, agents, &line)?;
-            signals.changed();
-            match began {
+            match start_line(alloc, checked, access, agents, &line)? {
                 None => return Ok(true),
                 Some(unit) => {
                     gate.reach(GatePlace::Begun { unit });

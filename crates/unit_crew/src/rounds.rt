@@ -63,6 +63,9 @@ fn go_round<A: Access, L: Lines, G: Gate>(
             return Ok(Round::Over);
         }
     } else if agents.list.is_empty() {
+        if signals.is_ahead() {
+            return Ok(Round::Stayed);
+        }
         if begin_next(alloc, checked, lines, before, access, agents, gate, signals)? {
             return Ok(Round::Moved);
         }
@@ -120,8 +123,8 @@ fn go_rounds<A: Access, L: Lines, G: Gate, R: Wait>(
 /// halts, and no unit that began here has an event left. Others may carry lines too, by accesses of their own: each takes the
 /// next one that is left, behind the `before` that the run has from earlier.
 ///
-/// Where each unit waits for a lock or a child, it waits by the signals; each event that is put is told by them. The places of
-/// the gate are reached behind the calls that came to them.
+/// Where each unit waits for a lock or a child, or too many lines have begun that aren't written, it waits by the signals; by
+/// these it tells others when a unit has gone on. The places of the gate are reached behind the calls that came to them.
 ///
 /// # Errors
 ///

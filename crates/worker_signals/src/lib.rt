@@ -1,9 +1,10 @@
-//! What the threads of a run tell one another beside the core: that somebody put an event, that a worker found no memory, and
-//! how many workers are at work.
+//! What the threads of a run tell one another beside the core: that somebody may go on who couldn't, that a worker found no
+//! memory, how many workers are at work, and how far lines have begun and are written.
 //!
-//! A thread that can't go on takes [`Signals::seen`] before it looks at the core, and [`Signals::wait`]s with that afterwards: it
-//! sleeps only while no move came since, and no longer than a millisecond. Nothing is proved of words that other threads write;
-//! no proof rests on them.
+//! A worker that can't go on takes [`Signals::seen`] before it looks at the core, and [`Signals::wait`]s with that afterwards: it
+//! sleeps only while no move came since, and no longer than a millisecond. So does the thread that settles with
+//! [`Signals::ended`] and [`Signals::rest`], which wakes only where a worker ends. Nothing is proved of words that other threads
+//! write; no proof rests on them.
 #![tactic(auto)]
 
 mod signals;

@@ -5,28 +5,37 @@ use std::time::Duration;
 /// How long a thread sleeps at most, in milliseconds.
 const LONGEST_SLEEP: u64 = 1;
 
+/// How many lines workers may be ahead of what is written.
+const MOST_AHEAD: u64 = 256;
+
 /// What threads tell one another beside the core.
 #[derive(Drop)]
 pub struct Signals {
     moves: AtomicU64,
     asleep: AtomicU64,
+    ends: AtomicU64,
     workers: AtomicU64,
+    begun: AtomicU64,
+    written: AtomicU64,
     failed: AtomicBool,
 }
 
 impl Signals {
-    /// Nobody has moved, sleeps, works or failed.
+    /// Nobody has moved, sleeps, works, settles or failed.
     pub fn new() -> Signals {
         Signals {
             moves: AtomicU64::new(0),
             asleep: AtomicU64::new(0),
+            ends: AtomicU64::new(0),
             workers: AtomicU64::new(0),
+            begun: AtomicU64::new(0),
+            written: AtomicU64::new(u64::MAX),
             failed: AtomicBool::new(false),
         }
     }
 
-    /// Tells that something is to be looked at: the count of moves goes up, and those who sleep are woken. Where nobody sleeps
-    /// it costs no call of the system.
+    /// Tells that somebody may go on who couldn't: the count of moves goes up, and those who sleep by it are woken. Where nobody
+    /// sleeps it costs no call of the system.
     pub fn changed(&self) {
         self.moves.fetch_add(1, Ordering::SeqCst);
         if self.asleep.load(Ordering::SeqCst) > 0 {
@@ -47,10 +56,21 @@ impl Signals {
         self.asleep.fetch_sub(1, Ordering::SeqCst);
     }
 
+    /// The count of workers' ends and failures by now, in its low 32 bits.
+    pub fn ended(&self) -> u32 {
+        (self.ends.load(Ordering::SeqCst) % (1 << 32)) as u32
+    }
+
+    /// Sleeps while no worker ended or failed since this count was seen, at most a millisecond; it may also return for no reason.
+    pub fn rest<R: Wait>(&self, rt: &R, ended: u32) {
+        self.ends
+            .park_timeout(rt, ended, Duration::from_millis(LONGEST_SLEEP));
+    }
+
     /// Tells that a worker found no memory.
     pub fn fail(&self) {
         self.failed.store(true, Ordering::SeqCst);
-        self.changed();
+        self.tell_end();
     }
 
     /// Whether a worker found no memory.
@@ -66,11 +86,40 @@ impl Signals {
     /// A worker that began has ended its work.
     pub fn end(&self) {
         self.workers.fetch_sub(1, Ordering::SeqCst);
-        self.changed();
+        self.tell_end();
     }
 
     /// How many workers are at work.
     pub fn working(&self) -> u64 {
         self.workers.load(Ordering::SeqCst)
+    }
+
+    /// A worker comes to this line.
+    pub fn begin_line(&self, number: u64) {
+        self.begun.store(number, Ordering::SeqCst);
+    }
+
+    /// So many lines have their entries written by now, by one who goes on to write.
+    pub fn write(&self, lines: u64) {
+        self.written.store(lines, Ordering::SeqCst);
+    }
+
+    /// Nobody writes any more: workers need not wait for it.
+    pub fn write_no_more(&self) {
+        self.written.store(u64::MAX, Ordering::SeqCst);
+    }
+
+    /// Whether workers are more than 256 lines ahead of what is written, while somebody writes.
+    pub fn is_ahead(&self) -> bool {
+        self.begun
+            .load(Ordering::SeqCst)
+            .saturating_sub(self.written.load(Ordering::SeqCst))
+            > MOST_AHEAD
+    }
+
+    fn tell_end(&self) {
+        self.ends.fetch_add(1, Ordering::SeqCst);
+        self.ends.wake_all();
+        self.changed();
     }
 }

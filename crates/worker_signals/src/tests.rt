@@ -33,3 +33,31 @@ fn workers_and_failures_are_told(rt: HostRuntime) -> Result<(), Fail> {
     assert!(rt; signals.has_failed(), "a worker failed");
     Ok(())
 }
+
+#[test]
+fn an_end_ends_a_rest(rt: HostRuntime) -> Result<(), Fail> {
+    let signals = Signals::new();
+    assert_eq!(rt; signals.ended(), 0, "nobody has ended");
+    signals.begin();
+    signals.end();
+    assert_eq!(rt; signals.ended(), 1, "one end");
+    signals.rest(&rt, 0);
+    signals.fail();
+    assert_eq!(rt; signals.ended(), 2, "a failure is told as an end");
+    signals.rest(&rt, 2);
+    Ok(())
+}
+
+#[test]
+fn workers_are_ahead_of_one_who_writes(rt: HostRuntime) -> Result<(), Fail> {
+    let signals = Signals::new();
+    signals.begin_line(1_000_000);
+    assert!(rt; !signals.is_ahead(), "nobody writes");
+    signals.write(999_744);
+    assert!(rt; !signals.is_ahead(), "256 lines ahead");
+    signals.write(999_743);
+    assert!(rt; signals.is_ahead(), "257 lines ahead");
+    signals.write_no_more();
+    assert!(rt; !signals.is_ahead(), "nobody writes any more");
+    Ok(())
+}
