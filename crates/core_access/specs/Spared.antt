@@ -7,7 +7,7 @@ use Rattle.core_model.specs.declared.questions.CoreQuestion.TheVariants as quest
 use Rattle.core_model.specs.Events.{applies}
 use Rattle.core_model.specs.Legal.{Run, ends}
 
--- an event whose room earlier events made
+-- an event that takes no memory: its room earlier events made, or it has need of none
 abbrev pub has_room : CoreEvent → Bool
 has_room (event.Release u g) = true
 has_room (event.Vote n g kept) = true
@@ -17,6 +17,7 @@ has_room (event.NotSealed n) = true
 has_room (event.Doubt n) = true
 has_room (event.Learn u g) = true
 has_room event.Emitted = true
+has_room event.Halt = true
 has_room (event.Bad line why) = false
 has_room (event.Begin origin call plain) = false
 has_room (event.Grant v g mode) = false
@@ -25,7 +26,6 @@ has_room (event.Finish v effect) = false
 has_room (event.EndPlain v effect) = false
 has_room (event.EndSnapshot v at outcome) = false
 has_room event.Take = false
-has_room event.Halt = false
 has_room (event.Want v g) = false
 has_room (event.Load g v state) = false
 

@@ -32,9 +32,9 @@ pub trait Access {
     /// Puts an event, and answers the core's reply at the event's own place. The event and its reply are one more of one's
     /// own entries.
     ///
-    /// Where there is no memory the event comes back and wasn't put. That is never so of an event that applies and whose
-    /// room earlier ones made: a release, a vote, a decision, the three answers of a seal, what a grain learns, and an entry
-    /// that is written.
+    /// Where there is no memory the event comes back and wasn't put. That is never so of an event that applies and has need of
+    /// no room, or of such as earlier ones made: a stop, a release, a vote, a decision, the three answers of a seal, what a
+    /// grain learns, and an entry that is written.
     fn put(&mut self, event: CoreEvent) -> Result<CoreReply, (AllocError, CoreEvent)>
         requires fit { is_fit self.old }
         ensures fit { is_fit self.new }

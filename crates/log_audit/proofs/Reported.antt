@@ -120,7 +120,7 @@ not_opened manner asked old new before after result e is run refused faulted = r
   untouched = untouched 1 old new run;
   unread = run.input;
   refused = subst (λ (x : Ending). IsRefusedBy (seen_in old.disk) (opened_as live_slot (seen_in old.disk)) x) (sym is) refused;
-  risen = subst (λ (x : Ending). HasRisen x before after) (sym is) (failed_risen before after (ending_of e) (open_failed before after e faulted));
+  failed = subst (λ (x : Ending). HasFailedAs x before after) (sym is) (open_failed before after e faulted);
 }
 
 module _ (old mid : World) (settles : mid.disk manager ≡ settled (old.disk manager).seen) (run : RunsOnFile manager Stays 1 old mid) where

@@ -30,7 +30,7 @@ untouched = record {
 }
 
 pub unopened : IsUnopened refused
-unopened = record { untouched = untouched; unread = refl; refused = reads; risen = tt }
+unopened = record { untouched = untouched; unread = refl; refused = reads; failed = λ channel. refl }
 
 pub refused_promises : Promises plain_manner refused
 refused_promises = record { manner = refl; answers = inl unopened; over_sound = λ p checked sound. inl unopened }

@@ -197,12 +197,13 @@ IsUnmadeBy (ending.Damaged file place) r = ⊥
 IsUnmadeBy (ending.BadProgram fault) r = ⊥
 IsUnmadeBy (ending.InputTooLong line) r = ⊥
 
--- The load made no silo: it read no input and emitted nothing, and how far it came is said as of `init`.
+-- The load made no silo: it read no input and emitted nothing, and how far it came is said as of `init`. Where a call failed it
+-- ended for that call, and for no other.
 pub record IsUnmade (r : Observed) : Type 0 where
   pub beside : StaysBeside r.old r.new
   pub makes : CameThisFar magic bank_text r.old r.new
   pub ended : IsUnmadeBy r.ending r
-  pub risen : ending.HasRisen r.ending r.faults_before r.faults_after
+  pub failed : ending.HasFailedAs r.ending r.faults_before r.faults_after
 
 -- The load made a silo of the bank program with an empty log, where there was none: the host was then so. Making one asks for
 -- four syncs, and for one more where the header of a file with bytes is closed first.

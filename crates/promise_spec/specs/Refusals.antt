@@ -17,7 +17,7 @@ use Rattle.promise_spec.specs.Programs.{Program, shape_in}
 use Rattle.promise_spec.specs.Records.{Commit}
 use Rattle.promise_spec.specs.Outputs.{Grew}
 use Rattle.promise_spec.specs.Openings.{Reading, NoSilo, DamagedAt, Reads, program_in_file, records_in_file, named_by, opened_as}
-use Rattle.promise_spec.specs.Endings.{Ending, Done, BadUse, Memory, ReadFault, WriteFault, DiskFault, NotASilo, AlreadyASilo, Damaged, BadProgram, InputTooLong, HasRisen, HasLength, IsCarried, IsBegun}
+use Rattle.promise_spec.specs.Endings.{Ending, Done, BadUse, Memory, ReadFault, WriteFault, DiskFault, NotASilo, AlreadyASilo, Damaged, BadProgram, InputTooLong, HasRisen, HasFailedAs, HasLength, IsCarried, IsBegun}
 use Rattle.promise_spec.specs.Courses.{Observed, seen_at_entry}
 
 -- the file is the manager file, or the program's
@@ -65,12 +65,12 @@ IsRefusedBy image reading (BadProgram fault) = ⊥
 IsRefusedBy image reading (InputTooLong line) = ⊥
 
 -- The folder wasn't opened: nothing was written, no input was read, and at each moment each image is one of those at
--- entry. Why is shown by how the folder reads, and a fault by its count.
+-- entry. Why is shown by how the folder reads; and where a call failed the run is refused for that call, and for no other.
 pub record IsUnopened (r : Observed) : Type 0 where
   pub untouched : IsUntouched r.old r.new
   pub unread : r.new.input ≡ r.old.input
   pub refused : IsRefusedBy (seen_at_entry r) (opened_as live_slot (seen_at_entry r)) r.ending
-  pub risen : HasRisen r.ending r.faults_before r.faults_after
+  pub failed : HasFailedAs r.ending r.faults_before r.faults_after
 
 -- the folder reads as a silo of this program with this log, where the live files are of this slot
 pub record IsOpenable (live : ℕ) (r : Observed) : Type 0 where

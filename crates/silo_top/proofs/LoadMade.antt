@@ -64,13 +64,13 @@ module _ (m : Manner) (asked : List (List ℕ)) (old new : World) (before after 
         beside = beside;
         makes = makes;
         ended = ((a refl).0, kept (a refl).0, λ image is_image. settled_only (old.disk manager).seen (image manager) (subst (λ (y : FileState). MayLeave y (image manager)) (a refl).1 (is_image manager)));
-        risen = tt;
+        failed = f;
       }
       by (CreateFault.DiskFault file) f a s = record {
         beside = beside;
         makes = makes;
         ended = (f.0, λ was. (elim (s was) [ inl other ↦ absurd cc | inr at ↦ (let same : file ≡ manager = cc in same) ], kept was));
-        risen = f.1.rose;
+        failed = f.1;
       }
 
 pub uncreated_answers : (e : CreateFault) (status : Status) (before after : Channel → ℕ) → status_ending status ≡ creation_ending e → CreateFaulted e before after → AnswersRun (status_ending status) before after
@@ -131,13 +131,13 @@ pub unopened_answers : (e : OpenFault) (status : Status) (before after : Channel
 unopened_answers e status before after is faulted = subst (λ (y : Ending). AnswersRun y before after) (sym is) (exactly_answers before after (ending_of e) (open_good before after e) (open_failed before after e faulted))
 
 -- where there was no memory behind the opening
-pub starved_carries : (n seed : ℕ) (m : Manner) (asked : List (List ℕ)) (x : Opened) (old mid : World) (before after : Channel → ℕ) → program_in bank_text ≡ Ok (program_tree x.checked) → IsBehindOpening old mid x
+pub starved_carries : (n seed : ℕ) (m : Manner) (asked : List (List ℕ)) (x : Opened) (old mid : World) (before after : Channel → ℕ) → program_in bank_text ≡ Ok (program_tree x.checked) → IsBehindOpening old mid x → NoneFailed before after
     → CarriesLoad n seed (observed_call m asked old mid before after Status.Memory)
-starved_carries n seed m asked x old mid before after reads is = record {
+starved_carries n seed m asked x old mid before after reads is none = record {
   program = bank_of (program_tree x.checked);
   checked = bank_checked (program_tree x.checked) reads;
   text = refl;
-  carried = inl (record { untouched = asked_untouched old mid is.run; unread = is.run.input; refused = tt; risen = tt });
+  carried = inl (record { untouched = asked_untouched old mid is.run; unread = is.run.input; refused = tt; failed = none });
 }
 
 -- what was opened lies in the files as they read behind the opening

@@ -13,7 +13,7 @@ use Rattle.silo_spec.specs.Making.{IsBeside}
 use Rattle.log_reading.specs.Steps.{seen_in}
 use Rattle.promise_spec.specs.Logs.{live_slot}
 use Rattle.promise_spec.specs.Words.{Manner}
-use Rattle.promise_spec.specs.Endings.{Ending, Memory, HasRisen}
+use Rattle.promise_spec.specs.Endings.{Ending, Memory, HasFailedAs}
 use Rattle.promise_spec.specs.Openings.{opened_as}
 use Rattle.promise_spec.specs.Courses.{Observed}
 use Rattle.promise_spec.specs.Commands.{MakesSilo}
@@ -26,7 +26,7 @@ use Rattle.silo_opening.specs.declared.faults.OpenFault.{OpenFault}
 use Rattle.silo_top.specs.declared.status.Status.{Status}
 use Rattle.silo_top.specs.Statuses.{status_ending}
 use Rattle.silo_top.specs.Answering.{observed_call, observed_run}
-use Rattle.silo_top.proofs.Counted.{open_failed, failed_risen}
+use Rattle.silo_top.proofs.Counted.{open_failed}
 
 -- ---- nothing but asking
 
@@ -67,7 +67,7 @@ refused_promised m old new before after e status is run refused faulted = unopen
   untouched = asked_untouched old new run;
   unread = run.input;
   refused = subst (λ (x : Ending). IsRefusedBy (seen_in old.disk) (opened_as live_slot (seen_in old.disk)) x) (sym is) refused;
-  risen = subst (λ (x : Ending). HasRisen x before after) (sym is) (failed_risen before after (ending_of e) (open_failed before after e faulted));
+  failed = subst (λ (x : Ending). HasFailedAs x before after) (sym is) (open_failed before after e faulted);
 })
 
 -- ---- nothing at all
@@ -85,7 +85,7 @@ starved_unopened m asked w counts = record {
   untouched = nothing_touched w;
   unread = refl;
   refused = tt;
-  risen = tt;
+  failed = λ channel. refl;
 }
 
 pub starved_promised : (m : Manner) (asked : List (List ℕ)) (w : World) (counts : Channel → ℕ) → Promises m (observed_call m asked w w counts counts Status.Memory)
@@ -105,7 +105,7 @@ starved_unmade m asked w counts = record {
   beside = record { input = refl; moments = started (IsBeside w) w.past; now = record { output = refl; others = λ file one two. refl } };
   makes = inl (nothing_touched w);
   ended = nothing_touched w;
-  risen = tt;
+  failed = λ channel. refl;
 }
 
 -- ---- any command
@@ -117,5 +117,5 @@ refused_unopened m asked old new before after e status is run refused faulted = 
   untouched = asked_untouched old new run;
   unread = run.input;
   refused = subst (λ (x : Ending). IsRefusedBy (seen_in old.disk) (opened_as live_slot (seen_in old.disk)) x) (sym is) refused;
-  risen = subst (λ (x : Ending). HasRisen x before after) (sym is) (failed_risen before after (ending_of e) (open_failed before after e faulted));
+  failed = subst (λ (x : Ending). HasFailedAs x before after) (sym is) (open_failed before after e faulted);
 }

@@ -27,10 +27,10 @@ use Rattle.silo_top.proofs.Read.{AreReadFrom}
 use Rattle.silo_top.proofs.loading.carry_load.Goals as goal
 
 pub returns-in-Err-clause-carries : goal.returns-in-Err-clause-carries
-returns-in-Err-clause-carries g c = λ told old before behind bank none. starved_carries c.args.transfers c.args.seed (carriage_manner c.args.how.now) (load_texts c.args.transfers c.args.seed) c.args.opened old (g.H.Host.world c.args.host.now) before (g.H.Host.faults c.args.host.now) c.requires.bank behind
+returns-in-Err-clause-carries g c = λ told old before behind bank none. starved_carries c.args.transfers c.args.seed (carriage_manner c.args.how.now) (load_texts c.args.transfers c.args.seed) c.args.opened old (g.H.Host.world c.args.host.now) before (g.H.Host.faults c.args.host.now) c.requires.bank behind none
 
 pub returns-in-Err-load_lines-clause-carries : goal.returns-in-Err-load_lines-clause-carries
-returns-in-Err-load_lines-clause-carries g c = λ told old before behind bank none. starved_carries c.args.transfers c.args.seed (carriage_manner c.args.how.now) (load_texts c.args.transfers c.args.seed) c.args.opened old (g.H.Host.world c.args.host.now) before (g.H.Host.faults c.args.host.now) c.requires.bank behind
+returns-in-Err-load_lines-clause-carries g c = λ told old before behind bank none. starved_carries c.args.transfers c.args.seed (carriage_manner c.args.how.now) (load_texts c.args.transfers c.args.seed) c.args.opened old (g.H.Host.world c.args.host.now) before (g.H.Host.faults c.args.host.now) c.requires.bank behind none
 
 pub carry_all-requires-clause-fits : goal.carry_all-requires-clause-fits
 carry_all-requires-clause-fits g c l u = λ told. fits_within c.args.opened c.in-Ok.started (g.H.Host.world c.args.host.now).disk (c.requires.within told) c.in-Ok.ensures.start
