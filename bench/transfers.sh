@@ -21,19 +21,10 @@ place = sys.argv[5] if len(sys.argv) > 5 else "/tmp"
 sys.path.insert(0, os.path.join(top, "examples", "reader"))
 import read
 
-with open(os.path.join(top, "examples", "bank", "bank.grain"), "rb") as file:
-    bank = file.read()
-drawn = 7
+sys.path.insert(0, os.path.join(top, "bench"))
+import bank_lines
 
-def draw():
-    global drawn
-    drawn = (drawn * 6364136223846793005 + 1442695040888963407) % 2**64
-    return drawn // 2147483648 // 4
-
-lines = [b'{"args":[1000],"call":"account/%d.deposit"}\n' % key for key in range(64)]
-for _ in range(count):
-    one, other, amount = draw() % 64, draw() % 64, draw() % 100 + 1
-    lines.append(b'{"args":[%d,%d,%d],"call":"teller/0.transfer"}\n' % (one, other, amount))
+bank, lines = bank_lines.bank(top), bank_lines.transfers(count)
 
 with tempfile.TemporaryDirectory(dir=place) as room:
     folder = os.path.join(room, "silo")

@@ -12,19 +12,10 @@ exec python3 - "$top" "${SILO:-$top/crates/silo/out/silo}" "${1:-20000}" "${2:-/
 import json, os, resource, subprocess, sys, tempfile, time
 
 top, program, count, real, free = sys.argv[1], sys.argv[2], int(sys.argv[3]), sys.argv[4], sys.argv[5]
-with open(os.path.join(top, "examples", "bank", "bank.grain"), "rb") as file:
-    bank = file.read()
-drawn = 7
+sys.path.insert(0, os.path.join(top, "bench"))
+import bank_lines
 
-def draw():
-    global drawn
-    drawn = (drawn * 6364136223846793005 + 1442695040888963407) % 2**64
-    return drawn // 2147483648 // 4
-
-lines = [b'{"args":[1000],"call":"account/%d.deposit"}\n' % key for key in range(64)]
-for _ in range(count):
-    one, other, amount = draw() % 64, draw() % 64, draw() % 100 + 1
-    lines.append(b'{"args":[%d,%d,%d],"call":"teller/0.transfer"}\n' % (one, other, amount))
+bank, lines = bank_lines.bank(top), bank_lines.transfers(count)
 given = b"".join(lines)
 
 def fail(text):
