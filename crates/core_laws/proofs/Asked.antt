@@ -9,12 +9,17 @@ use Rattle.cell_model.proofs.Units.{filter-member, filter-stays, oldest-some, ol
 use Rattle.cell_model.proofs.Asking.{ask-exact}
 use Rattle.core_model.specs.declared.questions.AskAnswer.{AskAnswer}
 use Rattle.core_model.specs.declared.questions.AskAnswer.TheVariants as answer
-use Rattle.core_model.specs.CoreState.{UnitNo, GrainId, Member, Mode, Read, Running, Effect, Batch, CoreState}
+use Rattle.core_model.specs.CoreState.{UnitNo, GrainId, Member, Mode, Batch, CoreState}
+use Rattle.core_model.specs.declared.effects.Read.{Read}
+use Rattle.core_model.specs.declared.phases.Phase.TheVariants.{Running}
+use Rattle.core_model.specs.declared.effects.Effect.{Effect}
 use Rattle.core_model.specs.Tests.{is_running, is_gone, is_active, doomed_by, ask_answer, ask_lock, ask_doom}
 use Rattle.core_model.specs.Causes.{IsRemoved, GoneIsRemoved}
 use Rattle.core_model.specs.Asked.{IsActive, IsOldestRemoved, AskExactly, IsGoing, GrantApplies, TakeApplies, TakesBatch}
 use Rattle.core_model.specs.Changes.{after_take, new_batch, swept, swept_by}
-use Rattle.core_model.specs.Events.{CoreEvent, Grant, Take, applies, batch_size, can, does, step, is_allowed, is_after_doubt, is_after_halt, is_free_answer}
+use Rattle.core_model.specs.Events.{applies, batch_size, can, does, step, is_allowed, is_after_doubt, is_after_halt, is_free_answer}
+use Rattle.core_model.specs.declared.events.CoreEvent.{CoreEvent}
+use Rattle.core_model.specs.declared.events.CoreEvent.TheVariants.{Grant, Take}
 use Rattle.core_model.specs.Legal.{Run, IsLegal, ends}
 use Rattle.core_laws.proofs.Basics.{is_running-true}
 use Rattle.core_laws.proofs.Decoded.{none-true}

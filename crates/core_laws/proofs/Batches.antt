@@ -1,7 +1,11 @@
 -- Open batches, what they decide, and a batch in doubt.
 use Rattle.std.proofs.Common.{◌≡◌, ℕ, ◌+◌, ◌<◌, ◌≤◌, List, [], ◌∷◌, ◌++◌, length, true, false, ◌⊎◌, inl, inr, refl, sym, ap, ◌∙◌, subst, arith, Option, Some, None}
 use Rattle.std.proofs.lemmas.Bool.{and_parts, cond_both}
-use Rattle.core_model.specs.CoreState.{UnitNo, GrainId, put, Value, Phase, Running, Finished, Refused, Ended, Verdict, Open, Chosen, Condemned, Committed, Aborted, Settled, Batch, Decision, CoreState}
+use Rattle.core_model.specs.CoreState.{UnitNo, GrainId, put, Value, Settled, Batch, Decision, CoreState}
+use Rattle.core_model.specs.declared.phases.Phase.{Phase}
+use Rattle.core_model.specs.declared.phases.Phase.TheVariants.{Running, Finished, Refused, Ended}
+use Rattle.core_model.specs.declared.phases.Verdict.{Verdict}
+use Rattle.core_model.specs.declared.phases.Verdict.TheVariants.{Open, Chosen, Condemned, Committed, Aborted}
 use Rattle.core_model.specs.Tests.{is_final}
 use Rattle.core_laws.proofs.Puts.{put-at, put-from, put-is, put-other}
 use Rattle.core_laws.proofs.Invariant.{Inv}
@@ -12,7 +16,9 @@ use Rattle.core_model.specs.Tests.{members, waiting}
 use Rattle.core_model.specs.Serial.{batch_begin}
 use Rattle.core_model.specs.Changes.{new_batch, new_unit, verdict_of, judged, decisions_of, with_decisions, closed, result_told, seal, spoil, leave, swept, swept_by}
 use Rattle.core_model.specs.Events.{batch_size}
-use Rattle.core_model.specs.Events.{CoreEvent, Decide, Sealed, NotSealed, applies, can, does, step, run, is_allowed}
+use Rattle.core_model.specs.Events.{applies, can, does, step, run, is_allowed}
+use Rattle.core_model.specs.declared.events.CoreEvent.{CoreEvent}
+use Rattle.core_model.specs.declared.events.CoreEvent.TheVariants.{Decide, Sealed, NotSealed}
 use Rattle.core_model.specs.Serial.{IsTrueLoad, AllLoadsTrue}
 use Rattle.core_laws.proofs.Decoded.{Change, bad, begin, lock, raise, refuse, finish, end_plain, end_snapshot, release, take_batch, vote, decide_some, decide_none, seal_batch, spoil_batch, doubt_batch, learn, emit, halt_run, want, load, decode}
 use Rattle.core_laws.proofs.Orders.{free_prefix-length, in_part, judged-other}

@@ -3,7 +3,12 @@ use Rattle.std.proofs.Common.{◌≡◌, ℕ, ◌+◌, ◌≤◌, List, [], ◌�
 use Rattle.std.proofs.lemmas.Bool.{and_parts, cases_Bool, cond-true, cond-false, not-true, or_parts}
 use Rattle.cell_model.specs.Locks.{is_update, is_hold_of, holds_lock, conflicts, covers, dropped}
 use Rattle.cell_model.proofs.Units.{same_unit-false, Member-append, filter-member, filter-stays}
-use Rattle.core_model.specs.CoreState.{UnitNo, GrainId, nobody, Member, Value, Origin, Running, Finished, Ended, Verdict, Chosen, Read, Write, Mode, Effect, Settled, Batch, Decision, CoreState}
+use Rattle.core_model.specs.CoreState.{UnitNo, GrainId, nobody, Member, Value, Origin, Write, Mode, Settled, Batch, Decision, CoreState}
+use Rattle.core_model.specs.declared.phases.Phase.TheVariants.{Running, Finished, Ended}
+use Rattle.core_model.specs.declared.phases.Verdict.{Verdict}
+use Rattle.core_model.specs.declared.phases.Verdict.TheVariants.{Chosen}
+use Rattle.core_model.specs.declared.effects.Read.{Read}
+use Rattle.core_model.specs.declared.effects.Effect.{Effect}
 use Rattle.core_model.specs.Tests.{any, is_bad}
 use Rattle.cell_model.specs.Decisions.{is_commit}
 use Rattle.core_model.specs.Dead.{Dead, itself}
@@ -23,7 +28,9 @@ use Rattle.core_model.specs.Tests.{doomed_by, members, waiting, outcome_of, outc
 use Rattle.core_model.specs.Changes.{entry_for, told, entries_in, result_told, refusal, after_end, verdict_of, decisions_of, with_decisions, seal, swept, swept_by}
 use Rattle.core_model.specs.Causes.{IsVotedDown, DependsOnDead, CanCommit, EndsWith, IsRefusedFor, IsRefusedLock, AtDecision, HasCause, HasLine, IsCaused}
 use Rattle.core_model.specs.Legal.{Run, IsLegal, begins, ends}
-use Rattle.core_model.specs.Events.{CoreEvent, Bad, Refuse, EndPlain, EndSnapshot, Decide, Sealed, NotSealed, Doubt, applies, can, does, step, run, is_allowed}
+use Rattle.core_model.specs.Events.{applies, can, does, step, run, is_allowed}
+use Rattle.core_model.specs.declared.events.CoreEvent.{CoreEvent}
+use Rattle.core_model.specs.declared.events.CoreEvent.TheVariants.{Bad, Refuse, EndPlain, EndSnapshot, Decide, Sealed, NotSealed, Doubt}
 use Rattle.core_model.specs.Serial.{AllLoadsTrue}
 use Rattle.core_laws.proofs.Decoded.{Change, bad, begin, lock, raise, refuse, finish, end_plain, end_snapshot, release, take_batch, vote, decide_some, decide_none, seal_batch, spoil_batch, doubt_batch, learn, emit, halt_run, want, load, decode}
 use Rattle.core_laws.proofs.Decoded.{ask-refused}

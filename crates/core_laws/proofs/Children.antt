@@ -2,7 +2,9 @@
 use Rattle.std.proofs.Common.{◌≡◌, ℕ, ◌<◌, List, [], ◌∷◌, ◌++◌, length, get_or, Bool, true, ◌⊎◌, inl, inr, refl, sym, ap, ◌∙◌, subst, arith, Option, Some, None}
 use Rattle.std.proofs.lemmas.Bool.{and_parts, cases_lt, cond_both}
 use Rattle.cell_model.proofs.Units.{cases_unit, Member-append}
-use Rattle.core_model.specs.CoreState.{UnitNo, GrainId, nobody, put, Member, Value, Origin, Phase, Unborn, Running, Finished, Refused, Ended, CoreState}
+use Rattle.core_model.specs.CoreState.{UnitNo, GrainId, nobody, put, Member, Value, Origin, CoreState}
+use Rattle.core_model.specs.declared.phases.Phase.{Phase}
+use Rattle.core_model.specs.declared.phases.Phase.TheVariants.{Unborn, Running, Finished, Refused, Ended}
 use Rattle.core_laws.proofs.Puts.{put-at, put-from, put-same, put-is, put-other}
 use Rattle.std.proofs.Common.{map, le_refl, eqb-true}
 use Rattle.std.specs.Prelude.{◌==◌}
@@ -12,7 +14,8 @@ use Rattle.core_model.specs.Tests.{is_running, is_over, outcome_of, is_answer, a
 use Rattle.core_model.specs.Laws.{AnswersAreOutcomes}
 use Rattle.core_model.specs.Changes.{begun, new_unit, kids_with, swept, swept_by}
 use Rattle.core_model.specs.Events.{can_begin}
-use Rattle.core_model.specs.Events.{CoreEvent, applies, can, does, step, run, is_allowed}
+use Rattle.core_model.specs.Events.{applies, can, does, step, run, is_allowed}
+use Rattle.core_model.specs.declared.events.CoreEvent.{CoreEvent}
 use Rattle.core_model.specs.Serial.{IsTrueLoad, AllLoadsTrue}
 use Rattle.core_laws.proofs.Decoded.{Change, bad, begin, lock, raise, refuse, finish, end_plain, end_snapshot, release, take_batch, vote, decide_some, decide_none, seal_batch, spoil_batch, doubt_batch, learn, emit, halt_run, want, load, decode}
 use Rattle.core_laws.proofs.Basics.{is_running-true, same_outcome-true}

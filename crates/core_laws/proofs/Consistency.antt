@@ -2,7 +2,10 @@
 use Rattle.std.proofs.Common.{◌≡◌, ℕ, ◌+◌, ◌<◌, ◌≤◌, List, [], ◌∷◌, length, Bool, true, false, ◌⊎◌, inl, inr, refl, sym, ap, ◌∙◌, subst, arith, Option, Some, None}
 use Rattle.std.proofs.lemmas.Bool.{cases_lt}
 use Rattle.cell_model.specs.Locks.{is_update}
-use Rattle.core_model.specs.CoreState.{UnitNo, GrainId, Member, Value, Finished, Committed, Version, top, Hold, Effect, Batch, CoreState}
+use Rattle.core_model.specs.CoreState.{UnitNo, GrainId, Member, Value, Version, top, Hold, Batch, CoreState}
+use Rattle.core_model.specs.declared.phases.Phase.TheVariants.{Finished}
+use Rattle.core_model.specs.declared.phases.Verdict.TheVariants.{Committed}
+use Rattle.core_model.specs.declared.effects.Effect.{Effect}
 use Rattle.core_model.specs.Tests.{is_good, state_written}
 use Rattle.core_model.specs.Dead.{Dead}
 use Rattle.core_model.specs.Chains.{Chain, WroteGrain, IsBottom, IsLink}

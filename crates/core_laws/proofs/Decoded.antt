@@ -12,11 +12,15 @@ use Rattle.cell_model.specs.declared.locks.Ask.TheVariants.{Free, Held, MustWait
 use Rattle.cell_model.specs.Decisions.{is_commit}
 use Rattle.cell_model.proofs.Asking.{ask-free}
 use Rattle.core_model.specs.declared.questions.AskAnswer.TheVariants as answer
-use Rattle.core_model.specs.CoreState.{UnitNo, GrainId, Member, same_unit, same_grain, Value, Call, Outcome, Origin, Settled, Running, Hold, Mode, Effect, Batch, Decision, CoreState}
+use Rattle.core_model.specs.CoreState.{UnitNo, GrainId, Member, same_unit, same_grain, Value, Call, Outcome, Origin, Settled, Hold, Mode, Batch, Decision, CoreState}
+use Rattle.core_model.specs.declared.phases.Phase.TheVariants.{Running}
+use Rattle.core_model.specs.declared.effects.Effect.{Effect}
 use Rattle.core_model.specs.Tests.{any, all, is_running, is_over, is_final, state_written, ask_answer, ask_lock, ask_doom, doomed_by, is_active, is_planned, is_vote_on, is_voted, is_wanted, is_empty}
 use Rattle.core_model.specs.Equality.{same_reads, same_outcome}
 use Rattle.core_model.specs.Changes.{spoiled_line, begun, restacked, cleaned, after_lock, after_raise, refusal, after_refusal, refused_by, finished, after_end, after_release, after_take, voted, decisions_of, with_decisions, decided, on_batch, on_decided, on_decisions, sealed, spoiled, in_doubt, after_learn, loaded}
-use Rattle.core_model.specs.Events.{CoreEvent, Bad, Begin, Grant, Refuse, Finish, EndPlain, EndSnapshot, Release, Take, Vote, Decide, Sealed, NotSealed, Doubt, Learn, Emitted, Halt, Want, Load, is_free_answer, can_begin, is_of_call, holds_alone, batch_size, is_open, is_judged, can, does}
+use Rattle.core_model.specs.Events.{is_free_answer, can_begin, is_of_call, holds_alone, batch_size, is_open, is_judged, can, does}
+use Rattle.core_model.specs.declared.events.CoreEvent.{CoreEvent}
+use Rattle.core_model.specs.declared.events.CoreEvent.TheVariants.{Bad, Begin, Grant, Refuse, Finish, EndPlain, EndSnapshot, Release, Take, Vote, Decide, Sealed, NotSealed, Doubt, Learn, Emitted, Halt, Want, Load}
 use Rattle.core_laws.proofs.Basics.{is_running-true, same_reads-true}
 
 pub data Change (w : CoreState) : CoreEvent → CoreState → Type 0 where

@@ -2,13 +2,15 @@
 use Rattle.std.proofs.Common.{◌≡◌, ℕ, List, [], ◌∷◌, ◌++◌, true, ◌⊎◌, inl, inr, sym, ◌∙◌, subst, Option, Some, None}
 use Rattle.std.proofs.lemmas.Bool.{and_parts, or_parts, cond_both}
 use Rattle.cell_model.proofs.Units.{same_unit-false, Member-left, Member-last}
-use Rattle.core_model.specs.CoreState.{UnitNo, GrainId, nobody, same_unit, put, Member, Value, Read, top, Mode, CoreState}
+use Rattle.core_model.specs.CoreState.{UnitNo, GrainId, nobody, same_unit, put, Member, Value, top, Mode, CoreState}
+use Rattle.core_model.specs.declared.effects.Read.{Read}
 use Rattle.core_model.specs.Tests.{is_committed}
 use Rattle.core_laws.proofs.Puts.{put-at, put-from, put-is}
 use Rattle.cell_model.specs.Sources.{with_source, SourcesAscend}
 use Rattle.cell_model.proofs.Sources.{with-only, with-ascending}
 use Rattle.core_model.specs.Changes.{restacked, cleaned, after_lock, deps_with, is_sure, read_of, swept, swept_by}
-use Rattle.core_model.specs.Events.{CoreEvent, applies, can, does, step, run, is_allowed}
+use Rattle.core_model.specs.Events.{applies, can, does, step, run, is_allowed}
+use Rattle.core_model.specs.declared.events.CoreEvent.{CoreEvent}
 use Rattle.core_model.specs.Serial.{IsTrueLoad, AllLoadsTrue}
 use Rattle.core_laws.proofs.Decoded.{Change, bad, begin, lock, raise, refuse, finish, end_plain, end_snapshot, release, take_batch, vote, decide_some, decide_none, seal_batch, spoil_batch, doubt_batch, learn, emit, halt_run, want, load, decode}
 use Rattle.core_laws.proofs.Kept.{Kept, kept-step}

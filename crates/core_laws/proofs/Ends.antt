@@ -1,6 +1,6 @@
 -- What holds after a legal run.
 use Rattle.std.proofs.Common.{◌++◌, Bool, subst, arith}
-use Rattle.core_model.specs.CoreState.{Effect}
+use Rattle.core_model.specs.declared.effects.Effect.{Effect}
 use Rattle.core_model.specs.Legal.{Run, IsLegal, begins, ends}
 use Rattle.core_model.specs.Serial.{IsSerialOrder, committed, chosen}
 use Rattle.core_laws.proofs.Kept.{Kept, kept-start, kept-run}

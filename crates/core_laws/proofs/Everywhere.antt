@@ -3,7 +3,8 @@ use Rattle.std.proofs.Common.{◌≡◌, ℕ, List, [], ◌∷◌, Bool, true, O
 use Rattle.std.proofs.lemmas.Bool.{and_parts, cond_both}
 use Rattle.core_model.specs.CoreState.{GrainId, CoreState}
 use Rattle.core_model.specs.Changes.{stays, swept, swept_by}
-use Rattle.core_model.specs.Events.{CoreEvent, applies, can, does, step, run, is_allowed}
+use Rattle.core_model.specs.Events.{applies, can, does, step, run, is_allowed}
+use Rattle.core_model.specs.declared.events.CoreEvent.{CoreEvent}
 use Rattle.core_laws.proofs.Decoded.{Change, decode}
 
 -- the state with other grains in memory

@@ -1,11 +1,15 @@
 -- The further laws after a legal run.
 use Rattle.std.proofs.Common.{◌≡◌, ◌≤◌, List, [], ◌∷◌, ◌++◌, Bool, true, false, inl, inr, refl, sym, ap, ◌∙◌, subst, arith, Some}
 use Rattle.std.proofs.lemmas.Bool.{cases_lt}
-use Rattle.core_model.specs.CoreState.{UnitNo, GrainId, Value, Finished, Open, Committed, Aborted, Effect, CoreState}
+use Rattle.core_model.specs.CoreState.{UnitNo, GrainId, Value, CoreState}
+use Rattle.core_model.specs.declared.phases.Phase.TheVariants.{Finished}
+use Rattle.core_model.specs.declared.phases.Verdict.TheVariants.{Open, Committed, Aborted}
+use Rattle.core_model.specs.declared.effects.Effect.{Effect}
 use Rattle.core_model.specs.Tests.{is_final}
 use Rattle.core_model.specs.CoreState.{Outcome}
 use Rattle.core_model.specs.Tests.{outcome_of}
-use Rattle.core_model.specs.Events.{CoreEvent, run, step, batch_size}
+use Rattle.core_model.specs.Events.{run, step, batch_size}
+use Rattle.core_model.specs.declared.events.CoreEvent.{CoreEvent}
 use Rattle.core_model.specs.Serial.{AllPlay, AllLoadsTrue}
 use Rattle.core_model.specs.Dead.{IsDead}
 use Rattle.core_model.specs.Legal.{Run, IsLegal, begins, ends}

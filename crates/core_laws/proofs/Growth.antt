@@ -2,7 +2,12 @@
 use Rattle.std.proofs.Common.{◌≡◌, ℕ, List, [], ◌∷◌, ◌++◌, Bool, true, false, inr, refl, sym, ap, ◌∙◌, subst, Option, Some, None}
 use Rattle.std.proofs.lemmas.Bool.{and_parts, cond_both}
 use Rattle.cell_model.proofs.Units.{Member-left}
-use Rattle.core_model.specs.CoreState.{UnitNo, GrainId, put_grain, Member, Value, Origin, Phase, Unborn, Running, Finished, Refused, Ended, Verdict, Open, Chosen, Condemned, Committed, Aborted, Read, top, Batch, Decision, CoreState}
+use Rattle.core_model.specs.CoreState.{UnitNo, GrainId, put_grain, Member, Value, Origin, top, Batch, Decision, CoreState}
+use Rattle.core_model.specs.declared.phases.Phase.{Phase}
+use Rattle.core_model.specs.declared.phases.Phase.TheVariants.{Unborn, Running, Finished, Refused, Ended}
+use Rattle.core_model.specs.declared.phases.Verdict.{Verdict}
+use Rattle.core_model.specs.declared.phases.Verdict.TheVariants.{Open, Chosen, Condemned, Committed, Aborted}
+use Rattle.core_model.specs.declared.effects.Read.{Read}
 use Rattle.core_model.specs.Tests.{is_bad, is_final}
 use Rattle.core_model.specs.Dead.{Dead}
 use Rattle.core_laws.proofs.Puts.{put-at, put-other}
@@ -15,7 +20,8 @@ use Rattle.core_model.specs.Tests.{is_over, outcome_in, outcome_of, members}
 use Rattle.core_model.specs.Changes.{cleaned, read_of, begun, new_unit, kids_with, after_end, judged, decisions_of, with_decisions, sealed, spoiled, in_doubt, seal, spoil, leave, swept, swept_by}
 use Rattle.base_types.specs.declared.calls.Origin.TheVariants.{Line, Child}
 use Rattle.core_model.specs.Events.{can_begin}
-use Rattle.core_model.specs.Events.{CoreEvent, applies, can, does, step, run, is_allowed}
+use Rattle.core_model.specs.Events.{applies, can, does, step, run, is_allowed}
+use Rattle.core_model.specs.declared.events.CoreEvent.{CoreEvent}
 use Rattle.core_model.specs.Serial.{AllLoadsTrue}
 use Rattle.core_laws.proofs.Decoded.{Change, bad, begin, lock, raise, refuse, finish, end_plain, end_snapshot, release, take_batch, vote, decide_some, decide_none, seal_batch, spoil_batch, doubt_batch, learn, emit, halt_run, want, load, decode}
 use Rattle.core_laws.proofs.Orders.{judged-other}

@@ -3,7 +3,12 @@ use Rattle.std.proofs.Common.{◌≡◌, ℕ, ◌+◌, ◌<◌, List, [], ◌∷
 use Rattle.std.proofs.lemmas.Bool.{and_parts, cond_both}
 use Rattle.cell_model.specs.Locks.{is_update, is_hold_of, holds_lock, dropped}
 use Rattle.cell_model.proofs.Units.{same_unit-true, same_unit-false, cases_unit, any-true, any-false, all-true, Member-append, Member-left, filter-member}
-use Rattle.core_model.specs.CoreState.{UnitNo, GrainId, put, put_grain, Member, Value, Running, Verdict, Aborted, Read, Write, top, Hold, Mode, Reading, Effect, CoreState}
+use Rattle.core_model.specs.CoreState.{UnitNo, GrainId, put, put_grain, Member, Value, Write, top, Hold, Mode, Reading, CoreState}
+use Rattle.core_model.specs.declared.phases.Phase.TheVariants.{Running}
+use Rattle.core_model.specs.declared.phases.Verdict.{Verdict}
+use Rattle.core_model.specs.declared.phases.Verdict.TheVariants.{Aborted}
+use Rattle.core_model.specs.declared.effects.Read.{Read}
+use Rattle.core_model.specs.declared.effects.Effect.{Effect}
 use Rattle.core_model.specs.Tests.{any, all, is_final, state_written}
 use Rattle.core_model.specs.Chains.{WroteGrain}
 use Rattle.core_laws.proofs.Puts.{put-at, put-is, put-other, grain-at, grain-other}
@@ -17,7 +22,9 @@ use Rattle.core_model.specs.Holders.{DifferInUnit, HoldersHaveRead}
 use Rattle.core_model.specs.Changes.{restacked, cleaned, after_lock, after_release, finished, read_of, after_refusal, decisions_of, with_decisions, sealed, spoiled, in_doubt, swept, swept_by}
 use Rattle.core_model.specs.Events.{holds_alone}
 use Rattle.core_model.specs.Legal.{Run, IsLegal, begins, ends}
-use Rattle.core_model.specs.Events.{CoreEvent, Refuse, Decide, Sealed, NotSealed, Doubt, applies, can, does, step, run, is_allowed}
+use Rattle.core_model.specs.Events.{applies, can, does, step, run, is_allowed}
+use Rattle.core_model.specs.declared.events.CoreEvent.{CoreEvent}
+use Rattle.core_model.specs.declared.events.CoreEvent.TheVariants.{Refuse, Decide, Sealed, NotSealed, Doubt}
 use Rattle.core_model.specs.Serial.{IsTrueLoad, AllLoadsTrue}
 use Rattle.core_laws.proofs.Decoded.{Change, bad, begin, lock, raise, refuse, finish, end_plain, end_snapshot, release, take_batch, vote, decide_some, decide_none, seal_batch, spoil_batch, doubt_batch, learn, emit, halt_run, want, load, decode}
 use Rattle.core_laws.proofs.Growth.{grows-change}

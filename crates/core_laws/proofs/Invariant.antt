@@ -2,7 +2,12 @@
 use Rattle.std.proofs.Common.{◌≡◌, ℕ, ◌+◌, ◌<◌, ◌≤◌, List, [], ◌∷◌, length, get_or, Bool, true, false, ◌⊎◌, inl, inr, refl, sym, ap, ◌∙◌, subst, arith, Some, None}
 use Rattle.std.proofs.lemmas.Bool.{cases_lt}
 use Rattle.cell_model.specs.Locks.{is_update}
-use Rattle.core_model.specs.CoreState.{UnitNo, GrainId, nobody, Member, Value, Phase, Unborn, Running, Finished, Refused, Ended, Verdict, Open, Committed, Read, Write, Version, top, Hold, Reading, CoreState}
+use Rattle.core_model.specs.CoreState.{UnitNo, GrainId, nobody, Member, Value, Write, Version, top, Hold, Reading, CoreState}
+use Rattle.core_model.specs.declared.phases.Phase.{Phase}
+use Rattle.core_model.specs.declared.phases.Phase.TheVariants.{Unborn, Running, Finished, Refused, Ended}
+use Rattle.core_model.specs.declared.phases.Verdict.{Verdict}
+use Rattle.core_model.specs.declared.phases.Verdict.TheVariants.{Open, Committed}
+use Rattle.core_model.specs.declared.effects.Read.{Read}
 use Rattle.core_model.specs.Tests.{is_good, state_written}
 use Rattle.core_model.specs.Dead.{Dead}
 use Rattle.core_model.specs.Chains.{Chain, WroteGrain, IsBottom, IsLink}

@@ -4,7 +4,11 @@ use Rattle.std.specs.Prelude.{if◌then◌else◌}
 use Rattle.std.proofs.lemmas.Bool.{and_parts, cases_Bool, cond-false, cond_both}
 use Rattle.cell_model.specs.Locks.{covers}
 use Rattle.cell_model.proofs.Units.{same_unit-true, Member-append}
-use Rattle.core_model.specs.CoreState.{UnitNo, GrainId, nobody, same_unit, put, Member, Value, Finished, Ended, Verdict, Open, Committed, Aborted, Read, top, Mode, Settled, Batch, Decision, CoreState}
+use Rattle.core_model.specs.CoreState.{UnitNo, GrainId, nobody, same_unit, put, Member, Value, top, Mode, Settled, Batch, Decision, CoreState}
+use Rattle.core_model.specs.declared.phases.Phase.TheVariants.{Finished, Ended}
+use Rattle.core_model.specs.declared.phases.Verdict.{Verdict}
+use Rattle.core_model.specs.declared.phases.Verdict.TheVariants.{Open, Committed, Aborted}
+use Rattle.core_model.specs.declared.effects.Read.{Read}
 use Rattle.core_model.specs.Tests.{is_bad, is_committed}
 use Rattle.core_laws.proofs.Puts.{put-at, put-from, put-is, put-other}
 use Rattle.core_laws.proofs.Basics.{is_committed-true}
@@ -17,7 +21,8 @@ use Rattle.base_types.specs.declared.entries.Settled.TheVariants as settled
 use Rattle.std.proofs.lemmas.Bool.{or_cases}
 use Rattle.core_laws.proofs.Basics.{is_over-not}
 use Rattle.core_model.specs.Changes.{swept_by, restacked, cleaned, after_lock, deps_with, is_sure, read_of, voted, decisions_of, with_decisions, closed, result_told, swept, seal, spoil, leave}
-use Rattle.core_model.specs.Events.{CoreEvent, can, applies, does, step, run, start, is_allowed}
+use Rattle.core_model.specs.Events.{can, applies, does, step, run, start, is_allowed}
+use Rattle.core_model.specs.declared.events.CoreEvent.{CoreEvent}
 use Rattle.core_model.specs.Serial.{IsTrueLoad, AllLoadsTrue}
 use Rattle.core_laws.proofs.Orders.{free_prefix-length, take_length, at_part, in_part, judged-other}
 use Rattle.core_laws.proofs.Decoded.{Change, bad, begin, lock, raise, refuse, finish, end_plain, end_snapshot, release, take_batch, vote, decide_some, decide_none, seal_batch, spoil_batch, doubt_batch, learn, emit, halt_run, want, load, decode}

@@ -1,6 +1,8 @@
 -- A unit that begins keeps the invariant.
 use Rattle.std.proofs.Common.{◌≡◌, ℕ, List, Bool, inl, inr, sym, ap, ◌∙◌, subst, le_refl}
-use Rattle.core_model.specs.CoreState.{UnitNo, GrainId, put, Member, Value, Call, Origin, Unborn, Running, Finished, Read, CoreState}
+use Rattle.core_model.specs.CoreState.{UnitNo, GrainId, put, Member, Value, Call, Origin, CoreState}
+use Rattle.core_model.specs.declared.phases.Phase.TheVariants.{Unborn, Running, Finished}
+use Rattle.core_model.specs.declared.effects.Read.{Read}
 use Rattle.core_model.specs.Changes.{begun, new_unit}
 use Rattle.core_model.specs.Chains.{IsBottom, IsLink}
 use Rattle.core_laws.proofs.Puts.{put-at}

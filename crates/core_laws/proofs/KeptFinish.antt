@@ -3,7 +3,10 @@ use Rattle.std.proofs.Common.{◌≡◌, ℕ, ◌+◌, ◌<◌, ◌≤◌, List,
 use Rattle.std.proofs.lemmas.Bool.{and_parts}
 use Rattle.cell_model.specs.Locks.{is_update, is_hold_of}
 use Rattle.cell_model.proofs.Units.{same_unit-true, cases_unit, any-true, all-true}
-use Rattle.core_model.specs.CoreState.{UnitNo, GrainId, nobody, put, Member, Value, Unborn, Running, Finished, Read, Write, Version, top, Hold, Effect, CoreState}
+use Rattle.core_model.specs.CoreState.{UnitNo, GrainId, nobody, put, Member, Value, Write, Version, top, Hold, CoreState}
+use Rattle.core_model.specs.declared.phases.Phase.TheVariants.{Unborn, Running, Finished}
+use Rattle.core_model.specs.declared.effects.Read.{Read}
+use Rattle.core_model.specs.declared.effects.Effect.{Effect}
 use Rattle.core_model.specs.Tests.{any, all, state_written}
 use Rattle.core_model.specs.Chains.{WroteGrain, IsVersion, IsBottom, IsLink}
 use Rattle.core_laws.proofs.Puts.{put-at, put-from, put-other}

@@ -2,7 +2,9 @@
 use Rattle.std.proofs.Common.{◌≡◌, ℕ, ◌<◌, List, [], ◌∷◌, ◌++◌, true, false, ◌⊎◌, inl, inr, refl, sym, ap, ◌∙◌, subst, arith, Some}
 use Rattle.cell_model.specs.Locks.{is_hold_of, holds_lock, conflicts}
 use Rattle.cell_model.proofs.Units.{same_unit-true, same_unit-false, any-true, any-false, Member-append, Member-left}
-use Rattle.core_model.specs.CoreState.{UnitNo, GrainId, nobody, put, put_grain, Member, Value, Running, Finished, Read, top, Hold, Mode, Reading, CoreState}
+use Rattle.core_model.specs.CoreState.{UnitNo, GrainId, nobody, put, put_grain, Member, Value, top, Hold, Mode, Reading, CoreState}
+use Rattle.core_model.specs.declared.phases.Phase.TheVariants.{Running, Finished}
+use Rattle.core_model.specs.declared.effects.Read.{Read}
 use Rattle.core_model.specs.Tests.{is_good, state_written}
 use Rattle.core_model.specs.Dead.{Dead}
 use Rattle.core_model.specs.Chains.{WroteGrain, IsBottom, IsLink}

@@ -1,6 +1,9 @@
 -- A unit that is over keeps the invariant.
 use Rattle.std.proofs.Common.{◌≡◌, ℕ, List, true, false, ◌⊎◌, inl, inr, refl, sym, ap, ◌∙◌}
-use Rattle.core_model.specs.CoreState.{UnitNo, GrainId, nobody, put, Member, Value, Phase, Unborn, Running, Finished, Refused, Open, Committed, Aborted, Settled, CoreState}
+use Rattle.core_model.specs.CoreState.{UnitNo, GrainId, nobody, put, Member, Value, Settled, CoreState}
+use Rattle.core_model.specs.declared.phases.Phase.{Phase}
+use Rattle.core_model.specs.declared.phases.Phase.TheVariants.{Unborn, Running, Finished, Refused}
+use Rattle.core_model.specs.declared.phases.Verdict.TheVariants.{Open, Committed, Aborted}
 use Rattle.core_model.specs.Tests.{is_bad, is_good}
 use Rattle.core_model.specs.Dead.{Dead}
 use Rattle.core_model.specs.Chains.{IsBottom, IsLink}

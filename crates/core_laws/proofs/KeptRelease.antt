@@ -3,7 +3,9 @@ use Rattle.std.proofs.Common.{◌≡◌, ℕ, ◌<◌, ◌≤◌, List, true, fa
 use Rattle.std.proofs.lemmas.Bool.{cases_Bool, cond-true, cond-false}
 use Rattle.cell_model.specs.Locks.{is_update, is_hold_of, holds_lock, dropped}
 use Rattle.cell_model.proofs.Units.{same_unit-true, cases_unit, any-true}
-use Rattle.core_model.specs.CoreState.{UnitNo, GrainId, put_grain, Member, Value, Running, Finished, Read, Version, top, Hold, Reading, CoreState}
+use Rattle.core_model.specs.CoreState.{UnitNo, GrainId, put_grain, Member, Value, Version, top, Hold, Reading, CoreState}
+use Rattle.core_model.specs.declared.phases.Phase.TheVariants.{Running, Finished}
+use Rattle.core_model.specs.declared.effects.Read.{Read}
 use Rattle.core_model.specs.Tests.{state_written}
 use Rattle.core_model.specs.Dead.{Dead, by_source}
 use Rattle.core_model.specs.Chains.{Chain, WroteGrain, IsBottom, IsLink}

@@ -1,7 +1,9 @@
 -- A stack whose top falls keeps the invariant.
 use Rattle.std.proofs.Common.{◌≡◌, ℕ, ◌≤◌, List, [], ◌∷◌, Bool, true, false, ◌⊎◌, inl, inr, sym, ap, ◌∙◌, subst}
 use Rattle.cell_model.proofs.Units.{same_unit-true}
-use Rattle.core_model.specs.CoreState.{UnitNo, GrainId, nobody, Value, Finished, Open, Committed, Aborted, Version, top, cut, CoreState}
+use Rattle.core_model.specs.CoreState.{UnitNo, GrainId, nobody, Value, Version, top, cut, CoreState}
+use Rattle.core_model.specs.declared.phases.Phase.TheVariants.{Finished}
+use Rattle.core_model.specs.declared.phases.Verdict.TheVariants.{Open, Committed, Aborted}
 use Rattle.core_model.specs.Tests.{is_bad, is_aborted, is_committed, is_final}
 use Rattle.core_model.specs.Dead.{Dead, itself, by_source}
 use Rattle.core_model.specs.Chains.{Chain, WroteGrain, IsBottom, IsLink}

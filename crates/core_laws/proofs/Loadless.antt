@@ -1,7 +1,12 @@
 -- What holds of the core after any events, whatever was loaded.
 use Rattle.std.proofs.Common.{◌≡◌, ℕ, ◌+◌, ◌<◌, ◌≤◌, List, [], length, get_or, true, ◌⊎◌}
 use Rattle.cell_model.specs.Locks.{is_update}
-use Rattle.core_model.specs.CoreState.{UnitNo, GrainId, nobody, Member, Phase, Unborn, Running, Finished, Verdict, Open, Read, Write, Hold, Reading, CoreState}
+use Rattle.core_model.specs.CoreState.{UnitNo, GrainId, nobody, Member, Write, Hold, Reading, CoreState}
+use Rattle.core_model.specs.declared.phases.Phase.{Phase}
+use Rattle.core_model.specs.declared.phases.Phase.TheVariants.{Unborn, Running, Finished}
+use Rattle.core_model.specs.declared.phases.Verdict.{Verdict}
+use Rattle.core_model.specs.declared.phases.Verdict.TheVariants.{Open}
+use Rattle.core_model.specs.declared.effects.Read.{Read}
 use Rattle.core_model.specs.Chains.{WroteGrain}
 
 -- The first n units of the finish order are decided, or judged in the open batch. Each part of the state is an argument, so

@@ -5,7 +5,13 @@ use Rattle.cell_model.specs.Locks.{is_update, is_hold_of, holds_lock, conflicts,
 use Rattle.cell_model.specs.Cells.{with_reading, without_reading}
 use Rattle.cell_model.proofs.Units.{same_unit-true, same_unit-false, cases_unit, any-true, any-false, all-true, Member-append, Member-left, Member-last}
 use Rattle.cell_model.proofs.Asking.{no_conflict, granted-member, granted-new, granted-stays, dropped-member, dropped-stays}
-use Rattle.core_model.specs.CoreState.{UnitNo, GrainId, nobody, put, put_grain, Member, Value, Call, Origin, Phase, Unborn, Running, Finished, Refused, Verdict, Open, Aborted, Read, Write, top, Hold, Mode, Reading, Effect, Settled, CoreState}
+use Rattle.core_model.specs.CoreState.{UnitNo, GrainId, nobody, put, put_grain, Member, Value, Call, Origin, Write, top, Hold, Mode, Reading, Settled, CoreState}
+use Rattle.core_model.specs.declared.phases.Phase.{Phase}
+use Rattle.core_model.specs.declared.phases.Phase.TheVariants.{Unborn, Running, Finished, Refused}
+use Rattle.core_model.specs.declared.phases.Verdict.{Verdict}
+use Rattle.core_model.specs.declared.phases.Verdict.TheVariants.{Open, Aborted}
+use Rattle.core_model.specs.declared.effects.Read.{Read}
+use Rattle.core_model.specs.declared.effects.Effect.{Effect}
 use Rattle.core_model.specs.Tests.{any, all, state_written}
 use Rattle.core_model.specs.Chains.{WroteGrain}
 use Rattle.core_model.specs.Changes.{begun, new_unit, finished, after_lock, after_raise, after_release, read_of, after_refusal}

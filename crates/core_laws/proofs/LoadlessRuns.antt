@@ -6,11 +6,16 @@ use Rattle.std.proofs.lemmas.List.{length-map}
 use Rattle.base_types.specs.declared.entries.Settled.TheVariants as settled
 use Rattle.cell_model.proofs.Decisions.{decided-length}
 use Rattle.cell_model.proofs.Units.{cases_unit}
-use Rattle.core_model.specs.CoreState.{UnitNo, nobody, put, Member, Phase, Running, Finished, Refused, Ended, Verdict, Open, Chosen, Condemned, Committed, Aborted, Settled, Batch, Decision, CoreState}
+use Rattle.core_model.specs.CoreState.{UnitNo, nobody, put, Member, Settled, Batch, Decision, CoreState}
+use Rattle.core_model.specs.declared.phases.Phase.{Phase}
+use Rattle.core_model.specs.declared.phases.Phase.TheVariants.{Running, Finished, Refused, Ended}
+use Rattle.core_model.specs.declared.phases.Verdict.{Verdict}
+use Rattle.core_model.specs.declared.phases.Verdict.TheVariants.{Open, Chosen, Condemned, Committed, Aborted}
 use Rattle.core_model.specs.Tests.{is_bad, is_final, members, waiting, prepared}
 use Rattle.core_model.specs.Told.{IsSteady, OnlyTheBatchIsJudged}
 use Rattle.core_model.specs.Changes.{new_unit, restacked, cleaned, new_batch, result_told, verdict_of, judged, decisions_of, with_decisions, closed, seal, spoil, leave}
-use Rattle.core_model.specs.Events.{CoreEvent, applies, batch_size}
+use Rattle.core_model.specs.Events.{applies, batch_size}
+use Rattle.core_model.specs.declared.events.CoreEvent.{CoreEvent}
 use Rattle.core_model.specs.Legal.{Run, begins, ends}
 use Rattle.core_laws.proofs.Puts.{put-is, put-other, put-from}
 use Rattle.core_laws.proofs.Basics.{is_over-not}

@@ -5,11 +5,15 @@ use Rattle.base_types.specs.declared.calls.Origin.TheVariants.{Line}
 use Rattle.cell_model.specs.Locks.{dropped, granted, is_hold_of, is_update}
 use Rattle.cell_model.proofs.Units.{any-true, all-true}
 use Rattle.cell_model.proofs.Asking.{dropped-member}
-use Rattle.core_model.specs.CoreState.{UnitNo, GrainId, put, put_grain, Member, Value, Phase, Unborn, Running, Finished, Refused, Ended, Mode, Write, Hold, CoreState}
+use Rattle.core_model.specs.CoreState.{UnitNo, GrainId, put, put_grain, Member, Value, Mode, Write, Hold, CoreState}
+use Rattle.core_model.specs.declared.phases.Phase.{Phase}
+use Rattle.core_model.specs.declared.phases.Phase.TheVariants.{Unborn, Running, Finished, Refused, Ended}
 use Rattle.core_model.specs.Tests.{is_running, state_written}
 use Rattle.core_model.specs.Chains.{WroteGrain}
 use Rattle.core_model.specs.Changes.{new_unit}
-use Rattle.core_model.specs.Events.{CoreEvent, Grant, applies, can, run, is_allowed, holds_alone}
+use Rattle.core_model.specs.Events.{applies, can, run, is_allowed, holds_alone}
+use Rattle.core_model.specs.declared.events.CoreEvent.{CoreEvent}
+use Rattle.core_model.specs.declared.events.CoreEvent.TheVariants.{Grant}
 use Rattle.core_model.specs.Legal.{Run, begins, ends}
 use Rattle.core_laws.proofs.Puts.{put-from, put-other, grain-from}
 use Rattle.core_laws.proofs.Basics.{written-member}

@@ -1,7 +1,9 @@
 -- The finish order and its parts.
 use Rattle.std.proofs.Common.{◌≡◌, ℕ, zero, suc, ◌+◌, ◌<◌, ◌≤◌, List, [], ◌∷◌, length, get_or, take, drop, inl, inr, refl, sym, ap, ◌∙◌, subst, arith, length-drop, get_or-drop, get_or-take}
 use Rattle.std.proofs.lemmas.Bool.{cond_both}
-use Rattle.core_model.specs.CoreState.{UnitNo, GrainId, nobody, put, Member, Value, Finished, Verdict, Decision, CoreState}
+use Rattle.core_model.specs.CoreState.{UnitNo, GrainId, nobody, put, Member, Value, Decision, CoreState}
+use Rattle.core_model.specs.declared.phases.Phase.TheVariants.{Finished}
+use Rattle.core_model.specs.declared.phases.Verdict.{Verdict}
 use Rattle.core_model.specs.Tests.{is_free, free_prefix}
 use Rattle.core_model.specs.Changes.{verdict_of, judged}
 use Rattle.core_laws.proofs.Puts.{put-other}

@@ -1,7 +1,10 @@
 -- The effects of plain runs are plays.
 use Rattle.std.proofs.Common.{◌≡◌, ℕ, List, [], ◌∷◌, Bool, true, refl, sym, ap, ◌∙◌, Option, Some, None}
 use Rattle.std.proofs.lemmas.Bool.{and_parts, cond_both}
-use Rattle.core_model.specs.CoreState.{UnitNo, GrainId, put, Value, Phase, Running, Finished, Refused, Ended, Effect, CoreState}
+use Rattle.core_model.specs.CoreState.{UnitNo, GrainId, put, Value, CoreState}
+use Rattle.core_model.specs.declared.phases.Phase.{Phase}
+use Rattle.core_model.specs.declared.phases.Phase.TheVariants.{Running, Finished, Refused, Ended}
+use Rattle.core_model.specs.declared.effects.Effect.{Effect}
 use Rattle.core_laws.proofs.Puts.{put-from, put-is, put-other}
 use Rattle.core_model.specs.CoreState.{Outcome}
 use Rattle.core_model.specs.Tests.{is_empty}
@@ -9,7 +12,8 @@ use Rattle.core_model.specs.Changes.{begun, new_unit, after_end, finished, swept
 use Rattle.core_model.specs.Serial.{Plays, AllPlay}
 use Rattle.core_model.specs.Consistent.{plain_effect, PlainRunsArePlays}
 use Rattle.core_model.specs.Legal.{Run, IsLegal, begins, ends}
-use Rattle.core_model.specs.Events.{CoreEvent, applies, can, does, step, run, is_allowed}
+use Rattle.core_model.specs.Events.{applies, can, does, step, run, is_allowed}
+use Rattle.core_model.specs.declared.events.CoreEvent.{CoreEvent}
 use Rattle.core_model.specs.Serial.{AllLoadsTrue}
 use Rattle.core_laws.proofs.Decoded.{Change, bad, begin, lock, raise, refuse, finish, end_plain, end_snapshot, release, take_batch, vote, decide_some, decide_none, seal_batch, spoil_batch, doubt_batch, learn, emit, halt_run, want, load, decode}
 use Rattle.core_laws.proofs.Played.{parts-of}

@@ -3,11 +3,16 @@ use Rattle.std.proofs.Common.{◌≡◌, ℕ, ◌<◌, List, [], ◌∷◌, ◌+
 use Rattle.std.specs.Prelude.{if◌then◌else◌, flat_map, map}
 use Rattle.std.proofs.lemmas.Bool.{and_parts, cases_Bool, cases_lt, cond_both, cond-false}
 use Rattle.cell_model.proofs.Units.{any-true, any-none, any-member, same_grain-true, same_grain-false, same_grain-is, Member-append, Member-left, Member-right}
-use Rattle.core_model.specs.CoreState.{UnitNo, GrainId, same_grain, Member, Value, Running, Finished, Aborted, Write, Effect, Batch, CoreState}
+use Rattle.core_model.specs.CoreState.{UnitNo, GrainId, same_grain, Member, Value, Write, Batch, CoreState}
+use Rattle.core_model.specs.declared.phases.Phase.TheVariants.{Running, Finished}
+use Rattle.core_model.specs.declared.phases.Verdict.TheVariants.{Aborted}
+use Rattle.core_model.specs.declared.effects.Effect.{Effect}
 use Rattle.core_model.specs.Tests.{any, is_bad, is_before, members, has_bad_source, with_grain, grains_of, grains_to_write, planned}
 use Rattle.core_model.specs.Chains.{WroteGrain}
 use Rattle.core_model.specs.Changes.{finished, after_take, swept, swept_by}
-use Rattle.core_model.specs.Events.{CoreEvent, Take, applies, batch_size, can, does, step, run, is_allowed}
+use Rattle.core_model.specs.Events.{applies, batch_size, can, does, step, run, is_allowed}
+use Rattle.core_model.specs.declared.events.CoreEvent.{CoreEvent}
+use Rattle.core_model.specs.declared.events.CoreEvent.TheVariants.{Take}
 use Rattle.core_model.specs.Steps.{AreAscending, IsPlan}
 use Rattle.core_model.specs.Legal.{Run, IsLegal, begins, ends}
 use Rattle.core_model.specs.Serial.{AllLoadsTrue}

@@ -2,13 +2,17 @@
 use Rattle.std.proofs.Common.{◌≡◌, ℕ, List, [], ◌∷◌, ◌++◌, Bool, true, refl, sym, ap, ◌∙◌, Option, Some, None}
 use Rattle.std.proofs.lemmas.Bool.{and_parts, cond_both}
 use Rattle.cell_model.proofs.Units.{same_unit-true}
-use Rattle.core_model.specs.CoreState.{UnitNo, GrainId, same_unit, put_grain, Value, Origin, Running, Finished, Refused, Ended, Read, Write, top, Effect, CoreState}
+use Rattle.core_model.specs.CoreState.{UnitNo, GrainId, same_unit, put_grain, Value, Origin, Write, top, CoreState}
+use Rattle.core_model.specs.declared.phases.Phase.TheVariants.{Running, Finished, Refused, Ended}
+use Rattle.core_model.specs.declared.effects.Read.{Read}
+use Rattle.core_model.specs.declared.effects.Effect.{Effect}
 use Rattle.core_laws.proofs.Puts.{put-from, put-is, put-other}
 use Rattle.core_model.specs.CoreState.{Call, Outcome}
 use Rattle.core_model.specs.Equality.{same_origin, same_call}
 use Rattle.core_model.specs.Tests.{answered_by}
 use Rattle.core_model.specs.Changes.{after_lock, restacked, cleaned, read_of, begun, new_unit, after_end, finished, swept, swept_by}
-use Rattle.core_model.specs.Events.{CoreEvent, is_of_call, applies, does, step, run, can, is_allowed}
+use Rattle.core_model.specs.Events.{is_of_call, applies, does, step, run, can, is_allowed}
+use Rattle.core_model.specs.declared.events.CoreEvent.{CoreEvent}
 use Rattle.core_model.specs.Answers.{effect_of}
 use Rattle.core_model.specs.Serial.{Plays, AllPlay, AllLoadsTrue}
 use Rattle.core_laws.proofs.Basics.{same_origin-true, same_call-true}

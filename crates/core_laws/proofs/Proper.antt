@@ -4,12 +4,17 @@ use Rattle.std.proofs.lemmas.Bool.{and_parts, cases_lt, not-true}
 use Rattle.base_types.specs.declared.calls.Origin.TheVariants.{Line}
 use Rattle.base_types.specs.declared.calls.Outcome.TheVariants as outcome
 use Rattle.base_types.specs.declared.entries.Settled.TheVariants as settled
-use Rattle.core_model.specs.CoreState.{UnitNo, GrainId, Member, Value, Unborn, Finished, Outcome, Read, Effect, Entry, Settled, Batch, Write, CoreState}
+use Rattle.core_model.specs.CoreState.{UnitNo, GrainId, Member, Value, Outcome, Entry, Settled, Batch, Write, CoreState}
+use Rattle.core_model.specs.declared.phases.Phase.TheVariants.{Unborn, Finished}
+use Rattle.core_model.specs.declared.effects.Read.{Read}
+use Rattle.core_model.specs.declared.effects.Effect.{Effect}
 use Rattle.core_model.specs.Tests.{is_empty, is_running, state_written}
 use Rattle.core_model.specs.Equality.{same_outcome}
 use Rattle.core_model.specs.Causes.{EndsWith, HasCause, HasLine, IsCaused, decided_state}
 use Rattle.core_model.specs.Proper.{NeverAborts, HasUnitOf, MaySettle, IsProperEntry}
-use Rattle.core_model.specs.Events.{CoreEvent, Bad, Begin, Grant, Refuse, Finish, EndPlain, EndSnapshot, Release, Take, Vote, Decide, Sealed, NotSealed, Doubt, Learn, Emitted, Halt, Want, Load, applies, can, run, step, is_allowed}
+use Rattle.core_model.specs.Events.{applies, can, run, step, is_allowed}
+use Rattle.core_model.specs.declared.events.CoreEvent.{CoreEvent}
+use Rattle.core_model.specs.declared.events.CoreEvent.TheVariants.{Bad, Begin, Grant, Refuse, Finish, EndPlain, EndSnapshot, Release, Take, Vote, Decide, Sealed, NotSealed, Doubt, Learn, Emitted, Halt, Want, Load}
 use Rattle.core_model.specs.Serial.{Plays, AllPlay}
 use Rattle.core_model.specs.Legal.{Run, IsLegal, begins, ends}
 use Rattle.core_laws.proofs.Invariant.{Inv}

@@ -2,7 +2,10 @@
 use Rattle.std.proofs.Common.{◌≡◌, ℕ, zero, suc, ◌+◌, ◌<◌, ◌≤◌, List, [], ◌∷◌, ◌++◌, length, get_or, Bool, true, false, inl, inr, refl, sym, ap, ◌∙◌, subst, arith, Option, Some, None}
 use Rattle.std.proofs.lemmas.Bool.{and_parts, cond_both}
 use Rattle.cell_model.proofs.Units.{filter-stays}
-use Rattle.core_model.specs.CoreState.{UnitNo, GrainId, nobody, put, Member, Value, Running, Finished, Verdict, Open, Aborted, Write, Batch, Decision, CoreState}
+use Rattle.core_model.specs.CoreState.{UnitNo, GrainId, nobody, put, Member, Value, Write, Batch, Decision, CoreState}
+use Rattle.core_model.specs.declared.phases.Phase.TheVariants.{Running, Finished}
+use Rattle.core_model.specs.declared.phases.Verdict.{Verdict}
+use Rattle.core_model.specs.declared.phases.Verdict.TheVariants.{Open, Aborted}
 use Rattle.core_model.specs.Tests.{is_bad}
 use Rattle.core_laws.proofs.Puts.{put-same, put-other}
 use Rattle.core_laws.proofs.Invariant.{Inv}
@@ -16,7 +19,8 @@ use Rattle.cell_model.proofs.Units.{oldest-some}
 use Rattle.core_model.specs.CoreState.{Prepared}
 use Rattle.core_model.specs.Tests.{members, waiting, failed_in}
 use Rattle.core_model.specs.Changes.{finished, voted, verdict_of, judged, decisions_of, swept, swept_by}
-use Rattle.core_model.specs.Events.{CoreEvent, applies, can, does, step, is_allowed}
+use Rattle.core_model.specs.Events.{applies, can, does, step, is_allowed}
+use Rattle.core_model.specs.declared.events.CoreEvent.{CoreEvent}
 use Rattle.core_laws.proofs.Decoded.{Change, bad, begin, lock, raise, refuse, finish, end_plain, end_snapshot, release, take_batch, vote, decide_some, decide_none, seal_batch, spoil_batch, doubt_batch, learn, emit, halt_run, want, load, decode}
 use Rattle.core_laws.proofs.Orders.{judged-other, at_part, take_length, Member-at, in_part}
 use Rattle.core_laws.proofs.KeptBatch.{prepare, dead-agrees}

@@ -2,7 +2,8 @@
 use Rattle.std.proofs.Common.{◌≡◌, ℕ, List, [], ◌∷◌, Bool, true, false, ◌⊎◌, inl, inr, sym, ap, ◌∙◌, subst, Option, Some, None}
 use Rattle.std.proofs.lemmas.Bool.{and_parts, cond_both}
 use Rattle.cell_model.specs.Locks.{dropped}
-use Rattle.core_model.specs.CoreState.{UnitNo, GrainId, put_grain, Member, Value, Unborn, Running, Finished, Version, cut, Hold, Mode, CoreState}
+use Rattle.core_model.specs.CoreState.{UnitNo, GrainId, put_grain, Member, Value, Version, cut, Hold, Mode, CoreState}
+use Rattle.core_model.specs.declared.phases.Phase.TheVariants.{Unborn, Running, Finished}
 use Rattle.core_model.specs.Tests.{any, is_aborted, is_committed, state_written}
 use Rattle.core_model.specs.Chains.{Chain, IsBottom, IsLink}
 use Rattle.core_laws.proofs.Puts.{grain-from, grain-is, grain-other}
@@ -12,7 +13,8 @@ use Rattle.cell_model.specs.Stacks.{pushed, is_of, committed_stack}
 use Rattle.cell_model.specs.Cells.{stacked, reads_top, learnt}
 use Rattle.cell_model.proofs.Asking.{granted-member, dropped-member}
 use Rattle.core_model.specs.Changes.{restacked, cleaned, after_release, after_learn, loaded, swept, swept_by}
-use Rattle.core_model.specs.Events.{CoreEvent, applies, can, does, step, run, is_allowed}
+use Rattle.core_model.specs.Events.{applies, can, does, step, run, is_allowed}
+use Rattle.core_model.specs.declared.events.CoreEvent.{CoreEvent}
 use Rattle.core_model.specs.Serial.{IsTrueLoad, AllLoadsTrue}
 use Rattle.core_laws.proofs.Decoded.{Change, bad, begin, lock, raise, refuse, finish, end_plain, end_snapshot, release, take_batch, vote, decide_some, decide_none, seal_batch, spoil_batch, doubt_batch, learn, emit, halt_run, want, load, decode}
 use Rattle.core_laws.proofs.KeptStack.{kept-cleaned}

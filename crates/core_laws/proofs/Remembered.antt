@@ -3,7 +3,10 @@ use Rattle.std.proofs.Common.{◌≡◌, ℕ, zero, suc, ◌≤◌, List, [], �
 use Rattle.std.proofs.lemmas.Bool.{and_parts, and_from, not-true, cond_both}
 use Rattle.cell_model.specs.Locks.{is_hold_of, dropped}
 use Rattle.cell_model.proofs.Units.{same_unit-true, same_unit-false, same_unit-is, any-true, any-false, any-member, Member-append, filter-member}
-use Rattle.core_model.specs.CoreState.{UnitNo, GrainId, same_unit, same_grain, put, Member, Value, Phase, Running, Finished, Refused, Ended, Hold, Effect, CoreState}
+use Rattle.core_model.specs.CoreState.{UnitNo, GrainId, same_unit, same_grain, put, Member, Value, Hold, CoreState}
+use Rattle.core_model.specs.declared.phases.Phase.{Phase}
+use Rattle.core_model.specs.declared.phases.Phase.TheVariants.{Running, Finished, Refused, Ended}
+use Rattle.core_model.specs.declared.effects.Effect.{Effect}
 use Rattle.core_model.specs.Tests.{any}
 use Rattle.core_laws.proofs.Puts.{put-at, put-other, grain-at, grain-from, grain-is}
 use Rattle.std.proofs.Common.{take, filter, is_none}
@@ -16,7 +19,8 @@ use Rattle.core_model.specs.Tests.{is_recent, is_idle}
 use Rattle.core_model.specs.Memory.{MemoryIsBounded}
 use Rattle.core_model.specs.Changes.{new_unit, touched, without_wants, swept, swept_by}
 use Rattle.core_model.specs.Legal.{Run, IsLegal, begins, ends}
-use Rattle.core_model.specs.Events.{CoreEvent, applies, can, does, step, run, is_allowed}
+use Rattle.core_model.specs.Events.{applies, can, does, step, run, is_allowed}
+use Rattle.core_model.specs.declared.events.CoreEvent.{CoreEvent}
 use Rattle.core_model.specs.Serial.{AllLoadsTrue}
 use Rattle.core_laws.proofs.Decoded.{Change, bad, begin, lock, raise, refuse, finish, end_plain, end_snapshot, release, take_batch, vote, decide_some, decide_none, seal_batch, spoil_batch, doubt_batch, learn, emit, halt_run, want, load, decode}
 use Rattle.core_laws.proofs.Ends.{kept-begins}

@@ -3,7 +3,10 @@ use Rattle.std.proofs.Common.{◌≡◌, ℕ, ◌<◌, List, [], ◌∷◌, ◌+
 use Rattle.std.proofs.lemmas.Bool.{and_parts, not-true, cond_both}
 use Rattle.cell_model.specs.Locks.{is_hold_of, holds_lock}
 use Rattle.cell_model.proofs.Units.{same_unit-true, same_unit-false, any-true, Member-append}
-use Rattle.core_model.specs.CoreState.{UnitNo, GrainId, put, Member, Value, Phase, Running, Finished, Refused, Ended, Read, Version, top, cut, Mode, CoreState}
+use Rattle.core_model.specs.CoreState.{UnitNo, GrainId, put, Member, Value, Version, top, cut, Mode, CoreState}
+use Rattle.core_model.specs.declared.phases.Phase.{Phase}
+use Rattle.core_model.specs.declared.phases.Phase.TheVariants.{Running, Finished, Refused, Ended}
+use Rattle.core_model.specs.declared.effects.Read.{Read}
 use Rattle.core_model.specs.Tests.{any, is_aborted, is_committed, state_written}
 use Rattle.core_model.specs.Chains.{Chain, IsBottom, IsLink}
 use Rattle.core_laws.proofs.Puts.{put-from, grain-at}
@@ -17,7 +20,8 @@ use Rattle.std.proofs.lemmas.Bool.{not_from_false}
 use Rattle.core_laws.proofs.Basics.{is_over-not}
 use Rattle.core_model.specs.Changes.{new_unit, restacked, cleaned, after_lock, after_release, loaded, read_of, swept, swept_by}
 use Rattle.std.proofs.Common.{le_refl}
-use Rattle.core_model.specs.Events.{CoreEvent, applies, can, does, step, run, is_allowed}
+use Rattle.core_model.specs.Events.{applies, can, does, step, run, is_allowed}
+use Rattle.core_model.specs.declared.events.CoreEvent.{CoreEvent}
 use Rattle.core_model.specs.Serial.{IsTrueLoad, AllLoadsTrue}
 use Rattle.core_laws.proofs.Decoded.{Change, bad, begin, lock, raise, refuse, finish, end_plain, end_snapshot, release, take_batch, vote, decide_some, decide_none, seal_batch, spoil_batch, doubt_batch, learn, emit, halt_run, want, load, decode}
 use Rattle.core_laws.proofs.Released.{cut-member, committed-member}

@@ -1,7 +1,11 @@
 -- The committed units are serial.
 use Rattle.std.proofs.Common.{◌≡◌, ℕ, suc, ◌+◌, ◌<◌, ◌≤◌, List, [], ◌∷◌, length, get_or, Bool, true, false, ◌⊎◌, inl, inr, refl, sym, ap, ◌∙◌, subst, arith, Option, Some, None}
 use Rattle.std.proofs.lemmas.Bool.{cases_lt, cond_both}
-use Rattle.core_model.specs.CoreState.{UnitNo, GrainId, nobody, Member, Value, Unborn, Finished, Verdict, Read, Effect, CoreState}
+use Rattle.core_model.specs.CoreState.{UnitNo, GrainId, nobody, Member, Value, CoreState}
+use Rattle.core_model.specs.declared.phases.Phase.TheVariants.{Unborn, Finished}
+use Rattle.core_model.specs.declared.phases.Verdict.{Verdict}
+use Rattle.core_model.specs.declared.effects.Read.{Read}
+use Rattle.core_model.specs.declared.effects.Effect.{Effect}
 use Rattle.core_model.specs.Tests.{is_good, is_committed, state_written}
 use Rattle.core_model.specs.Chains.{WroteGrain}
 use Rattle.core_laws.proofs.Basics.{is_committed-true}

@@ -8,13 +8,17 @@ use Rattle.cell_model.specs.Cells.{learnt, stacked, reads_top}
 use Rattle.cell_model.specs.Locks.{is_hold_of}
 use Rattle.cell_model.proofs.Units.{same_unit-true, same_unit-false, any-true, any-false, filter-stays, cases_unit}
 use Rattle.cell_model.proofs.Stacks.{cut-none}
-use Rattle.core_model.specs.CoreState.{UnitNo, GrainId, put, put_grain, Member, Value, Finished, Committed, Write, Version, Reading, top, cut, Effect, CoreState}
+use Rattle.core_model.specs.CoreState.{UnitNo, GrainId, put, put_grain, Member, Value, Write, Version, Reading, top, cut, CoreState}
+use Rattle.core_model.specs.declared.phases.Phase.TheVariants.{Finished}
+use Rattle.core_model.specs.declared.phases.Verdict.TheVariants.{Committed}
+use Rattle.core_model.specs.declared.effects.Effect.{Effect}
 use Rattle.core_model.specs.Tests.{any, is_final, is_good, is_aborted, is_committed, state_written}
 use Rattle.core_model.specs.Chains.{Chain, WroteGrain, IsBottom, IsLink}
 use Rattle.core_model.specs.Learning.{to_learn, next_learn}
 use Rattle.core_model.specs.Asked.{IsSettledGrain, SettledStacksAreSingle}
 use Rattle.core_model.specs.Changes.{cleaned, swept, swept_by}
-use Rattle.core_model.specs.Events.{CoreEvent, applies, can, does, step, run, is_allowed}
+use Rattle.core_model.specs.Events.{applies, can, does, step, run, is_allowed}
+use Rattle.core_model.specs.declared.events.CoreEvent.{CoreEvent}
 use Rattle.core_model.specs.Legal.{Run, IsLegal, begins, ends}
 use Rattle.core_model.specs.Serial.{AllLoadsTrue, IsLastVersion}
 use Rattle.core_laws.proofs.Puts.{put-is, put-other, grain-at, grain-other}

@@ -2,7 +2,10 @@
 use Rattle.std.proofs.Common.{◌≡◌, ℕ, ◌+◌, ◌<◌, ◌≤◌, List, [], ◌∷◌, ◌++◌, length, Bool, true, false, ◌||◌, inl, inr, refl, sym, ap, ◌∙◌, subst, arith, Option, Some, None}
 use Rattle.std.specs.Prelude.{if◌then◌else◌}
 use Rattle.std.proofs.lemmas.Bool.{and_parts, cond_both}
-use Rattle.core_model.specs.CoreState.{UnitNo, GrainId, put, Member, Value, Running, Finished, Refused, Ended, Verdict, Open, Chosen, Condemned, Committed, Aborted, Settled, Batch, Decision, CoreState}
+use Rattle.core_model.specs.CoreState.{UnitNo, GrainId, put, Member, Value, Settled, Batch, Decision, CoreState}
+use Rattle.core_model.specs.declared.phases.Phase.TheVariants.{Running, Finished, Refused, Ended}
+use Rattle.core_model.specs.declared.phases.Verdict.{Verdict}
+use Rattle.core_model.specs.declared.phases.Verdict.TheVariants.{Open, Chosen, Condemned, Committed, Aborted}
 use Rattle.core_model.specs.Tests.{is_good, is_committed, is_final}
 use Rattle.core_laws.proofs.Puts.{put-at, put-from, put-is, put-other}
 use Rattle.core_laws.proofs.Invariant.{Inv}
@@ -10,7 +13,9 @@ use Rattle.std.proofs.Common.{map, filter, take, drop, append-nil, take-append-d
 use Rattle.std.proofs.lemmas.List.Elements.{filter-append}
 use Rattle.core_model.specs.Tests.{members}
 use Rattle.core_model.specs.Changes.{new_unit, verdict_of, judged, decisions_of, with_decisions, closed, result_told, seal, spoil, leave, swept, swept_by}
-use Rattle.core_model.specs.Events.{CoreEvent, Decide, Sealed, NotSealed, Doubt, applies, can, does, step, run, is_allowed, is_after_doubt}
+use Rattle.core_model.specs.Events.{applies, can, does, step, run, is_allowed, is_after_doubt}
+use Rattle.core_model.specs.declared.events.CoreEvent.{CoreEvent}
+use Rattle.core_model.specs.declared.events.CoreEvent.TheVariants.{Decide, Sealed, NotSealed, Doubt}
 use Rattle.core_model.specs.Answers.{effect_of}
 use Rattle.core_model.specs.Serial.{committed, chosen, batch_begin, IsTrueLoad, AllLoadsTrue}
 use Rattle.core_laws.proofs.Orders.{in_drop, in_take, in_part, judged-other}

@@ -4,14 +4,17 @@ use Rattle.std.specs.Prelude.{◌==◌, if◌then◌else◌, flat_map}
 use Rattle.std.proofs.lemmas.Option.{slice_get_cases}
 use Rattle.std.proofs.lemmas.Bool.{ltb-true, and_parts, and_from, cases_Bool, cond_both, cond-true, cond-false, eq-eqb}
 use Rattle.cell_model.proofs.Units.{any-member, same_grain-is, filter-member}
-use Rattle.core_model.specs.CoreState.{UnitNo, GrainId, same_grain, Member, Value, Version, Outcome, Write, Effect, Batch, Decision, CoreState}
+use Rattle.core_model.specs.CoreState.{UnitNo, GrainId, same_grain, Member, Value, Version, Outcome, Write, Batch, Decision, CoreState}
+use Rattle.core_model.specs.declared.effects.Effect.{Effect}
 use Rattle.core_model.specs.Tests.{any, all, is_final, is_good, outcome_of, waiting, is_planned, is_voted, is_vote_on, members, has_bad_source, state_written}
 use Rattle.core_model.specs.Chains.{WroteGrain}
 use Rattle.core_model.specs.Changes.{swept, swept_by}
 use Rattle.core_model.specs.Learning.{to_learn, next_learn}
 use Rattle.core_model.specs.Settler.{Votes, Decides, Learns, Seals, Writes, Takes, Rests, MakesEvent, first_unvoted, undecided_step, batch_step, learn_step, last_step, later_step, version_written, version_to_write, to_commit, Step, settler_step, step_of, work_in, write_work}
 use Rattle.core_model.specs.Steps.{StepApplies, ShowsVersions, TellsDecided}
-use Rattle.core_model.specs.Events.{CoreEvent, Take, Vote, Decide, Sealed, NotSealed, Doubt, Learn, Emitted, applies, can, does, step, run, is_allowed, is_open, is_judged, is_after_doubt, is_after_halt}
+use Rattle.core_model.specs.Events.{applies, can, does, step, run, is_allowed, is_open, is_judged, is_after_doubt, is_after_halt}
+use Rattle.core_model.specs.declared.events.CoreEvent.{CoreEvent}
+use Rattle.core_model.specs.declared.events.CoreEvent.TheVariants.{Take, Vote, Decide, Sealed, NotSealed, Doubt, Learn, Emitted}
 use Rattle.core_model.specs.Effects.{effect_of}
 use Rattle.core_model.specs.Answers.{known}
 use Rattle.core_model.specs.declared.questions.CoreAnswer.TheVariants as answer

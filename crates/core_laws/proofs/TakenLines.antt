@@ -5,10 +5,13 @@ use Rattle.base_types.specs.declared.entries.Settled.TheVariants as settled
 use Rattle.base_types.specs.declared.calls.Origin.{Origin}
 use Rattle.base_types.specs.declared.calls.Origin.TheVariants.{Line, Child}
 use Rattle.cell_model.proofs.Units.{Member-left, Member-last}
-use Rattle.core_model.specs.CoreState.{UnitNo, GrainId, nobody, put, Member, Value, Phase, Unborn, Running, Finished, Refused, Ended, Entry, CoreState}
+use Rattle.core_model.specs.CoreState.{UnitNo, GrainId, nobody, put, Member, Value, Entry, CoreState}
+use Rattle.core_model.specs.declared.phases.Phase.{Phase}
+use Rattle.core_model.specs.declared.phases.Phase.TheVariants.{Unborn, Running, Finished, Refused, Ended}
 use Rattle.core_model.specs.Lines.{HasBegunFor, LinesAreTaken}
 use Rattle.core_model.specs.Changes.{new_unit, lines_with}
-use Rattle.core_model.specs.Events.{CoreEvent, can_begin}
+use Rattle.core_model.specs.Events.{can_begin}
+use Rattle.core_model.specs.declared.events.CoreEvent.{CoreEvent}
 use Rattle.core_laws.proofs.Puts.{put-is, put-other}
 use Rattle.core_laws.proofs.Decoded.{Change, bad, begin, lock, raise, refuse, finish, end_plain, end_snapshot, release, take_batch, vote, decide_some, decide_none, seal_batch, spoil_batch, doubt_batch, learn, emit, halt_run, want, load}
 use Rattle.core_laws.proofs.Keeping.{born-put}

@@ -5,14 +5,21 @@ use Rattle.std.specs.List.{list_any as any}
 use Rattle.std.proofs.lemmas.Bool.{cases_lt, cond-true}
 use Rattle.base_types.specs.declared.entries.Settled.TheVariants as settled
 use Rattle.cell_model.proofs.Units.{any-true, any-member, same_unit-true, same_unit-is}
-use Rattle.core_model.specs.CoreState.{UnitNo, nobody, same_unit, put, Phase, Unborn, Running, Finished, Refused, Ended, Verdict, Open, Chosen, Condemned, Committed, Aborted, Outcome, Effect, Entry, Settled, CoreState}
+use Rattle.core_model.specs.CoreState.{UnitNo, nobody, same_unit, put, Outcome, Entry, Settled, CoreState}
+use Rattle.core_model.specs.declared.phases.Phase.{Phase}
+use Rattle.core_model.specs.declared.phases.Phase.TheVariants.{Unborn, Running, Finished, Refused, Ended}
+use Rattle.core_model.specs.declared.phases.Verdict.{Verdict}
+use Rattle.core_model.specs.declared.phases.Verdict.TheVariants.{Open, Chosen, Condemned, Committed, Aborted}
+use Rattle.core_model.specs.declared.effects.Effect.{Effect}
 use Rattle.core_model.specs.Tests.{is_final, is_over, is_decided, outcome_in, outcome_of}
 use Rattle.core_model.specs.Causes.{EndsWith, HasCause, IsCaused}
 use Rattle.core_model.specs.Laws.{extended, AnswersAreOutcomes, ChildrenAreKnown}
 use Rattle.core_model.specs.Lines.{IsSettled}
 use Rattle.core_model.specs.Told.{ChildrenAreDecided, ToldIsFinal, LinesAreTold}
 use Rattle.core_model.specs.Changes.{swept, swept_by}
-use Rattle.core_model.specs.Events.{CoreEvent, Bad, Begin, Grant, Refuse, Finish, EndPlain, EndSnapshot, Release, Take, Vote, Decide, Sealed, NotSealed, Doubt, Learn, Emitted, Halt, Want, Load, applies, does, run, step}
+use Rattle.core_model.specs.Events.{applies, does, run, step}
+use Rattle.core_model.specs.declared.events.CoreEvent.{CoreEvent}
+use Rattle.core_model.specs.declared.events.CoreEvent.TheVariants.{Bad, Begin, Grant, Refuse, Finish, EndPlain, EndSnapshot, Release, Take, Vote, Decide, Sealed, NotSealed, Doubt, Learn, Emitted, Halt, Want, Load}
 use Rattle.core_model.specs.Serial.{batch_begin}
 use Rattle.core_model.specs.Legal.{Run, IsLegal, begins, ends}
 use Rattle.core_laws.proofs.Puts.{put-is}

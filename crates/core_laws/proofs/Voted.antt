@@ -2,7 +2,10 @@
 use Rattle.std.proofs.Common.{◌≡◌, ℕ, zero, suc, ◌+◌, ◌<◌, ◌≤◌, List, [], ◌∷◌, ◌++◌, length, Bool, true, false, ◌&&◌, not, inl, inr, refl, sym, ap, ◌∙◌, subst, arith, Option, Some, None}
 use Rattle.std.proofs.lemmas.Bool.{and_parts, and_from, cases_Bool, cond_both}
 use Rattle.cell_model.proofs.Units.{any-true, any-false, all-true}
-use Rattle.core_model.specs.CoreState.{UnitNo, GrainId, put, Member, Value, Running, Finished, Verdict, Write, Effect, Settled, Batch, Decision, CoreState}
+use Rattle.core_model.specs.CoreState.{UnitNo, GrainId, put, Member, Value, Write, Settled, Batch, Decision, CoreState}
+use Rattle.core_model.specs.declared.phases.Phase.TheVariants.{Running, Finished}
+use Rattle.core_model.specs.declared.phases.Verdict.{Verdict}
+use Rattle.core_model.specs.declared.effects.Effect.{Effect}
 use Rattle.core_model.specs.Tests.{any, is_bad, state_written}
 use Rattle.core_model.specs.Chains.{WroteGrain}
 use Rattle.core_laws.proofs.Puts.{put-other}
@@ -17,7 +20,8 @@ use Rattle.std.proofs.lemmas.Bool.{not_from_false}
 use Rattle.core_model.specs.Events.{batch_size}
 use Rattle.core_model.specs.Changes.{new_batch, voted, judged, decisions_of, with_decisions, closed, result_told, seal, spoil, leave, swept, swept_by}
 use Rattle.core_model.specs.Legal.{Run, IsLegal, begins, ends}
-use Rattle.core_model.specs.Events.{CoreEvent, applies, can, does, step, run, is_allowed}
+use Rattle.core_model.specs.Events.{applies, can, does, step, run, is_allowed}
+use Rattle.core_model.specs.declared.events.CoreEvent.{CoreEvent}
 use Rattle.core_model.specs.Serial.{AllLoadsTrue}
 use Rattle.core_laws.proofs.Decoded.{Change, bad, begin, lock, raise, refuse, finish, end_plain, end_snapshot, release, take_batch, vote, decide_some, decide_none, seal_batch, spoil_batch, doubt_batch, learn, emit, halt_run, want, load, decode}
 use Rattle.cell_model.proofs.Units.{same_grain-true, any-none}

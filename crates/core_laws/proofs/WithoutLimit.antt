@@ -4,7 +4,9 @@ use Rattle.std.proofs.lemmas.Bool.{and_parts, cond_both}
 use Rattle.core_model.specs.CoreState.{GrainId, Value, CoreState}
 use Rattle.core_model.specs.Tests.{is_wanted}
 use Rattle.core_model.specs.Changes.{swept, swept_by}
-use Rattle.core_model.specs.Events.{CoreEvent, Bad, Begin, Grant, Refuse, Finish, EndPlain, EndSnapshot, Release, Take, Vote, Decide, Sealed, NotSealed, Doubt, Learn, Emitted, Halt, Want, Load, applies, can, does, step, is_allowed}
+use Rattle.core_model.specs.Events.{applies, can, does, step, is_allowed}
+use Rattle.core_model.specs.declared.events.CoreEvent.{CoreEvent}
+use Rattle.core_model.specs.declared.events.CoreEvent.TheVariants.{Bad, Begin, Grant, Refuse, Finish, EndPlain, EndSnapshot, Release, Take, Vote, Decide, Sealed, NotSealed, Doubt, Learn, Emitted, Halt, Want, Load}
 use Rattle.core_model.specs.Legal.{Run, begins}
 use Rattle.core_model.specs.Serial.{IsTrueLoad, AllLoadsTrue}
 use Rattle.core_laws.proofs.Decoded.{Change, bad, begin, lock, raise, refuse, finish, end_plain, end_snapshot, release, take_batch, vote, decide_some, decide_none, seal_batch, spoil_batch, doubt_batch, learn, emit, halt_run, want, load, decode}

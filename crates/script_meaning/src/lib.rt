@@ -6,12 +6,12 @@
 //! The code here is what both need: a grain's first state, and which method a name or a number means.
 #![tactic(auto)]
 
-mod initial;
+mod first_states;
 mod laws;
 mod targets;
 mod worked;
 
-pub use initial::initial;
+pub use first_states::initial;
 pub use laws::{
     equal_stores_play_alike, faults_are_known, loops_go_on, next_is_missing, next_is_of_types,
     next_is_play, plain_runs_lock_nothing, play_is_again, play_is_next, play_rests_on_reads,

@@ -30,11 +30,11 @@ pub(crate) enum Round {
     Over,
     /// An event was put.
     Moved,
-    /// Nothing was put.
+    /// No unit can go on, or no line may begin yet.
     Stayed,
 }
 
-/// Each unit goes on as far as it can; where none is left, the next line begins.
+/// Each unit goes on as far as it can; where none is left, the next line begins, unless what is written is too far behind.
 fn go_round<A: Access, L: Lines, G: Gate>(
     alloc: Global,
     checked: &Checked,
@@ -77,7 +77,7 @@ fn go_round<A: Access, L: Lines, G: Gate>(
     Ok(Round::Stayed)
 }
 
-/// Goes round until it is over. A round in which nothing was put waits for others' moves.
+/// Goes round until it is over. A round that stayed waits for others' moves.
 fn go_rounds<A: Access, L: Lines, G: Gate, R: Wait>(
     rt: &R,
     alloc: Global,

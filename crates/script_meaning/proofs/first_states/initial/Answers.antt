@@ -3,7 +3,7 @@ use Rattle.base_types.specs.declared.calls.Value.{Value}
 use Rattle.script_meaning.specs.Play.{initial_of}
 use Rattle.script_holding.specs.Holding.{initial_fields}
 use Rattle.script_meaning.proofs.Programs.{type_there, type_at_some, type_at_none}
-use Rattle.script_meaning.proofs.initial.initial.Goals as goal
+use Rattle.script_meaning.proofs.first_states.initial.Goals as goal
 
 pub initial_state-requires : goal.initial_state-requires
 initial_state-requires c =
