@@ -43,11 +43,7 @@ pub(crate) fn end_run<H: Host, G: Gate>(
     ensures fits { IsTrue H.tells → FitsDisk settler.new.writer (H.world host.new).disk }
     ensures ready { StaysReady (H.is_ready host.old) (H.is_ready host.new) }
 {
-    let Gathered {
-        started: _started,
-        end,
-        settled,
-    } = gathered;
+    let Gathered { end, settled } = gathered;
     match settled {
         Err(fault) => return Err(fault),
         Ok(()) => match end {
