@@ -29,7 +29,7 @@ use Rattle.worker_rules.proofs.Own.{of-log}
 use Rattle.worker_rules.proofs.Promising.{leaves-is}
 use Rattle.worker_rules.proofs.Whole.{all-ruled, alone-with}
 use Rattle.closing_rules.specs.Gathering.{sight_by, Knew, WasShown}
-use Rattle.closing_rules.specs.Closed.{IsClosed, SettlesOrStops, IsOverAndFree, AreOverAndFree, HasBegunLines}
+use Rattle.closing_rules.specs.Closed.{IsClosed, PutsNothing, SettlesOrStops, IsOverAndFree, AreOverAndFree, HasBegunLines}
 use Rattle.closing_rules.proofs.Gathered.{knew-less}
 use Rattle.closing_rules.proofs.Onwards.{going-before, lines-after}
 use Rattle.closing_rules.proofs.Stories.{Story, story-rest, story-end, story-sound, begun-after, reply-there, none-began, settles-no-begin, done-after}
@@ -191,3 +191,16 @@ closed-lines first log lines k going =
     let more = lines-after k.1.0 (run_after first k.0) in
     let same = ap (λ (r : Run). (ends r).units.lines) last-is in
     omega (arith, some, more, same)
+
+-- where no pass put anything the run is the first one
+pub closed-same : (first last : Run) → IsClosed PutsNothing PutsNothing first last → last ≡ first
+closed-same first last c = c.left ∙ ap (run_after first) (none c.log refl)
+  where
+    none : (l : List Told) → c.log ≡ l → l ≡ []
+    none [] q = refl
+    none (x ∷ l) q =
+        let i : In x c.log = subst (In x) (sym q) (inl refl) in
+        absurd (⊎_elim
+        (λ t. subst (In x) c.own.holds (in_entries c.log [] x (sym t) i))
+        (λ k. subst (In x) k.holds (in_entries c.log x.by x refl i))
+        (c.theirs x i))

@@ -12,7 +12,12 @@ ghost use Rattle.worker_rules.specs.Sharing.{KeepsPromise};
 ghost use Rattle.worker_rules.specs.Stories.{AllPromise};
 ghost use Rattle.worker_rules.specs.Work.{is_work, OnlyWorks};
 ghost use Rattle.closing_rules.specs.Gathering.{sight_by, WasShown};
-ghost use Rattle.closing_rules.specs.Closed.{IsClosed, SettlesOrStops, IsOverAndFree, AreOverAndFree, HasBegunLines};
+ghost use Rattle.closing_rules.specs.Closed.{IsClosed, PutsNothing, SettlesOrStops, IsOverAndFree, AreOverAndFree, HasBegunLines};
+
+/// Where no pass put anything, the closed core's run is what it was.
+pub fn nothing_put_changes_nothing()
+    ensures { (first last : Run) → IsClosed PutsNothing PutsNothing first last → last ≡ first }
+{}
 
 /// Where each pass kept its promise, the closed core's run keeps the unit rule, if the first one did.
 pub fn a_closed_core_keeps_the_unit_rule()

@@ -11,5 +11,5 @@ mod closing;
 
 pub use closing::{
     a_closed_core_keeps_the_unit_rule, all_units_are_done, lines_that_began_have_begun,
-    who_settles_is_alone,
+    nothing_put_changes_nothing, who_settles_is_alone,
 };

@@ -35,10 +35,10 @@ use Rattle.run_books.proofs.Relying.{counts-on, relies-before}
 use Rattle.run_books.proofs.Seen.{going-all}
 use Rattle.shared_settling.specs.Among.{SettlesAmong, StopsAmong, EndsAmong, CanSettleAmong, SettledAmong}
 use Rattle.shared_settling.proofs.OthersStill.{fault-on}
-use Rattle.closing_rules.specs.Closed.{IsClosed, SettlesOrStops, AreOverAndFree, HasBegunLines}
+use Rattle.closing_rules.specs.Closed.{IsClosed, PutsNothing, SettlesOrStops, AreOverAndFree, HasBegunLines}
 use Rattle.closing_rules.specs.Gathering.{sight_by}
-use Rattle.closing_rules.proofs.Closes.{closed-less, closed-rule, settles-alone, works-since, last-since, closed-done, quiet-done}
-use Rattle.silo_workers.specs.Beside.{SettlesBeside}
+use Rattle.closing_rules.proofs.Closes.{closed-less, closed-rule, settles-alone, works-since, last-since, closed-done, quiet-done, closed-same}
+use Rattle.silo_workers.specs.Beside.{HasSettled}
 use Rattle.silo_workers.specs.Ending.{IsOfProgram, HasGathered}
 use Rattle.silo_workers.specs.Working.{HasWorked, SaysOfUnits, IsGathered}
 use Rattle.silo_workers.specs.declared.work.WorkEnd.{WorkEnd}
@@ -64,10 +64,10 @@ ends-settle s t (Err Memory) none a = settles-or-stops s t none a
 
 -- ---- the closed core
 
-module _ {T : Type 0} (tells : Bool) (shape : Shape) (before after : Settler) (counts counts' : Channel → ℕ) (now now' : World) (result : Result T RunFault) (end : WorkEnd)
+module _ {T : Type 0} (tells : Bool) (shape : Shape) (before after : Settler) (counts counts' : Channel → ℕ) (now now' : World) (result : Result T RunFault) (started : Bool) (end : WorkEnd)
     (lines : ℕ) (Asked : Basis → Type 0) (r r' : Run) (s : Sight) (first : s ≡ sight_by r [] [] [])
-    (g : IsGathered end lines (SettlesBeside {T = T} tells shape before after counts counts' now now' result s) (HasWorked Asked end) r r') where
-  abbrev c : IsClosed (SettlesBeside {T = T} tells shape before after counts counts' now now' result s) (HasWorked Asked end) r r'
+    (g : IsGathered end lines (HasSettled {T = T} started tells shape before after counts counts' now now' result s) (HasWorked Asked end) r r') where
+  abbrev c : IsClosed (HasSettled {T = T} started tells shape before after counts counts' now now' result s) (HasWorked Asked end) r r'
   c = g.closed
 
   none-first : (basis : Basis) → KeepsPromise basis s
@@ -80,8 +80,8 @@ module _ {T : Type 0} (tells : Bool) (shape : Shape) (before after : Settler) (c
   counts-first = subst Counts (sym first) (omega arith)
 
   abbrev shared : IsClosed Counts (λ z. OnlyWorks z.mine) r r'
-  shared = closed-less (SettlesBeside {T = T} tells shape before after counts counts' now now' result s) Counts (HasWorked Asked end) (λ z. OnlyWorks z.mine)
-      (λ z h. counts-on s z h.sees counts-first) (λ z h. h.works) r r' c
+  shared = closed-less (HasSettled {T = T} started tells shape before after counts counts' now now' result s) Counts (HasWorked Asked end) (λ z. OnlyWorks z.mine)
+      (λ z h. counts-on s z h.beside.sees counts-first) (λ z h. h.works) r r' c
 
   -- what the calling thread had seen, and what came since
   abbrev seen : Sight
@@ -93,12 +93,18 @@ module _ {T : Type 0} (tells : Bool) (shape : Shape) (before after : Settler) (c
   last-is : r' ≡ run_after (run_seen seen) came
   last-is = last-since r r' shared
 
+  -- where nothing was put the run is as it was
+  pub gathered-same : started ≡ false → end ≡ Idle → r' ≡ r
+  gathered-same none-started idle = closed-same r r'
+      (closed-less (HasSettled {T = T} started tells shape before after counts counts' now now' result s) PutsNothing (HasWorked Asked end) PutsNothing
+      (λ z h. h.none none-started) (λ z h. subst (λ (e : WorkEnd). SaysOfUnits e z) idle h.units) r r' c)
+
   module _ (o : Outset) (b : Books) (asked : Asked (basis_of o)) (program : IsOfProgram o shape r) (units : KeepsUnitRule (basis_of o) r) (can : CanSettleAmong tells o b shape s before counts now)
       (few : (ends r').units.next ≤ 2 ^ 63) (small : (ends r').units.lines < 2 ^ 32) where
     -- each pass kept its promise
     abbrev promised : IsClosed (KeepsPromise (basis_of o)) (KeepsPromise (basis_of o)) r r'
-    promised = closed-less (SettlesBeside {T = T} tells shape before after counts counts' now now' result s) (KeepsPromise (basis_of o)) (HasWorked Asked end) (KeepsPromise (basis_of o))
-        (λ z h. h.promise (basis_of o) (none-first (basis_of o))) (λ z h. h.promise (basis_of o) asked) r r' c
+    promised = closed-less (HasSettled {T = T} started tells shape before after counts counts' now now' result s) (KeepsPromise (basis_of o)) (HasWorked Asked end) (KeepsPromise (basis_of o))
+        (λ z h. h.beside.promise (basis_of o) (none-first (basis_of o))) (λ z h. h.promise (basis_of o) asked) r r' c
 
     ruled : KeepsUnitRule (basis_of o) r'
     ruled = closed-rule (basis_of o) r r' promised program.above units
@@ -119,7 +125,7 @@ module _ {T : Type 0} (tells : Bool) (shape : Shape) (before after : Settler) (c
     relied = relies-before seen (sight_by r [] c.log (entries_of [] c.log)) on o (shared.own.holds) relies
 
     settled : SettledAmong {T = T} tells o b (run_seen s) (run_seen seen) before after counts' now now' result
-    settled = c.own.holds.books o b can relied
+    settled = c.own.holds.beside.books o b can relied
 
     from-first : SettledAmong {T = T} tells o b r (run_seen seen) before after counts' now now' result
     from-first = subst (λ (z : Sight). SettledAmong {T = T} tells o b (run_seen z) (run_seen seen) before after counts' now now' result) first settled
@@ -145,9 +151,9 @@ module _ {T : Type 0} (tells : Bool) (shape : Shape) (before after : Settler) (c
 
     -- the units
     abbrev carried : end ≡ Through → IsClosed (λ z. SettlesOrStops z.mine × KeepsPromise (basis_of o) z) (λ z. KeepsPromise (basis_of o) z × AreOverAndFree z) r r'
-    carried through = closed-less (SettlesBeside {T = T} tells shape before after counts counts' now now' result s) (λ z. SettlesOrStops z.mine × KeepsPromise (basis_of o) z)
+    carried through = closed-less (HasSettled {T = T} started tells shape before after counts counts' now now' result s) (λ z. SettlesOrStops z.mine × KeepsPromise (basis_of o) z)
         (HasWorked Asked end) (λ z. KeepsPromise (basis_of o) z × AreOverAndFree z)
-        (λ z h. (ends-settle s z result first-mine h.own, h.promise (basis_of o) (none-first (basis_of o))))
+        (λ z h. (ends-settle s z result first-mine h.beside.own, h.beside.promise (basis_of o) (none-first (basis_of o))))
         (λ z h. (h.promise (basis_of o) asked, subst (λ (e : WorkEnd). SaysOfUnits e z) through h.units)) r r' c
 
     program-on : IsOfProgram o shape r'
@@ -173,7 +179,7 @@ module _ {T : Type 0} (tells : Bool) (shape : Shape) (before after : Settler) (c
   pub gathered-beside : TurnsBeside {T = T} tells r r' before after counts counts' now now' result
   gathered-beside =
       let one : TurnsBeside {T = T} tells r (run_seen seen) before after counts counts' now now' result =
-      subst (λ (z : Sight). TurnsBeside {T = T} tells (run_seen z) (run_seen seen) before after counts counts' now now' result) first c.own.holds.beside in
+      subst (λ (z : Sight). TurnsBeside {T = T} tells (run_seen z) (run_seen seen) before after counts counts' now now' result) first c.own.holds.beside.beside in
       record {
         more = one.more ++ events_told came;
         core = last-is ∙ after-is came (run_seen seen) ∙ ap (λ (x : Run). extended x (events_told came)) one.core ∙ ap (λ (es : List CoreEvent). record r { events = es }) (append_assoc r.events one.more (events_told came));

@@ -12,7 +12,7 @@ ghost use Rattle.turn_cell.specs.Passes.{IsPassOf, pass_view};
 ghost use Rattle.txn_agent.specs.Linked.{IsLegalRun};
 ghost use Rattle.unit_crew.specs.Crews.{IsBasisOf};
 ghost use Rattle.closing_rules.specs.Gathering.{Returns, GathersSights};
-ghost use Rattle.silo_workers.specs.Beside.{SettlesBeside};
+ghost use Rattle.silo_workers.specs.Beside.{HasSettled};
 ghost use Rattle.silo_workers.specs.Working.{HasWorked, SaysOfLines, IsGathered};
 
 use crate::settling::settle_by_pass;
@@ -35,9 +35,10 @@ use std::thread::{Promise, Scope, Threads};
 use turn_cell::{Pass, TurnCell, TurnObject};
 use worker_signals::Signals;
 
-/// How the threads ended: how the work did, and how settling did.
+/// How the threads ended: whether one was started, how the work ended, and how settling did.
 #[derive(Drop)]
 pub(crate) struct Gathered {
+    pub(crate) started: bool,
     pub(crate) end: WorkEnd,
     pub(crate) settled: Result<(), RunFault>,
 }
@@ -84,9 +85,10 @@ fn crowd<'s, E, R: Threads + Wait + Sync, H: Host, G: Gate + Sync, L: Lines + Co
     requires bounds { IsInBounds settler.old.writer }
     requires fits { IsTrue H.tells → FitsDisk settler.old.writer (H.world host.old).disk }
     ensures own { IsPassOf cell.now result.0 }
-    ensures gathered { GathersSights run_of (SettlesBeside H.tells shape.now settler.old settler.new (H.faults host.old) (H.faults host.new) (H.world host.old) (H.world host.new) result.1.settled (sight_of run_of (pass_view pass)))
+    ensures gathered { GathersSights run_of (HasSettled result.1.started H.tells shape.now settler.old settler.new (H.faults host.old) (H.faults host.new) (H.world host.old) (H.world host.new) result.1.settled (sight_of run_of (pass_view pass)))
         (HasWorked (IsBasisOf (program_tree checked.now) before (L.lines lines.now)) result.1.end) (pass_view pass) (pass_view result.0) }
     ensures lines { SaysOfLines result.1.end (before + length (L.lines lines.now)) (run_of (pass_view pass).first) (pass_view result.0).seen }
+    ensures none { result.1.started ≡ false → (settler.new ≡ settler.old) × (host.new ≡ host.old) }
     ensures bounds { IsInBounds settler.new.writer }
     ensures fits { IsTrue H.tells → FitsDisk settler.new.writer (H.world host.new).disk }
     ensures ready { StaysReady (H.is_ready host.old) (H.is_ready host.new) }
@@ -97,6 +99,7 @@ fn crowd<'s, E, R: Threads + Wait + Sync, H: Host, G: Gate + Sync, L: Lines + Co
             return (
                 pass,
                 Gathered {
+                    started,
                     end: WorkEnd::Idle,
                     settled: Ok(()),
                 },
@@ -106,6 +109,7 @@ fn crowd<'s, E, R: Threads + Wait + Sync, H: Host, G: Gate + Sync, L: Lines + Co
         return (
             pass,
             Gathered {
+                started,
                 end: WorkEnd::Idle,
                 settled,
             },
@@ -143,6 +147,7 @@ fn crowd<'s, E, R: Threads + Wait + Sync, H: Host, G: Gate + Sync, L: Lines + Co
             (
                 cell.join(pass, other),
                 Gathered {
+                    started: gathered.started,
                     end: both(end, gathered.end),
                     settled: gathered.settled,
                 },
@@ -161,6 +166,7 @@ fn crowd<'s, E, R: Threads + Wait + Sync, H: Host, G: Gate + Sync, L: Lines + Co
             (
                 cell.join(pass, other),
                 Gathered {
+                    started: gathered.started,
                     end: both(end, gathered.end),
                     settled: gathered.settled,
                 },
@@ -192,9 +198,10 @@ fn in_scope<R: Threads + Wait + Sync, H: Host, G: Gate + Sync, L: Lines + Copy +
     requires bounds { IsInBounds settler.writer }
     requires fits { IsTrue H.tells → FitsDisk settler.writer (H.world host.old).disk }
     ensures own { IsPassOf cell.now result.0 }
-    ensures gathered { GathersSights run_of (SettlesBeside H.tells shape.now settler result.2 (H.faults host.old) (H.faults host.new) (H.world host.old) (H.world host.new) result.1.settled (sight_of run_of (pass_view pass)))
+    ensures gathered { GathersSights run_of (HasSettled result.1.started H.tells shape.now settler result.2 (H.faults host.old) (H.faults host.new) (H.world host.old) (H.world host.new) result.1.settled (sight_of run_of (pass_view pass)))
         (HasWorked (IsBasisOf (program_tree checked.now) before (L.lines lines.now)) result.1.end) (pass_view pass) (pass_view result.0) }
     ensures lines { SaysOfLines result.1.end (before + length (L.lines lines.now)) (run_of (pass_view pass).first) (pass_view result.0).seen }
+    ensures none { result.1.started ≡ false → (result.2 ≡ settler) × (host.new ≡ host.old) }
     ensures bounds { IsInBounds result.2.writer }
     ensures fits { IsTrue H.tells → FitsDisk result.2.writer (H.world host.new).disk }
     ensures ready { StaysReady (H.is_ready host.old) (H.is_ready host.new) }
@@ -212,9 +219,10 @@ fn in_scope<R: Threads + Wait + Sync, H: Host, G: Gate + Sync, L: Lines + Copy +
             requires bounds { IsInBounds settler.writer }
             requires fits { IsTrue H.tells → FitsDisk settler.writer (H.world host.now).disk }
             ensures own { IsPassOf cell.entry.now result.0 }
-            ensures gathered { GathersSights run_of (SettlesBeside H.tells shape.entry.now settler result.2 (H.faults host.entry.now) (H.faults result.3.now) (H.world host.entry.now) (H.world result.3.now) result.1.settled (sight_of run_of (pass_view pass)))
+            ensures gathered { GathersSights run_of (HasSettled result.1.started H.tells shape.entry.now settler result.2 (H.faults host.entry.now) (H.faults result.3.now) (H.world host.entry.now) (H.world result.3.now) result.1.settled (sight_of run_of (pass_view pass)))
                 (HasWorked (IsBasisOf (program_tree checked.entry.now) before (L.lines lines.entry.now)) result.1.end) (pass_view pass) (pass_view result.0) }
             ensures lines { SaysOfLines result.1.end (before + length (L.lines lines.entry.now)) (run_of (pass_view pass).first) (pass_view result.0).seen }
+            ensures none { result.1.started ≡ false → (result.2 ≡ settler) × (result.3.now ≡ host.entry.now) }
             ensures bounds { IsInBounds result.2.writer }
             ensures fits { IsTrue H.tells → FitsDisk result.2.writer (H.world result.3.now).disk }
             ensures ready { StaysReady (H.is_ready host.entry.now) (H.is_ready result.3.now) }
@@ -267,8 +275,9 @@ pub(crate) fn gather<R: Threads + Wait + Sync, H: Host, G: Gate + Sync, L: Lines
     requires before { before ≤ (ends (run_of (pass_view pass).first)).units.lines }
     requires bounds { IsInBounds settler.writer }
     requires fits { IsTrue H.tells → FitsDisk settler.writer (H.world host.old).disk }
-    ensures closed { IsGathered result.1.end (before + length (L.lines lines.now)) (SettlesBeside H.tells shape.now settler result.2 (H.faults host.old) (H.faults host.new) (H.world host.old) (H.world host.new) result.1.settled (sight_of run_of (pass_view pass)))
+    ensures closed { IsGathered result.1.end (before + length (L.lines lines.now)) (HasSettled result.1.started H.tells shape.now settler result.2 (H.faults host.old) (H.faults host.new) (H.world host.old) (H.world host.new) result.1.settled (sight_of run_of (pass_view pass)))
         (HasWorked (IsBasisOf (program_tree checked.now) before (L.lines lines.now)) result.1.end) (run_of (pass_view pass).first) (run_of result.0) }
+    ensures none { result.1.started ≡ false → (result.2 ≡ settler) × (host.new ≡ host.old) }
     ensures bounds { IsInBounds result.2.writer }
     ensures fits { IsTrue H.tells → FitsDisk result.2.writer (H.world host.new).disk }
     ensures ready { StaysReady (H.is_ready host.old) (H.is_ready host.new) }

@@ -43,7 +43,11 @@ pub(crate) fn end_run<H: Host, G: Gate>(
     ensures fits { IsTrue H.tells → FitsDisk settler.new.writer (H.world host.new).disk }
     ensures ready { StaysReady (H.is_ready host.old) (H.is_ready host.new) }
 {
-    let Gathered { end, settled } = gathered;
+    let Gathered {
+        started: _started,
+        end,
+        settled,
+    } = gathered;
     match settled {
         Err(fault) => return Err(fault),
         Ok(()) => match end {

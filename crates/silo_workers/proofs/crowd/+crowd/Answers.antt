@@ -19,7 +19,7 @@ use Rattle.turn_cell.specs.declared.view.View.{View}
 use Rattle.unit_crew.specs.Crews.{IsBasisOf}
 use Rattle.closing_rules.specs.Gathering.{Returns, GathersSights}
 use Rattle.closing_rules.proofs.Gathered.{gathers-returns}
-use Rattle.silo_workers.specs.Beside.{SettlesBeside}
+use Rattle.silo_workers.specs.Beside.{HasSettled}
 use Rattle.silo_workers.specs.Working.{HasWorked, SaysOfLines}
 use Rattle.silo_workers.specs.declared.work.WorkEnd.{WorkEnd}
 use Rattle.silo_workers.specs.declared.work.WorkEnd.TheVariants.{Idle}
@@ -32,12 +32,12 @@ returns-then-not-started-clause-gathered g t c =
     let asked = IsBasisOf (program_tree c.args.checked.now) c.args.before (g.L.Lines.lines c.args.lines.now) in
     let v = c.args.pass.me.0 in
     gathers-returns run_of _ (HasWorked asked Idle) v v (returned-same run_of _ v
-    (settles-none tt g.H.Host.tells c.args.shape.now c.args.settler.now (g.H.Host.faults c.args.host.now) (g.H.Host.world c.args.host.now) (sight_of run_of v)))
+    record { beside = settles-none tt g.H.Host.tells c.args.shape.now c.args.settler.now (g.H.Host.faults c.args.host.now) (g.H.Host.world c.args.host.now) (sight_of run_of v); none = λ q. c.requires.fresh })
 
 pub returns-in-Ok-clause-gathered : goal.returns-in-Ok-clause-gathered
 returns-in-Ok-clause-gathered g t c =
     let asked = IsBasisOf (program_tree c.args.checked.now) c.args.before (g.L.Lines.lines c.args.lines.now) in
-    let own : Sight → Sight → Type 0 = SettlesBeside g.H.Host.tells c.args.shape.now c.args.settler.now c.crowd-pass.new.settler (g.H.Host.faults c.args.host.now) (g.H.Host.faults c.crowd-pass.new.host) (g.H.Host.world c.args.host.now) (g.H.Host.world c.crowd-pass.new.host) c.crowd-pass.result.1.settled in
+    let own : Sight → Sight → Type 0 = HasSettled c.crowd-pass.result.1.started g.H.Host.tells c.args.shape.now c.args.settler.now c.crowd-pass.new.settler (g.H.Host.faults c.args.host.now) (g.H.Host.faults c.crowd-pass.new.host) (g.H.Host.world c.args.host.now) (g.H.Host.world c.crowd-pass.new.host) c.crowd-pass.result.1.settled in
     let v = c.args.pass.me.0 in
     let u = c.join.result.me.0 in
     let kept : Returns run_of (HasWorked asked c.join-other.result.1) c.split-pass.result.1.me.0 c.join-other.result.0.me.0 = search rules in
@@ -59,7 +59,7 @@ returns-in-Ok-clause-lines g t c =
 pub returns-in-Err-clause-gathered : goal.returns-in-Err-clause-gathered
 returns-in-Err-clause-gathered g t c =
     let asked = IsBasisOf (program_tree c.args.checked.now) c.args.before (g.L.Lines.lines c.args.lines.now) in
-    let own : Sight → Sight → Type 0 = SettlesBeside g.H.Host.tells c.args.shape.now c.args.settler.now c.crowd-pass-in-Err.new.settler (g.H.Host.faults c.args.host.now) (g.H.Host.faults c.crowd-pass-in-Err.new.host) (g.H.Host.world c.args.host.now) (g.H.Host.world c.crowd-pass-in-Err.new.host) c.crowd-pass-in-Err.result.1.settled in
+    let own : Sight → Sight → Type 0 = HasSettled c.crowd-pass-in-Err.result.1.started g.H.Host.tells c.args.shape.now c.args.settler.now c.crowd-pass-in-Err.new.settler (g.H.Host.faults c.args.host.now) (g.H.Host.faults c.crowd-pass-in-Err.new.host) (g.H.Host.world c.args.host.now) (g.H.Host.world c.crowd-pass-in-Err.new.host) c.crowd-pass-in-Err.result.1.settled in
     let v = c.args.pass.me.0 in
     let u = c.join-in-Err.result.me.0 in
     let kept : Returns run_of (HasWorked asked c.job-other.result.1) c.split-pass.result.1.me.0 c.job-other.result.0.me.0 = search rules in

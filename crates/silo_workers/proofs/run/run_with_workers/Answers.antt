@@ -8,7 +8,7 @@ use Rattle.turn_cell.specs.declared.view.View.{View}
 use Rattle.txn_agent.specs.Linked.{IsLegalRun}
 use Rattle.unit_crew.specs.Crews.{IsBasisOf}
 use Rattle.closing_rules.specs.Gathering.{sight_by}
-use Rattle.silo_workers.specs.Beside.{SettlesBeside}
+use Rattle.silo_workers.specs.Beside.{HasSettled}
 use Rattle.silo_workers.specs.Working.{HasWorked, IsGathered}
 use Rattle.settle_loop.specs.declared.settler.Settler.{Settler}
 use Rattle.run_books.proofs.Leaving.{core-beside, run-stays}
@@ -40,11 +40,11 @@ returns-in-Ok-new-2-clause-record_kept g c = λ o b is can rest kept.
     let now' = g.H.Host.world c.gather-core.new.host in
     let all = c.gather-core.result.1 in
     let same : c.replace-own.result ≡ c.args.settler.now = search rules in
-    let told = subst (λ (z : View CoreData CoreEvent CoreReply). IsGathered all.end n (SettlesBeside {T = Unit {0}} g.H.Host.tells shape c.replace-own.result after counts counts' now now' all.settled (sight_of run_of z)) (HasWorked asked all.end) (run_of z.first) r')
+    let told = subst (λ (z : View CoreData CoreEvent CoreReply). IsGathered all.end n (HasSettled {T = Unit {0}} all.started g.H.Host.tells shape c.replace-own.result after counts counts' now now' all.settled (sight_of run_of z)) (HasWorked asked all.end) (run_of z.first) r')
     c.in-Ok-new-2.ensures.first c.gather-core.ensures.closed in
-    let closed = subst (λ (y : Settler). IsGathered all.end n (SettlesBeside {T = Unit {0}} g.H.Host.tells shape y after counts counts' now now' all.settled (sight_by r [] [] [])) (HasWorked asked all.end) r r') same told in
+    let closed = subst (λ (y : Settler). IsGathered all.end n (HasSettled {T = Unit {0}} all.started g.H.Host.tells shape y after counts counts' now now' all.settled (sight_by r [] [] [])) (HasWorked asked all.end) r r') same told in
     c.end_run-ended.ensures.record_kept o b r before now
-    (has-gathered g.H.Host.tells shape before after counts counts' now now' all.settled all.end n asked r r' (sight_by r [] [] []) refl closed o b
+    (has-gathered g.H.Host.tells shape before after counts counts' now now' all.settled all.started all.end n asked r r' (sight_by r [] [] []) refl closed o b
     (reads-lines g.H.Host.tells o (program_tree c.args.checked.now) (g.L.Lines.lines c.args.lines.now) b shape r before counts now is can c.in-Ok.before c.in-Ok.ensures)
     (of-program g.H.Host.tells o (program_tree c.args.checked.now) (g.L.Lines.lines c.args.lines.now) b shape r before counts now is can c.program-program.ensures.checked c.in-Ok-shape.ensures rest kept)
     kept.units
@@ -67,8 +67,8 @@ returns-in-Ok-new-2-clause-beside g c =
     let now' = g.H.Host.world c.gather-core.new.host in
     let all = c.gather-core.result.1 in
     let same : c.replace-own.result ≡ c.args.settler.now = search rules in
-    let told = subst (λ (z : View CoreData CoreEvent CoreReply). IsGathered all.end n (SettlesBeside {T = Unit {0}} g.H.Host.tells shape c.replace-own.result after counts counts' now now' all.settled (sight_of run_of z)) (HasWorked asked all.end) (run_of z.first) r')
+    let told = subst (λ (z : View CoreData CoreEvent CoreReply). IsGathered all.end n (HasSettled {T = Unit {0}} all.started g.H.Host.tells shape c.replace-own.result after counts counts' now now' all.settled (sight_of run_of z)) (HasWorked asked all.end) (run_of z.first) r')
     c.in-Ok-new-2.ensures.first c.gather-core.ensures.closed in
-    let closed = subst (λ (y : Settler). IsGathered all.end n (SettlesBeside {T = Unit {0}} g.H.Host.tells shape y after counts counts' now now' all.settled (sight_by r [] [] [])) (HasWorked asked all.end) r r') same told in
+    let closed = subst (λ (y : Settler). IsGathered all.end n (HasSettled {T = Unit {0}} all.started g.H.Host.tells shape y after counts counts' now now' all.settled (sight_by r [] [] [])) (HasWorked asked all.end) r r') same told in
     c.end_run-ended.ensures.beside r before counts now
-    (gathered-beside g.H.Host.tells shape before after counts counts' now now' all.settled all.end n asked r r' (sight_by r [] [] []) refl closed)
+    (gathered-beside g.H.Host.tells shape before after counts counts' now now' all.settled all.started all.end n asked r r' (sight_by r [] [] []) refl closed)
