@@ -42,8 +42,8 @@ fn stop<A: Access>(access: &mut A, signals: &Signals)
 
 /// Settles what others do, who have the core too, until they have ended their work and nothing is left to do.
 ///
-/// After each step the others are told. Where there is nothing to do it sleeps until somebody else has put an event, but no longer
-/// than `Signals` does. Where the output fails or memory runs out, here or at a worker, a stop is put, and the others end by it.
+/// After each step the others are told. Where there is nothing to do it sleeps until a worker waits or ends, but no longer than
+/// `Signals` does: what others finish meanwhile comes into one batch. Where the output fails or memory runs out, here or at a worker, a stop is put, and the others end by it.
 ///
 /// # Errors
 ///
@@ -86,7 +86,7 @@ pub fn settle_beside<A: Access, H: Host, G: Gate, R: Wait>(
     ensures ready { StaysReady (H.is_ready host.old) (H.is_ready host.new) }
 {
     for _ in rt.forever() {
-        let ended = signals.ended();
+        let called = signals.called();
         let working = signals.working();
         signals.write(settler.written());
         if signals.has_failed() {
@@ -94,12 +94,12 @@ pub fn settle_beside<A: Access, H: Host, G: Gate, R: Wait>(
             return Err(RunFault::Memory);
         }
         match settle_once(shape, settler, access, host, gate) {
-            Ok(true) => {}
+            Ok(true) => signals.changed(),
             Ok(false) => {
                 if working == 0 {
                     return Ok(());
                 }
-                signals.rest(rt, ended);
+                signals.rest(rt, called);
             }
             Err(RunFault::InDoubt) => {
                 signals.write_no_more();

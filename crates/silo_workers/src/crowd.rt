@@ -58,8 +58,8 @@ impl<'a, L: Lines> Promise<(Pass<Core>, WorkEnd)> for ComesBack<'a, L> {
         × SaysOfLines r.1 (p.before + length (L.lines p.lines.now)) (run_of (pass_view p.was.value).first) (pass_view r.0).seen };
 }
 
-// A worker carries for each of the words, and the calling thread settles, where one was started; where none could be, the calling
-// thread carries. Their passes come back into its own.
+// A worker carries for each of the words, and the calling thread settles, where one was started. Their passes come back into
+// its own.
 fn crowd<'s, E, R: Threads + Wait + Sync, H: Host, G: Gate + Sync, L: Lines + Copy + Sync>(
     scope: &Scope<'s, E>,
     rt: &'s R,
@@ -154,10 +154,7 @@ fn crowd<'s, E, R: Threads + Wait + Sync, H: Host, G: Gate + Sync, L: Lines + Co
             )
         }
         Err(refused) => {
-            // Where no thread was started at all, this one does the last one's work.
-            if started || !rest.is_empty() {
-                idle.store(true, Ordering::SeqCst);
-            }
+            idle.store(true, Ordering::SeqCst);
             let (other, end) = (refused.value)();
             let (pass, gathered) = crowd(
                 scope, rt, alloc, checked, shape, lines, before, cell, rest, pass, settler, host,

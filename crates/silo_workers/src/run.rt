@@ -42,7 +42,7 @@ fn lines_so_far(core: &Core) -> Result<u64, AllocError>
 
 /// Carries all lines by so many worker threads, 16 at most, each of which begins the next line that is left, carries its units,
 /// and looks again while it must wait; the calling thread settles what they do, and what is left once they have ended. Where no
-/// thread can be started, the calling thread carries the lines itself, and settles then.
+/// thread can be started, the calling thread carries the lines in turns, one at a time.
 ///
 /// It answers `Ok` where each line has its entry, all is written and nobody can move. The core comes back, unless there is no
 /// memory to share it: then no event was put, and the host is as before.

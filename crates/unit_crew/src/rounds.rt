@@ -30,8 +30,10 @@ pub(crate) enum Round {
     Over,
     /// An event was put.
     Moved,
-    /// No unit can go on, or no line may begin yet.
+    /// No unit can go on.
     Stayed,
+    /// No unit is left, and no line may begin yet.
+    Ahead,
 }
 
 /// Each unit goes on as far as it can; where none is left, the next line begins, unless what is written is too far behind.
@@ -64,7 +66,7 @@ fn go_round<A: Access, L: Lines, G: Gate>(
         }
     } else if agents.list.is_empty() {
         if signals.is_ahead() {
-            return Ok(Round::Stayed);
+            return Ok(Round::Ahead);
         }
         if begin_next(alloc, checked, lines, before, access, agents, gate, signals)? {
             return Ok(Round::Moved);
@@ -77,7 +79,8 @@ fn go_round<A: Access, L: Lines, G: Gate>(
     Ok(Round::Stayed)
 }
 
-/// Goes round until it is over. A round that stayed waits for others' moves.
+/// Goes round until it is over. A round in which no unit can go on waits for others' moves, and one that is ahead for what is
+/// written.
 fn go_rounds<A: Access, L: Lines, G: Gate, R: Wait>(
     rt: &R,
     alloc: Global,
@@ -114,6 +117,7 @@ fn go_rounds<A: Access, L: Lines, G: Gate, R: Wait>(
             Round::Over => return Ok(()),
             Round::Moved => {}
             Round::Stayed => signals.wait(rt, seen),
+            Round::Ahead => signals.let_write(rt),
         }
     }
     unreachable!()

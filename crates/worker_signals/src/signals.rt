@@ -8,12 +8,17 @@ const LONGEST_SLEEP: u64 = 1;
 /// How many lines workers may be ahead of what is written.
 const MOST_AHEAD: u64 = 256;
 
+/// The low 32 bits of a count.
+fn low(count: u64) -> u32 {
+    (count % (1 << 32)) as u32
+}
+
 /// What threads tell one another beside the core.
 #[derive(Drop)]
 pub struct Signals {
     moves: AtomicU64,
     asleep: AtomicU64,
-    ends: AtomicU64,
+    calls: AtomicU64,
     workers: AtomicU64,
     begun: AtomicU64,
     written: AtomicU64,
@@ -26,7 +31,7 @@ impl Signals {
         Signals {
             moves: AtomicU64::new(0),
             asleep: AtomicU64::new(0),
-            ends: AtomicU64::new(0),
+            calls: AtomicU64::new(0),
             workers: AtomicU64::new(0),
             begun: AtomicU64::new(0),
             written: AtomicU64::new(u64::MAX),
@@ -34,8 +39,8 @@ impl Signals {
         }
     }
 
-    /// Tells that somebody may go on who couldn't: the count of moves goes up, and those who sleep by it are woken. Where nobody
-    /// sleeps it costs no call of the system.
+    /// Tells that somebody may go on who couldn't: the count of moves goes up, and workers that sleep by it are woken. Where
+    /// nobody sleeps it costs no call of the system.
     pub fn changed(&self) {
         self.moves.fetch_add(1, Ordering::SeqCst);
         if self.asleep.load(Ordering::SeqCst) > 0 {
@@ -45,32 +50,35 @@ impl Signals {
 
     /// The count of moves by now, in its low 32 bits.
     pub fn seen(&self) -> u32 {
-        (self.moves.load(Ordering::SeqCst) % (1 << 32)) as u32
+        low(self.moves.load(Ordering::SeqCst))
     }
 
-    /// Sleeps while no move came since this count was seen, at most a millisecond; it may also return for no reason.
+    /// A worker that can't go on calls the one who settles, and sleeps while no move came since this count was seen, at most a
+    /// millisecond; it may also return for no reason.
     pub fn wait<R: Wait>(&self, rt: &R, seen: u32) {
         self.asleep.fetch_add(1, Ordering::SeqCst);
+        self.call();
         self.moves
             .park_timeout(rt, seen, Duration::from_millis(LONGEST_SLEEP));
         self.asleep.fetch_sub(1, Ordering::SeqCst);
     }
 
-    /// The count of workers' ends and failures by now, in its low 32 bits.
-    pub fn ended(&self) -> u32 {
-        (self.ends.load(Ordering::SeqCst) % (1 << 32)) as u32
+    /// The count of calls by now, in its low 32 bits.
+    pub fn called(&self) -> u32 {
+        low(self.calls.load(Ordering::SeqCst))
     }
 
-    /// Sleeps while no worker ended or failed since this count was seen, at most a millisecond; it may also return for no reason.
-    pub fn rest<R: Wait>(&self, rt: &R, ended: u32) {
-        self.ends
-            .park_timeout(rt, ended, Duration::from_millis(LONGEST_SLEEP));
+    /// The one who settles sleeps while no worker called since this count was seen, at most a millisecond; it may also return
+    /// for no reason.
+    pub fn rest<R: Wait>(&self, rt: &R, called: u32) {
+        self.calls
+            .park_timeout(rt, called, Duration::from_millis(LONGEST_SLEEP));
     }
 
     /// Tells that a worker found no memory.
     pub fn fail(&self) {
         self.failed.store(true, Ordering::SeqCst);
-        self.tell_end();
+        self.call();
     }
 
     /// Whether a worker found no memory.
@@ -86,7 +94,8 @@ impl Signals {
     /// A worker that began has ended its work.
     pub fn end(&self) {
         self.workers.fetch_sub(1, Ordering::SeqCst);
-        self.tell_end();
+        self.call();
+        self.changed();
     }
 
     /// How many workers are at work.
@@ -117,9 +126,15 @@ impl Signals {
             > MOST_AHEAD
     }
 
-    fn tell_end(&self) {
-        self.ends.fetch_add(1, Ordering::SeqCst);
-        self.ends.wake_all();
-        self.changed();
+    /// A worker that is ahead sleeps, at most a millisecond; it may also return for no reason.
+    pub fn let_write<R: Wait>(&self, rt: &R) {
+        let written = low(self.written.load(Ordering::SeqCst));
+        self.written
+            .park_timeout(rt, written, Duration::from_millis(LONGEST_SLEEP));
+    }
+
+    fn call(&self) {
+        self.calls.fetch_add(1, Ordering::SeqCst);
+        self.calls.wake_all();
     }
 }

@@ -35,16 +35,18 @@ fn workers_and_failures_are_told(rt: HostRuntime) -> Result<(), Fail> {
 }
 
 #[test]
-fn an_end_ends_a_rest(rt: HostRuntime) -> Result<(), Fail> {
+fn a_call_ends_a_rest(rt: HostRuntime) -> Result<(), Fail> {
     let signals = Signals::new();
-    assert_eq!(rt; signals.ended(), 0, "nobody has ended");
+    assert_eq!(rt; signals.called(), 0, "nobody has called");
     signals.begin();
     signals.end();
-    assert_eq!(rt; signals.ended(), 1, "one end");
+    assert_eq!(rt; signals.called(), 1, "an end is a call");
     signals.rest(&rt, 0);
     signals.fail();
-    assert_eq!(rt; signals.ended(), 2, "a failure is told as an end");
-    signals.rest(&rt, 2);
+    assert_eq!(rt; signals.called(), 2, "so is a failure");
+    signals.wait(&rt, 0);
+    assert_eq!(rt; signals.called(), 3, "and one who waits calls");
+    signals.rest(&rt, 3);
     Ok(())
 }
 
@@ -57,6 +59,7 @@ fn workers_are_ahead_of_one_who_writes(rt: HostRuntime) -> Result<(), Fail> {
     assert!(rt; !signals.is_ahead(), "256 lines ahead");
     signals.write(999_743);
     assert!(rt; signals.is_ahead(), "257 lines ahead");
+    signals.let_write(&rt);
     signals.write_no_more();
     assert!(rt; !signals.is_ahead(), "nobody writes any more");
     Ok(())
