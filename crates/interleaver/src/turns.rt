@@ -23,7 +23,7 @@ ghost use Rattle.run_books.specs.Beside.{TurnsBeside};
 ghost use Rattle.run_books.specs.Books.{Books};
 ghost use Rattle.interleaver.specs.Flights.{loop_at, next_line_by};
 ghost use Rattle.run_books.specs.Records.{KeepsBooks};
-ghost use Rattle.interleaver.specs.Turns.{KeepsTurns as KeepsRecord, IsFreshRecord, TurnsGoOn as RecordGoesOn};
+ghost use Rattle.interleaver.specs.Turns.{KeepsTurns, IsFreshRecord, TurnsGoOn};
 ghost use Rattle.run_books.specs.Settling.{AreEven, CanSettle};
 ghost use Rattle.interleaver.specs.UnderWay.{stage_of, BeganOn, IsUnderWay, MovedOn, SettledOn, SettlesBy, SettlesOne, TurnSays};
 
@@ -290,8 +290,8 @@ pub fn run_turns<H: Host, G: Gate, L: Lines>(
     // The run's record, however it ends.
     ensures record_kept { (o : Outset) (b : Books) → IsOutset o (program_tree checked.now) (run_of core.old) (L.lines lines.old) width turns.now
         → CanTurn (run_of core.old) settler.old (L.lines lines.old) → IsFreshRecord o b (run_of core.old)
-        → KeepsRecord H.tells o b (run_of core.old) settler.old (H.faults host.old) (H.world host.old)
-        → RecordGoesOn H.tells o b (run_of core.old) (run_of core.new) settler.old settler.new (H.faults host.new) (H.world host.old) (H.world host.new) result }
+        → KeepsTurns H.tells o b (run_of core.old) settler.old (H.faults host.old) (H.world host.old)
+        → TurnsGoOn H.tells o b (run_of core.old) (run_of core.new) settler.old settler.new (H.faults host.new) (H.world host.old) (H.world host.new) result }
 
     // And what it leaves beside that.
     ensures beside { TurnsBeside H.tells (run_of core.old) (run_of core.new) settler.old settler.new (H.faults host.old) (H.faults host.new) (H.world host.old) (H.world host.new) result }

@@ -14,7 +14,7 @@ use Rattle.run_books.specs.declared.faults.RunFault.TheVariants.{InDoubt, WriteF
 use Rattle.run_books.specs.Beginnings.{Outset, IsOutset, CanTurn}
 use Rattle.run_books.specs.Beside.{TurnsBeside, EmitsAs}
 use Rattle.run_books.specs.Books.{Books}
-use Rattle.run_books.specs.Records.{KeepsRecord, RecordGoesOn, TurnsEndAs}
+use Rattle.run_books.specs.Records.{RecordGoesOn, TurnsEndAs}
 use Rattle.interleaver.specs.Turns.{KeepsTurns, IsFreshRecord, TurnsGoOn}
 use Rattle.interleaver.proofs.Besides.{none-beside}
 use Rattle.interleaver.proofs.Unstopped.{turns-record}
@@ -78,11 +78,11 @@ module _ {T : Type 0} (tells : Bool) (types : ProgramTree) (lines : List Line) (
 module _ {T : Type 0} (tells : Bool) (types : ProgramTree) (lines : List Line) (r : Run) (s s' : Settler) (f f' : Channel → ℕ) (w w' : World) (core : Core) (result : Result T RunFault) where
   -- what `run_with_workers` says of its record where the core comes back
   abbrev pub RecordKept : Run → Type 0
-  RecordKept r' = (o : Outset) (b : Books) → IsOutset o types r lines 1 [] → CanTurn r s lines → b.rest ≡ [] → KeepsRecord tells o b r s f w → RecordGoesOn tells o b r r' s s' f' w w' result
+  RecordKept r' = (o : Outset) (b : Books) → IsOutset o types r lines 1 [] → CanTurn r s lines → IsFreshRecord o b r → KeepsTurns tells o b r s f w → RecordGoesOn tells o b r r' s s' f' w w' result
 
   workers_carried : (r' : Run) → RecordKept r' → CarriesOn tells workers_manner types lines r r' s s' f f' w w' (with_core core result)
   workers_carried r' kept o b st =
-      let g = kept o b st.outset st.can st.fresh.rest (turns-record st.kept) in
+      let g = kept o b st.outset st.can st.fresh st.kept in
       record {
         on = record { books = g.books; record_kept = g.record_kept; lasts = g.lasts; ended = ends_so o g.books r' s' f' core result g.ended };
         turns = λ one. absurd (true≢false one);
@@ -140,7 +140,7 @@ module _ {T : Type 0} (tells : Bool) (types : ProgramTree) (lines : List Line) (
 
   -- what `run_with_workers` says of its record and beside it
   abbrev pub WorkersKeep : Option Core → Result T RunFault → Type 0
-  WorkersKeep back result = (o : Outset) (b : Books) → IsOutset o types r lines 1 [] → CanTurn r s lines → b.rest ≡ [] → KeepsRecord tells o b r s f w
+  WorkersKeep back result = (o : Outset) (b : Books) → IsOutset o types r lines 1 [] → CanTurn r s lines → IsFreshRecord o b r → KeepsTurns tells o b r s f w
       → IfSome back (λ c. RecordGoesOn tells o b r (run_of c) s s' f' w w' result)
 
   -- by workers, where the core came back

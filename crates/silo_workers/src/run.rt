@@ -1,4 +1,4 @@
-ghost use Rattle.std.specs.Prelude.{◌≡◌, ◌≤◌, [], None, Err, IsTrue, IfOk, IfSome};
+ghost use Rattle.std.specs.Prelude.{◌≡◌, ◌≤◌, [], None, Err, true, false, IsTrue, IfOk, IfSome};
 ghost use Rattle.host_trait.specs.Files.{StaysReady};
 ghost use Rattle.batch_disk.specs.Writers.{IsInBounds, FitsDisk};
 ghost use Rattle.core_model.specs.Legal.{ends};
@@ -10,15 +10,19 @@ ghost use Rattle.worker_rules.specs.Stories.{NoneLoads};
 ghost use Rattle.run_books.specs.Beginnings.{Outset, IsOutset, CanTurn};
 ghost use Rattle.run_books.specs.Beside.{TurnsBeside};
 ghost use Rattle.run_books.specs.Books.{Books};
-ghost use Rattle.run_books.specs.Records.{KeepsRecord, RecordGoesOn};
+ghost use Rattle.run_books.specs.Records.{RecordGoesOn};
+ghost use Rattle.interleaver.specs.Turns.{IsFreshRecord, KeepsTurns, TurnsGoOn};
 ghost use Rattle.run_books.specs.declared.faults.RunFault.TheVariants.{Memory};
+ghost use Rattle.silo_workers.specs.declared.work.WorkEnd.TheVariants.{Idle};
 
-use crate::crowd::gather;
+use crate::crowd::{Gathered, gather};
 use crate::ending::end_run;
-use base_types::Ends;
+use crate::work::WorkEnd;
+use base_types::{Ends, List};
 use core_model::{CoreAnswer, CoreQuestion};
 use history_core::Core;
 use host_trait::Host;
+use interleaver::run_turns;
 use run_books::RunFault;
 use run_lines::Lines;
 use script_check::Checked;
@@ -38,6 +42,54 @@ fn lines_so_far(core: &Core) -> Result<u64, AllocError>
         CoreAnswer::NextLine(next) => Ok(next - 1),
         _ => unreachable!(),
     }
+}
+
+/// Whether no thread was started, and nothing was put.
+fn has_none(gathered: &Gathered) -> bool
+    ensures { result ≡ true → (gathered.now.started ≡ false) × (gathered.now.end ≡ Idle) }
+{
+    match gathered.end {
+        WorkEnd::Idle => !gathered.started,
+        WorkEnd::Through => false,
+        WorkEnd::Lacking => false,
+    }
+}
+
+/// Carries the lines in turns, one at a time.
+fn carry_in_turns<H: Host, G: Gate, L: Lines + Copy>(
+    alloc: Global,
+    checked: &Checked,
+    core: &mut Core,
+    settler: &mut Settler,
+    lines: &L,
+    host: &mut H,
+    gate: &G,
+) -> Result<(), RunFault>
+    requires legal { IsLegalRun (own_sight (run_of core.old)).first }
+    requires loads { NoneLoads (own_sight (run_of core.old)).mine }
+    requires bounds { IsInBounds settler.old.writer }
+    requires fits { IsTrue H.tells → FitsDisk settler.old.writer (H.world host.old).disk }
+    ensures record_kept { (o : Outset) (b : Books) → IsOutset o (program_tree checked.now) (run_of core.old) (L.lines lines.now) 1 []
+        → CanTurn (run_of core.old) settler.old (L.lines lines.now) → IsFreshRecord o b (run_of core.old)
+        → KeepsTurns H.tells o b (run_of core.old) settler.old (H.faults host.old) (H.world host.old)
+        → TurnsGoOn H.tells o b (run_of core.old) (run_of core.new) settler.old settler.new (H.faults host.new) (H.world host.old) (H.world host.new) result }
+    ensures beside { TurnsBeside H.tells (run_of core.old) (run_of core.new) settler.old settler.new (H.faults host.old) (H.faults host.new) (H.world host.old) (H.world host.new) result }
+    ensures bounds { IsInBounds settler.new.writer }
+    ensures fits { IsTrue H.tells → FitsDisk settler.new.writer (H.world host.new).disk }
+    ensures ready { StaysReady (H.is_ready host.old) (H.is_ready host.new) }
+{
+    let mut lines = *lines;
+    run_turns(
+        alloc,
+        checked,
+        core,
+        settler,
+        &mut lines,
+        host,
+        gate,
+        1,
+        &List::new(alloc),
+    )
 }
 
 /// Carries all lines by so many worker threads, 16 at most, each of which begins the next line that is left, carries its units,
@@ -74,8 +126,8 @@ pub fn run_with_workers<R: Threads + Wait + Sync, H: Host, G: Gate + Sync, L: Li
 
     // The run's record, however it ends.
     ensures record_kept { (o : Outset) (b : Books) → IsOutset o (program_tree checked.now) (run_of core) (L.lines lines.now) 1 []
-        → CanTurn (run_of core) settler.old (L.lines lines.now) → b.rest ≡ []
-        → KeepsRecord H.tells o b (run_of core) settler.old (H.faults host.old) (H.world host.old)
+        → CanTurn (run_of core) settler.old (L.lines lines.now) → IsFreshRecord o b (run_of core)
+        → KeepsTurns H.tells o b (run_of core) settler.old (H.faults host.old) (H.world host.old)
         → IfSome result.0 (λ c. RecordGoesOn H.tells o b (run_of core) (run_of c) settler.old settler.new (H.faults host.new) (H.world host.old) (H.world host.new) result.1) }
 
     // And what it leaves beside that.
@@ -107,6 +159,10 @@ pub fn run_with_workers<R: Threads + Wait + Sync, H: Host, G: Gate + Sync, L: Li
                 rt, alloc, checked, &shape, lines, before, cell, pass, own, host, gate, workers,
             );
             *settler = own;
+            if has_none(&gathered) {
+                let ended = carry_in_turns(alloc, checked, &mut core, settler, lines, host, gate);
+                return (Some(core), ended);
+            }
             core.show_few();
             let ended = end_run(&shape, &mut core, settler, host, gate, gathered);
             (Some(core), ended)
