@@ -14,6 +14,9 @@ PROGRAM = os.environ.get("SILO", os.path.join(TOP, "crates", "silo", "out", "sil
 with open(os.path.join(TOP, "examples", "bank", "bank.grain"), "rb") as file:
     BANK = file.read()
 
+# A user who has nothing else to run.
+OTHER_USER = 60_000 + os.getpid() % 5_000
+
 # How a run of the program ended: its number, what it wrote, and what it said on standard error.
 Ended = collections.namedtuple("Ended", "number output errors")
 
@@ -33,12 +36,18 @@ def reply(n, balance, unit):
     return b'{"n":%d,"reply":%d,"unit":%d}\n' % (n, balance, unit)
 
 
-def run(*words, given=b"", closed=(), streams=None, memory=None):
-    """Runs the program over this input, with these descriptors closed, and at most so many bytes of memory."""
+def run(*words, given=b"", closed=(), streams=None, memory=None, threads=None, program=PROGRAM):
+    """Runs the program over this input, with these descriptors closed, and at most so many bytes of memory and threads."""
 
     def prepare():
         if memory is not None:
             resource.setrlimit(resource.RLIMIT_AS, (memory, memory))
+        if threads is not None:
+            resource.setrlimit(resource.RLIMIT_NPROC, (threads, threads))
+            # The superuser isn't bound by that: another user is, whose threads are these alone.
+            if os.geteuid() == 0:
+                os.setgid(OTHER_USER)
+                os.setuid(OTHER_USER)
         for number in closed:
             os.close(number)
 
@@ -46,7 +55,7 @@ def run(*words, given=b"", closed=(), streams=None, memory=None):
         given_to.write(given)
         given_to.seek(0)
         at = {"stdin": given_to, "stdout": output, "stderr": errors, **(streams or {})}
-        done = subprocess.run([PROGRAM, *words], preexec_fn=prepare, timeout=100, **at)
+        done = subprocess.run([program, *words], preexec_fn=prepare, timeout=100, **at)
         output.seek(0)
         errors.seek(0)
         return Ended(done.returncode, output.read(), errors.read())

@@ -1,6 +1,8 @@
 use crate::bank::program_text;
-use crate::setting::{MANAGER, PROGRAM, command, new_silo};
-use host_memory::MemoryHost;
+use crate::setting::{MANAGER, PROGRAM, command, new_silo, output_of};
+use crate::transfers::image_of;
+use host_memory::{CallKind, MemoryHost};
+use host_trait::Channel;
 use program_file::ProgramFault;
 use script_check::CheckFault;
 use silo_top::Status;
@@ -64,6 +66,18 @@ fn a_bad_program_is_named_at_its_place(rt: HostRuntime) -> Result<(), Fail> {
     assert!(rt; host.file(PROGRAM).is_none());
     assert_eq!(rt; status.number(), 10);
     assert!(rt; status.text(alloc)?.as_slice() == b"bad program at 42".as_slice());
+    Ok(())
+}
+
+#[test]
+fn a_load_whose_summary_fails_leaves_a_whole_silo(rt: HostRuntime) -> Result<(), Fail> {
+    let mut host = MemoryHost::new(rt.alloc(), b"")?;
+    host.fail_on(CallKind::Emit, Channel::Output, 1)?;
+    let status = command(&rt, &mut host, &["load", "4", "7"])?;
+    assert_eq!(rt; status, Status::WriteFault);
+    let mut image = image_of(&host, host.calls(), 0)?;
+    assert_eq!(rt; command(&rt, &mut image, &["audit"])?, Status::Done);
+    assert_eq!(rt; output_of(&image), "{\"count\":68,\"first_bad\":null}\n");
     Ok(())
 }
 

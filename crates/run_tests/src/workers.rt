@@ -10,6 +10,15 @@ use std::thread::Threads;
 
 const TRANSFERS: usize = 60;
 
+// Plain runs, each of which waits for a transaction of its own.
+const ASIDES: &str = r#"{"args":[1,1],"call":"probe/1.aside"}
+{"args":[2,1],"call":"probe/2.aside"}
+{"args":[3,1],"call":"probe/3.aside"}
+{"args":[1,1],"call":"probe/4.aside"}
+{"args":[2,1],"call":"probe/5.aside"}
+{"args":[3,1],"call":"probe/6.aside"}
+"#;
+
 // Transfers between three accounts, round and round.
 fn transfer_lines<R: AllocGlobal>(rt: &R) -> Result<String, Fail> {
     let mut text = String::new(rt.alloc());
@@ -99,5 +108,19 @@ fn faults_beside_workers_end_the_run_as_they_do_alone(rt: HostRuntime) -> Result
         CallKind::Emit,
         Channel::Output,
         Status::WriteFault,
+    )
+}
+
+#[test]
+fn plain_runs_wait_for_what_they_began(rt: HostRuntime) -> Result<(), Fail> {
+    let before = new_books(&rt)?;
+    let mut host = image_of(&before, before.calls(), 0)?;
+    host.set_input(ASIDES.as_bytes())?;
+    let status = command(&rt, &mut host, &["run", "--workers", "2"])?;
+    expect(status == Status::Done, "the status")?;
+    expect(count_lines(output_of(&host)) == 6, "the replies")?;
+    expect(
+        money_in(&rt, &host)? == money_in(&rt, &before)? + 6,
+        "the money",
     )
 }
