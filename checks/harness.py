@@ -14,6 +14,10 @@ PROGRAM = os.environ.get("SILO", os.path.join(TOP, "crates", "silo", "out", "sil
 with open(os.path.join(TOP, "examples", "bank", "bank.grain"), "rb") as file:
     BANK = file.read()
 
+# The program of the first deposit, whose bytes docs/FORMATS.md shows.
+FIRST_PROGRAM = ("type account { field balance = 0; method deposit(n) createorjoin update "
+                 "{ set balance = balance + n; return balance; } }")
+
 # How a run of the program ended: its number, what it wrote, and what it said on standard error.
 Ended = collections.namedtuple("Ended", "number output errors")
 
