@@ -16,10 +16,12 @@ needs=$(sed -n 's/^silo_opening: //p' "$top/crates.txt")
 { cat "$top/crates.txt"; echo "open_bench: $needs silo_opening host_files"; } >"$folder/crates.txt"
 
 # Each folder, by docs/FORMATS.md: record r is unit r, a deposit of 5 on account r modulo 64.
-python3 - "$bench" $sizes <<'END' || exit 1
+PYTHONPATH=$top/checks python3 - "$bench" $sizes <<'END' || exit 1
 import os, struct, sys
 
-text = b"type account { field balance = 0; method deposit(n) createorjoin update { set balance = balance + n; return balance; } }"
+import harness
+
+text = harness.FIRST_PROGRAM.encode()
 
 def integer(number):
     return b"\0" + struct.pack("<q", number)

@@ -2,7 +2,8 @@
 
 In README.md and docs/ a block that begins with ```console is run, document by document, in a folder of its own that has `silo` and
 `examples` in it: a line behind `$ ` is a command, the lines beneath it are all that it prints. A block that begins with ```file NAME
-is written to that file first. Links and paths that a document names have to be there.
+is written to that file first. Where the last cell of a table's row is a command, that is run too, and has to end with 0. Links and
+paths that a document names have to be there.
 """
 import os
 import re
@@ -18,7 +19,7 @@ FOLDERS = ("docs", "examples", "bench", "checks", "crates", ".ci")
 
 
 def blocks(text):
-    """The fenced blocks of a document: what stands behind the fence, and the lines."""
+    """The fenced blocks of a document: what stands behind the fence, and the lines; and each command in a table, as a row."""
     kind, lines = None, []
     for line in text.split("\n"):
         if line.startswith("```"):
@@ -29,6 +30,8 @@ def blocks(text):
                 kind = None
         elif kind is not None:
             lines.append(line)
+        elif shown := re.fullmatch(r"\|.*\| `((?:\./silo|mkdir) [^`]*)` \|", line):
+            yield "row", [shown[1]]
 
 
 def commands(lines):
@@ -54,6 +57,9 @@ def shows(name, text, room):
         if kind.startswith("file "):
             with open(os.path.join(room, kind[5:].strip()), "w") as file:
                 file.write("\n".join(lines) + "\n")
+        if kind == "row":
+            done = subprocess.run(["bash", "-c", lines[0]], cwd=room, stdin=subprocess.DEVNULL, stdout=subprocess.DEVNULL, timeout=100)
+            rows.row(f"{name}: {lines[0]}", done.returncode, 0)
         if kind != "console":
             continue
         for command, printed in commands(lines):

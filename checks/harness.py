@@ -17,6 +17,10 @@ with open(os.path.join(TOP, "examples", "bank", "bank.grain"), "rb") as file:
 # A user who has nothing else to run.
 OTHER_USER = 60_000 + os.getpid() % 5_000
 
+# The program of the first deposit, whose bytes docs/FORMATS.md shows.
+FIRST_PROGRAM = ("type account { field balance = 0; method deposit(n) createorjoin update "
+                 "{ set balance = balance + n; return balance; } }")
+
 # How a run of the program ended: its number, what it wrote, and what it said on standard error.
 Ended = collections.namedtuple("Ended", "number output errors")
 

@@ -6,9 +6,9 @@ length, is answered by the second reader below: plain walks by the tables of doc
 import pathlib
 import sys
 
+from harness import FIRST_PROGRAM as TEXT
+
 CASES, TOLD = [], []
-TEXT = ("type account { field balance = 0; method deposit(n) createorjoin update "
-        "{ set balance = balance + n; return balance; } }")
 BANK = (TEXT[:-1] + "method withdraw(n) createorjoin update { set balance = balance - n; return balance; } } "
         "type atm { method transfer(a, b, n) create plain "
         "{ call account/a.withdraw(n); call account/b.deposit(n); return n; } }")

@@ -66,8 +66,8 @@ fn run<R: Threads + Wait + Sync, H: Host, G: Gate + Sync>(
 
 /// Does all that the program does, and answers how it ended.
 ///
-/// `words` are those of the command line after the folder: `init`, `run` with a width and picks, `show`, `history`, `audit`, or
-/// `load` with two numbers and a width. All else is `BadUse`, and nothing is done then.
+/// `words` are those of the command line after the folder: `init`, `run` with a width and picks or with workers, `show`,
+/// `history`, `audit`, or `load` with two numbers and a width or workers. All else is `BadUse`, and nothing is done then.
 ///
 /// `init` reads a program's text from the input, and makes the folder a silo of it with an empty log.
 ///
@@ -82,6 +82,9 @@ fn run<R: Threads + Wait + Sync, H: Host, G: Gate + Sync>(
 /// What each of them promises, at each moment and at its end, is `Serves`, over a host that tells what it holds. Over any host
 /// a fault is answered only where a call on its channel failed, and no failed call on the input or the output is passed over
 /// (`AnswersAs`).
+///
+/// It may wait (`Wait`): each clause holds of a call that returns, and none says that it does. The loops of one thread are proved
+/// to end, those of workers aren't.
 pub fn run_silo<Rt: Threads + Wait + Sync, H: Host, G: Gate + Sync>(
     rt: &Rt,
     alloc: Global,
@@ -89,7 +92,7 @@ pub fn run_silo<Rt: Threads + Wait + Sync, H: Host, G: Gate + Sync>(
     host: &mut H,
     gate: &G,
 ) -> Status
-    // What the command promises that the words say, all but workers, and that all other words are bad use.
+    // What the command promises that the words say, and that all other words are bad use.
     ensures serves { IsTrue H.tells → (m : Manner) (asked : AList (AList ℕ)) → IsAsked (texts_of words.now) (H.world host.old) m asked → Serves is_built is_taken (texts_of words.now)
         (observed_call m asked (H.world host.old) (H.world host.new) (H.faults host.old) (H.faults host.new) result) }
 

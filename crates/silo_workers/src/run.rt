@@ -99,7 +99,7 @@ fn carry_in_turns<H: Host, G: Gate, L: Lines + Copy>(
 /// It answers `Ok` where each line has its entry, all is written and nobody can move. The core comes back, unless there is no
 /// memory to share it: then no event was put, and the host is as before.
 ///
-/// It returns if what it waits for comes: each worker's turn, and the ends of the units that a unit waits for.
+/// That it returns isn't proved: it waits for turns, and for the ends of the units that a unit waits for.
 ///
 /// # Errors
 ///
