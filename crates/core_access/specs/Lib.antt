@@ -1,7 +1,6 @@
 pub mod Histories
 pub mod Sights
 pub mod Spared
-pub mod Shown
 pub mod Settling
 pub mod OneHolder
 pub mod ByPass

@@ -62,7 +62,7 @@ pub struct BatchView {
 }
 
 /// What the settler does next: the first of these that there is. After a doubt it is `Write` or `Nothing`. Its event
-/// applies, but after a stop, which the settler asks for by `Halted`: then only the end of a batch and a written entry do.
+/// applies, but after a stop, of which who puts `Halt` knows: then only the end of a batch and a written entry do.
 #[derive(Drop)]
 pub enum SettlerWork {
     /// The open batch isn't decided, and this is the first grain of its plan without a vote: these versions, one for each
