@@ -29,7 +29,7 @@ pub struct Line {
 /// - `Args`: there are as many arguments as parameters. Each is a number that fits an `i64`, is not `-0` and has
 ///   neither a point nor an exponent, or a string of at most 256 bytes.
 ///
-/// `Memory` comes only where an allocation failed, and says nothing about the line.
+/// `Memory`: memory ran out. It says nothing about the line.
 pub fn read_request(alloc: Global, line: &[u8], checked: &Checked) -> Result<Call, RequestFault>
     ensures ok { IfOk result (λ call. call_of (names_in (program_tree checked.now)) line.now ≡ Ok call) }
     ensures bad { IfErr result (λ fault. (why : BadRequest) → fault ≡ RequestFault.Bad why

@@ -14,4 +14,4 @@ mod work;
 
 pub use reach::Reach;
 pub use run::run_with_workers;
-pub use work::WorkEnd;
+pub use work::{WorkEnd, carry};

@@ -105,8 +105,7 @@ fn carry_in_turns<H: Host, G: Gate, L: Lines + Copy>(
 ///
 /// - `InDoubt`: a batch was left in doubt, and all that is settled is written.
 /// - `WriteFault`: the output failed.
-/// - `Memory`: memory ran out, here or at a worker, or `workers` is 0. What was put into the core and done to the host by then
-///   stands.
+/// - `Memory`: memory ran out, here or at a worker. What was put into the core and done to the host by then stands.
 pub fn run_with_workers<R: Threads + Wait + Sync, H: Host, G: Gate + Sync, L: Lines + Copy + Sync>(
     rt: &R,
     alloc: Global,

@@ -49,8 +49,9 @@ pub(crate) fn both(one: WorkEnd, other: WorkEnd) -> WorkEnd
     }
 }
 
-/// Carries lines by a pass, which comes back however that ended.
-pub(crate) fn carry<R: Wait, L: Lines + Copy, G: Gate>(
+/// Carries lines by a pass of the cell, which comes back however that ended: those that are left behind the `before` that the run
+/// has from earlier, one at a time, with all units that they begin (`carry_lines` of `unit_crew`).
+pub fn carry<R: Wait, L: Lines + Copy, G: Gate>(
     rt: &R,
     alloc: Global,
     checked: &Checked,
