@@ -43,7 +43,8 @@ pub(crate) fn begin_next<A: Access, L: Lines, G: Gate>(
     match lines.line_at(alloc, place as usize)? {
         None => return Ok(false),
         Some(line) => {
-            match start_line(alloc, checked, access, agents, &line)? {
+            let began = start_line(alloc, checked, access, agents, &line)?;
+            match began {
                 None => return Ok(true),
                 Some(unit) => {
                     gate.reach(GatePlace::Begun { unit });
