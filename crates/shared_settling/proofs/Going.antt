@@ -1,25 +1,26 @@
 -- Step after step among others, and a stop at the end.
-use Rattle.std.proofs.Common.{◌≡◌, ◌⊎◌, ⊎_elim, inl, inr, ℕ, ◌<◌, Bool, true, sym, subst}
-use Rattle.std.specs.Prelude.{Result, Ok, Err}
+use Rattle.std.proofs.Common.{◌≡◌, ◌⊎◌, ⊎_elim, inl, inr, ℕ, ◌<◌, Bool, true, refl, sym, subst}
+use Rattle.std.specs.Prelude.{Result, Ok, Err, is_some}
 use Rattle.base_types.specs.declared.shapes.Shape.{Shape}
 use Rattle.host_trait.specs.declared.channels.Channel.{Channel}
 use Rattle.host_trait.specs.World.{World}
 use Rattle.core_model.specs.declared.events.CoreEvent.{CoreEvent}
 use Rattle.core_model.specs.declared.events.CoreEvent.TheVariants.{Halt}
-use Rattle.core_model.specs.declared.events.CoreReply.{CoreReply}
-use Rattle.core_model.specs.Legal.{Run}
-use Rattle.core_access.specs.Sights.{Sight, run_seen, Looks, Tells, Counts}
+use Rattle.core_model.specs.Legal.{Run, ends}
+use Rattle.core_access.specs.Sights.{Sight, run_seen, Looks, Counts}
+use Rattle.core_access.proofs.Sights.{looks-none}
 use Rattle.promise_spec.specs.UnitRule.{Basis}
 use Rattle.worker_rules.specs.Sharing.{KeepsPromise}
 use Rattle.worker_rules.proofs.Promising.{looks-promise}
 use Rattle.settle_loop.specs.declared.settler.Settler.{Settler}
 use Rattle.run_books.specs.declared.faults.RunFault.{RunFault}
+use Rattle.run_books.specs.declared.faults.RunFault.TheVariants.{InDoubt, WriteFault, Memory}
 use Rattle.run_books.specs.Beginnings.{Outset}
 use Rattle.run_books.specs.Beside.{TurnsBeside}
 use Rattle.run_books.specs.Books.{Books}
 use Rattle.run_books.specs.Sharing.{SeesOn, MayRely}
 use Rattle.run_books.proofs.Relying.{sees-look, sees-tell, sees-both, counts-on, relies-before}
-use Rattle.shared_settling.specs.Among.{SettlesAmong, StopsAmong, CanSettleAmong, SettledAmong}
+use Rattle.shared_settling.specs.Among.{SettlesAmong, StopsAmong, EndsAmong, MayStop, EndsOthers, KnowsTruly, LeavesStopped, CanSettleAmong, SettledAmong}
 use Rattle.shared_settling.proofs.Keeping.{can-again, settled-on, settled-fault}
 use Rattle.run_books.proofs.Leaving.{one-after-another, beside-fault}
 use Rattle.shared_settling.proofs.OthersStill.{looked-on, stopped-on}
@@ -53,37 +54,71 @@ module _ (tells : Bool) (shape : Shape) (s0 s1 s2 : Sight) (x0 x1 x2 : Settler) 
 
 -- ---- a stop
 
--- it was put, or there was no memory for it
-abbrev pub MayStop : (CoreEvent → Bool) → Sight → Sight → Type 0
-MayStop may s t = Looks may s t ⊎ ((r : CoreReply) × Tells may s Halt r t)
+-- What a fault leaves, and what was put behind it.
+pub record LeavesFault (may : CoreEvent → Bool) (tells : Bool) (shape : Shape) (s u : Sight) (x y : Settler) (f g : Channel → ℕ) (w v : World) (fault : RunFault) : Type 0 where
+  pub sees : SeesOn s u
+  pub own : EndsAmong may s u {T = Unit} (Err fault)
+  pub promise : (b : Basis) → KeepsPromise b s → KeepsPromise b u
+  pub books : Booked Unit tells shape s u x y f g w v (Err fault)
+  pub beside : TurnsBeside {T = Unit} tells (run_seen s) (run_seen u) x y f g w v (Err fault)
 
-module _ (may : CoreEvent → Bool) (s t u : Sight) (stop : MayStop may t u) where
+module _ (may : CoreEvent → Bool) (tells : Bool) (shape : Shape) (s t u : Sight) (x y : Settler) (f g : Channel → ℕ) (w v : World) (fault : RunFault) (stop : MayStop may t u) (among : SettlesAmong s t) where
   stop-on : SeesOn t u
   stop-on = ⊎_elim (λ l. sees-look may t u l) (λ l. sees-tell may t u Halt l.0 l.1) stop
 
-  module _ (among : SettlesAmong s t) where
-    pub stop-sees : SeesOn s u
-    stop-sees = sees-both s t u among.on stop-on
+  stop-promised : (b : Basis) → (KeepsPromise b s → KeepsPromise b t) → KeepsPromise b s → KeepsPromise b u
+  stop-promised b kept p = ⊎_elim (λ l. looks-promise b may t u l (kept p)) (λ l. stop-promise b may t u l.0 l.1 (kept p)) stop
 
-    pub stop-own : SettlesAmong s u ⊎ StopsAmong may s u
-    stop-own = ⊎_elim (λ l. inl (among-both s t u among (among-look may t u l))) (λ l. inr (record { mid = t; settles = among; reply = l.0; stop = l.1 })) stop
+  stop-booked : Booked Bool tells shape s t x y f g w v (Err fault) → Booked Unit tells shape s u x y f g w v (Err fault)
+  stop-booked books o b can rely =
+      let counts : Counts t = counts-on s t among.on can.share.counts in
+      let above : 0 < t.first.base = subst (λ (r : Run). 0 < r.base) (sym among.on.first) can.share.above in
+      let was = books o b can (relies-before t u stop-on o counts rely) in
+      settled-fault tells o b (run_seen s) (run_seen u) x y g w v {T = Bool} {U = Unit} fault
+      (⊎_elim
+      (λ l. looked-on {T = Bool} tells o b (run_seen s) may t u x y g w v fault above counts rely was l)
+      (λ l. stopped-on {T = Bool} tells o b (run_seen s) may t u x y g w v fault above counts rely was l.0 l.1)
+      stop)
 
-    pub stop-promised : (b : Basis) → (KeepsPromise b s → KeepsPromise b t) → KeepsPromise b s → KeepsPromise b u
-    stop-promised b kept p = ⊎_elim (λ l. looks-promise b may t u l (kept p)) (λ l. stop-promise b may t u l.0 l.1 (kept p)) stop
+  stop-beside : TurnsBeside {T = Bool} tells (run_seen s) (run_seen t) x y f g w v (Err fault) → TurnsBeside {T = Unit} tells (run_seen s) (run_seen u) x y f g w v (Err fault)
+  stop-beside beside = beside-fault tells (run_seen s) (run_seen u) x y f g w v {T = Bool} {U = Unit} fault (fault-leaves {T = Bool} tells (run_seen s) t u x y f g w v fault stop-on beside)
 
-    -- a fault's books
-    pub stop-booked : (tells : Bool) (shape : Shape) (x y : Settler) (f g : Channel → ℕ) (w v : World) (fault : RunFault) → Booked Bool tells shape s t x y f g w v (Err fault) → Booked Unit tells shape s u x y f g w v (Err fault)
-    stop-booked tells shape x y f g w v fault books o b can rely =
-        let counts : Counts t = counts-on s t among.on can.share.counts in
-        let above : 0 < t.first.base = subst (λ (r : Run). 0 < r.base) (sym among.on.first) can.share.above in
-        let was = books o b can (relies-before t u stop-on o counts rely) in
-        settled-fault tells o b (run_seen s) (run_seen u) x y g w v {T = Bool} {U = Unit} fault
-        (⊎_elim
-        (λ l. looked-on {T = Bool} tells o b (run_seen s) may t u x y g w v fault above counts rely was l)
-        (λ l. stopped-on {T = Bool} tells o b (run_seen s) may t u x y g w v fault above counts rely was l.0 l.1)
-        stop)
+  -- a fault, and the stop behind it
+  stop-leaves : EndsAmong may s u {T = Unit} (Err fault) → ((b : Basis) → KeepsPromise b s → KeepsPromise b t) → Booked Bool tells shape s t x y f g w v (Err fault)
+      → TurnsBeside {T = Bool} tells (run_seen s) (run_seen t) x y f g w v (Err fault) → LeavesFault may tells shape s u x y f g w v fault
+  stop-leaves own promise books beside = record {
+    sees = sees-both s t u among.on stop-on;
+    own = own;
+    promise = λ b. stop-promised b (promise b);
+    books = stop-booked books;
+    beside = stop-beside beside;
+  }
 
-  pub stop-beside : (tells : Bool) (x y : Settler) (f g : Channel → ℕ) (w v : World) (fault : RunFault) → TurnsBeside {T = Bool} tells (run_seen s) (run_seen t) x y f g w v (Err fault)
-      → TurnsBeside {T = Unit} tells (run_seen s) (run_seen u) x y f g w v (Err fault)
-  stop-beside tells x y f g w v fault beside =
-      beside-fault tells (run_seen s) (run_seen u) x y f g w v {T = Bool} {U = Unit} fault (fault-leaves {T = Bool} tells (run_seen s) t u x y f g w v fault stop-on beside)
+module _ (may : CoreEvent → Bool) (s t u : Sight) where
+  -- it may have been put, whatever the fault
+  may-stop : (fault : RunFault) → EndsOthers may fault t u → MayStop may t u
+  may-stop InDoubt same = inl (subst (Looks may t) (sym same) (looks-none may t))
+  may-stop WriteFault ends = ends.0
+  may-stop Memory ends = ends.0
+
+  settles-or-stops : SettlesAmong s t → MayStop may t u → SettlesAmong s u ⊎ StopsAmong may s u
+  settles-or-stops among stop = ⊎_elim (λ l. inl (among-both s t u among (among-look may t u l))) (λ l. inr (record { mid = t; settles = among; reply = l.0; stop = l.1 })) stop
+
+  own-ends : (fault : RunFault) → EndsOthers may fault t u → SettlesAmong s t → EndsAmong may s u {T = Unit} (Err fault)
+  own-ends InDoubt same among = subst (SettlesAmong s) (sym same) among
+  own-ends WriteFault ends among = settles-or-stops among ends.0
+  own-ends Memory ends among = settles-or-stops among ends.0
+
+  -- and then a stop or a doubt stands
+  pub fault-stopped : (fault : RunFault) → EndsOthers may fault t u → (before after : Settler) → (KnowsTruly before (run_seen s) → KnowsTruly after (run_seen t)) → (fault ≡ InDoubt → after.doubted ≡ true)
+      → LeavesStopped before s u {T = Unit} (Err fault)
+  fault-stopped InDoubt same before after knows doubted = λ truly. subst (λ (x : Sight). is_some (ends (run_seen x)).manager.doubt ≡ true) (sym same) (knows truly (doubted refl))
+  fault-stopped WriteFault ends before after knows doubted = ends.1
+  fault-stopped Memory ends before after knows doubted = ends.1
+
+-- so what a fault leaves
+module _ (may : CoreEvent → Bool) (tells : Bool) (shape : Shape) (s t u : Sight) (x y : Settler) (f g : Channel → ℕ) (w v : World) (fault : RunFault) (among : SettlesAmong s t) (ends : EndsOthers may fault t u) where
+  pub fault-ends : ((b : Basis) → KeepsPromise b s → KeepsPromise b t) → Booked Bool tells shape s t x y f g w v (Err fault)
+      → TurnsBeside {T = Bool} tells (run_seen s) (run_seen t) x y f g w v (Err fault) → LeavesFault may tells shape s u x y f g w v fault
+  fault-ends promise books beside =
+      stop-leaves may tells shape s t u x y f g w v fault (may-stop may s t u fault ends) among (own-ends may s t u fault ends among) promise books beside

@@ -33,7 +33,7 @@ use Rattle.shared_settling.proofs.Passing.{step-going}
 
 -- ---- a doubt that stands where nothing is left to do
 
-some-of : {A : Type 0} (x : Option A) → is_some x ≡ true → (a : A) × (x ≡ Some a)
+pub some-of : {A : Type 0} (x : Option A) → is_some x ≡ true → (a : A) × (x ≡ Some a)
 some-of None q = absurd (true≢false (sym q))
 some-of (Some a) q = (a, refl)
 

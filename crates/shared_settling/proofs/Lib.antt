@@ -3,5 +3,6 @@ pub mod Keeping
 pub mod StepsBeside
 pub mod OthersStill
 pub mod Alone
+pub mod Stopping
 pub mod Going
 pub mod Ended

@@ -1,5 +1,5 @@
 -- What a step of the settler leaves of what was seen, and of what was put, among others.
-use Rattle.std.proofs.Common.{◌≡◌, ◌⊎◌, ⊎_elim, inl, inr, ℕ, List, [], ◌∷◌, ◌++◌, Bool, true, false, true≢false, refl, sym, ap, ◌∙◌, subst, append-nil, append_assoc}
+use Rattle.std.proofs.Common.{◌≡◌, ⊎_elim, inl, inr, ℕ, List, [], ◌∷◌, ◌++◌, Bool, true, false, true≢false, refl, sym, ap, ◌∙◌, subst, append-nil, append_assoc}
 use Rattle.std.specs.Prelude.{Result, Ok, Err, ◌&&◌}
 use Rattle.base_types.specs.declared.shapes.Shape.{Shape}
 use Rattle.host_trait.specs.declared.channels.Channel.{Channel}
@@ -15,7 +15,7 @@ use Rattle.core_model.specs.Settler.{MakesEvent, Step, Votes, Decides, Seals, Le
 use Rattle.turn_cell.specs.History.{entry}
 use Rattle.core_access.specs.Histories.{Told, run_after}
 use Rattle.core_access.specs.Settling.{is_settling}
-use Rattle.core_access.specs.Sights.{Sight, run_seen, saw, told, AllPass, Looks, Tells, Counts, IsAlone}
+use Rattle.core_access.specs.Sights.{Sight, run_seen, saw, AllPass, Looks, Tells, Counts, IsAlone}
 use Rattle.core_access.proofs.Entries.{run-on}
 use Rattle.core_access.proofs.Sights.{looks-before, tells-before, looks-counts, tells-counts, pass-append, run-told}
 use Rattle.promise_spec.specs.UnitRule.{Basis}

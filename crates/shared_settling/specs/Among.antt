@@ -1,17 +1,18 @@
 -- A settler over a core that others have too: what it puts itself, and what it keeps of a run's books.
-use Rattle.std.specs.Prelude.{◌≡◌, ◌⊎◌, ◌<◌, ◌≤◌, ◌^◌, ◌++◌, ℕ, Bool, false, List, [], length, Result, Ok, Err}
+use Rattle.std.specs.Prelude.{◌≡◌, ◌⊎◌, ◌<◌, ◌≤◌, ◌^◌, ◌++◌, ℕ, Bool, true, false, List, [], length, Result, Ok, Err, is_some, ⊤}
 use Rattle.base_types.specs.declared.shapes.Shape.{Shape}
 use Rattle.host_trait.specs.declared.channels.Channel.{Channel}
 use Rattle.host_trait.specs.declared.channels.Channel.TheVariants.{Output}
 use Rattle.host_trait.specs.Faults.{Rose}
 use Rattle.host_trait.specs.World.{World}
+use Rattle.core_model.specs.Asked.{IsGoing}
 use Rattle.core_model.specs.Legal.{Run, ends}
 use Rattle.core_model.specs.declared.events.CoreEvent.{CoreEvent}
 use Rattle.core_model.specs.declared.events.CoreEvent.TheVariants.{Halt}
 use Rattle.core_model.specs.declared.events.CoreReply.{CoreReply}
 use Rattle.core_access.specs.Histories.{Told}
 use Rattle.core_access.specs.Settling.{is_settling}
-use Rattle.core_access.specs.Sights.{Sight, run_seen, AllPass, Tells}
+use Rattle.core_access.specs.Sights.{Sight, run_seen, AllPass, Looks, Tells}
 use Rattle.script_check.specs.Accepted.{IsAcceptedProgram}
 use Rattle.promise_spec.specs.Programs.{shape_in}
 use Rattle.promise_spec.specs.UnitRule.{KeepsUnitRule}
@@ -38,13 +39,40 @@ pub record StopsAmong (may_come : CoreEvent → Bool) (s t : Sight) : Type 0 whe
   pub reply : CoreReply
   pub stop : Tells may_come mid Halt reply t
 
--- A stop is put last, and only where the answer says that the output failed or that memory ran out. Where there is no memory for
--- a stop none is put.
+-- A stop is put last, and only where the answer says that the output failed or that memory ran out. None need be put where a stop or
+-- a doubt stands already.
 abbrev pub EndsAmong : (CoreEvent → Bool) → Sight → Sight → {T : Type 0} → Result T RunFault → Type 0
 EndsAmong may_come s t (Ok done) = SettlesAmong s t
 EndsAmong may_come s t (Err InDoubt) = SettlesAmong s t
 EndsAmong may_come s t (Err WriteFault) = SettlesAmong s t ⊎ StopsAmong may_come s t
 EndsAmong may_come s t (Err Memory) = SettlesAmong s t ⊎ StopsAmong may_come s t
+
+-- A stop or a doubt stands, so whoever goes on ends by it.
+pub record HasToStop (r : Run) : Type 0 where
+  pub stopped : IsGoing (ends r) → ⊥
+
+-- where the settler knows of a doubt, one stands
+abbrev pub KnowsTruly : Settler → Run → Type 0
+KnowsTruly settler r = settler.doubted ≡ true → is_some (ends r).manager.doubt ≡ true
+
+-- a stop was put, or others' events came and no more
+abbrev pub MayStop : (CoreEvent → Bool) → Sight → Sight → Type 0
+MayStop may_come s t = Looks may_come s t ⊎ ((r : CoreReply) × Tells may_come s Halt r t)
+
+-- What is put behind a fault, so that others end by it: nothing behind a doubt, which ends them, and else a stop, unless one or a doubt
+-- stands already.
+abbrev pub EndsOthers : (CoreEvent → Bool) → RunFault → Sight → Sight → Type 0
+EndsOthers may_come InDoubt s t = t ≡ s
+EndsOthers may_come WriteFault s t = MayStop may_come s t × HasToStop (run_seen t)
+EndsOthers may_come Memory s t = MayStop may_come s t × HasToStop (run_seen t)
+
+-- However it failed, a stop or a doubt stands behind all that was seen: a doubt where one is answered, unless the settler knew of one
+-- before any stood.
+abbrev pub LeavesStopped : Settler → Sight → Sight → {T : Type 0} → Result T RunFault → Type 0
+LeavesStopped before s t (Ok done) = ⊤
+LeavesStopped before s t (Err InDoubt) = KnowsTruly before (run_seen s) → is_some (ends (run_seen t)).manager.doubt ≡ true
+LeavesStopped before s t (Err WriteFault) = HasToStop (run_seen t)
+LeavesStopped before s t (Err Memory) = HasToStop (run_seen t)
 
 -- What is known where a settler begins among others: it may share the core, no stop stands, and the books are kept and even.
 pub record CanSettleAmong (tells : Bool) (o : Outset) (b : Books) (shape : Shape) (s : Sight) (settler : Settler) (counts : Channel → ℕ) (now : World) : Type 0 where

@@ -1,9 +1,7 @@
-ghost use Rattle.std.specs.Prelude.{◌≡◌, ◌⊎◌, IsTrue, IfOk};
+ghost use Rattle.std.specs.Prelude.{◌≡◌, IsTrue, IfOk};
 ghost use Rattle.host_trait.specs.Files.{StaysReady};
 ghost use Rattle.core_model.specs.Settler.{settler_step, Rests};
-ghost use Rattle.core_model.specs.declared.events.CoreEvent.TheVariants.{Halt};
-ghost use Rattle.core_model.specs.declared.events.CoreReply.{CoreReply as AReply};
-ghost use Rattle.core_access.specs.Sights.{run_seen, Looks, Tells};
+ghost use Rattle.core_access.specs.Sights.{run_seen};
 ghost use Rattle.worker_rules.specs.Sharing.{KeepsPromise};
 ghost use Rattle.promise_spec.specs.UnitRule.{Basis};
 ghost use Rattle.batch_disk.specs.Writers.{IsInBounds, FitsDisk};
@@ -12,7 +10,7 @@ ghost use Rattle.run_books.specs.Beginnings.{Outset};
 ghost use Rattle.run_books.specs.Beside.{TurnsBeside};
 ghost use Rattle.run_books.specs.Books.{Books};
 ghost use Rattle.run_books.specs.Sharing.{MayRely, SeesOn};
-ghost use Rattle.shared_settling.specs.Among.{EndsAmong, CanSettleAmong, SettledAmong};
+ghost use Rattle.shared_settling.specs.Among.{EndsAmong, HasToStop, MayStop, EndsOthers, LeavesStopped, CanSettleAmong, SettledAmong};
 
 use crate::steps::settle_once;
 use base_types::Shape;
@@ -24,26 +22,47 @@ use settle_loop::{Gate, Settler};
 use std::sync::Wait;
 use worker_signals::Signals;
 
-/// Puts a stop, which the others see when they look. Where there is no memory for it, that is told.
+/// Puts a stop, which the others see when they look. It takes no memory where it applies, and elsewhere a stop or a doubt stands
+/// already: so one of them stands afterwards, and no more is written.
+#[tactic(auto, using(crate::proofs::Stopping::put_stop, crate::proofs::Stopping::spared_stop))]
 fn stop<A: Access>(access: &mut A, signals: &Signals)
     requires fit { A.is_fit access.old }
     ensures fit { A.is_fit access.new }
     ensures aside { A.aside access.new ≡ A.aside access.old }
-    ensures stops { Looks A.may_come (A.sight access.old) (A.sight access.new)
-        ⊎ ((r : AReply) × Tells A.may_come (A.sight access.old) Halt r (A.sight access.new)) }
+    ensures stops { MayStop A.may_come (A.sight access.old) (A.sight access.new) }
+    ensures stopped { HasToStop (run_seen (A.sight access.new)) }
 {
     match access.put(CoreEvent::Halt) {
         Ok(_reply) => {}
-        Err(_back) => signals.fail(),
+        // The stop doesn't apply then, so another one or a doubt stands.
+        Err(_back) => {}
     }
     signals.write_no_more();
     signals.changed();
 }
 
+/// Ends the others behind a fault: by a stop, unless it is a doubt, by which they end as well.
+fn end_others<A: Access>(access: &mut A, signals: &Signals, fault: &RunFault)
+    requires fit { A.is_fit access.old }
+    ensures fit { A.is_fit access.new }
+    ensures aside { A.aside access.new ≡ A.aside access.old }
+    ensures ends { EndsOthers A.may_come fault.now (A.sight access.old) (A.sight access.new) }
+{
+    match fault {
+        RunFault::InDoubt => {
+            signals.write_no_more();
+            signals.changed();
+        }
+        RunFault::WriteFault => stop(access, signals),
+        RunFault::Memory => stop(access, signals),
+    }
+}
+
 /// Settles what others do, who have the core too, until they have ended their work and nothing is left to do.
 ///
 /// After each step the others are told. Where there is nothing to do it sleeps until a worker waits or ends, but no longer than
-/// `Signals` does: what others finish meanwhile comes into one batch. Where the output fails or memory runs out, here or at a worker, a stop is put, and the others end by it.
+/// `Signals` does: what others finish meanwhile comes into one batch. Where the output fails or memory runs out, here or at a
+/// worker, a stop is put, unless one or a doubt stands already: so however it failed, one of them stands, and the others end by it.
 ///
 /// # Errors
 ///
@@ -69,6 +88,10 @@ pub fn settle_beside<A: Access, H: Host, G: Gate, R: Wait>(
     ensures sees { SeesOn (A.sight access.old) (A.sight access.new) }
     ensures own { EndsAmong A.may_come (A.sight access.old) (A.sight access.new) result }
     ensures promise { (basis : Basis) → KeepsPromise basis (A.sight access.old) → KeepsPromise basis (A.sight access.new) }
+
+    // However it failed, a stop or a doubt stands behind the last that it saw, so the others end by it. An answer of doubt says
+    // that one stands, unless the settler knew of one before any did.
+    ensures stopped { LeavesStopped settler.old (A.sight access.old) (A.sight access.new) result }
 
     // Where all is well the last that it saw left it nothing to do.
     ensures rests { IfOk result (λ _. settler_step (state_shown (A.sight access.new)) ≡ Rests) }
@@ -101,18 +124,9 @@ pub fn settle_beside<A: Access, H: Host, G: Gate, R: Wait>(
                 }
                 signals.rest(rt, called);
             }
-            Err(RunFault::InDoubt) => {
-                signals.write_no_more();
-                signals.changed();
-                return Err(RunFault::InDoubt);
-            }
-            Err(RunFault::WriteFault) => {
-                stop(access, signals);
-                return Err(RunFault::WriteFault);
-            }
-            Err(RunFault::Memory) => {
-                stop(access, signals);
-                return Err(RunFault::Memory);
+            Err(fault) => {
+                end_others(access, signals, &fault);
+                return Err(fault);
             }
         }
     }

@@ -1,4 +1,4 @@
-ghost use Rattle.std.specs.Prelude.{◌≡◌, true, false, IsTrue, IfOk};
+ghost use Rattle.std.specs.Prelude.{◌≡◌, true, false, IsTrue, IfOk, IfErr};
 ghost use Rattle.base_types.specs.declared.shapes.Shape.{Shape as AShape};
 ghost use Rattle.host_trait.specs.Files.{StaysReady};
 ghost use Rattle.core_model.specs.Settler.{settler_step, Rests};
@@ -7,11 +7,12 @@ ghost use Rattle.worker_rules.specs.Sharing.{KeepsPromise};
 ghost use Rattle.promise_spec.specs.UnitRule.{Basis};
 ghost use Rattle.batch_disk.specs.Writers.{IsInBounds, FitsDisk};
 ghost use Rattle.settle_loop.specs.Turning.{state_shown};
+ghost use Rattle.run_books.specs.declared.faults.RunFault.TheVariants.{InDoubt};
 ghost use Rattle.run_books.specs.Beginnings.{Outset};
 ghost use Rattle.run_books.specs.Beside.{TurnsBeside};
 ghost use Rattle.run_books.specs.Books.{Books};
 ghost use Rattle.run_books.specs.Sharing.{MayRely};
-ghost use Rattle.shared_settling.specs.Among.{SettlesAmong, CanSettleAmong, SettledAmong};
+ghost use Rattle.shared_settling.specs.Among.{SettlesAmong, KnowsTruly, CanSettleAmong, SettledAmong};
 
 use base_types::Shape;
 use core_access::Access;
@@ -37,6 +38,8 @@ pub(crate) fn settle_once<A: Access, H: Host, G: Gate>(
     ensures own { SettlesAmong (A.sight access.old) (A.sight access.new) }
     ensures promise { (basis : Basis) → KeepsPromise basis (A.sight access.old) → KeepsPromise basis (A.sight access.new) }
     ensures rests { IfOk result (λ more. more ≡ false → (settler_step (state_shown (A.sight access.new)) ≡ Rests) × (settler.new.doubted ≡ false)) }
+    ensures knows { KnowsTruly settler.old (run_seen (A.sight access.old)) → KnowsTruly settler.new (run_seen (A.sight access.new)) }
+    ensures doubted { IfErr result (λ fault. fault ≡ InDoubt → settler.new.doubted ≡ true) }
     ensures books { (o : Outset) (b : Books) → CanSettleAmong H.tells o b shape.now (A.sight access.old) settler.old (H.faults host.old) (H.world host.old)
         → MayRely o (A.sight access.new)
         → SettledAmong H.tells o b (run_seen (A.sight access.old)) (run_seen (A.sight access.new)) settler.old settler.new (H.faults host.new) (H.world host.old) (H.world host.new) result }

@@ -9,7 +9,7 @@ use Rattle.run_books.specs.Beginnings.{Outset}
 use Rattle.run_books.specs.Beside.{TurnsBeside}
 use Rattle.run_books.specs.Books.{Books}
 use Rattle.run_books.specs.Sharing.{MayRely}
-use Rattle.shared_settling.specs.Among.{SettlesAmong, CanSettleAmong, SettledAmong}
+use Rattle.shared_settling.specs.Among.{SettlesAmong, KnowsTruly, CanSettleAmong, SettledAmong}
 use Rattle.shared_settling.proofs.beside.settle_beside.Given as goal
 
 abbrev pub invariant-loop : goal.invariant-loop
@@ -18,6 +18,7 @@ invariant-loop g l = record {
   aside : g.A.Access.aside l.access ≡ g.A.Access.aside l.fn.access;
   own : SettlesAmong (g.A.Access.sight l.fn.access) (g.A.Access.sight l.access);
   promise : (basis : Basis) → KeepsPromise basis (g.A.Access.sight l.fn.access) → KeepsPromise basis (g.A.Access.sight l.access);
+  knows : KnowsTruly l.fn.settler (run_seen (g.A.Access.sight l.fn.access)) → KnowsTruly l.settler (run_seen (g.A.Access.sight l.access));
   books : (o : Outset) (b : Books) → CanSettleAmong g.H.Host.tells o b l.shape (g.A.Access.sight l.fn.access) l.fn.settler (g.H.Host.faults l.fn.host) (g.H.Host.world l.fn.host)
       → MayRely o (g.A.Access.sight l.access)
       → SettledAmong {T = Bool} g.H.Host.tells o b (run_seen (g.A.Access.sight l.fn.access)) (run_seen (g.A.Access.sight l.access)) l.fn.settler l.settler

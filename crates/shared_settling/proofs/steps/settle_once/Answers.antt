@@ -8,6 +8,7 @@ use Rattle.run_books.proofs.BooksShared.{shared-keep}
 use Rattle.shared_settling.proofs.Keeping.{on-stepped, on-idle, on-idle-doubt, on-doubt, on-cut, on-lack}
 use Rattle.shared_settling.proofs.Passing.{step-among, step-promise}
 use Rattle.shared_settling.proofs.StepsBeside.{step-leaves}
+use Rattle.shared_settling.proofs.Stopping.{step-knows}
 use Rattle.shared_settling.proofs.steps.settle_once.Goals as goal
 
 pub returns-in_err-step-clause-own : goal.returns-in_err-step-clause-own
@@ -15,6 +16,9 @@ returns-in_err-step-clause-own g c = step-among g.H.Host.tells g.H.Host.world g.
 
 pub returns-in_err-step-clause-promise : goal.returns-in_err-step-clause-promise
 returns-in_err-step-clause-promise g c = λ basis. step-promise g.H.Host.tells g.H.Host.world g.H.Host.faults g.A.Access.may_come c.args.shape.now c.args.settler.now c.step.new.self (g.A.Access.sight c.args.access.now) (g.A.Access.sight c.step.new.access) c.args.host.now c.step.new.host c.step.result c.step.ensures.turns basis
+
+pub returns-in_err-step-clause-knows : goal.returns-in_err-step-clause-knows
+returns-in_err-step-clause-knows g c = λ truly. step-knows g.H.Host.tells g.H.Host.world g.H.Host.faults g.A.Access.may_come c.args.shape.now c.args.settler.now c.step.new.self (g.A.Access.sight c.args.access.now) (g.A.Access.sight c.step.new.access) c.args.host.now c.step.new.host truly c.step.result c.step.ensures.turns
 
 pub returns-in_err-step-clause-books : goal.returns-in_err-step-clause-books
 returns-in_err-step-clause-books g c = λ o b can rely.
@@ -32,6 +36,9 @@ returns-then-doubted-clause-own g c = step-among g.H.Host.tells g.H.Host.world g
 pub returns-then-doubted-clause-promise : goal.returns-then-doubted-clause-promise
 returns-then-doubted-clause-promise g c = λ basis. step-promise g.H.Host.tells g.H.Host.world g.H.Host.faults g.A.Access.may_come c.args.shape.now c.args.settler.now c.step.new.self (g.A.Access.sight c.args.access.now) (g.A.Access.sight c.step.new.access) c.args.host.now c.step.new.host c.step.result c.step.ensures.turns basis
 
+pub returns-then-doubted-clause-knows : goal.returns-then-doubted-clause-knows
+returns-then-doubted-clause-knows g c = λ truly. step-knows g.H.Host.tells g.H.Host.world g.H.Host.faults g.A.Access.may_come c.args.shape.now c.args.settler.now c.step.new.self (g.A.Access.sight c.args.access.now) (g.A.Access.sight c.step.new.access) c.args.host.now c.step.new.host truly c.step.result c.step.ensures.turns
+
 pub returns-then-doubted-clause-books : goal.returns-then-doubted-clause-books
 returns-then-doubted-clause-books g c = λ o b can rely.
     on-idle-doubt g.H.Host.tells g.H.Host.world g.H.Host.faults (shared-keep _ _ g.H.Host.tells g.H.Host.world g.H.Host.faults) g.A.Access.may_come c.args.shape.now (g.A.Access.sight c.args.access.now) (g.A.Access.sight c.step.new.access) c.args.settler.now c.step.new.self c.args.host.now c.step.new.host
@@ -47,6 +54,9 @@ returns-in-Stepped-clause-own g c = step-among g.H.Host.tells g.H.Host.world g.H
 
 pub returns-in-Stepped-clause-promise : goal.returns-in-Stepped-clause-promise
 returns-in-Stepped-clause-promise g c = λ basis. step-promise g.H.Host.tells g.H.Host.world g.H.Host.faults g.A.Access.may_come c.args.shape.now c.args.settler.now c.step.new.self (g.A.Access.sight c.args.access.now) (g.A.Access.sight c.step.new.access) c.args.host.now c.step.new.host c.step.result c.step.ensures.turns basis
+
+pub returns-in-Stepped-clause-knows : goal.returns-in-Stepped-clause-knows
+returns-in-Stepped-clause-knows g c = λ truly. step-knows g.H.Host.tells g.H.Host.world g.H.Host.faults g.A.Access.may_come c.args.shape.now c.args.settler.now c.step.new.self (g.A.Access.sight c.args.access.now) (g.A.Access.sight c.step.new.access) c.args.host.now c.step.new.host truly c.step.result c.step.ensures.turns
 
 pub returns-in-Stepped-clause-books : goal.returns-in-Stepped-clause-books
 returns-in-Stepped-clause-books g c = λ o b can rely.
@@ -80,6 +90,9 @@ returns-in-Stop-InDoubt-clause-own g c = step-among g.H.Host.tells g.H.Host.worl
 pub returns-in-Stop-InDoubt-clause-promise : goal.returns-in-Stop-InDoubt-clause-promise
 returns-in-Stop-InDoubt-clause-promise g c = λ basis. step-promise g.H.Host.tells g.H.Host.world g.H.Host.faults g.A.Access.may_come c.args.shape.now c.args.settler.now c.step.new.self (g.A.Access.sight c.args.access.now) (g.A.Access.sight c.step.new.access) c.args.host.now c.step.new.host c.step.result c.step.ensures.turns basis
 
+pub returns-in-Stop-InDoubt-clause-knows : goal.returns-in-Stop-InDoubt-clause-knows
+returns-in-Stop-InDoubt-clause-knows g c = λ truly. step-knows g.H.Host.tells g.H.Host.world g.H.Host.faults g.A.Access.may_come c.args.shape.now c.args.settler.now c.step.new.self (g.A.Access.sight c.args.access.now) (g.A.Access.sight c.step.new.access) c.args.host.now c.step.new.host truly c.step.result c.step.ensures.turns
+
 pub returns-in-Stop-InDoubt-clause-books : goal.returns-in-Stop-InDoubt-clause-books
 returns-in-Stop-InDoubt-clause-books g c = λ o b can rely.
     on-doubt g.H.Host.tells g.H.Host.world g.H.Host.faults (shared-keep _ _ g.H.Host.tells g.H.Host.world g.H.Host.faults) g.A.Access.may_come c.args.shape.now (g.A.Access.sight c.args.access.now) (g.A.Access.sight c.step.new.access) c.args.settler.now c.step.new.self c.args.host.now c.step.new.host
@@ -95,6 +108,9 @@ returns-in-Stop-WriteFault-clause-own g c = step-among g.H.Host.tells g.H.Host.w
 
 pub returns-in-Stop-WriteFault-clause-promise : goal.returns-in-Stop-WriteFault-clause-promise
 returns-in-Stop-WriteFault-clause-promise g c = λ basis. step-promise g.H.Host.tells g.H.Host.world g.H.Host.faults g.A.Access.may_come c.args.shape.now c.args.settler.now c.step.new.self (g.A.Access.sight c.args.access.now) (g.A.Access.sight c.step.new.access) c.args.host.now c.step.new.host c.step.result c.step.ensures.turns basis
+
+pub returns-in-Stop-WriteFault-clause-knows : goal.returns-in-Stop-WriteFault-clause-knows
+returns-in-Stop-WriteFault-clause-knows g c = λ truly. step-knows g.H.Host.tells g.H.Host.world g.H.Host.faults g.A.Access.may_come c.args.shape.now c.args.settler.now c.step.new.self (g.A.Access.sight c.args.access.now) (g.A.Access.sight c.step.new.access) c.args.host.now c.step.new.host truly c.step.result c.step.ensures.turns
 
 pub returns-in-Stop-WriteFault-clause-books : goal.returns-in-Stop-WriteFault-clause-books
 returns-in-Stop-WriteFault-clause-books g c = λ o b can rely.
