@@ -65,9 +65,10 @@ impl Parts {
         ensures err { OnErr result (KeepsMeaning self.old self.new) }
         ensures opens { opens_with self.new.cells ≡ opens_with self.old.cells }
     {
-        if let Err(error) = self.units.reserve_begin(&origin) {
+        // No run comes to 2^63 units, so their limit is answered as want of memory too.
+        if self.units.reserve_begin(&origin).is_err() {
             return Err((
-                error,
+                AllocError,
                 CoreEvent::Begin {
                     origin,
                     call,

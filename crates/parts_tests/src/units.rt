@@ -2,7 +2,7 @@ use base_types::{Call, GrainId, List, Origin, Outcome, State, UnitNo};
 use core_model::{Phase, Read, Verdict};
 use std::alloc::{AllocError, Global};
 use std::test::Fail;
-use unit_table::UnitTable;
+use unit_table::{BeginFault, UnitTable};
 
 const GRAIN: GrainId = GrainId { kind: 0, key: 7 };
 
@@ -14,23 +14,23 @@ fn call(alloc: Global) -> Call {
     }
 }
 
-fn begin_line(alloc: Global, table: &mut UnitTable) -> Result<UnitNo, AllocError> {
+fn begin_line(alloc: Global, table: &mut UnitTable) -> Result<UnitNo, Fail> {
     let origin = Origin::Line(1);
     table.reserve_begin(&origin)?;
     if table.lines() > 9 {
-        return Err(AllocError);
+        return Err("ten lines have begun".into());
     }
     Ok(table.begin(origin, call(alloc), false))
 }
 
-fn begin_child(alloc: Global, table: &mut UnitTable, parent: UnitNo) -> Result<UnitNo, AllocError> {
+fn begin_child(alloc: Global, table: &mut UnitTable, parent: UnitNo) -> Result<UnitNo, Fail> {
     let origin = Origin::Child {
         parent,
         index: 0,
         depth: 2,
     };
     if !table.is_running(parent) {
-        return Err(AllocError);
+        return Err("the parent doesn't run".into());
     }
     table.reserve_begin(&origin)?;
     Ok(table.begin(origin, call(alloc), false))
@@ -135,8 +135,12 @@ fn lines_and_the_stop_are_noted(rt: HostRuntime) -> Result<(), Fail> {
 #[test]
 fn no_unit_has_the_number_2_to_the_63(rt: HostRuntime) -> Result<(), Fail> {
     let mut table = UnitTable::new(rt.alloc(), UnitNo((1 << 63) - 1), 1);
+    assert_eq!(rt; table.reserve_begin(&Origin::Line(1)), Ok(()));
     begin_line(rt.alloc(), &mut table)?;
-    assert!(rt; begin_line(rt.alloc(), &mut table).is_err());
+    assert_eq!(rt;
+        table.reserve_begin(&Origin::Line(2)),
+        Err(BeginFault::NoNumber)
+    );
     Ok(())
 }
 

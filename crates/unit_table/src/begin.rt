@@ -1,14 +1,16 @@
-ghost use Rattle.std.specs.Prelude.{◌≡◌, ◌<◌, ◌+◌, ◌^◌, ◌∷◌, ◌++◌, [], ℕ, true, Option, vec_len, vec_capacity, OnOk};
+ghost use Rattle.std.specs.Prelude.{◌≡◌, ◌<◌, ◌≤◌, ◌+◌, ◌^◌, ◌∷◌, ◌++◌, [], ℕ, true, Option, nat_lt, vec_len, vec_capacity, OnOk, IsErrOf};
 ghost use Rattle.base_types.specs.declared.calls.UnitNo.{UnitNo};
 ghost use Rattle.core_model.specs.CoreState.{put};
 ghost use Rattle.core_model.specs.Tests.{is_running};
 ghost use Rattle.core_model.specs.Changes.{lines_with};
+ghost use Rattle.unit_table.specs.declared.faults.BeginFault.{BeginFault};
 ghost use Rattle.unit_table.specs.Known.{just_begun, with_kid};
 ghost use Rattle.unit_table.specs.Parts.{units_begun};
 ghost use Rattle.unit_table.specs.Table.{entry_in, known_in, base_of, next_in, phase_in, verdict_in, result_in, wants_in, units_of};
 ghost use Rattle.unit_table.specs.Rooms.{SameUnits, SameRest, SameRoom, ParentRuns, ParentHasRoom, KidRoomAt, BlankAt, RoomToBegin, LineIsCounted};
 
 use crate::entry::{RunningUnit, UnitEntry};
+use crate::faults::BeginFault;
 use crate::table::UnitTable;
 use base_types::{Call, Origin, UnitNo};
 use std::alloc::AllocError;
@@ -17,15 +19,18 @@ use std::alloc::AllocError;
 const NUMBER_LIMIT: u64 = 1 << 63;
 
 impl UnitTable {
-    /// Makes room for the next unit, and for it among its parent's children. Where its number would be 2^63 the
-    /// answer is that memory is wanting. The units stay as they were, whatever the answer.
-    pub fn reserve_begin(&mut self, origin: &Origin) -> Result<(), AllocError>
+    /// Makes room for the next unit, and for it among its parent's children. Where its number would be 2^63 or
+    /// more the answer is `NoNumber`, before any memory is asked for; where it is lower and memory is wanting,
+    /// `Memory`. The units stay as they were, whatever the answer.
+    pub fn reserve_begin(&mut self, origin: &Origin) -> Result<(), BeginFault>
         requires { ParentRuns self.old origin.now }
         ensures same { SameUnits self.old self.new }
         ensures room { OnOk result (RoomToBegin self.new origin.now) }
+        ensures limit { IsErrOf result BeginFault.NoNumber → 2 ^ 63 ≤ next_in self.old }
+        ensures starved { IsErrOf result BeginFault.Memory → next_in self.old < 2 ^ 63 }
     {
         if !self.has_number() {
-            return Err(AllocError);
+            return Err(BeginFault::NoNumber);
         }
         self.reserve_kid(origin)?;
         self.reserve_entry()?;
@@ -34,7 +39,7 @@ impl UnitTable {
 
     // Whether the next unit's number is below the limit.
     fn has_number(&self) -> bool
-        ensures { result ≡ true → next_in self.now < 2 ^ 63 }
+        ensures { result ≡ nat_lt (next_in self.now) (2 ^ 63) }
     {
         self.base < NUMBER_LIMIT && (self.units.len() as u64) < NUMBER_LIMIT - self.base
     }

@@ -6,10 +6,12 @@
 mod begin;
 mod ending;
 mod entry;
+mod faults;
 mod looks;
 mod reading;
 mod table;
 mod waits;
 
 pub use entry::RunningUnit;
+pub use faults::BeginFault;
 pub use table::UnitTable;

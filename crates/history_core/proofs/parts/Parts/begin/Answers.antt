@@ -8,8 +8,8 @@ use Rattle.history_core.proofs.Alike.{keeps-units, keeps-does}
 use Rattle.history_core.proofs.Begun.{does-begin, line-counts}
 use Rattle.history_core.proofs.parts.Parts.begin.Goals as goal
 
-pub returns-in-Err-clause-err : goal.returns-in-Err-clause-err
-returns-in-Err-clause-err c = keeps-units c.args.self.now c.reserve_begin.new.self c.reserve_begin.ensures.same
+pub returns-then-is_err-clause-err : goal.returns-then-is_err-clause-err
+returns-then-is_err-clause-err c = keeps-units c.args.self.now c.reserve_begin.new.self c.reserve_begin.ensures.same
 
 pub begin-unit-requires-clause-line : goal.begin-unit-requires-clause-line
 begin-unit-requires-clause-line c =
