@@ -15,29 +15,29 @@ use Rattle.run_books.specs.Records.{RecordGoesOn}
 use Rattle.interleaver.specs.Turns.{IsFreshRecord, KeepsTurns, TurnsGoOn}
 use Rattle.interleaver.proofs.Unstopped.{turns-record}
 
-module _ {T : Type 0} (tells : Bool) (types : ProgramTree) (lines : List Line) (left : Run) (after : Settler) (counts' : Channel → ℕ) (now' : World) (result : Result T RunFault) where
-  -- what turns say of their record, from this run, settler, counts and world on
-  abbrev pub TurnsSay : Run → Settler → (Channel → ℕ) → World → Type 0
-  TurnsSay r before counts now = (o : Outset) (b : Books) → IsOutset o types r lines 1 [] → CanTurn r before lines → IsFreshRecord o b r → KeepsTurns tells o b r before counts now
-      → TurnsGoOn tells o b r left before after counts' now now' result
+-- what turns say of their record goes over to what is equal, without the turn rule
+pub turned : {T : Type 0} {tells : Bool} {types : ProgramTree} {lines : List Line} {r r0 left : Run} {before before0 after : Settler} {counts counts0 counts' : Channel → ℕ} {now now0 now' : World}
+    {result : Result T RunFault} → r0 ≡ r → before0 ≡ before → counts0 ≡ counts → now0 ≡ now
+    → ((o : Outset) (b : Books) → IsOutset o types r0 lines 1 [] → CanTurn r0 before0 lines → IsFreshRecord o b r0 → KeepsTurns tells o b r0 before0 counts0 now0
+    → TurnsGoOn {T = T} tells o b r0 left before0 after counts' now0 now' result)
+    → (o : Outset) (b : Books) → IsOutset o types r lines 1 [] → CanTurn r before lines → IsFreshRecord o b r → KeepsTurns tells o b r before counts now
+    → RecordGoesOn {T = T} tells o b r left before after counts' now now' result
+turned {T} {tells} {types} {lines} {r} {r0} {left} {before} {before0} {after} {counts} {counts0} {counts'} {now} {now0} {now'} {result} run settler faults world says o b is can fresh kept =
+    let Says : Run → Settler → (Channel → ℕ) → World → Type 0 = λ x s c w. IsOutset o types x lines 1 [] → CanTurn x s lines → IsFreshRecord o b x → KeepsTurns tells o b x s c w
+    → TurnsGoOn {T = T} tells o b x left s after counts' w now' result in
+    let said : Says r before counts now =
+    subst (λ (x : Run). Says x before counts now) run
+    (subst (λ (x : Settler). Says r0 x counts now) settler
+    (subst (λ (x : Channel → ℕ). Says r0 before0 x now) faults
+    (subst (λ (x : World). Says r0 before0 counts0 x) world (says o b)))) in
+    let g = said is can fresh kept in record { books = g.books; record_kept = turns-record g.record_kept; lasts = g.lasts; ended = g.ended }
 
-  -- the same from what is equal, without the turn rule
-  pub turned : (r r0 : Run) (before before0 : Settler) (counts counts0 : Channel → ℕ) (now now0 : World) → r0 ≡ r → before0 ≡ before → counts0 ≡ counts → now0 ≡ now
-      → TurnsSay r0 before0 counts0 now0 → (o : Outset) (b : Books) → IsOutset o types r lines 1 [] → CanTurn r before lines → IsFreshRecord o b r → KeepsTurns tells o b r before counts now
-      → RecordGoesOn tells o b r left before after counts' now now' result
-  turned r r0 before before0 counts counts0 now now0 run settler faults world says o b is can fresh kept =
-      let said : TurnsSay r before counts now =
-      subst (λ (x : Run). TurnsSay x before counts now) run
-      (subst (λ (x : Settler). TurnsSay r0 x counts now) settler
-      (subst (λ (x : Channel → ℕ). TurnsSay r0 before0 x now) faults
-      (subst (λ (x : World). TurnsSay r0 before0 counts0 x) world says))) in
-      let g = said o b is can fresh kept in record { books = g.books; record_kept = turns-record g.record_kept; lasts = g.lasts; ended = g.ended }
-
-  -- and what they leave beside it
-  pub turned-beside : (r r0 : Run) (before before0 : Settler) (counts counts0 : Channel → ℕ) (now now0 : World) → r0 ≡ r → before0 ≡ before → counts0 ≡ counts → now0 ≡ now
-      → TurnsBeside tells r0 left before0 after counts0 counts' now0 now' result → TurnsBeside tells r left before after counts counts' now now' result
-  turned-beside r r0 before before0 counts counts0 now now0 run settler faults world says =
-      subst (λ (x : Run). TurnsBeside tells x left before after counts counts' now now' result) run
-      (subst (λ (x : Settler). TurnsBeside tells r0 left x after counts counts' now now' result) settler
-      (subst (λ (x : Channel → ℕ). TurnsBeside tells r0 left before0 after x counts' now now' result) faults
-      (subst (λ (x : World). TurnsBeside tells r0 left before0 after counts0 counts' x now' result) world says)))
+-- and what they leave beside it
+pub turned-beside : {T : Type 0} {tells : Bool} {r r0 left : Run} {before before0 after : Settler} {counts counts0 counts' : Channel → ℕ} {now now0 now' : World} {result : Result T RunFault}
+    → r0 ≡ r → before0 ≡ before → counts0 ≡ counts → now0 ≡ now
+    → TurnsBeside {T = T} tells r0 left before0 after counts0 counts' now0 now' result → TurnsBeside {T = T} tells r left before after counts counts' now now' result
+turned-beside {T} {tells} {r} {r0} {left} {before} {before0} {after} {counts} {counts0} {counts'} {now} {now0} {now'} {result} run settler faults world says =
+    subst (λ (x : Run). TurnsBeside tells x left before after counts counts' now now' result) run
+    (subst (λ (x : Settler). TurnsBeside tells r0 left x after counts counts' now now' result) settler
+    (subst (λ (x : Channel → ℕ). TurnsBeside tells r0 left before0 after x counts' now now' result) faults
+    (subst (λ (x : World). TurnsBeside tells r0 left before0 after counts0 counts' x now' result) world says)))

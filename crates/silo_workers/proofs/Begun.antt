@@ -46,8 +46,7 @@ number-at (x ∷ lines) before zero line up q = (let same = ap number q in let n
     number None = 0
 number-at (x ∷ lines) before (suc place) line up q = (let ih = number-at lines (before + 1) place line up.1 q in omega (arith, ih))
 
-module _ (tells : Bool) (o : Outset) (types : ProgramTree) (lines : List Line) (b : Books) (shape : Shape) (r : Run) (settler : Settler) (counts : Channel → ℕ) (now : World)
-    (is : IsOutset o types r lines 1 []) (can : CanTurn r settler lines) where
+module _ {o : Outset} {types : ProgramTree} {lines : List Line} {r : Run} {settler : Settler} (is : IsOutset o types r lines 1 []) (can : CanTurn r settler lines) where
   -- the basis reads the lines
   pub reads-lines : (before : ℕ) → before ≡ (ends r).units.lines → IsBasisOf types before lines (basis_of o)
   reads-lines before q = (
@@ -58,7 +57,8 @@ module _ (tells : Bool) (o : Outset) (types : ProgramTree) (lines : List Line) (
     ),
   )
 
-  module _ (accepted : IsAcceptedProgram types) (shaped : shape.types ≡ type_shapes types) (rest : b.rest ≡ []) (k : KeepsRecord tells o b r settler counts now) where
+  module _ {tells : Bool} {b : Books} {shape : Shape} {counts : Channel → ℕ} {now : World} (accepted : IsAcceptedProgram types) (shaped : shape.types ≡ type_shapes types) (rest : b.rest ≡ [])
+      (k : KeepsRecord tells o b r settler counts now) where
     pub of-program : IsOfProgram o shape r
     of-program = record {
       above = k.above;

@@ -1,6 +1,6 @@
 -- The passes of several workers, joined.
 use Rattle.std.proofs.Common.{◌≡◌, ℕ, List, [], ◌∷◌, Bool, refl, sym, ap, ◌∙◌, subst, append-nil}
-use Rattle.std.specs.Prelude.{Ok}
+use Rattle.std.specs.Prelude.{Ok, Result, ◌+◌, length, false}
 use Rattle.base_types.specs.declared.shapes.Shape.{Shape}
 use Rattle.host_trait.specs.declared.channels.Channel.{Channel}
 use Rattle.host_trait.specs.World.{World}
@@ -11,20 +11,26 @@ use Rattle.core_model.specs.Legal.{Run}
 use Rattle.turn_cell.specs.declared.view.View.{View}
 use Rattle.turn_cell.specs.History.{StartsWith}
 use Rattle.turn_cell.specs.Hands.{first_hand}
-use Rattle.turn_cell.specs.Passes.{splitter_view, split_off_view, Joins, Closes}
+use Rattle.turn_cell.specs.Passes.{view, pass_view, splitter_view, split_off_view, IsPassOf, Joins, Closes}
 use Rattle.core_access.specs.Histories.{Told, reply_in, run_after}
 use Rattle.core_access.specs.Sights.{Sight, run_seen}
 use Rattle.core_access.specs.ByPass.{sight_of}
+use Rattle.history_core.specs.Cores.{CoreData, run_of}
+use Rattle.script_tree.specs.Programs.{ProgramTree}
+use Rattle.request_wire.specs.declared.requests.Line.{Line}
+use Rattle.atomic_table.specs.Seated.{TableId}
+use Rattle.unit_crew.specs.Crews.{IsBasisOf}
 use Rattle.promise_spec.specs.UnitRule.{Basis}
 use Rattle.settle_loop.specs.declared.settler.Settler.{Settler}
+use Rattle.run_books.specs.declared.faults.RunFault.{RunFault}
 use Rattle.run_books.specs.Beside.{TurnsBeside}
 use Rattle.run_books.proofs.Relying.{sees-none}
-use Rattle.closing_rules.specs.Closed.{HasBegunLines}
-use Rattle.closing_rules.specs.Gathering.{Returns, GathersSights}
+use Rattle.closing_rules.specs.Closed.{IsClosed, HasBegunLines}
+use Rattle.closing_rules.specs.Gathering.{sight_by, Returns, GathersSights}
 use Rattle.closing_rules.proofs.Closes.{closed-lines}
 use Rattle.closing_rules.proofs.Gathered.{shown-more, gathers-less, gathers-split, closes-known}
-use Rattle.silo_workers.specs.Beside.{SettlesBeside}
-use Rattle.silo_workers.specs.Working.{HasWorked, SaysOfUnits, SaysOfLines, IsGathered, both_ends}
+use Rattle.silo_workers.specs.Beside.{SettlesBeside, HasSettled}
+use Rattle.silo_workers.specs.Working.{CorePass, HasWorked, SaysOfUnits, SaysOfLines, BringsBack, BringsTogether, IsGathered, both_ends}
 use Rattle.silo_workers.specs.declared.work.WorkEnd.{WorkEnd}
 use Rattle.silo_workers.specs.declared.work.WorkEnd.TheVariants.{Idle, Through, Lacking}
 use Rattle.silo_workers.proofs.Returned.{nothing-done}
@@ -76,17 +82,41 @@ crowd-joined state Own Asked a b v l w k r u is_l is_k g h j =
     record { first = h.first; seen = h.seen; number = h.number; split_off = h.split_off; joined = h.joined; holds = worked-left Asked a b (sight_of state r) h.holds }
     j
 
+-- one worker's pass more comes back into those that are together
+pub brought-together : (Own : Sight → Sight → Type 0) (cell : TableId) (types : ProgramTree) (before : ℕ) (lines : List Line) (a b : WorkEnd) (v l k r w u : CorePass)
+    → pass_view l ≡ splitter_view (pass_view v) → pass_view k ≡ split_off_view (pass_view v)
+    → BringsTogether cell (Own (sight_of run_of (pass_view l))) types before lines b l w → BringsBack types before lines a k r
+    → IsPassOf cell u → Joins run_of (λ x e. extended x (e ∷ [])) reply_in (pass_view w) (pass_view r) (pass_view u)
+    → BringsTogether cell (Own (sight_of run_of (pass_view v))) types before lines (both_ends a b) v u
+brought-together Own cell types before lines a b v l k r w u is_l is_k g h own j =
+    let n = before + length lines in
+    let theirs = subst (λ (z : View CoreData CoreEvent CoreReply). SaysOfLines a n (run_of z.first) (pass_view r).seen) is_k h.2 in
+    let ours = subst (λ (z : View CoreData CoreEvent CoreReply). SaysOfLines b n (run_of z.first) (pass_view w).seen) is_l g.2 in (
+      own,
+      crowd-joined run_of Own (IsBasisOf types before lines) a b (pass_view v) (pass_view l) (pass_view w) (pass_view k) (pass_view r) (pass_view u) is_l is_k g.1 h.1 j,
+      lines-both a b n (run_of (pass_view v).first) (pass_view r).seen (pass_view w).seen (pass_view u).seen j.other j.one theirs ours,
+    )
+
 -- ---- the cell is closed
 
-pub is-gathered : {T : Type 0} (state : T → Run) (Own Their : Sight → Type 0) (v w : View T CoreEvent CoreReply) (closed : T) (end : WorkEnd) (lines : ℕ) → v.hand ≡ first_hand
-    → GathersSights state Own Their v w → Closes state (λ x e. extended x (e ∷ [])) reply_in w closed → SaysOfLines end lines (state v.first) w.seen
-    → IsGathered end lines Own Their (state v.first) (state closed)
-is-gathered state Own Their v w closed end lines is all h says = record {
-  closed = closes-known state Own Their v w closed is all h;
-  shown = λ through. subst (HasBegunLines lines) (sym (h.object ∙ ap (λ (r : Run). run_after r h.log) all.first))
-      (closed-lines (state v.first) h.log lines
-      (shown-more (HasBegunLines lines) (state v.first) w.seen h.log h.begins (subst (λ (e : WorkEnd). SaysOfLines e lines (state v.first) w.seen) through says)));
-}
+pub is-gathered : {T : Type 0} {cell : TableId} {started tells : Bool} {shape : Shape} {own settler after : Settler} {counts counts' : Channel → ℕ} {now now' : World} {result : Result T RunFault}
+    {types : ProgramTree} {end : WorkEnd} {closed : CoreData} (before : ℕ) (lines : List Line) (v w : CorePass)
+    → BringsTogether cell (HasSettled {T = T} started tells shape own after counts counts' now now' result (sight_of run_of (pass_view v))) types before lines end v w
+    → own ≡ settler → pass_view v ≡ view (pass_view v).first [] false first_hand → Closes run_of (λ x e. extended x (e ∷ [])) reply_in (pass_view w) closed
+    → IsGathered end (before + length lines) (HasSettled {T = T} started tells shape settler after counts counts' now now' result (sight_by (run_of (pass_view v).first) [] [] [])) (HasWorked (IsBasisOf types before lines) end)
+    (run_of (pass_view v).first) (run_of closed)
+is-gathered {T} {cell} {started} {tells} {shape} {own} {settler} {after} {counts} {counts'} {now} {now'} {result} {types} {end} {closed} before lines v w g same first all =
+    let n = before + length lines in
+    let r = run_of (pass_view v).first in
+    let Own : Settler → Sight → Sight → Type 0 = λ x s. HasSettled {T = T} started tells shape x after counts counts' now now' result s in
+    let hand = ap (λ (z : View CoreData CoreEvent CoreReply). z.hand) first in
+    let known = closes-known run_of (Own own (sight_of run_of (pass_view v))) (HasWorked (IsBasisOf types before lines) end) (pass_view v) (pass_view w) closed hand g.1 all in
+    record {
+      closed = subst (λ (x : Settler). IsClosed (Own x (sight_by r [] [] [])) (HasWorked (IsBasisOf types before lines) end) r (run_of closed)) same
+          (subst (λ (s : Sight). IsClosed (Own own s) (HasWorked (IsBasisOf types before lines) end) r (run_of closed)) (ap (λ (z : View CoreData CoreEvent CoreReply). sight_of run_of z) first) known);
+      shown = λ through. subst (HasBegunLines n) (sym (all.object ∙ ap (λ (x : Run). run_after x all.log) g.1.first))
+          (closed-lines r all.log n (shown-more (HasBegunLines n) r (pass_view w).seen all.log all.begins (subst (λ (e : WorkEnd). SaysOfLines e n r (pass_view w).seen) through g.2)));
+    }
 
 -- ---- nobody settles
 

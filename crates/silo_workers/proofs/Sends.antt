@@ -39,19 +39,19 @@ read_send : IsSend read.the_row
 read_send = search (sendable, crosses, maps, state_send) depth 60 fits 90000
 
 effect_send : IsSend effect.the_row
-effect_send = search (sendable, crosses, maps, call_send, outcome_send, state_send, read_send) depth 60 fits 90000
+effect_send = search (sendable, crosses, maps, outcome_send, state_send, read_send) depth 60 fits 90000
 
 finished_send : IsSend finished.the_row
-finished_send = search (sendable, crosses, maps, effect_send, deps_send) depth 60 fits 90000
+finished_send = search (sendable, crosses, maps, deps_send) depth 60 fits 90000
 
 running_send : IsSend running.the_row
-running_send = search (sendable, crosses, maps, call_send, read_send, deps_send) depth 60 fits 90000
+running_send = search (sendable, crosses, maps, read_send, deps_send) depth 60 fits 90000
 
 over_send : IsSend over.the_row
-over_send = search (sendable, crosses, maps, outcome_send) depth 60 fits 90000
+over_send = search (sendable, crosses, maps) depth 60 fits 90000
 
 entry_send : IsSend entry.the_row
-entry_send = search (sendable, crosses, maps, running_send, over_send) depth 60 fits 90000
+entry_send = search (sendable, crosses, maps, running_send) depth 60 fits 90000
 
 units_send : IsSend units.the_row
 units_send = search (sendable, crosses, maps, entry_send, running_send) depth 60 fits 90000

@@ -6,9 +6,14 @@ use Rattle.base_types.specs.declared.shapes.Shape.{Shape}
 use Rattle.host_trait.specs.declared.channels.Channel.{Channel}
 use Rattle.host_trait.specs.World.{World}
 use Rattle.core_model.specs.declared.events.CoreEvent.{CoreEvent}
+use Rattle.core_model.specs.declared.events.CoreReply.{CoreReply}
 use Rattle.core_model.specs.declared.events.CoreEvent.TheVariants.{Halt}
 use Rattle.core_model.specs.Laws.{extended}
 use Rattle.core_model.specs.Legal.{Run, ends}
+use Rattle.history_core.specs.Cores.{CoreData, run_of}
+use Rattle.turn_cell.specs.declared.view.View.{View}
+use Rattle.turn_cell.specs.Hands.{first_hand}
+use Rattle.turn_cell.specs.Passes.{view}
 use Rattle.turn_cell.specs.History.{In, entry, entries_of}
 use Rattle.turn_cell.proofs.Lists.{in_append}
 use Rattle.turn_rules.specs.Going.{MayCome}
@@ -64,20 +69,29 @@ ends-settle s t (Err Memory) none a = settles-or-stops s t none a
 
 -- ---- the closed core
 
-module _ {T : Type 0} (tells : Bool) (shape : Shape) (before after : Settler) (counts counts' : Channel → ℕ) (now now' : World) (result : Result T RunFault) (started : Bool) (end : WorkEnd)
-    (lines : ℕ) (Asked : Basis → Type 0) (r r' : Run) (s : Sight) (first : s ≡ sight_by r [] [] [])
-    (g : IsGathered end lines (HasSettled {T = T} started tells shape before after counts counts' now now' result s) (HasWorked Asked end) r r') where
+-- what is known of it, by the core that the cell was made with
+pub closed-from : {T : Type 0} {tells : Bool} {shape : Shape} {before after : Settler} {counts counts' : Channel → ℕ} {now now' : World} {result : Result T RunFault} {started : Bool} {end : WorkEnd}
+    {lines : ℕ} {Asked : Basis → Type 0} {r' : Run} {v : View CoreData CoreEvent CoreReply} {core : CoreData} → v ≡ view core [] false first_hand
+    → IsGathered end lines (HasSettled {T = T} started tells shape before after counts counts' now now' result (sight_by (run_of v.first) [] [] [])) (HasWorked Asked end) (run_of v.first) r'
+    → IsGathered end lines (HasSettled {T = T} started tells shape before after counts counts' now now' result (sight_by (run_of core) [] [] [])) (HasWorked Asked end) (run_of core) r'
+closed-from {T} {tells} {shape} {before} {after} {counts} {counts'} {now} {now'} {result} {started} {end} {lines} {Asked} {r'} first g =
+    subst (λ (z : View CoreData CoreEvent CoreReply). IsGathered end lines (HasSettled {T = T} started tells shape before after counts counts' now now' result (sight_by (run_of z.first) [] [] [])) (HasWorked Asked end) (run_of z.first) r') first g
+
+module _ {T : Type 0} {tells : Bool} {shape : Shape} {before after : Settler} {counts counts' : Channel → ℕ} {now now' : World} {result : Result T RunFault} {started : Bool} {end : WorkEnd}
+    {lines : ℕ} {Asked : Basis → Type 0} {r r' : Run}
+    (g : IsGathered end lines (HasSettled {T = T} started tells shape before after counts counts' now now' result (sight_by r [] [] [])) (HasWorked Asked end) r r') where
+  -- the calling thread's pass, before it was used
+  abbrev s : Sight
+  s = sight_by r [] [] []
+
   abbrev c : IsClosed (HasSettled {T = T} started tells shape before after counts counts' now now' result s) (HasWorked Asked end) r r'
   c = g.closed
 
   none-first : (basis : Basis) → KeepsPromise basis s
-  none-first basis = subst (KeepsPromise basis) (sym first) (promise-none (MayCome basis) r [] [])
-
-  first-mine : s.mine ≡ []
-  first-mine = ap (λ (z : Sight). z.mine) first
+  none-first basis = promise-none (MayCome basis) r [] []
 
   counts-first : Counts s
-  counts-first = subst Counts (sym first) (omega arith)
+  counts-first = omega arith
 
   abbrev shared : IsClosed Counts (λ z. OnlyWorks z.mine) r r'
   shared = closed-less (HasSettled {T = T} started tells shape before after counts counts' now now' result s) Counts (HasWorked Asked end) (λ z. OnlyWorks z.mine)
@@ -124,11 +138,8 @@ module _ {T : Type 0} (tells : Bool) (shape : Shape) (before after : Settler) (c
     relied : MayRely o seen
     relied = relies-before seen (sight_by r [] c.log (entries_of [] c.log)) on o (shared.own.holds) relies
 
-    settled : SettledAmong {T = T} tells o b (run_seen s) (run_seen seen) before after counts' now now' result
+    settled : SettledAmong {T = T} tells o b r (run_seen seen) before after counts' now now' result
     settled = c.own.holds.beside.books o b can relied
-
-    from-first : SettledAmong {T = T} tells o b r (run_seen seen) before after counts' now now' result
-    from-first = subst (λ (z : Sight). SettledAmong {T = T} tells o b (run_seen z) (run_seen seen) before after counts' now now' result) first settled
 
     above-seen : 0 < (run_seen seen).base
     above-seen = subst (λ (n : ℕ). 0 < n) (sym (after-base c.own.shown r)) program.above
@@ -147,13 +158,13 @@ module _ {T : Type 0} (tells : Bool) (shape : Shape) (before after : Settler) (c
         }
 
     pub gathered-books : SettledAmong {T = T} tells o b r r' before after counts' now now' result
-    gathered-books = subst (λ (x : Run). SettledAmong {T = T} tells o b r x before after counts' now now' result) (sym last-is) (on-by result from-first)
+    gathered-books = subst (λ (x : Run). SettledAmong {T = T} tells o b r x before after counts' now now' result) (sym last-is) (on-by result settled)
 
     -- the units
     abbrev carried : end ≡ Through → IsClosed (λ z. SettlesOrStops z.mine × KeepsPromise (basis_of o) z) (λ z. KeepsPromise (basis_of o) z × AreOverAndFree z) r r'
     carried through = closed-less (HasSettled {T = T} started tells shape before after counts counts' now now' result s) (λ z. SettlesOrStops z.mine × KeepsPromise (basis_of o) z)
         (HasWorked Asked end) (λ z. KeepsPromise (basis_of o) z × AreOverAndFree z)
-        (λ z h. (ends-settle s z result first-mine h.beside.own, h.beside.promise (basis_of o) (none-first (basis_of o))))
+        (λ z h. (ends-settle s z result refl h.beside.own, h.beside.promise (basis_of o) (none-first (basis_of o))))
         (λ z h. (h.promise (basis_of o) asked, subst (λ (e : WorkEnd). SaysOfUnits e z) through h.units)) r r' c
 
     program-on : IsOfProgram o shape r'
@@ -178,8 +189,7 @@ module _ {T : Type 0} (tells : Bool) (shape : Shape) (before after : Settler) (c
 
   pub gathered-beside : TurnsBeside {T = T} tells r r' before after counts counts' now now' result
   gathered-beside =
-      let one : TurnsBeside {T = T} tells r (run_seen seen) before after counts counts' now now' result =
-      subst (λ (z : Sight). TurnsBeside {T = T} tells (run_seen z) (run_seen seen) before after counts counts' now now' result) first c.own.holds.beside.beside in
+      let one : TurnsBeside {T = T} tells r (run_seen seen) before after counts counts' now now' result = c.own.holds.beside.beside in
       record {
         more = one.more ++ events_told came;
         core = last-is ∙ after-is came (run_seen seen) ∙ ap (λ (x : Run). extended x (events_told came)) one.core ∙ ap (λ (es : List CoreEvent). record r { events = es }) (append_assoc r.events one.more (events_told came));

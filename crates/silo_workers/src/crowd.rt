@@ -3,19 +3,18 @@ ghost use Rattle.std.specs.Thread.{IsSync};
 ghost use Rattle.std.specs.Prelude.{◌≡◌, ◌+◌, ◌≤◌, [], false, length, IsTrue};
 ghost use Rattle.host_trait.specs.Files.{StaysReady};
 ghost use Rattle.batch_disk.specs.Writers.{IsInBounds, FitsDisk};
-ghost use Rattle.core_model.specs.Legal.{ends};
 ghost use Rattle.core_access.specs.ByPass.{sight_of};
 ghost use Rattle.history_core.specs.Cores.{run_of};
 ghost use Rattle.script_tree.specs.Programs.{program_tree};
 ghost use Rattle.turn_cell.specs.Hands.{first_hand};
-ghost use Rattle.turn_cell.specs.Passes.{IsPassOf, pass_view};
-ghost use Rattle.txn_agent.specs.Linked.{IsLegalRun};
+ghost use Rattle.turn_cell.specs.Passes.{pass_view, view};
 ghost use Rattle.unit_crew.specs.Crews.{IsBasisOf};
-ghost use Rattle.closing_rules.specs.Gathering.{Returns, GathersSights};
+ghost use Rattle.closing_rules.specs.Gathering.{sight_by};
 ghost use Rattle.silo_workers.specs.Beside.{HasSettled};
-ghost use Rattle.silo_workers.specs.Working.{HasWorked, SaysOfLines, IsGathered};
+ghost use Rattle.silo_workers.specs.Working.{HasWorked, IsFreshPass, BringsBack, BringsTogether, IsGathered, both_ends};
 
 use crate::settling::settle_by_pass;
+use crate::team::Team;
 use crate::work::{WorkEnd, both, work};
 use base_types::Shape;
 use core_model::{CoreAnswer, CoreQuestion};
@@ -25,15 +24,14 @@ use run_books::RunFault;
 use run_lines::Lines;
 use script_check::Checked;
 use settle_loop::{Gate, Settler};
-use std::alloc::{AllocError, Global};
 use std::marker::PhantomData;
+use std::mem::replace;
 use std::snapshot::Snapshot;
 use std::sync::Wait;
 use std::sync::atomic::{AtomicBool, Ordering};
 use std::thread;
 use std::thread::{Promise, Scope, Threads};
-use turn_cell::{Pass, TurnCell, TurnObject};
-use worker_signals::Signals;
+use turn_cell::{Pass, TurnObject};
 
 /// How the threads ended: whether one was started, how the work ended, and how settling did.
 #[derive(Drop)]
@@ -41,6 +39,19 @@ pub(crate) struct Gathered {
     pub(crate) started: bool,
     pub(crate) end: WorkEnd,
     pub(crate) settled: Result<(), RunFault>,
+}
+
+impl Gathered {
+    // With one worker's end more.
+    fn and(self, end: WorkEnd) -> Gathered
+        ensures { result ≡ record self { end = both_ends end self.end } }
+    {
+        Gathered {
+            started: self.started,
+            end: both(end, self.end),
+            settled: self.settled,
+        }
+    }
 }
 
 // The pass that a worker took comes back, with what is known of it.
@@ -53,68 +64,77 @@ pub(crate) struct ComesBack<'a, L> {
 }
 
 impl<'a, L: Lines> Promise<(Pass<Core>, WorkEnd)> for ComesBack<'a, L> {
-    ghost kept_by = { λ p r. IsPassOf p.was.value.table_id r.0
-        × Returns run_of (HasWorked (IsBasisOf (program_tree p.checked.now) p.before (L.lines p.lines.now)) r.1) (pass_view p.was.value) (pass_view r.0)
-        × SaysOfLines r.1 (p.before + length (L.lines p.lines.now)) (run_of (pass_view p.was.value).first) (pass_view r.0).seen };
+    ghost kept_by = { λ p r. BringsBack (program_tree p.checked.now) p.before (L.lines p.lines.now) r.1 p.was.value r.0 };
 }
 
-// A worker carries for each of the words, and the calling thread settles, where one was started. Their passes come back into
-// its own.
-fn crowd<'s, E, R: Threads + Wait + Sync, H: Host, G: Gate + Sync, L: Lines + Copy + Sync>(
-    scope: &Scope<'s, E>,
-    rt: &'s R,
-    alloc: Global,
-    checked: &'s Checked,
-    shape: &Shape,
-    lines: &'s L,
-    before: u64,
-    cell: &'s TurnCell<Core>,
-    words: &'s [AtomicBool],
+// The calling thread settles where a worker was started; where none was, there is nothing to settle.
+fn settle_for<R: Wait, H: Host, G: Gate, L: Lines>(
+    team: &Team<R, G, L>,
     pass: Pass<Core>,
+    shape: &Shape,
     settler: &mut Settler,
     host: &mut H,
-    gate: &'s G,
-    signals: &'s Signals,
+    started: bool,
+) -> (Pass<Core>, Gathered)
+    requires fresh { IsFreshPass team.now.cell team.now.before pass }
+    requires bounds { IsInBounds settler.old.writer }
+    requires fits { IsTrue H.tells → FitsDisk settler.old.writer (H.world host.old).disk }
+    ensures together { BringsTogether team.now.cell
+        (HasSettled result.1.started H.tells shape.now settler.old settler.new (H.faults host.old) (H.faults host.new) (H.world host.old) (H.world host.new) result.1.settled (sight_of run_of (pass_view pass)))
+        (program_tree team.now.checked.now) team.now.before (L.lines team.now.lines.now) result.1.end pass result.0 }
+    ensures none { result.1.started ≡ false → (settler.new ≡ settler.old) × (host.new ≡ host.old) }
+    ensures bounds { IsInBounds settler.new.writer }
+    ensures fits { IsTrue H.tells → FitsDisk settler.new.writer (H.world host.new).disk }
+    ensures ready { StaysReady (H.is_ready host.old) (H.is_ready host.new) }
+{
+    let _named: PhantomData<(CoreQuestion, CoreAnswer)> = PhantomData;
+    if !started {
+        let gathered = Gathered {
+            started,
+            end: WorkEnd::Idle,
+            settled: Ok(()),
+        };
+        return (pass, gathered);
+    }
+    let (pass, settled) = settle_by_pass(team, pass, shape, settler, host);
+    let gathered = Gathered {
+        started,
+        end: WorkEnd::Idle,
+        settled,
+    };
+    (pass, gathered)
+}
+
+// A worker carries for each of the flags, and the calling thread settles, where one was started. Their passes come back into its
+// own. A worker whose thread could not be started finds its flag set, and gives its pass back at once.
+fn crowd<'s, E, R: Threads + Wait + Sync, H: Host, G: Gate + Sync, L: Lines + Copy + Sync>(
+    scope: &Scope<'s, E>,
+    team: &'s Team<'s, R, G, L>,
+    flags: &'s [AtomicBool],
+    pass: Pass<Core>,
+    shape: &Shape,
+    settler: &mut Settler,
+    host: &mut H,
     started: bool,
 ) -> (Pass<Core>, Gathered)
     requires shared { IsSync R.row × IsSync G.row × IsSync L.row }
-    requires own { IsPassOf cell.now pass }
-    requires sound { IsLegalRun (run_of (pass_view pass).first) }
-    requires before { before ≤ (ends (run_of (pass_view pass).first)).units.lines }
-    requires fresh { (pass_view pass).hand.mine ≡ [] }
+    requires fresh { IsFreshPass team.now.cell team.now.before pass }
     requires bounds { IsInBounds settler.old.writer }
     requires fits { IsTrue H.tells → FitsDisk settler.old.writer (H.world host.old).disk }
-    ensures own { IsPassOf cell.now result.0 }
-    ensures gathered { GathersSights run_of (HasSettled result.1.started H.tells shape.now settler.old settler.new (H.faults host.old) (H.faults host.new) (H.world host.old) (H.world host.new) result.1.settled (sight_of run_of (pass_view pass)))
-        (HasWorked (IsBasisOf (program_tree checked.now) before (L.lines lines.now)) result.1.end) (pass_view pass) (pass_view result.0) }
-    ensures lines { SaysOfLines result.1.end (before + length (L.lines lines.now)) (run_of (pass_view pass).first) (pass_view result.0).seen }
+    ensures together { BringsTogether team.now.cell
+        (HasSettled result.1.started H.tells shape.now settler.old settler.new (H.faults host.old) (H.faults host.new) (H.world host.old) (H.world host.new) result.1.settled (sight_of run_of (pass_view pass)))
+        (program_tree team.now.checked.now) team.now.before (L.lines team.now.lines.now) result.1.end pass result.0 }
     ensures none { result.1.started ≡ false → (settler.new ≡ settler.old) × (host.new ≡ host.old) }
     ensures bounds { IsInBounds settler.new.writer }
     ensures fits { IsTrue H.tells → FitsDisk settler.new.writer (H.world host.new).disk }
     ensures ready { StaysReady (H.is_ready host.old) (H.is_ready host.new) }
 {
     let named: PhantomData<(CoreQuestion, CoreAnswer)> = PhantomData;
-    let Some((idle, rest)) = words.split_first() else {
-        if !started {
-            return (
-                pass,
-                Gathered {
-                    started,
-                    end: WorkEnd::Idle,
-                    settled: Ok(()),
-                },
-            );
-        }
-        let (pass, settled) = settle_by_pass(rt, shape, cell, pass, settler, host, gate, signals);
-        return (
-            pass,
-            Gathered {
-                started,
-                end: WorkEnd::Idle,
-                settled,
-            },
-        );
+    let Some((flag, rest)) = flags.split_first() else {
+        return settle_for(team, pass, shape, settler, host, started);
     };
+    let (rt, alloc, checked, lines) = (team.rt, team.alloc, team.checked, team.lines);
+    let (before, cell, gate, signals) = (team.before, &team.cell, team.gate, &team.signals);
     let (pass, other) = cell.split(pass);
     let promise = ComesBack {
         checked,
@@ -124,80 +144,44 @@ fn crowd<'s, E, R: Threads + Wait + Sync, H: Host, G: Gate + Sync, L: Lines + Co
     };
     signals.begin();
     let job = move || -> (Pass<Core>, WorkEnd)
-        requires own { IsPassOf cell.now other }
-        requires sound { IsLegalRun (run_of (pass_view other).first) }
-        requires before { before ≤ (ends (run_of (pass_view other).first)).units.lines }
-        requires fresh { (pass_view other).hand.mine ≡ [] }
-        ensures own { IsPassOf cell.entry.now result.0 }
-        ensures returns { Returns run_of (HasWorked (IsBasisOf (program_tree checked.entry.now) before (L.lines lines.entry.now)) result.1) (pass_view other) (pass_view result.0) }
-        ensures lines { SaysOfLines result.1 (before + length (L.lines lines.entry.now)) (run_of (pass_view other).first) (pass_view result.0).seen }
+        requires { IsFreshPass cell.now before other }
+        ensures { BringsBack (program_tree checked.entry.now) before (L.lines lines.entry.now) result.1 other result.0 }
     {
         let _named = named;
         work(
-            rt, alloc, checked, *lines, before, idle, cell, other, gate, signals,
+            rt, alloc, checked, *lines, before, flag, cell, other, gate, signals,
         )
     };
     match scope.spawn_with(promise, job) {
         Ok(handle) => {
-            let (pass, gathered) = crowd(
-                scope, rt, alloc, checked, shape, lines, before, cell, rest, pass, settler, host,
-                gate, signals, true,
-            );
+            let (pass, gathered) = crowd(scope, team, rest, pass, shape, settler, host, true);
             let (other, end) = handle.join(rt);
-            (
-                cell.join(pass, other),
-                Gathered {
-                    started: gathered.started,
-                    end: both(end, gathered.end),
-                    settled: gathered.settled,
-                },
-            )
+            (cell.join(pass, other), gathered.and(end))
         }
         Err(refused) => {
-            idle.store(true, Ordering::SeqCst);
+            flag.store(true, Ordering::SeqCst);
             let (other, end) = (refused.value)();
-            let (pass, gathered) = crowd(
-                scope, rt, alloc, checked, shape, lines, before, cell, rest, pass, settler, host,
-                gate, signals, started,
-            );
-            (
-                cell.join(pass, other),
-                Gathered {
-                    started: gathered.started,
-                    end: both(end, gathered.end),
-                    settled: gathered.settled,
-                },
-            )
+            let (pass, gathered) = crowd(scope, team, rest, pass, shape, settler, host, started);
+            (cell.join(pass, other), gathered.and(end))
         }
     }
 }
 
 // As `crowd`, in a scope of its own.
 fn in_scope<R: Threads + Wait + Sync, H: Host, G: Gate + Sync, L: Lines + Copy + Sync>(
-    rt: &R,
-    alloc: Global,
-    checked: &Checked,
-    shape: &Shape,
-    lines: &L,
-    before: u64,
-    cell: &TurnCell<Core>,
-    words: &[AtomicBool],
+    team: &Team<R, G, L>,
+    flags: &[AtomicBool],
     pass: Pass<Core>,
+    shape: &Shape,
     settler: Settler,
     host: &mut H,
-    gate: &G,
-    signals: &Signals,
 ) -> (Pass<Core>, Gathered, Settler)
-    requires own { IsPassOf cell.now pass }
-    requires sound { IsLegalRun (run_of (pass_view pass).first) }
-    requires before { before ≤ (ends (run_of (pass_view pass).first)).units.lines }
-    requires fresh { (pass_view pass).hand.mine ≡ [] }
+    requires fresh { IsFreshPass team.now.cell team.now.before pass }
     requires bounds { IsInBounds settler.writer }
     requires fits { IsTrue H.tells → FitsDisk settler.writer (H.world host.old).disk }
-    ensures own { IsPassOf cell.now result.0 }
-    ensures gathered { GathersSights run_of (HasSettled result.1.started H.tells shape.now settler result.2 (H.faults host.old) (H.faults host.new) (H.world host.old) (H.world host.new) result.1.settled (sight_of run_of (pass_view pass)))
-        (HasWorked (IsBasisOf (program_tree checked.now) before (L.lines lines.now)) result.1.end) (pass_view pass) (pass_view result.0) }
-    ensures lines { SaysOfLines result.1.end (before + length (L.lines lines.now)) (run_of (pass_view pass).first) (pass_view result.0).seen }
+    ensures together { BringsTogether team.now.cell
+        (HasSettled result.1.started H.tells shape.now settler result.2 (H.faults host.old) (H.faults host.new) (H.world host.old) (H.world host.new) result.1.settled (sight_of run_of (pass_view pass)))
+        (program_tree team.now.checked.now) team.now.before (L.lines team.now.lines.now) result.1.end pass result.0 }
     ensures none { result.1.started ≡ false → (result.2 ≡ settler) × (host.new ≡ host.old) }
     ensures bounds { IsInBounds result.2.writer }
     ensures fits { IsTrue H.tells → FitsDisk result.2.writer (H.world host.new).disk }
@@ -206,19 +190,15 @@ fn in_scope<R: Threads + Wait + Sync, H: Host, G: Gate + Sync, L: Lines + Copy +
     let named: PhantomData<(CoreQuestion, CoreAnswer)> = PhantomData;
     let (pass, gathered, settler, _host) = thread::scope(
         thread::scope_env(),
-        rt,
+        team.rt,
         move |scope| -> (Pass<Core>, Gathered, Settler, &mut H)
             requires shared { IsSync R.row × IsSync G.row × IsSync L.row }
-            requires own { IsPassOf cell.now pass }
-            requires sound { IsLegalRun (run_of (pass_view pass).first) }
-            requires before { before ≤ (ends (run_of (pass_view pass).first)).units.lines }
-            requires fresh { (pass_view pass).hand.mine ≡ [] }
+            requires fresh { IsFreshPass team.now.cell team.now.before pass }
             requires bounds { IsInBounds settler.writer }
             requires fits { IsTrue H.tells → FitsDisk settler.writer (H.world host.now).disk }
-            ensures own { IsPassOf cell.entry.now result.0 }
-            ensures gathered { GathersSights run_of (HasSettled result.1.started H.tells shape.entry.now settler result.2 (H.faults host.entry.now) (H.faults result.3.now) (H.world host.entry.now) (H.world result.3.now) result.1.settled (sight_of run_of (pass_view pass)))
-                (HasWorked (IsBasisOf (program_tree checked.entry.now) before (L.lines lines.entry.now)) result.1.end) (pass_view pass) (pass_view result.0) }
-            ensures lines { SaysOfLines result.1.end (before + length (L.lines lines.entry.now)) (run_of (pass_view pass).first) (pass_view result.0).seen }
+            ensures together { BringsTogether team.entry.now.cell
+                (HasSettled result.1.started H.tells shape.entry.now settler result.2 (H.faults host.entry.now) (H.faults result.3.now) (H.world host.entry.now) (H.world result.3.now) result.1.settled (sight_of run_of (pass_view pass)))
+                (program_tree team.entry.now.checked.now) team.entry.now.before (L.lines team.entry.now.lines.now) result.1.end pass result.0 }
             ensures none { result.1.started ≡ false → (result.2 ≡ settler) × (result.3.now ≡ host.entry.now) }
             ensures bounds { IsInBounds result.2.writer }
             ensures fits { IsTrue H.tells → FitsDisk result.2.writer (H.world result.3.now).disk }
@@ -229,19 +209,12 @@ fn in_scope<R: Threads + Wait + Sync, H: Host, G: Gate + Sync, L: Lines + Copy +
             let mut settler = settler;
             let (pass, gathered) = crowd(
                 scope,
-                rt,
-                alloc,
-                checked,
-                shape,
-                lines,
-                before,
-                cell,
-                words,
+                team,
+                flags,
                 pass,
+                shape,
                 &mut settler,
                 host,
-                gate,
-                signals,
                 false,
             );
             (pass, gathered, settler, host)
@@ -250,37 +223,31 @@ fn in_scope<R: Threads + Wait + Sync, H: Host, G: Gate + Sync, L: Lines + Copy +
     (pass, gathered, settler)
 }
 
-/// So many workers carry, 16 at most, while the calling thread settles; and the cell is closed.
+/// So many workers carry, 16 at most, while the calling thread settles; and the cell is closed. The blank stands in for the settler
+/// meanwhile.
 pub(crate) fn gather<R: Threads + Wait + Sync, H: Host, G: Gate + Sync, L: Lines + Copy + Sync>(
-    rt: &R,
-    alloc: Global,
-    checked: &Checked,
-    shape: &Shape,
-    lines: &L,
-    before: u64,
-    cell: TurnCell<Core>,
-    pass: Pass<Core>,
-    settler: Settler,
-    host: &mut H,
-    gate: &G,
+    team: Team<R, G, L>,
     workers: usize,
-) -> (Core, Gathered, Settler)
+    pass: Pass<Core>,
+    shape: &Shape,
+    settler: &mut Settler,
+    blank: Settler,
+    host: &mut H,
+) -> (Core, Gathered)
     requires few { workers ≤ 16 }
-    requires own { IsPassOf cell pass }
-    requires first { (pass_view pass).hand ≡ first_hand }
-    requires sound { IsLegalRun (run_of (pass_view pass).first) }
-    requires before { before ≤ (ends (run_of (pass_view pass).first)).units.lines }
-    requires bounds { IsInBounds settler.writer }
-    requires fits { IsTrue H.tells → FitsDisk settler.writer (H.world host.old).disk }
-    ensures closed { IsGathered result.1.end (before + length (L.lines lines.now)) (HasSettled result.1.started H.tells shape.now settler result.2 (H.faults host.old) (H.faults host.new) (H.world host.old) (H.world host.new) result.1.settled (sight_of run_of (pass_view pass)))
-        (HasWorked (IsBasisOf (program_tree checked.now) before (L.lines lines.now)) result.1.end) (run_of (pass_view pass).first) (run_of result.0) }
-    ensures none { result.1.started ≡ false → (result.2 ≡ settler) × (host.new ≡ host.old) }
-    ensures bounds { IsInBounds result.2.writer }
-    ensures fits { IsTrue H.tells → FitsDisk result.2.writer (H.world host.new).disk }
+    requires first { pass_view pass ≡ view (pass_view pass).first [] false first_hand }
+    requires fresh { IsFreshPass team.cell team.before pass }
+    requires bounds { IsInBounds settler.old.writer }
+    requires fits { IsTrue H.tells → FitsDisk settler.old.writer (H.world host.old).disk }
+    ensures closed { IsGathered result.1.end (team.entry.before + length (L.lines team.entry.lines.now))
+        (HasSettled result.1.started H.tells shape.now settler.old settler.new (H.faults host.old) (H.faults host.new) (H.world host.old) (H.world host.new) result.1.settled (sight_by (run_of (pass_view pass).first) [] [] []))
+        (HasWorked (IsBasisOf (program_tree team.entry.checked.now) team.entry.before (L.lines team.entry.lines.now)) result.1.end) (run_of (pass_view pass).first) (run_of result.0) }
+    ensures none { result.1.started ≡ false → (settler.new ≡ settler.old) × (host.new ≡ host.old) }
+    ensures bounds { IsInBounds settler.new.writer }
+    ensures fits { IsTrue H.tells → FitsDisk settler.new.writer (H.world host.new).disk }
     ensures ready { StaysReady (H.is_ready host.old) (H.is_ready host.new) }
 {
     let _named: PhantomData<(CoreQuestion, CoreAnswer)> = PhantomData;
-    let signals = Signals::new();
     let all = [
         AtomicBool::new(false),
         AtomicBool::new(false),
@@ -299,10 +266,19 @@ pub(crate) fn gather<R: Threads + Wait + Sync, H: Host, G: Gate + Sync, L: Lines
         AtomicBool::new(false),
         AtomicBool::new(false),
     ];
-    let words = all.as_slice();
-    let few = &words[..workers];
-    let (pass, gathered, settler) = in_scope(
-        rt, alloc, checked, shape, lines, before, &cell, few, pass, settler, host, gate, &signals,
-    );
-    (cell.close(pass), gathered, settler)
+    let flags = &all.as_slice()[..workers];
+    let own = replace(settler, blank);
+    let (pass, gathered, own) = in_scope(&team, flags, pass, shape, own, host);
+    *settler = own;
+    let Team {
+        rt: _rt,
+        alloc: _alloc,
+        checked: _checked,
+        lines: _lines,
+        before: _before,
+        cell,
+        gate: _gate,
+        signals: _signals,
+    } = team;
+    (cell.close(pass), gathered)
 }

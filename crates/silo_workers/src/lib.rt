@@ -10,6 +10,7 @@ mod ending;
 mod reach;
 mod run;
 mod settling;
+mod team;
 mod work;
 
 pub use reach::Reach;

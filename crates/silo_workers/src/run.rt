@@ -17,6 +17,7 @@ ghost use Rattle.silo_workers.specs.declared.work.WorkEnd.TheVariants.{Idle};
 
 use crate::crowd::{Gathered, gather};
 use crate::ending::end_run;
+use crate::team::Team;
 use crate::work::WorkEnd;
 use base_types::{Ends, List};
 use core_model::{CoreAnswer, CoreQuestion};
@@ -29,10 +30,10 @@ use script_check::Checked;
 use settle_loop::{Gate, Settler};
 use std::alloc::{AllocError, Global};
 use std::marker::PhantomData;
-use std::mem::replace;
 use std::sync::Wait;
 use std::thread::Threads;
 use turn_cell::{TurnCell, TurnObject};
+use worker_signals::Signals;
 
 /// How many lines a core has taken so far.
 fn lines_so_far(core: &Core) -> Result<u64, AllocError>
@@ -153,11 +154,18 @@ pub fn run_with_workers<R: Threads + Wait + Sync, H: Host, G: Gate + Sync, L: Li
     };
     match TurnCell::new(alloc, core) {
         Ok((cell, pass)) => {
-            let own = replace(settler, blank);
-            let (mut core, gathered, own) = gather(
-                rt, alloc, checked, &shape, lines, before, cell, pass, own, host, gate, workers,
-            );
-            *settler = own;
+            let signals = Signals::new();
+            let team = Team {
+                rt,
+                alloc,
+                checked,
+                lines,
+                before,
+                cell,
+                gate,
+                signals,
+            };
+            let (mut core, gathered) = gather(team, workers, pass, &shape, settler, blank, host);
             if has_none(&gathered) {
                 let ended = carry_in_turns(alloc, checked, &mut core, settler, lines, host, gate);
                 return (Some(core), ended);

@@ -9,41 +9,51 @@ ghost use Rattle.closing_rules.specs.Gathering.{Returns};
 ghost use Rattle.silo_workers.specs.Beside.{SettlesBeside};
 
 use crate::reach::Reach;
+use crate::team::Team;
 use base_types::Shape;
 use core_model::{CoreAnswer, CoreQuestion};
 use history_core::Core;
 use host_trait::Host;
 use run_books::RunFault;
+use run_lines::Lines;
 use settle_loop::{Gate, Settler};
 use shared_settling::settle_beside;
 use std::marker::PhantomData;
 use std::sync::Wait;
-use turn_cell::{Pass, TurnCell, TurnObject};
-use worker_signals::Signals;
+use turn_cell::{Pass, TurnObject};
 
 /// Settles by a pass beside workers, until they have ended their work. The pass comes back however that ended.
-pub(crate) fn settle_by_pass<R: Wait, H: Host, G: Gate>(
-    rt: &R,
-    shape: &Shape,
-    cell: &TurnCell<Core>,
+pub(crate) fn settle_by_pass<R: Wait, H: Host, G: Gate, L: Lines>(
+    team: &Team<R, G, L>,
     pass: Pass<Core>,
+    shape: &Shape,
     settler: &mut Settler,
     host: &mut H,
-    gate: &G,
-    signals: &Signals,
 ) -> (Pass<Core>, Result<(), RunFault>)
-    requires own { IsPassOf cell.now pass }
+    requires own { IsPassOf team.now.cell pass }
     requires bounds { IsInBounds settler.old.writer }
     requires fits { IsTrue H.tells → FitsDisk settler.old.writer (H.world host.old).disk }
-    ensures own { IsPassOf cell.now result.0 }
+    ensures own { IsPassOf team.now.cell result.0 }
     ensures returns { Returns run_of (SettlesBeside H.tells shape.now settler.old settler.new (H.faults host.old) (H.faults host.new) (H.world host.old) (H.world host.new) result.1 (sight_of run_of (pass_view pass))) (pass_view pass) (pass_view result.0) }
     ensures bounds { IsInBounds settler.new.writer }
     ensures fits { IsTrue H.tells → FitsDisk settler.new.writer (H.world host.new).disk }
     ensures ready { StaysReady (H.is_ready host.old) (H.is_ready host.new) }
 {
     let _named: PhantomData<(CoreQuestion, CoreAnswer)> = PhantomData;
-    let mut reach = Reach { rt, cell, pass };
-    let settled = settle_beside(rt, shape, settler, &mut reach, host, gate, signals);
+    let mut reach = Reach {
+        rt: team.rt,
+        cell: &team.cell,
+        pass,
+    };
+    let settled = settle_beside(
+        team.rt,
+        shape,
+        settler,
+        &mut reach,
+        host,
+        team.gate,
+        &team.signals,
+    );
     let Reach {
         rt: _rt,
         cell: _cell,

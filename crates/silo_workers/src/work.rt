@@ -1,13 +1,7 @@
 // What a worker does with its pass.
-ghost use Rattle.std.specs.Prelude.{◌≡◌, ◌+◌, ◌≤◌, [], length};
-ghost use Rattle.core_model.specs.Legal.{ends};
-ghost use Rattle.history_core.specs.Cores.{run_of};
+ghost use Rattle.std.specs.Prelude.{◌≡◌};
 ghost use Rattle.script_tree.specs.Programs.{program_tree};
-ghost use Rattle.turn_cell.specs.Passes.{IsPassOf, pass_view};
-ghost use Rattle.txn_agent.specs.Linked.{IsLegalRun};
-ghost use Rattle.unit_crew.specs.Crews.{IsBasisOf};
-ghost use Rattle.closing_rules.specs.Gathering.{Returns};
-ghost use Rattle.silo_workers.specs.Working.{HasWorked, SaysOfLines, both_ends};
+ghost use Rattle.silo_workers.specs.Working.{BringsBack, IsFreshPass, both_ends};
 
 use crate::reach::Reach;
 use core_model::{CoreAnswer, CoreQuestion};
@@ -62,13 +56,8 @@ pub fn carry<R: Wait, L: Lines + Copy, G: Gate>(
     gate: &G,
     signals: &Signals,
 ) -> (Pass<Core>, WorkEnd)
-    requires own { IsPassOf cell.now pass }
-    requires sound { IsLegalRun (run_of (pass_view pass).first) }
-    requires before { before ≤ (ends (run_of (pass_view pass).first)).units.lines }
-    requires fresh { (pass_view pass).hand.mine ≡ [] }
-    ensures own { IsPassOf cell.now result.0 }
-    ensures returns { Returns run_of (HasWorked (IsBasisOf (program_tree checked.now) before (L.lines lines)) result.1) (pass_view pass) (pass_view result.0) }
-    ensures lines { SaysOfLines result.1 (before + length (L.lines lines)) (run_of (pass_view pass).first) (pass_view result.0).seen }
+    requires fresh { IsFreshPass cell.now before pass }
+    ensures back { BringsBack (program_tree checked.now) before (L.lines lines) result.1 pass result.0 }
 {
     let _named: PhantomData<(CoreQuestion, CoreAnswer)> = PhantomData;
     let mut lines = lines;
@@ -94,22 +83,17 @@ pub(crate) fn work<R: Wait, L: Lines + Copy, G: Gate>(
     checked: &Checked,
     lines: L,
     before: u64,
-    idle: &AtomicBool,
+    unstarted: &AtomicBool,
     cell: &TurnCell<Core>,
     pass: Pass<Core>,
     gate: &G,
     signals: &Signals,
 ) -> (Pass<Core>, WorkEnd)
-    requires own { IsPassOf cell.now pass }
-    requires sound { IsLegalRun (run_of (pass_view pass).first) }
-    requires before { before ≤ (ends (run_of (pass_view pass).first)).units.lines }
-    requires fresh { (pass_view pass).hand.mine ≡ [] }
-    ensures own { IsPassOf cell.now result.0 }
-    ensures returns { Returns run_of (HasWorked (IsBasisOf (program_tree checked.now) before (L.lines lines)) result.1) (pass_view pass) (pass_view result.0) }
-    ensures lines { SaysOfLines result.1 (before + length (L.lines lines)) (run_of (pass_view pass).first) (pass_view result.0).seen }
+    requires fresh { IsFreshPass cell.now before pass }
+    ensures back { BringsBack (program_tree checked.now) before (L.lines lines) result.1 pass result.0 }
 {
     let _named: PhantomData<(CoreQuestion, CoreAnswer)> = PhantomData;
-    if idle.load(Ordering::SeqCst) {
+    if unstarted.load(Ordering::SeqCst) {
         signals.end();
         return (pass, WorkEnd::Idle);
     }

@@ -5,10 +5,17 @@ use Rattle.silo_workers.specs.Working.{HasWorked}
 use Rattle.silo_workers.specs.declared.work.WorkEnd.TheVariants.{Through}
 use Rattle.silo_workers.proofs.Returned.{returned, worked-through}
 use Rattle.silo_workers.proofs.work.carry.Goals as goal
+use Rattle.std.proofs.Common.{rules}
 
-pub returns-in-Ok-clause-returns : goal.returns-in-Ok-clause-returns
-returns-in-Ok-clause-returns g c =
+pub returns-in-Ok : goal.returns-in-Ok
+returns-in-Ok g c =
     let asked = IsBasisOf (program_tree c.args.checked.now) c.args.before (g.L.Lines.lines c.args.lines) in
     let said = c.in-Ok.ensures in
-    returned run_of c.args.pass.me.0 c.carry_lines-carried.new.access.pass.me.0 (HasWorked asked Through) _ _ _ _ said.aside said.first said.number said.seen
-    (worked-through run_of c.args.pass.me.0 c.carry_lines-carried.new.access.pass.me.0 asked said.counts said.works said.promise said.through)
+    record {
+      back = (
+        search rules,
+        returned run_of c.args.pass.me.0 c.carry_lines-carried.new.access.pass.me.0 (HasWorked asked Through) _ _ _ _ said.aside said.first said.number said.seen
+            (worked-through run_of c.args.pass.me.0 c.carry_lines-carried.new.access.pass.me.0 asked said.counts said.works said.promise said.through),
+        search rules,
+      );
+    }

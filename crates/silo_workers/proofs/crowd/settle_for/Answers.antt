@@ -1,0 +1,20 @@
+use Rattle.script_tree.specs.Programs.{program_tree}
+use Rattle.core_access.specs.ByPass.{sight_of}
+use Rattle.history_core.specs.Cores.{run_of}
+use Rattle.unit_crew.specs.Crews.{IsBasisOf}
+use Rattle.closing_rules.proofs.Gathered.{gathers-returns}
+use Rattle.silo_workers.specs.Working.{HasWorked}
+use Rattle.silo_workers.specs.declared.work.WorkEnd.TheVariants.{Idle}
+use Rattle.silo_workers.proofs.Returned.{returned-same}
+use Rattle.silo_workers.proofs.Crowded.{settles-none}
+use Rattle.silo_workers.proofs.crowd.settle_for.Goals as goal
+
+pub returns-then-not-started-clause-together : goal.returns-then-not-started-clause-together
+returns-then-not-started-clause-together g c =
+    let asked = IsBasisOf (program_tree c.args.team.now.checked.now) c.args.team.now.before (g.L.Lines.lines c.args.team.now.lines.now) in
+    let v = c.args.pass.me.0 in (
+      c.requires.fresh.0,
+      gathers-returns run_of _ (HasWorked asked Idle) v v (returned-same run_of _ v
+          record { beside = settles-none tt g.H.Host.tells c.args.shape.now c.args.settler.now (g.H.Host.faults c.args.host.now) (g.H.Host.world c.args.host.now) (sight_of run_of v); none = λ q. c.requires.fresh.3 }),
+      tt,
+    )
