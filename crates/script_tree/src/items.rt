@@ -1,4 +1,4 @@
-ghost use Rattle.std.specs.Prelude.{◌≡◌, ◌==◌, [], ◌∷◌, ◌++◌, length, is_ok, if◌then◌else◌, slice_get};
+ghost use Rattle.std.specs.Prelude.{◌≡◌, ◌==◌, [], ◌∷◌, ◌++◌, length, is_ok, if◌then◌else◌, slice_get, IfErr};
 ghost use Rattle.std.specs.Option.{option_copied};
 
 use std::alloc::{AllocFailed, Global};
@@ -49,8 +49,9 @@ impl<T> Items<T> {
 
     /// Appends one item. Without memory the list stays as it was and the item is handed back.
     pub fn push(&mut self, item: T) -> Result<(), AllocFailed<T>>
-        ensures { self.new.list.items ≡
+        ensures pushed { self.new.list.items ≡
             (if is_ok result then self.old.list.items ++ item ∷ [] else self.old.list.items) }
+        ensures handed_back { IfErr result (λ refused. refused.value ≡ item) }
     {
         self.list.push(item)
     }

@@ -17,5 +17,5 @@ loop-turn-preserved c =
     let here = subst (λ (l : List Spanned). expected stop symbol.Comma l ≡ Ok (c.in_ok-expect.field-0, c.expect.new.self.tokens.now)) c.if-takes.ensures.taken.1 comma in
     record {
       kept = c.in_ok-expect.ensures.stop ∙ kept;
-      so_far = rw c.in_ok-push.ensures (listed_goes Name stop (name_at stop) (all - c.loop-turn.turn) (all - (c.loop-turn.turn + 1)) c.loop-turn.found.list.items c.loop-turn.cursor.tokens.now c.name.new.self.tokens.now c.expect.new.self.tokens.now c.in_ok-one.one c.in_ok-expect.field-0 _ (omega arith) one c.if-takes.ensures.taken.0 here c.loop-turn.invariant.so_far);
+      so_far = rw c.in_ok-push.ensures.pushed (listed_goes Name stop (name_at stop) (all - c.loop-turn.turn) (all - (c.loop-turn.turn + 1)) c.loop-turn.found.list.items c.loop-turn.cursor.tokens.now c.name.new.self.tokens.now c.expect.new.self.tokens.now c.in_ok-one.one c.in_ok-expect.field-0 _ (omega arith) one c.if-takes.ensures.taken.0 here c.loop-turn.invariant.so_far);
     }

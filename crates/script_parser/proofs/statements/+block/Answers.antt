@@ -15,7 +15,7 @@ read_statements-loop-turn-preserved t c =
     let kept = c.if-takes.ensures.stop ∙ c.loop-turn.invariant.kept in
     let read = subst (λ (s : ParseFault). statement_over s depth (block s depth) c.takes.new.self.tokens.now ≡ Ok (stmt_tree c.in_ok-one.one, c.statement.new.cursor.tokens.now)) kept c.in_ok-one.ensures.read in
     let one = subst (λ (l : List Spanned). statement_over stop depth (block stop depth) l ≡ Ok (stmt_tree c.in_ok-one.one, c.statement.new.cursor.tokens.now)) c.if-takes.ensures.taken.1 read in
-    let found : stmt_trees c.push.new.self.list.items ≡ stmt_trees c.loop-turn.found.list.items ++ stmt_tree c.in_ok-one.one ∷ [] = rw c.in_ok-push.ensures (map_push stmt_tree c.loop-turn.found.list.items c.in_ok-one.one) in
+    let found : stmt_trees c.push.new.self.list.items ≡ stmt_trees c.loop-turn.found.list.items ++ stmt_tree c.in_ok-one.one ∷ [] = rw c.in_ok-push.ensures.pushed (map_push stmt_tree c.loop-turn.found.list.items c.in_ok-one.one) in
     record {
       kept = c.in_ok-one.ensures.stop ∙ kept;
       so_far = rw found (statements_go stop (statement_over stop depth (block stop depth)) (all - c.loop-turn.turn) (all - (c.loop-turn.turn + 1)) (stmt_trees c.loop-turn.found.list.items) c.loop-turn.cursor.tokens.now c.statement.new.cursor.tokens.now (stmt_tree c.in_ok-one.one) _ (omega arith) c.if-takes.ensures.taken.0 one c.loop-turn.invariant.so_far);

@@ -14,5 +14,5 @@ loop-turn-preserved c =
     let one = subst (λ (s : ParseFault). field_at s c.takes_word.new.self.tokens.now ≡ Ok (c.in_ok-one.one, c.field.new.cursor.tokens.now)) kept c.in_ok-one.ensures.read in
     record {
       kept = c.in_ok-one.ensures.stop ∙ kept;
-      so_far = rw c.in_ok-push.ensures (repeated_goes FieldDecl word.Field (field_at stop) (all - c.loop-turn.turn) (all - (c.loop-turn.turn + 1)) c.loop-turn.found.list.items c.loop-turn.cursor.tokens.now c.takes_word.new.self.tokens.now c.field.new.cursor.tokens.now c.in_ok-one.one _ (omega arith) c.if-not-takes_word.ensures.taken one c.loop-turn.invariant.so_far);
+      so_far = rw c.in_ok-push.ensures.pushed (repeated_goes FieldDecl word.Field (field_at stop) (all - c.loop-turn.turn) (all - (c.loop-turn.turn + 1)) c.loop-turn.found.list.items c.loop-turn.cursor.tokens.now c.takes_word.new.self.tokens.now c.field.new.cursor.tokens.now c.in_ok-one.one _ (omega arith) c.if-not-takes_word.ensures.taken one c.loop-turn.invariant.so_far);
     }

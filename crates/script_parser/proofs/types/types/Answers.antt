@@ -14,7 +14,7 @@ loop-turn-preserved c =
     let all = length c.args.cursor.now.tokens.now in
     let kept = c.if-not-takes_word.ensures.stop ∙ c.loop-turn.invariant.kept in
     let one = subst (λ (s : ParseFault). type_at s c.args.depth c.takes_word.new.self.tokens.now ≡ Ok (type_tree c.in_ok-one.one, c.read_type.new.cursor.tokens.now)) kept c.in_ok-one.ensures.read in
-    let found : map type_tree c.push.new.self.list.items ≡ map type_tree c.loop-turn.found.list.items ++ type_tree c.in_ok-one.one ∷ [] = rw c.in_ok-push.ensures (map_push type_tree c.loop-turn.found.list.items c.in_ok-one.one) in
+    let found : map type_tree c.push.new.self.list.items ≡ map type_tree c.loop-turn.found.list.items ++ type_tree c.in_ok-one.one ∷ [] = rw c.in_ok-push.ensures.pushed (map_push type_tree c.loop-turn.found.list.items c.in_ok-one.one) in
     record {
       kept = c.in_ok-one.ensures.stop ∙ kept;
       so_far = rw found (repeated_goes TypeTree word.Type (type_at stop c.args.depth) (all - c.loop-turn.turn) (all - (c.loop-turn.turn + 1)) (map type_tree c.loop-turn.found.list.items) c.loop-turn.cursor.tokens.now c.takes_word.new.self.tokens.now c.read_type.new.cursor.tokens.now (type_tree c.in_ok-one.one) _ (omega arith) c.if-not-takes_word.ensures.taken one c.loop-turn.invariant.so_far);

@@ -14,7 +14,7 @@ pub returns-then-takes-clause-read : goal.returns-then-takes-clause-read
 returns-then-takes-clause-read c =
     let stop = c.args.self.now.stop in
     let one = subst (λ (s : ParseFault). expression s c.args.depth c.loop-turn.self.tokens.now ≡ Ok (expr_tree c.in_ok-one.one, c.expression.new.self.tokens.now)) c.loop-turn.invariant.kept c.in_ok-one.ensures.read in
-    let found : map expr_tree c.push.new.self.list.items ≡ map expr_tree c.loop-turn.found.list.items ++ expr_tree c.in_ok-one.one ∷ [] = rw c.in_ok-push.ensures (map_push expr_tree c.loop-turn.found.list.items c.in_ok-one.one) in
+    let found : map expr_tree c.push.new.self.list.items ≡ map expr_tree c.loop-turn.found.list.items ++ expr_tree c.in_ok-one.one ∷ [] = rw c.in_ok-push.ensures.pushed (map_push expr_tree c.loop-turn.found.list.items c.in_ok-one.one) in
     rw found (listed_closes ExprTree stop (expression stop c.args.depth) (length c.args.self.now.tokens.now - c.loop-turn.turn) (length c.args.self.now.tokens.now - (c.loop-turn.turn + 1)) (map expr_tree c.loop-turn.found.list.items) c.loop-turn.self.tokens.now c.expression.new.self.tokens.now c.takes.new.self.tokens.now (expr_tree c.in_ok-one.one) _ (omega arith) one c.if-takes.ensures.taken c.loop-turn.invariant.so_far)
 
 pub loop-turn-preserved : goal.loop-turn-preserved
@@ -24,7 +24,7 @@ loop-turn-preserved c =
     let one = subst (λ (s : ParseFault). expression s c.args.depth c.loop-turn.self.tokens.now ≡ Ok (expr_tree c.in_ok-one.one, c.expression.new.self.tokens.now)) c.loop-turn.invariant.kept c.in_ok-one.ensures.read in
     let comma = subst (λ (s : ParseFault). expected s symbol.Comma c.takes.new.self.tokens.now ≡ Ok (c.in_ok-expect.field-0, c.expect.new.self.tokens.now)) kept c.in_ok-expect.ensures.read in
     let here = subst (λ (l : List Spanned). expected stop symbol.Comma l ≡ Ok (c.in_ok-expect.field-0, c.expect.new.self.tokens.now)) c.if-takes.ensures.taken.1 comma in
-    let found : map expr_tree c.push.new.self.list.items ≡ map expr_tree c.loop-turn.found.list.items ++ expr_tree c.in_ok-one.one ∷ [] = rw c.in_ok-push.ensures (map_push expr_tree c.loop-turn.found.list.items c.in_ok-one.one) in
+    let found : map expr_tree c.push.new.self.list.items ≡ map expr_tree c.loop-turn.found.list.items ++ expr_tree c.in_ok-one.one ∷ [] = rw c.in_ok-push.ensures.pushed (map_push expr_tree c.loop-turn.found.list.items c.in_ok-one.one) in
     record {
       kept = c.in_ok-expect.ensures.stop ∙ kept;
       so_far = rw found (listed_goes ExprTree stop (expression stop c.args.depth) (length c.args.self.now.tokens.now - c.loop-turn.turn) (length c.args.self.now.tokens.now - (c.loop-turn.turn + 1)) (map expr_tree c.loop-turn.found.list.items) c.loop-turn.self.tokens.now c.expression.new.self.tokens.now c.expect.new.self.tokens.now (expr_tree c.in_ok-one.one) c.in_ok-expect.field-0 _ (omega arith) one c.if-takes.ensures.taken.0 here c.loop-turn.invariant.so_far);
