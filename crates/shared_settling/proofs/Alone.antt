@@ -36,7 +36,7 @@ use Rattle.shared_settling.specs.Among.{SettlesAmong, CanSettleAmong, CanSettleR
 -- ---- the settler's events
 
 -- they may come anywhere
-settling-may : (b : Basis) (r : Run) (e : CoreEvent) → is_settling e ≡ true → MayCome b r e
+pub settling-may : (b : Basis) (r : Run) (e : CoreEvent) → is_settling e ≡ true → MayCome b r e
 settling-may b r Take q = λ a. tt
 settling-may b r (Vote n g kept) q = λ a. tt
 settling-may b r (Decide n) q = λ a. tt
@@ -132,7 +132,8 @@ module _ (r r' : Run) (among : SettlesAmong (own_sight r) (own_sight r')) where
   own-all : among.on.rest ≡ among.own
   own-all = same-behind (own_sight r).seen among.on.rest among.own (sym among.on.seen ∙ among.mine)
 
-  run-own : r' ≡ run_after r among.own
+  -- it is the run before with what was put
+  pub run-own : r' ≡ run_after r among.own
   run-own =
       sym (own-run r') ∙ run-sees (own_sight r) (own_sight r') among.on ∙ ap (λ (l : List Told). run_after (run_seen (own_sight r)) l) own-all ∙ ap (λ (x : Run). run_after x among.own) (own-run r)
 

@@ -1,5 +1,5 @@
 -- What is left is settled alone, and then all is done.
-use Rattle.std.proofs.Common.{◌≡◌, inl, inr, ℕ, ◌≤◌, ◌<◌, Option, Some, None, List, [], ◌∷◌, ◌++◌, Bool, true, false, true≢false, refl, sym, ap, ◌∙◌, subst, arith}
+use Rattle.std.proofs.Common.{◌≡◌, inl, inr, ℕ, ◌≤◌, ◌<◌, Option, Some, None, List, [], ◌∷◌, ◌++◌, Bool, false, true≢false, refl, sym, ◌∙◌, subst, arith}
 use Rattle.std.specs.Prelude.{Result, Ok, Err, is_some}
 use Rattle.base_types.specs.declared.shapes.Shape.{Shape}
 use Rattle.host_trait.specs.declared.channels.Channel.{Channel}
@@ -8,16 +8,12 @@ use Rattle.core_model.specs.Asked.{IsGoing}
 use Rattle.core_model.specs.CoreState.{UnitNo}
 use Rattle.core_model.specs.Legal.{Run, ends}
 use Rattle.core_model.specs.Settler.{settler_step, Rests}
-use Rattle.core_model.specs.declared.events.CoreEvent.{CoreEvent}
-use Rattle.core_model.specs.declared.events.CoreEvent.TheVariants.{Bad, Begin, Grant, Refuse, Finish, EndPlain, EndSnapshot, Release, Take, Vote, Decide, Sealed, NotSealed, Doubt, Learn, Emitted, Halt, Want, Load}
 use Rattle.turn_cell.specs.History.{In}
 use Rattle.turn_cell.proofs.Lists.{in_right}
 use Rattle.turn_cell.proofs.Histories.{legal_back}
-use Rattle.turn_rules.specs.Going.{with_event, MayCome}
+use Rattle.turn_rules.specs.Going.{with_event}
 use Rattle.core_access.specs.Histories.{Told, reply_in, run_after, IsTrue as IsHistoryOf}
 use Rattle.core_access.specs.OneHolder.{own_sight}
-use Rattle.core_access.specs.Settling.{is_settling}
-use Rattle.core_access.proofs.Entries.{run-on}
 use Rattle.core_access.proofs.OneHolder.{own-run, own-history}
 use Rattle.promise_spec.specs.Cores.{HasBegun}
 use Rattle.promise_spec.specs.UnitRule.{Basis, KeepsUnitRule}
@@ -29,6 +25,7 @@ use Rattle.run_books.specs.Beginnings.{Outset, basis_of}
 use Rattle.run_books.specs.Books.{Books}
 use Rattle.run_books.specs.Records.{HasCarriedAll, TurnsEndAs, RecordGoesOn}
 use Rattle.shared_settling.specs.Among.{SettlesAmong, CanSettleRest, SaysAmong, SettledAmong}
+use Rattle.shared_settling.proofs.Alone.{settling-may, run-own}
 use Rattle.shared_settling.proofs.Ended.{carried-all}
 use Rattle.history_core.specs.Cores.{HasFewNumbers}
 use Rattle.closing_rules.specs.Closed.{IsOverAndFree}
@@ -37,28 +34,6 @@ use Rattle.closing_rules.proofs.Stories.{Story, begun-after, none-began, reply-t
 use Rattle.silo_workers.specs.Ending.{HasGathered}
 use Rattle.silo_workers.specs.declared.work.WorkEnd.{WorkEnd}
 use Rattle.silo_workers.specs.declared.work.WorkEnd.TheVariants.{Through}
-
--- an event of the settler's may come anywhere
-settling-may : (b : Basis) (run : Run) (e : CoreEvent) → is_settling e ≡ true → MayCome b run e
-settling-may b run Take q = λ a. tt
-settling-may b run (Vote n g kept) q = λ a. tt
-settling-may b run (Decide n) q = λ a. tt
-settling-may b run (Sealed n) q = λ a. tt
-settling-may b run (NotSealed n) q = λ a. tt
-settling-may b run (Doubt n) q = λ a. tt
-settling-may b run (Learn v g) q = λ a. tt
-settling-may b run Emitted q = λ a. tt
-settling-may b run (Bad n why) q = absurd (true≢false (sym q))
-settling-may b run (Begin origin call plain) q = absurd (true≢false (sym q))
-settling-may b run (Grant v g mode) q = absurd (true≢false (sym q))
-settling-may b run (Refuse v g mode) q = absurd (true≢false (sym q))
-settling-may b run (Finish v e) q = absurd (true≢false (sym q))
-settling-may b run (EndPlain v e) q = absurd (true≢false (sym q))
-settling-may b run (EndSnapshot v at outcome) q = absurd (true≢false (sym q))
-settling-may b run (Release v g) q = absurd (true≢false (sym q))
-settling-may b run Halt q = absurd (true≢false (sym q))
-settling-may b run (Want v g) q = absurd (true≢false (sym q))
-settling-may b run (Load g v state) q = absurd (true≢false (sym q))
 
 -- nothing is not something
 some-not : {A : Type 0} (x : Option A) → false ≡ is_some x → x ≡ None
@@ -69,9 +44,7 @@ some-not (Some a) q = absurd (true≢false (sym q))
 
 module _ (r r' : Run) (among : SettlesAmong (own_sight r) (own_sight r')) where
   rest-is : r' ≡ run_after r among.own
-  rest-is =
-      sym (own-run r') ∙ ((λ i. run_after (among.on.first i) (among.mine i))
-      ∙ (run-on (own_sight r).mine among.own (own_sight r).first ∙ ap (λ (x : Run). run_after x among.own) (own-run r)))
+  rest-is = run-own r r' among
 
   rest-true : IsHistoryOf r among.own
   rest-true =

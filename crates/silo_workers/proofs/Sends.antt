@@ -8,26 +8,16 @@ use denote.Struct.Tuple.{type_at, TupleAt}
 use denote.Param.SendFields.{FieldsHave, as_row_send, declared_send}
 use Rattle.std.proofs.Crossing.{crosses}
 use Rattle.std.proofs.MapsCrossing.{crosses as maps}
-use Rattle.base_types.specs.contracts.calls.Call as call
-use Rattle.base_types.specs.contracts.calls.Outcome as outcome
 use Rattle.base_types.specs.contracts.state.State as state
-use Rattle.core_model.specs.contracts.effects.Effect as effect
 use Rattle.core_model.specs.contracts.effects.Read as read
 use Rattle.dependency_sets.specs.contracts.set.DepSet as deps
 use Rattle.history_core.specs.contracts.parts.Parts as parts
 use Rattle.history_core.specs.contracts.whole.Core as core
 use Rattle.history_core.specs.contracts.whole.Core.TheInside as inside
 use Rattle.open_batch.specs.contracts.members.FinishedUnit as finished
-use Rattle.unit_table.specs.contracts.entry.OverUnit as over
 use Rattle.unit_table.specs.contracts.entry.RunningUnit as running
 use Rattle.unit_table.specs.contracts.entry.UnitEntry as entry
 use Rattle.unit_table.specs.contracts.table.UnitTable as units
-
-call_send : IsSend call.the_row
-call_send = search (sendable, crosses, maps) depth 60 fits 90000
-
-outcome_send : IsSend outcome.the_row
-outcome_send = search (sendable, crosses, maps) depth 60 fits 90000
 
 state_send : IsSend state.the_row
 state_send = search (sendable, crosses, maps) depth 60 fits 90000
@@ -38,17 +28,11 @@ deps_send = search (sendable, crosses, maps) depth 60 fits 90000
 read_send : IsSend read.the_row
 read_send = search (sendable, crosses, maps, state_send) depth 60 fits 90000
 
-effect_send : IsSend effect.the_row
-effect_send = search (sendable, crosses, maps, outcome_send, state_send, read_send) depth 60 fits 90000
-
 finished_send : IsSend finished.the_row
 finished_send = search (sendable, crosses, maps, deps_send) depth 60 fits 90000
 
 running_send : IsSend running.the_row
 running_send = search (sendable, crosses, maps, read_send, deps_send) depth 60 fits 90000
-
-over_send : IsSend over.the_row
-over_send = search (sendable, crosses, maps) depth 60 fits 90000
 
 entry_send : IsSend entry.the_row
 entry_send = search (sendable, crosses, maps, running_send) depth 60 fits 90000
