@@ -36,10 +36,10 @@ use Rattle.core_access.proofs.Knowing.{tells-knows}
 use Rattle.txn_agent.specs.declared.work.Carried.{Carried}
 use Rattle.txn_agent.specs.declared.work.Work.{Work}
 use Rattle.txn_agent.specs.declared.agent.Advanced.TheVariants as came
-use Rattle.txn_agent.specs.Working.{IsAtWork, IsReady, found_by, source_of}
+use Rattle.txn_agent.specs.Working.{IsAtWork, IsReady, IsResumed, found_by, source_of}
 use Rattle.txn_agent.specs.Linked.{IfOwn, IsPaused, IsOver, IsNew, KnowsPaused, KnowsWaiting}
 use Rattle.txn_agent.specs.Stepping.{Acts, AnswerSays, Puts, all_but}
-use Rattle.txn_agent.proofs.Trails.{IsResumed, answers-last, exclusive-last, first-answer, grains-last, missing-lock, missing-raise, next-own, raise-answer, reads-last, start-answer, unit-answer}
+use Rattle.txn_agent.proofs.Trails.{answers-last, exclusive-last, first-answer, grains-last, missing-lock, missing-raise, next-own, raise-answer, reads-last, start-answer, unit-answer}
 use Rattle.txn_agent.proofs.Lowest.{first_grain-none, first_grain-some}
 use Rattle.txn_agent.proofs.Others.{paused-on, over-on, over-as}
 use Rattle.txn_agent.proofs.Locking.{first-linked, again-linked, no-lock-alone}

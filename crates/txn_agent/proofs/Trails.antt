@@ -17,12 +17,10 @@ use Rattle.script_meaning.specs.Requests.{Requests, End, AskLock, AskRaise, AskU
 use Rattle.script_meaning.specs.Play.{GrainState, Want, WantLock, WantRaise, WantUnit, Over, asks, grains_with_states, next}
 use Rattle.script_meaning.specs.Trails.{Given, GivenLock, GivenRaise, GivenOutcome, IsTrail, answers_of, asked_of, exclusive_in, locks_of, reads_of}
 use Rattle.script_meaning.proofs.Plays.{next_is_missing_lem}
-use Rattle.script_machine.specs.declared.machine.Input.{Input}
 use Rattle.script_machine.specs.declared.machine.Input.TheVariants as input
 use Rattle.script_machine.specs.declared.machine.Machine.{Machine}
-use Rattle.script_machine.specs.declared.machine.Pause.{Pause}
 use Rattle.script_machine.specs.declared.machine.Pause.TheVariants.{NeedGrain, NeedUnit, Done}
-use Rattle.script_machine.specs.Machines.{AnswersRequest, FollowsTrail, HasRoomForParts, asks_raise, given_by, has_begun, is_done, is_over, pause_for, rest}
+use Rattle.script_machine.specs.Machines.{AnswersRequest, FollowsTrail, asks_raise, given_by, pause_for, rest}
 
 -- ---- one more was given
 
@@ -175,11 +173,3 @@ over-wants (Over q) o e = (let a : q ≡ o = cc in ap Over a)
 pub next-own : (types : ProgramTree) (call : Call) (depth : ℕ) (machine : Machine) (trail : List Given) → FollowsTrail types call depth machine trail → next types call depth (locks_of trail) (answers_of trail) ≡ asks (rest types machine)
 unfolding next
 next-own types call depth machine trail f = ap asks f.left
-
--- What a machine is after it was given more, and its pause.
-pub record IsResumed (types : ProgramTree) (old new : Machine) (one : Input) (pause : Pause) : Type 0 where
-  pub asks_for : pause ≡ pause_for (asks (rest types new))
-  pub follows : (call : Call) (depth : ℕ) (trail : List Given) → FollowsTrail types call depth old trail → FollowsTrail types call depth new (trail ++ given_by (rest types old) one)
-  pub begun : has_begun new ≡ true
-  pub over : is_over new ≡ is_done pause
-  pub room : HasRoomForParts new

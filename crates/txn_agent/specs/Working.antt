@@ -1,14 +1,16 @@
 -- What an agent knows of its script's machine, whatever others do.
-use Rattle.std.specs.Prelude.{◌≡◌, ℕ, List, length, map, true}
+use Rattle.std.specs.Prelude.{◌≡◌, ◌++◌, ℕ, List, length, map, true}
 use Rattle.std.specs.List.{All, Contains}
-use Rattle.core_model.specs.CoreState.{UnitNo}
+use Rattle.core_model.specs.CoreState.{UnitNo, Call}
 use Rattle.core_model.specs.declared.effects.Effect.{Effect}
 use Rattle.core_model.specs.declared.effects.Read.{Read}
 use Rattle.script_tree.specs.Programs.{ProgramTree}
 use Rattle.script_meaning.specs.Play.{GrainState, Over, asks, grains_with_states}
 use Rattle.script_meaning.specs.Trails.{Given, answers_of, exclusive_in, reads_of}
+use Rattle.script_machine.specs.declared.machine.Input.{Input}
+use Rattle.script_machine.specs.declared.machine.Machine.{Machine}
 use Rattle.script_machine.specs.declared.machine.Pause.{Pause}
-use Rattle.script_machine.specs.Machines.{FollowsTrail, HasRoomForParts, has_begun, is_done, is_over, pause_for, rest}
+use Rattle.script_machine.specs.Machines.{FollowsTrail, HasRoomForParts, given_by, has_begun, is_done, is_over, pause_for, rest}
 use Rattle.promise_spec.specs.Serial.{depth_of}
 use Rattle.promise_spec.specs.UnitRule.{IsPlayOf}
 use Rattle.txn_agent.specs.declared.work.Carried.{Carried}
@@ -27,6 +29,22 @@ pub record IsReady (types : ProgramTree) (work : Work) (pause : Pause) : Type 0 
   pub asks_for : pause ≡ pause_for (asks (rest types work.machine))
   pub over : is_over work.machine ≡ is_done pause
   pub room : HasRoomForParts work.machine
+
+-- What a machine is after it was given more, and its pause.
+pub record IsResumed (types : ProgramTree) (old new : Machine) (one : Input) (pause : Pause) : Type 0 where
+  pub asks_for : pause ≡ pause_for (asks (rest types new))
+  pub follows : (call : Call) (depth : ℕ) (trail : List Given) → FollowsTrail types call depth old trail → FollowsTrail types call depth new (trail ++ given_by (rest types old) one)
+  pub begun : has_begun new ≡ true
+  pub over : is_over new ≡ is_done pause
+  pub room : HasRoomForParts new
+
+-- The work goes on: its machine was given what it asked for and is at its next pause, and nothing else has changed.
+pub record GoesOn (types : ProgramTree) (old new : Work) (one : Input) (pause : Pause) : Type 0 where
+  pub call : new.call ≡ old.call
+  pub held : new.held ≡ old.held
+  pub sources : new.sources ≡ old.sources
+  pub kids : new.kids ≡ old.kids
+  pub machine : IsResumed types old.machine new.machine one pause
 
 -- what was found, and by whom it was written
 abbrev pub found_by : Read → GrainState

@@ -70,8 +70,7 @@ impl Agent {
         ensures knows { IfOk result (λ agent. (s : Sight) → IfOwn agent.carried s (λ r. IsNew (program_tree checked.now) r agent.carried call) → Knows (program_tree checked.now) s agent) }
     {
         let asked = call.copy()?;
-        let mut machine = Machine::start(alloc, checked, asked, depth_of(origin))?;
-        let pause = machine.resume(alloc, checked, Input::First)?;
+        let machine = Machine::start(alloc, checked, asked, depth_of(origin))?;
         let work = Work {
             call,
             machine,
@@ -79,6 +78,7 @@ impl Agent {
             sources: List::new(alloc),
             kids: 0,
         };
+        let (work, pause) = work.resume(alloc, checked, Input::First)?;
         Ok(Agent {
             carried: Carried {
                 unit,

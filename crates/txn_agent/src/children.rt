@@ -7,6 +7,7 @@ ghost use Rattle.txn_agent.specs.Stepping.{Acts, AnswerSays, Hears, children_of}
 
 use crate::agent::Advanced;
 use crate::looks::known_of;
+use crate::puts::put;
 use crate::work::{Carried, Doing, Work};
 use base_types::{Call, Origin, UnitNo};
 use core_access::Access;
@@ -37,10 +38,7 @@ pub fn hear<A: Access>(
     match known_of(access, child)? {
         KnownOutcome::Undecided => Ok(Doing::Awaits { work, child }),
         KnownOutcome::Decided(outcome) => {
-            let mut work = work;
-            let pause = work
-                .machine
-                .resume(alloc, checked, Input::Unit { outcome })?;
+            let (work, pause) = work.resume(alloc, checked, Input::Unit { outcome })?;
             Ok(Doing::Asks { work, pause })
         }
     }
@@ -67,18 +65,18 @@ pub fn begin_child<A: Access>(
     let index = work.kids;
     let begun = index + 1;
     let asked = call.copy()?;
-    let reply = match access.put(CoreEvent::Begin {
-        origin: Origin::Child {
-            parent: carried.unit,
-            index,
-            depth,
+    let reply = put(
+        access,
+        CoreEvent::Begin {
+            origin: Origin::Child {
+                parent: carried.unit,
+                index,
+                depth,
+            },
+            call,
+            plain: false,
         },
-        call,
-        plain: false,
-    }) {
-        Ok(reply) => reply,
-        Err(_) => return Err(AllocError),
-    };
+    )?;
     match reply {
         CoreReply::Began { unit: child } => {
             let mut work = work;

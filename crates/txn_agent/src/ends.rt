@@ -13,6 +13,7 @@ ghost use Rattle.txn_agent.specs.Linked.{KnowsPaused, KnowsDoing};
 ghost use Rattle.txn_agent.specs.Stepping.{Acts, AnswerSays, all_but};
 
 use crate::agent::Advanced;
+use crate::puts::put;
 use crate::work::{Carried, Doing, Work};
 use base_types::{GrainId, List, Outcome, State, UnitNo};
 use core_access::Access;
@@ -101,13 +102,13 @@ pub fn finish<A: Access>(
     ensures doing { IfOk result (λ made. KnowsDoing (program_tree checked.now) (A.sight access.new) carried made.0) }
 {
     let (effect, held) = effect_of(alloc, carried, work)?;
-    let reply = match access.put(CoreEvent::Finish {
-        unit: carried.unit,
-        effect,
-    }) {
-        Ok(reply) => reply,
-        Err(_) => return Err(AllocError),
-    };
+    let reply = put(
+        access,
+        CoreEvent::Finish {
+            unit: carried.unit,
+            effect,
+        },
+    )?;
     match reply {
         CoreReply::Done => Ok((Doing::Frees { held }, Advanced::Moved)),
         _ => Ok((Doing::Stopped, Advanced::Moved)),
@@ -134,13 +135,13 @@ pub fn end_plain<A: Access>(
     ensures doing { IfOk result (λ made. KnowsDoing (program_tree checked.now) (A.sight access.new) carried made.0) }
 {
     let (effect, held) = effect_of(alloc, carried, work)?;
-    let reply = match access.put(CoreEvent::EndPlain {
-        unit: carried.unit,
-        effect,
-    }) {
-        Ok(reply) => reply,
-        Err(_) => return Err(AllocError),
-    };
+    let reply = put(
+        access,
+        CoreEvent::EndPlain {
+            unit: carried.unit,
+            effect,
+        },
+    )?;
     match reply {
         CoreReply::Done => Ok((Doing::Frees { held }, Advanced::Moved)),
         _ => Ok((Doing::Stopped, Advanced::Moved)),
@@ -215,13 +216,13 @@ pub fn release<A: Access>(
     let Some(grain) = lowest(held.as_slice()) else {
         return Ok((Doing::Frees { held }, Advanced::Ended));
     };
-    let reply = match access.put(CoreEvent::Release {
-        unit: carried.unit,
-        grain,
-    }) {
-        Ok(reply) => reply,
-        Err(_) => return Err(AllocError),
-    };
+    let reply = put(
+        access,
+        CoreEvent::Release {
+            unit: carried.unit,
+            grain,
+        },
+    )?;
     match reply {
         CoreReply::Done => {
             let held = leave(held, grain);

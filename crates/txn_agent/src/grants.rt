@@ -10,6 +10,7 @@ ghost use Rattle.txn_agent.specs.Linked.{KnowsPaused, KnowsDoing};
 ghost use Rattle.txn_agent.specs.Stepping.{Acts, AnswerSays};
 
 use crate::agent::Advanced;
+use crate::puts::put;
 use crate::work::{Carried, Doing, Work};
 use base_types::{GrainId, Mode};
 use core_access::Access;
@@ -39,20 +40,18 @@ pub fn grant_first<A: Access>(
     ensures told { IfOk result (λ made. AnswerSays A.may_come (program_tree checked.now) carried.unit work.kids (A.sight access.old) (A.sight access.new) made.1) }
     ensures doing { IfOk result (λ made. KnowsDoing (program_tree checked.now) (A.sight access.new) carried made.0) }
 {
-    let reply = match access.put(CoreEvent::Grant {
-        unit: carried.unit,
-        grain,
-        mode,
-    }) {
-        Ok(reply) => reply,
-        Err(_) => return Err(AllocError),
-    };
+    let reply = put(
+        access,
+        CoreEvent::Grant {
+            unit: carried.unit,
+            grain,
+            mode,
+        },
+    )?;
     match reply {
         CoreReply::Granted { state, source } => {
-            let mut work = work;
-            work.held.push(grain)?;
-            work.sources.push(source)?;
-            let pause = work.machine.resume(alloc, checked, Input::Grain { state })?;
+            let locked = work.with_lock(grain, source)?;
+            let (work, pause) = locked.resume(alloc, checked, Input::Grain { state })?;
             Ok((
                 Doing::Asks { work, pause },
                 Advanced::Granted { grain, source },
@@ -86,21 +85,20 @@ pub fn grant_again<A: Access>(
     ensures told { IfOk result (λ made. AnswerSays A.may_come (program_tree checked.now) carried.unit work.kids (A.sight access.old) (A.sight access.new) made.1) }
     ensures doing { IfOk result (λ made. KnowsDoing (program_tree checked.now) (A.sight access.new) carried made.0) }
 {
-    let reply = match access.put(CoreEvent::Grant {
-        unit: carried.unit,
-        grain,
-        mode,
-    }) {
-        Ok(reply) => reply,
-        Err(_) => return Err(AllocError),
-    };
+    let reply = put(
+        access,
+        CoreEvent::Grant {
+            unit: carried.unit,
+            grain,
+            mode,
+        },
+    )?;
     match reply {
         CoreReply::Granted {
             state: _state,
             source,
         } => {
-            let mut work = work;
-            let pause = work.machine.resume(alloc, checked, Input::Held)?;
+            let (work, pause) = work.resume(alloc, checked, Input::Held)?;
             Ok((
                 Doing::Asks { work, pause },
                 Advanced::Granted { grain, source },

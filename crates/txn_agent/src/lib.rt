@@ -14,6 +14,7 @@ mod grants;
 mod laws;
 mod locks;
 mod looks;
+mod puts;
 mod steps;
 mod work;
 

@@ -11,6 +11,7 @@ ghost use Rattle.txn_agent.specs.Stepping.{Acts, AnswerSays};
 use crate::agent::Advanced;
 use crate::grants::{grant_again, grant_first};
 use crate::looks::ask_for;
+use crate::puts::put;
 use crate::work::{Carried, Doing, Work};
 use base_types::{GrainId, Mode};
 use core_access::Access;
@@ -38,14 +39,14 @@ fn refuse<A: Access>(
     ensures told { IfOk result (λ made. AnswerSays A.may_come (program_tree checked.now) carried.unit work.kids (A.sight access.old) (A.sight access.new) made.1) }
     ensures doing { IfOk result (λ made. KnowsDoing (program_tree checked.now) (A.sight access.new) carried made.0) }
 {
-    let reply = match access.put(CoreEvent::Refuse {
-        unit: carried.unit,
-        grain,
-        mode,
-    }) {
-        Ok(reply) => reply,
-        Err(_) => return Err(AllocError),
-    };
+    let reply = put(
+        access,
+        CoreEvent::Refuse {
+            unit: carried.unit,
+            grain,
+            mode,
+        },
+    )?;
     match reply {
         CoreReply::Done => Ok((Doing::Frees { held: work.held }, Advanced::Moved)),
         _ => {

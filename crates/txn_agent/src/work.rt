@@ -1,5 +1,12 @@
+ghost use Rattle.std.specs.Prelude.{◌≡◌, [], ◌∷◌, ◌++◌, IfOk};
+ghost use Rattle.script_tree.specs.Programs.{program_tree};
+ghost use Rattle.script_machine.specs.Machines.{Fits};
+ghost use Rattle.txn_agent.specs.Working.{GoesOn};
+
 use base_types::{Call, GrainId, List, Origin, UnitNo};
-use script_machine::{Machine, Pause};
+use script_check::Checked;
+use script_machine::{Input, Machine, Pause};
+use std::alloc::{AllocError, Global};
 
 /// A unit as it began: its number, what it is the run of, and whether it is a plain run.
 #[derive(Clone, Copy)]
@@ -18,6 +25,33 @@ pub struct Work {
     pub held: List<GrainId>,
     pub sources: List<UnitNo>,
     pub kids: u32,
+}
+
+impl Work {
+    /// Notes a grain that the unit locked for the first time, and whose version it found there.
+    pub fn with_lock(self, grain: GrainId, source: UnitNo) -> Result<Work, AllocError>
+        ensures { IfOk result (λ work. work ≡ record self { held = self.held ++ grain ∷ []; sources = self.sources ++ source ∷ [] }) }
+    {
+        let mut work = self;
+        work.held.push(grain)?;
+        work.sources.push(source)?;
+        Ok(work)
+    }
+
+    /// Gives the machine what it asked for, and runs it to its next pause.
+    pub fn resume(
+        self,
+        alloc: Global,
+        checked: &Checked,
+        input: Input,
+    ) -> Result<(Work, Pause), AllocError>
+        requires fits { Fits (program_tree checked.now) self.machine input }
+        ensures { IfOk result (λ made. GoesOn (program_tree checked.now) self made.0 input made.1) }
+    {
+        let mut work = self;
+        let pause = work.machine.resume(alloc, checked, input)?;
+        Ok((work, pause))
+    }
 }
 
 /// What a unit does.

@@ -1,12 +1,10 @@
-use Rattle.std.proofs.Common.{refl, rules}
+use Rattle.std.proofs.Common.{◌∙◌, rules}
 use Rattle.script_tree.specs.Programs.{program_tree}
 use Rattle.txn_agent.proofs.Resuming.{new_known}
 use Rattle.txn_agent.proofs.agent.Agent.new.Goals as goal
 
 pub returns-clause-knows : goal.returns-clause-knows
 returns-clause-knows c = λ s new.
+    let on = c.in_ok-work.ensures in
     new_known (program_tree c.args.checked.now) s (record { unit = c.args.unit; origin = c.args.origin; plain = c.args.plain }) c.args.call c.in_ok-machine.machine
-    (record { call = c.args.call; machine = c.resume.new.self; held = c.new.result; sources = c.new-2.result; kids = 0 }) c.in_ok-pause.pause
-    (search rules)
-    (record { asks_for = c.in_ok-pause.ensures.asks; follows = c.in_ok-pause.ensures.follows; begun = c.in_ok-pause.ensures.begun; over = c.in_ok-pause.ensures.over; room = c.in_ok-pause.ensures.room })
-    refl (search rules) (search rules) refl new
+    c.in_ok-work.work c.in_ok-work.pause (search rules) on.machine on.call (on.held ∙ search rules) (on.sources ∙ search rules) on.kids new
