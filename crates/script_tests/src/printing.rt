@@ -1,3 +1,5 @@
+//! Trees, written as programs: one blank between what stands apart, and parentheses around each operator and its operands.
+
 use script_tree::{
     BinaryOp, CallExpr, Expr, FieldDecl, Literal, Method, MethodKind, Name, Program, Source, Stmt,
     TxnOption, TypeDecl, UnaryOp,
@@ -58,16 +60,13 @@ fn kind_of(kind: MethodKind) -> &'static str {
 
 fn print_literal(out: &mut String, literal: &Literal) -> Result<(), AllocError> {
     match literal {
-        Literal::Int(number) => {
-            let digits = format!(in *out.allocator(); "{number}")?;
-            out.push_str(digits.as_str())
-        }
+        Literal::Int(number) => write!(out, "{number}"),
         Literal::Chars(text) => add(out, &["\"", text.as_str(), "\""]),
     }
 }
 
-// An expression, with parentheses around each operator and its operands.
-fn print_expr(out: &mut String, value: &Expr) -> Result<(), AllocError> {
+/// Writes an expression.
+pub fn print_expr(out: &mut String, value: &Expr) -> Result<(), AllocError> {
     match value {
         Expr::Literal(literal) => print_literal(out, literal),
         Expr::Name(name) => add(out, &[name.text.as_str()]),
@@ -97,7 +96,8 @@ fn print_args(out: &mut String, args: &[Expr]) -> Result<(), AllocError> {
     Ok(())
 }
 
-fn print_call(out: &mut String, call: &CallExpr) -> Result<(), AllocError> {
+/// Writes a call.
+pub fn print_call(out: &mut String, call: &CallExpr) -> Result<(), AllocError> {
     add(out, &["call ", call.target.text.as_str(), "/"])?;
     print_expr(out, &call.place)?;
     add(out, &[".", call.method.text.as_str(), "("])?;
@@ -123,24 +123,43 @@ fn print_given(
     add(out, &[";"])
 }
 
+fn print_set(out: &mut String, name: &Name, value: &Expr) -> Result<(), AllocError> {
+    add(out, &[" set ", name.text.as_str(), " = "])?;
+    print_expr(out, value)?;
+    add(out, &[";"])
+}
+
+fn print_return(out: &mut String, value: &Expr) -> Result<(), AllocError> {
+    add(out, &[" return "])?;
+    print_expr(out, value)?;
+    add(out, &[";"])
+}
+
+fn print_perform(out: &mut String, call: &CallExpr) -> Result<(), AllocError> {
+    add(out, &[" "])?;
+    print_call(out, call)?;
+    add(out, &[";"])
+}
+
+fn print_test(out: &mut String, word: &str, test: &Expr) -> Result<(), AllocError> {
+    add(out, &[word])?;
+    print_expr(out, test)
+}
+
+fn print_tried(out: &mut String, name: &Name, call: &CallExpr) -> Result<(), AllocError> {
+    add(out, &[" attempt ", name.text.as_str(), " = "])?;
+    print_call(out, call)
+}
+
 #[cycle(printing)]
 fn print_statement(out: &mut String, statement: &Stmt) -> Result<(), AllocError> {
     match statement {
         Stmt::Let { name, value } => print_given(out, " let ", name, value),
         Stmt::Assign { name, value } => print_given(out, " ", name, value),
-        Stmt::Set { name, value } => {
-            add(out, &[" set ", name.text.as_str(), " = "])?;
-            print_expr(out, value)?;
-            add(out, &[";"])
-        }
-        Stmt::Call { call } => {
-            add(out, &[" "])?;
-            print_call(out, call)?;
-            add(out, &[";"])
-        }
+        Stmt::Set { name, value } => print_set(out, name, value),
+        Stmt::Call { call } => print_perform(out, call),
         Stmt::If { test, then, other } => {
-            add(out, &[" if "])?;
-            print_expr(out, test)?;
+            print_test(out, " if ", test)?;
             print_block(out, " {", then.as_slice())?;
             match other {
                 None => Ok(()),
@@ -148,15 +167,10 @@ fn print_statement(out: &mut String, statement: &Stmt) -> Result<(), AllocError>
             }
         }
         Stmt::While { test, body } => {
-            add(out, &[" while "])?;
-            print_expr(out, test)?;
+            print_test(out, " while ", test)?;
             print_block(out, " {", body.as_slice())
         }
-        Stmt::Return { value } => {
-            add(out, &[" return "])?;
-            print_expr(out, value)?;
-            add(out, &[";"])
-        }
+        Stmt::Return { value } => print_return(out, value),
         Stmt::Fail { text } => add(out, &[" fail \"", text.as_str(), "\";"]),
         Stmt::Attempt {
             at: _,
@@ -165,16 +179,16 @@ fn print_statement(out: &mut String, statement: &Stmt) -> Result<(), AllocError>
             then,
             other,
         } => {
-            add(out, &[" attempt ", name.text.as_str(), " = "])?;
-            print_call(out, call)?;
+            print_tried(out, name, call)?;
             print_block(out, " {", then.as_slice())?;
             print_block(out, " else {", other.as_slice())
         }
     }
 }
 
+/// Writes statements in their braces, the first of which is given.
 #[cycle(printing)]
-fn print_block(out: &mut String, opening: &str, body: &[Stmt]) -> Result<(), AllocError> {
+pub fn print_block(out: &mut String, opening: &str, body: &[Stmt]) -> Result<(), AllocError> {
     add(out, &[opening])?;
     for statement in body {
         print_statement(out, statement)?;
@@ -212,14 +226,16 @@ fn print_type(out: &mut String, of_type: &TypeDecl) -> Result<(), AllocError> {
     for method in of_type.methods.as_slice() {
         print_method(out, method)?;
     }
-    add(out, &[" }\n"])
+    add(out, &[" }"])
 }
 
-/// Writes a program, each type on a line of its own, with one blank between what stands apart and parentheses around each
-/// operator and its operands.
+/// Writes a program on one line.
 pub fn print_program(out: &mut String, program: &Program) -> Result<(), AllocError> {
+    let mut between = "";
     for of_type in program.types.as_slice() {
+        add(out, &[between])?;
         print_type(out, of_type)?;
+        between = " ";
     }
     Ok(())
 }

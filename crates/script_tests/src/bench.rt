@@ -1,0 +1,100 @@
+use crate::built::add_built;
+use crate::patterns::text_of;
+use crate::readings::add_reading;
+use crate::trouble::Trouble;
+use std::alloc::{AllocError, Global};
+
+/// The lines of a program, and whether there was a case behind them.
+#[derive(Drop)]
+pub struct Bench {
+    alloc: Global,
+    program: String,
+    read: bool,
+}
+
+// The pattern of a text, of which a body is a part.
+fn pattern_of(alloc: Global, word: &str, case: &str) -> Result<String, AllocError> {
+    if word.starts_with("body") {
+        return format!(in alloc;
+            "type a {{ field f = 0; method m(p) create update {{ {case} }} }}"
+        );
+    }
+    String::from_str(alloc, case)
+}
+
+fn add_refused(
+    out: &mut String,
+    why: &'static str,
+    at: u32,
+    marked: usize,
+) -> Result<(), AllocError> {
+    write!(out, "{why} at {at}")?;
+    if at as usize != marked {
+        write!(out, ", but {marked} is marked")?;
+    }
+    Ok(())
+}
+
+impl Bench {
+    pub fn new(alloc: Global) -> Bench {
+        Bench {
+            alloc,
+            program: String::new(alloc),
+            read: false,
+        }
+    }
+
+    /// What is told of a line: nothing of one that only says what cases show, or that is a program's.
+    pub fn told(&mut self, line: &str) -> Result<String, AllocError> {
+        let mut out = String::new(self.alloc);
+        if line.is_empty() || line.starts_with('#') {
+            return Ok(out);
+        }
+        if line.starts_with('|') {
+            self.add_line(line)?;
+            return Ok(out);
+        }
+        self.read = true;
+        out.push_str(" -> ")?;
+        self.add_case(&mut out, line)?;
+        Ok(out)
+    }
+
+    // One line more of the program; the first of another one where there were cases since the last line.
+    fn add_line(&mut self, line: &str) -> Result<(), AllocError> {
+        if self.read {
+            self.read = false;
+            self.program.clear();
+        }
+        let (_, text) = line.split_once(' ').unwrap_or((line, ""));
+        self.program.push_str(text)?;
+        self.program.push_str("\n")
+    }
+
+    fn add_case(&self, out: &mut String, line: &str) -> Result<(), AllocError> {
+        let (word, case) = line.split_once(' ').unwrap_or((line, ""));
+        if word == "built" {
+            return add_built(self.alloc, out, case);
+        }
+        let case = if case == "|" {
+            self.program.as_str()
+        } else {
+            case
+        };
+        self.add_told(out, word, case)
+    }
+
+    // What is told of a text that is written as a pattern.
+    fn add_told(&self, out: &mut String, word: &str, case: &str) -> Result<(), AllocError> {
+        let (word, times) = word.split_once('*').unwrap_or((word, "1"));
+        let pattern = pattern_of(self.alloc, word, case)?;
+        let times = times.parse::<u32>().unwrap_or(0);
+        let made = text_of(self.alloc, pattern.as_str(), times)?;
+        match add_reading(self.alloc, out, word, made.text.as_slice()) {
+            Ok(()) => Ok(()),
+            Err(Trouble::Refused(why, at)) => add_refused(out, why, at, made.marked),
+            Err(Trouble::Case(why)) => out.push_str(why),
+            Err(Trouble::Memory) => Err(AllocError),
+        }
+    }
+}

@@ -1,0 +1,128 @@
+use crate::printing::{print_call, print_expr, print_program};
+use crate::tokens::add_tokens;
+use crate::trouble::Trouble;
+use base_types::{Shape, TypeShape};
+use script_check::{Checked, check};
+use script_expressions::Cursor;
+use script_lexer::{Lexed, Symbol, tokens_of};
+use script_parser::{DEPTH_LIMIT, TEXT_LIMIT, parse};
+use script_tree::Program;
+use std::alloc::{AllocError, Global};
+use test_cases::add_values;
+
+fn lexed(alloc: Global, text: &[u8]) -> Result<Lexed, Trouble> {
+    if text.len() > TEXT_LIMIT {
+        return Err(Trouble::Refused("too long", 0));
+    }
+    Ok(tokens_of(alloc, text)?)
+}
+
+fn parsed(alloc: Global, text: &[u8]) -> Result<Program, Trouble> {
+    if text.len() > TEXT_LIMIT {
+        return Err(Trouble::Refused("too long", 0));
+    }
+    Ok(parse(alloc, text)?)
+}
+
+fn checked(alloc: Global, text: &[u8]) -> Result<Checked, Trouble> {
+    let program = parsed(alloc, text)?;
+    Ok(check(alloc, program)?)
+}
+
+fn add_parsed(alloc: Global, out: &mut String, text: &[u8]) -> Result<(), Trouble> {
+    parsed(alloc, text)?;
+    Ok(out.push_str("accepted")?)
+}
+
+fn add_checked(alloc: Global, out: &mut String, text: &[u8]) -> Result<(), Trouble> {
+    checked(alloc, text)?;
+    Ok(out.push_str("accepted")?)
+}
+
+fn add_tree(alloc: Global, out: &mut String, text: &[u8]) -> Result<(), Trouble> {
+    let program = checked(alloc, text)?;
+    print_program(out, program.program())?;
+    Ok(())
+}
+
+// Writes `account(0) 1 1 0`.
+fn add_type(out: &mut String, shape: &TypeShape) -> Result<(), AllocError> {
+    out.push_str(shape.name.as_str())?;
+    add_values(out, shape.initial.as_slice())?;
+    for count in shape.params.as_slice() {
+        write!(out, " {count}")?;
+    }
+    Ok(())
+}
+
+fn add_types(out: &mut String, shapes: &[TypeShape]) -> Result<(), AllocError> {
+    let mut between = "";
+    for shape in shapes {
+        out.push_str(between)?;
+        add_type(out, shape)?;
+        between = "; ";
+    }
+    Ok(())
+}
+
+fn shape_of(alloc: Global, text: &[u8]) -> Result<Shape, Trouble> {
+    let program = checked(alloc, text)?;
+    Ok(program.shape()?)
+}
+
+fn add_shape(alloc: Global, out: &mut String, text: &[u8]) -> Result<(), Trouble> {
+    let shape = shape_of(alloc, text)?;
+    add_types(out, shape.types.as_slice())?;
+    Ok(())
+}
+
+fn add_listed(alloc: Global, out: &mut String, text: &[u8]) -> Result<(), Trouble> {
+    let lexed = lexed(alloc, text)?;
+    add_tokens(out, &lexed.tokens)?;
+    Err(lexed.stop.into())
+}
+
+// Reads an expression, and the semicolon behind it.
+fn add_value(alloc: Global, out: &mut String, cursor: &mut Cursor<'_>) -> Result<(), Trouble> {
+    let value = cursor.expression(alloc, DEPTH_LIMIT)?;
+    print_expr(out, &value)?;
+    cursor.expect(Symbol::Semicolon)?;
+    Ok(())
+}
+
+fn add_call(alloc: Global, out: &mut String, cursor: &mut Cursor<'_>) -> Result<(), Trouble> {
+    let call = cursor.call(alloc, DEPTH_LIMIT)?;
+    print_call(out, &call)?;
+    Ok(())
+}
+
+fn add_cursor(alloc: Global, out: &mut String, text: &[u8]) -> Result<(), Trouble> {
+    let lexed = lexed(alloc, text)?;
+    let mut cursor = Cursor {
+        tokens: &lexed.tokens,
+        stop: lexed.stop,
+    };
+    add_value(alloc, out, &mut cursor)?;
+    out.push_str("; ")?;
+    add_call(alloc, out, &mut cursor)?;
+    out.push_str("; ")?;
+    Err(cursor.refused().into())
+}
+
+/// What a text is read as, in the way that the word says.
+pub fn add_reading(
+    alloc: Global,
+    out: &mut String,
+    word: &str,
+    text: &[u8],
+) -> Result<(), Trouble> {
+    match word {
+        "text" | "body" => add_checked(alloc, out, text),
+        "parse" => add_parsed(alloc, out, text),
+        "tree" | "body-tree" => add_tree(alloc, out, text),
+        "shape" => add_shape(alloc, out, text),
+        "tokens" => add_listed(alloc, out, text),
+        "cursor" => add_cursor(alloc, out, text),
+        _ => Err(Trouble::Case("no such case")),
+    }
+}
