@@ -9,12 +9,15 @@ fn name_of(alloc: Global, text: &str, at: u32) -> Result<Name, AllocError> {
     Ok(Name { text, at })
 }
 
+fn sum_of(alloc: Global, field: &str) -> Result<Expr, AllocError> {
+    let before = Expr::variable(name_of(alloc, field, 20)?);
+    Expr::joined(alloc, BinaryOp::Add, before, Expr::literal(Literal::Int(1)))
+}
+
 // Sets the field to one more than it is.
 fn setting_of(alloc: Global, field: &str) -> Result<Stmt, AllocError> {
-    let before = Expr::variable(name_of(alloc, field, 20)?);
-    let one = Expr::literal(Literal::Int(1));
-    let sum = Expr::joined(alloc, BinaryOp::Add, before, one)?;
-    Ok(Stmt::set_field(name_of(alloc, field, 12)?, sum))
+    let name = name_of(alloc, field, 12)?;
+    Ok(Stmt::set_field(name, sum_of(alloc, field)?))
 }
 
 // Gives `x` the key.

@@ -4,9 +4,9 @@ use crate::trouble::Trouble;
 use base_types::{Shape, TypeShape};
 use script_check::{Checked, check};
 use script_expressions::Cursor;
-use script_lexer::{Lexed, Symbol, tokens_of};
+use script_lexer::{Lexed, ParseFault, Symbol, tokens_of};
 use script_parser::{DEPTH_LIMIT, TEXT_LIMIT, parse};
-use script_tree::Program;
+use script_tree::{CallExpr, Expr, Program};
 use std::alloc::{AllocError, Global};
 use test_cases::add_values;
 
@@ -82,31 +82,47 @@ fn add_listed(alloc: Global, out: &mut String, text: &[u8]) -> Result<(), Troubl
     Err(lexed.stop.into())
 }
 
-// Reads an expression, and the semicolon behind it.
-fn add_value(alloc: Global, out: &mut String, cursor: &mut Cursor<'_>) -> Result<(), Trouble> {
+/// What a cursor reads: an expression, a semicolon and a call, and what can't follow.
+#[derive(Drop)]
+struct Parts {
+    value: Expr,
+    call: CallExpr,
+    stop: ParseFault,
+}
+
+fn value_at(alloc: Global, cursor: &mut Cursor<'_>) -> Result<Expr, ParseFault> {
     let value = cursor.expression(alloc, DEPTH_LIMIT)?;
-    print_expr(out, &value)?;
     cursor.expect(Symbol::Semicolon)?;
-    Ok(())
+    Ok(value)
 }
 
-fn add_call(alloc: Global, out: &mut String, cursor: &mut Cursor<'_>) -> Result<(), Trouble> {
+fn parts_at(alloc: Global, cursor: &mut Cursor<'_>) -> Result<Parts, ParseFault> {
+    let value = value_at(alloc, cursor)?;
     let call = cursor.call(alloc, DEPTH_LIMIT)?;
-    print_call(out, &call)?;
-    Ok(())
+    let stop = cursor.refused();
+    Ok(Parts { value, call, stop })
 }
 
-fn add_cursor(alloc: Global, out: &mut String, text: &[u8]) -> Result<(), Trouble> {
+fn parts_of(alloc: Global, text: &[u8]) -> Result<Parts, Trouble> {
     let lexed = lexed(alloc, text)?;
     let mut cursor = Cursor {
         tokens: &lexed.tokens,
         stop: lexed.stop,
     };
-    add_value(alloc, out, &mut cursor)?;
+    Ok(parts_at(alloc, &mut cursor)?)
+}
+
+fn add_parts(out: &mut String, parts: &Parts) -> Result<(), AllocError> {
+    print_expr(out, &parts.value)?;
     out.push_str("; ")?;
-    add_call(alloc, out, &mut cursor)?;
-    out.push_str("; ")?;
-    Err(cursor.refused().into())
+    print_call(out, &parts.call)?;
+    out.push_str("; ")
+}
+
+fn add_cursor(alloc: Global, out: &mut String, text: &[u8]) -> Result<(), Trouble> {
+    let parts = parts_of(alloc, text)?;
+    add_parts(out, &parts)?;
+    Err(parts.stop.into())
 }
 
 /// What a text is read as, in the way that the word says.
