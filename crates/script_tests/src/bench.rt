@@ -12,16 +12,6 @@ pub struct Bench {
     read: bool,
 }
 
-// The pattern of a text, of which a body is a part.
-fn pattern_of(alloc: Global, word: &str, case: &str) -> Result<String, AllocError> {
-    if word.starts_with("body") {
-        return format!(in alloc;
-            "type a {{ field f = 0; method m(p) create update {{ {case} }} }}"
-        );
-    }
-    String::from_str(alloc, case)
-}
-
 fn add_refused(
     out: &mut String,
     why: &'static str,
@@ -30,7 +20,7 @@ fn add_refused(
 ) -> Result<(), AllocError> {
     write!(out, "{why} at {at}")?;
     if at as usize != marked {
-        write!(out, ", but {marked} is marked")?;
+        out.push_str(", which isn't marked")?;
     }
     Ok(())
 }
@@ -87,13 +77,11 @@ impl Bench {
     // What is told of a text that is written as a pattern.
     fn add_told(&self, out: &mut String, word: &str, case: &str) -> Result<(), AllocError> {
         let (word, times) = word.split_once('*').unwrap_or((word, "1"));
-        let pattern = pattern_of(self.alloc, word, case)?;
         let times = times.parse::<u32>().unwrap_or(0);
-        let made = text_of(self.alloc, pattern.as_str(), times)?;
+        let made = text_of(self.alloc, word, case, times)?;
         match add_reading(self.alloc, out, word, made.text.as_slice()) {
             Ok(()) => Ok(()),
             Err(Trouble::Refused(why, at)) => add_refused(out, why, at, made.marked),
-            Err(Trouble::Case(why)) => out.push_str(why),
             Err(Trouble::Memory) => Err(AllocError),
         }
     }

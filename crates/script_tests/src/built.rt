@@ -35,10 +35,10 @@ fn fill(alloc: Global, body: &mut Items<Stmt>, field: &str) -> Result<(), AllocE
 // Writes a name's copy, its length and its place.
 fn add_name(out: &mut String, name: &Name) -> Result<(), AllocError> {
     let copy = name.text.copy()?;
+    let text = copy.as_str();
     let bytes = copy.len();
     let at = name.at;
-    out.push_str(copy.as_str())?;
-    write!(out, " of {bytes} bytes at {at}")
+    write!(out, "{text} of {bytes} bytes at {at}")
 }
 
 fn add_first(out: &mut String, body: &Items<Stmt>) -> Result<(), AllocError> {

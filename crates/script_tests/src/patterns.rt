@@ -59,19 +59,41 @@ impl Written {
         }
         Ok(())
     }
+
+    // Takes a pattern up, whose parts between two `~` are written so many times.
+    fn add_all(&mut self, pattern: &str, times: u32) -> Result<(), AllocError> {
+        let mut repeats = false;
+        for part in pattern.split('~') {
+            self.add(part, if repeats { times } else { 1 })?;
+            repeats = !repeats;
+        }
+        Ok(())
+    }
 }
 
-/// The text of a pattern whose parts between two `~` are written so many times.
-pub fn text_of(alloc: Global, pattern: &str, times: u32) -> Result<Written, AllocError> {
+// What stands before and behind the pattern of such a case.
+fn frame_of(word: &str) -> (&'static str, &'static str) {
+    match word {
+        "body" | "body-tree" => ("type a { field f = 0; method m(p) create update { ", " } }"),
+        _ => ("", ""),
+    }
+}
+
+/// The text of a case, whose repeated parts are written so many times.
+pub fn text_of(
+    alloc: Global,
+    word: &str,
+    pattern: &str,
+    times: u32,
+) -> Result<Written, AllocError> {
     let mut made = Written {
         text: Vec::new(alloc),
         marked: 0,
         escaped: false,
     };
-    let mut repeats = false;
-    for part in pattern.split('~') {
-        made.add(part, if repeats { times } else { 1 })?;
-        repeats = !repeats;
-    }
+    let (front, back) = frame_of(word);
+    made.add(front, 1)?;
+    made.add_all(pattern, times)?;
+    made.add(back, 1)?;
     Ok(made)
 }

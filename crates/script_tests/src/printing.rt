@@ -129,21 +129,22 @@ fn print_set(out: &mut String, name: &Name, value: &Expr) -> Result<(), AllocErr
     add(out, &[";"])
 }
 
-fn print_return(out: &mut String, value: &Expr) -> Result<(), AllocError> {
-    add(out, &[" return "])?;
-    print_expr(out, value)?;
-    add(out, &[";"])
-}
-
 fn print_perform(out: &mut String, call: &CallExpr) -> Result<(), AllocError> {
     add(out, &[" "])?;
     print_call(out, call)?;
     add(out, &[";"])
 }
 
-fn print_test(out: &mut String, word: &str, test: &Expr) -> Result<(), AllocError> {
-    add(out, &[word])?;
-    print_expr(out, test)
+// An expression, between these.
+fn print_between(
+    out: &mut String,
+    front: &str,
+    value: &Expr,
+    back: &str,
+) -> Result<(), AllocError> {
+    add(out, &[front])?;
+    print_expr(out, value)?;
+    add(out, &[back])
 }
 
 fn print_tried(out: &mut String, name: &Name, call: &CallExpr) -> Result<(), AllocError> {
@@ -159,18 +160,18 @@ fn print_statement(out: &mut String, statement: &Stmt) -> Result<(), AllocError>
         Stmt::Set { name, value } => print_set(out, name, value),
         Stmt::Call { call } => print_perform(out, call),
         Stmt::If { test, then, other } => {
-            print_test(out, " if ", test)?;
-            print_block(out, " {", then.as_slice())?;
+            print_between(out, " if ", test, " ")?;
+            print_block(out, "{", then.as_slice())?;
             match other {
                 None => Ok(()),
                 Some(other) => print_block(out, " else {", other.as_slice()),
             }
         }
         Stmt::While { test, body } => {
-            print_test(out, " while ", test)?;
-            print_block(out, " {", body.as_slice())
+            print_between(out, " while ", test, " ")?;
+            print_block(out, "{", body.as_slice())
         }
-        Stmt::Return { value } => print_return(out, value),
+        Stmt::Return { value } => print_between(out, " return ", value, ";"),
         Stmt::Fail { text } => add(out, &[" fail \"", text.as_str(), "\";"]),
         Stmt::Attempt {
             at: _,

@@ -79,7 +79,7 @@ fn add_shape(alloc: Global, out: &mut String, text: &[u8]) -> Result<(), Trouble
 fn add_listed(alloc: Global, out: &mut String, text: &[u8]) -> Result<(), Trouble> {
     let lexed = lexed(alloc, text)?;
     add_tokens(out, &lexed.tokens)?;
-    Err(lexed.stop.into())
+    Err(Trouble::from(lexed.stop))
 }
 
 /// What a cursor reads: an expression, a semicolon and a call, and what can't follow.
@@ -122,7 +122,7 @@ fn add_parts(out: &mut String, parts: &Parts) -> Result<(), AllocError> {
 fn add_cursor(alloc: Global, out: &mut String, text: &[u8]) -> Result<(), Trouble> {
     let parts = parts_of(alloc, text)?;
     add_parts(out, &parts)?;
-    Err(parts.stop.into())
+    Err(Trouble::from(parts.stop))
 }
 
 /// What a text is read as, in the way that the word says.
@@ -139,6 +139,6 @@ pub fn add_reading(
         "shape" => add_shape(alloc, out, text),
         "tokens" => add_listed(alloc, out, text),
         "cursor" => add_cursor(alloc, out, text),
-        _ => Err(Trouble::Case("no such case")),
+        _ => Ok(out.push_str("no such case")?),
     }
 }

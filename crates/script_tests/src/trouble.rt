@@ -1,6 +1,6 @@
 use script_check::CheckFault;
 use script_parser::ParseFault;
-use std::alloc::{AllocError, AllocFailed};
+use std::alloc::AllocError;
 
 /// Why a case tells no more.
 #[derive(Clone, Copy)]
@@ -8,18 +8,10 @@ pub enum Trouble {
     Memory,
     /// The text is refused at this byte.
     Refused(&'static str, u32),
-    /// It isn't a case.
-    Case(&'static str),
 }
 
 impl From<AllocError> for Trouble {
     fn from(_: AllocError) -> Trouble {
-        Trouble::Memory
-    }
-}
-
-impl<T: Drop> From<AllocFailed<T>> for Trouble {
-    fn from(_: AllocFailed<T>) -> Trouble {
         Trouble::Memory
     }
 }
