@@ -1,7 +1,7 @@
 use crate::printing::{print_call, print_expr, print_program};
 use crate::tokens::add_tokens;
 use crate::trouble::Trouble;
-use base_types::{Shape, TypeShape};
+use base_types::TypeShape;
 use script_check::{Checked, check};
 use script_expressions::Cursor;
 use script_lexer::{Lexed, ParseFault, Symbol, tokens_of};
@@ -34,17 +34,6 @@ fn add_parsed(alloc: Global, out: &mut String, text: &[u8]) -> Result<(), Troubl
     Ok(out.push_str("accepted")?)
 }
 
-fn add_checked(alloc: Global, out: &mut String, text: &[u8]) -> Result<(), Trouble> {
-    checked(alloc, text)?;
-    Ok(out.push_str("accepted")?)
-}
-
-fn add_tree(alloc: Global, out: &mut String, text: &[u8]) -> Result<(), Trouble> {
-    let program = checked(alloc, text)?;
-    print_program(out, program.program())?;
-    Ok(())
-}
-
 // Writes `account(0) 1 1 0`.
 fn add_type(out: &mut String, shape: &TypeShape) -> Result<(), AllocError> {
     out.push_str(shape.name.as_str())?;
@@ -65,15 +54,23 @@ fn add_types(out: &mut String, shapes: &[TypeShape]) -> Result<(), AllocError> {
     Ok(())
 }
 
-fn shape_of(alloc: Global, text: &[u8]) -> Result<Shape, Trouble> {
-    let program = checked(alloc, text)?;
-    Ok(program.shape()?)
+fn add_shape(out: &mut String, program: &Checked) -> Result<(), AllocError> {
+    let shape = program.shape()?;
+    add_types(out, shape.types.as_slice())
 }
 
-fn add_shape(alloc: Global, out: &mut String, text: &[u8]) -> Result<(), Trouble> {
-    let shape = shape_of(alloc, text)?;
-    add_types(out, shape.types.as_slice())?;
-    Ok(())
+// What a word asks of a program that is accepted.
+fn add_program(out: &mut String, word: &str, program: &Checked) -> Result<(), AllocError> {
+    match word {
+        "tree" | "body-tree" => print_program(out, program.program()),
+        "shape" => add_shape(out, program),
+        _ => out.push_str("accepted"),
+    }
+}
+
+fn add_checked(alloc: Global, out: &mut String, word: &str, text: &[u8]) -> Result<(), Trouble> {
+    let program = checked(alloc, text)?;
+    Ok(add_program(out, word, &program)?)
 }
 
 fn add_listed(alloc: Global, out: &mut String, text: &[u8]) -> Result<(), Trouble> {
@@ -112,17 +109,17 @@ fn parts_of(alloc: Global, text: &[u8]) -> Result<Parts, Trouble> {
     Ok(parts_at(alloc, &mut cursor)?)
 }
 
-fn add_parts(out: &mut String, parts: &Parts) -> Result<(), AllocError> {
+fn add_parts(out: &mut String, parts: &Parts) -> Result<(), Trouble> {
     print_expr(out, &parts.value)?;
     out.push_str("; ")?;
     print_call(out, &parts.call)?;
-    out.push_str("; ")
+    out.push_str("; ")?;
+    Err(Trouble::from(parts.stop))
 }
 
 fn add_cursor(alloc: Global, out: &mut String, text: &[u8]) -> Result<(), Trouble> {
     let parts = parts_of(alloc, text)?;
-    add_parts(out, &parts)?;
-    Err(Trouble::from(parts.stop))
+    add_parts(out, &parts)
 }
 
 /// What a text is read as, in the way that the word says.
@@ -133,10 +130,8 @@ pub fn add_reading(
     text: &[u8],
 ) -> Result<(), Trouble> {
     match word {
-        "text" | "body" => add_checked(alloc, out, text),
+        "text" | "body" | "tree" | "body-tree" | "shape" => add_checked(alloc, out, word, text),
         "parse" => add_parsed(alloc, out, text),
-        "tree" | "body-tree" => add_tree(alloc, out, text),
-        "shape" => add_shape(alloc, out, text),
         "tokens" => add_listed(alloc, out, text),
         "cursor" => add_cursor(alloc, out, text),
         _ => Ok(out.push_str("no such case")?),
