@@ -20,6 +20,4 @@ mod stops;
 #[cfg(test)]
 mod transfers;
 #[cfg(test)]
-mod words;
-#[cfg(test)]
 mod workers;
