@@ -1,185 +1,86 @@
-// The run with each of its calls failing in turn: how it ends, and that each image that a crash may leave then stands for what
-// the replies say.
-use crate::setting::{ACCOUNT, MANAGER, PROGRAM, output_of};
-use crate::transfers::{
-    books_after, carry, count_lines, expect, image_of, is_cut, new_books, read_books,
-};
-use base_types::GrainId;
-use host_memory::{CallKind, MemoryHost};
-use host_trait::{Channel, FileId};
+// The six transfers with one of their calls failing: how the run ends, and that each image that a crash may leave then stands for
+// what the replies say.
+use crate::answers::add_end;
+use crate::bank::read_books;
+use crate::commands::{IMAGES, copied, count_lines, image_of, output_of};
+use crate::names::Fault;
+use crate::transfers::{books_after, is_cut, transfer, transferred};
+use host_memory::MemoryHost;
 use silo_top::Status;
+use std::alloc::{AllocError, Global};
 use std::sync::Wait;
-use std::test::Fail;
 use std::thread::Threads;
 
-const SECOND: FileId = FileId::Grain {
-    slot: 0,
-    grain: GrainId { kind: 0, key: 2 },
-};
-
-const THIRD: FileId = FileId::Grain {
-    slot: 0,
-    grain: GrainId { kind: 0, key: 3 },
-};
-
-const LOG: Channel = Channel::File(MANAGER);
-
-const ONE: Channel = Channel::File(ACCOUNT);
-
-const TWO: Channel = Channel::File(SECOND);
-
-const THREE: Channel = Channel::File(THIRD);
-
-const TEXT: Channel = Channel::File(PROGRAM);
-
-const LOG_FAULT: Status = Status::DiskFault { file: MANAGER };
-
-// The run's calls: those of the opening and of the input, and for each of two batches a write and a sync of each account's file,
-// two of each of the log, the block's and the gate's, and a line for each of its units. A row has some of one kind on one channel,
-// from the first to the last of two numbers, and the status where one of them fails.
-const ROWS: [(CallKind, Channel, u64, u64, Status); 24] = [
-    (CallKind::Length, LOG, 1, 4, LOG_FAULT),
-    (CallKind::Read, LOG, 1, 13, LOG_FAULT),
-    (CallKind::Sync, LOG, 1, 1, LOG_FAULT),
-    (
-        CallKind::Length,
-        TEXT,
-        1,
-        1,
-        Status::DiskFault { file: PROGRAM },
-    ),
-    (
-        CallKind::Read,
-        TEXT,
-        1,
-        2,
-        Status::DiskFault { file: PROGRAM },
-    ),
-    (
-        CallKind::Read,
-        ONE,
-        1,
-        1,
-        Status::DiskFault { file: ACCOUNT },
-    ),
-    (
-        CallKind::Read,
-        TWO,
-        1,
-        1,
-        Status::DiskFault { file: SECOND },
-    ),
-    (
-        CallKind::Read,
-        THREE,
-        1,
-        1,
-        Status::DiskFault { file: THIRD },
-    ),
-    (CallKind::Pull, Channel::Input, 1, 2, Status::ReadFault),
-    (CallKind::Write, ONE, 1, 2, Status::Done),
-    (CallKind::Sync, ONE, 1, 2, Status::Done),
-    (CallKind::Write, TWO, 1, 2, Status::Done),
-    (CallKind::Sync, TWO, 1, 2, Status::Done),
-    (CallKind::Write, THREE, 1, 2, Status::Done),
-    (CallKind::Sync, THREE, 1, 2, Status::Done),
-    (CallKind::Write, LOG, 1, 1, Status::Done),
-    (CallKind::Sync, LOG, 2, 2, Status::Done),
-    (CallKind::Write, LOG, 2, 2, LOG_FAULT),
-    (CallKind::Sync, LOG, 3, 3, LOG_FAULT),
-    (CallKind::Write, LOG, 3, 3, Status::Done),
-    (CallKind::Sync, LOG, 4, 4, Status::Done),
-    (CallKind::Write, LOG, 4, 4, LOG_FAULT),
-    (CallKind::Sync, LOG, 5, 5, LOG_FAULT),
-    (CallKind::Emit, Channel::Output, 1, 6, Status::WriteFault),
-];
-
-// Whether an image's books are what the run's end says of them. Behind an emit that failed they may be those of what was to be
+// Whether these books may stand behind a run that ended so. Behind an emit that failed they may be those of what was to be
 // put out. In doubt they may be those of the whole batch too, whose lines are the whole run's.
 fn may_stand(books: i64, status: Status, output: &str, whole: &str) -> bool {
     let replies = count_lines(output);
-    if status == Status::WriteFault {
-        return is_cut(books, whole, replies);
+    match status {
+        Status::WriteFault => is_cut(books, whole, replies),
+        Status::Done => books == books_after(output, replies),
+        _ => books == books_after(output, replies) || books == books_after(whole, replies),
     }
-    if status == Status::Done {
-        return books == books_after(output, replies);
-    }
-    books == books_after(output, replies) || books == books_after(whole, replies)
 }
 
-fn check_images<R: Threads + Wait + Sync + AllocGlobal>(
+// Whether an image's books are what a run's end says of them.
+fn is_sound<R: Threads + Wait + Sync>(
     rt: &R,
+    alloc: Global,
+    mut image: MemoryHost,
+    status: Status,
+    output: &str,
+    whole: &str,
+) -> Result<bool, AllocError> {
+    match read_books(rt, alloc, &mut image)? {
+        Some(books) => Ok(may_stand(books, status, output, whole)),
+        None => Ok(false),
+    }
+}
+
+// How many images of a crash behind the run are sound.
+fn count_sound<R: Threads + Wait + Sync>(
+    rt: &R,
+    alloc: Global,
     host: &MemoryHost,
     status: Status,
     whole: &str,
-) -> Result<(), Fail> {
-    for pick in 0..16u64 {
-        let mut image = image_of(host, host.calls(), pick)?;
-        let books = read_books(rt, &mut image)?;
-        expect(
-            may_stand(books, status, output_of(host), whole),
-            "an image's books",
-        )?;
-    }
-    Ok(())
-}
-
-// The run with one failing call: its status is this one, and where it is done each line is answered.
-fn check_fault<R: Threads + Wait + Sync + AllocGlobal>(
-    rt: &R,
-    host: &mut MemoryHost,
-    status: Status,
-    whole: &str,
-) -> Result<(), Fail> {
-    expect(carry(rt, host)? == status, "the status")?;
-    let replies = count_lines(output_of(host));
-    expect(replies == 6 || status != Status::Done, "the replies")?;
-    check_images(rt, host, status, whole)
-}
-
-fn fail_at<R: Threads + Wait + Sync + AllocGlobal>(
-    rt: &R,
-    before: &MemoryHost,
-    whole: &str,
-    (what, channel, nth): (CallKind, Channel, u64),
-    status: Status,
-) -> Result<(), Fail> {
-    let mut host = image_of(before, before.calls(), 0)?;
-    host.fail_on(what, channel, nth)?;
-    check_fault(rt, &mut host, status, whole)
-}
-
-// Each of the rows' calls: how many there are.
-fn check_faults<R: Threads + Wait + Sync + AllocGlobal>(
-    rt: &R,
-    before: &MemoryHost,
-    whole: &str,
-) -> Result<u64, Fail> {
+) -> Result<u64, AllocError> {
     let mut count = 0u64;
-    for (what, channel, first, last, status) in ROWS {
-        for nth in first..=last {
-            fail_at(rt, before, whole, (what, channel, nth), status)?;
+    for pick in 0..IMAGES {
+        let image = image_of(host, host.calls(), pick)?;
+        if is_sound(rt, alloc, image, status, output_of(host), whole)? {
             count = count.wrapping_add(1);
         }
     }
     Ok(count)
 }
 
-fn check_run<R: Threads + Wait + Sync + AllocGlobal>(
+// Has this host carry the six transfers with a call that fails.
+fn add_failed<R: Threads + Wait + Sync>(
     rt: &R,
-    before: &MemoryHost,
-    whole: &mut MemoryHost,
-) -> Result<(), Fail> {
-    let status = carry(rt, whole)?;
-    expect(status == Status::Done, "the whole run's status")?;
-    let count = check_faults(rt, before, output_of(whole))?;
-    expect(count == whole.calls(), "each call is one of the rows'")
+    alloc: Global,
+    out: &mut String,
+    host: &mut MemoryHost,
+    fault: Fault,
+    whole: &str,
+) -> Result<(), AllocError> {
+    host.fail_on(fault.what, fault.channel, fault.nth)?;
+    let status = transfer(rt, alloc, host)?;
+    add_end(out, status, host)?;
+    let sound = count_sound(rt, alloc, host, status, whole)?;
+    write!(out, ", {sound} of {IMAGES} images are sound")
 }
 
-#[test]
-fn each_failed_call_leaves_what_is_answered(rt: HostRuntime) -> Result<(), Fail> {
-    let alloc = rt.alloc();
-    let before = new_books(&rt)?;
-    let mut whole = image_of(&before, before.calls(), 0)?;
-    check_run(&rt, &before, &mut whole)
+/// Writes how the run of a copy of the host ends whose call fails, how many replies it has where all is done, and how many images
+/// are sound.
+pub fn add_fault<R: Threads + Wait + Sync>(
+    rt: &R,
+    alloc: Global,
+    out: &mut String,
+    before: &MemoryHost,
+    fault: Fault,
+) -> Result<(), AllocError> {
+    let whole = transferred(rt, alloc, before)?;
+    let mut host = copied(before)?;
+    add_failed(rt, alloc, out, &mut host, fault, output_of(&whole))
 }

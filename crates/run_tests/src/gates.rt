@@ -1,19 +1,20 @@
 // Runs whose threads a gate holds at places, until others were reached: two transactions are carried side by side, and one reads
 // what another has written before its batch is on disk.
-use crate::setting::{command_by, new_silo, output_of};
+use crate::answers::add_end;
+use crate::commands::carry_by;
 use host_memory::MemoryHost;
 use silo_top::{Gate, GatePlace, Status};
+use std::alloc::{AllocError, Global};
 use std::sync::Wait;
 use std::sync::atomic::{AtomicBool, Ordering};
-use std::test::Fail;
 use std::thread::Threads;
 
 // How often a hold looks before it gives up.
 const PATIENCE: u64 = 1_000_000_000;
 
-const WORKERS: &[&str] = &["run", "--workers", "2"];
+const WORKERS: &str = "run --workers 2";
 
-// Waits until the place was reached. Marks the test where that takes too long.
+// Waits until the place was reached. Marks the run where that takes too long.
 fn hold(reached: &AtomicBool, missed: &AtomicBool) {
     for _look in 0..PATIENCE {
         if reached.load(Ordering::SeqCst) {
@@ -79,53 +80,62 @@ impl Gate for BothGranted {
     }
 }
 
-fn silo_with<R: Threads + Wait + Sync + AllocGlobal>(
-    rt: &R,
-    input: &str,
-) -> Result<MemoryHost, Fail> {
-    let mut host = new_silo(rt)?;
-    host.set_input(input.as_bytes())?;
-    Ok(host)
+// Whether a place was waited for in vain.
+fn add_missed(out: &mut String, missed: &AtomicBool) -> Result<(), AllocError> {
+    let missed = missed.load(Ordering::SeqCst);
+    write!(out, ", missed a place: {missed}")
 }
 
-#[test]
-fn a_unit_reads_what_is_not_on_disk(rt: HostRuntime) -> Result<(), Fail> {
-    let lines =
-        "{\"args\":[5],\"call\":\"account/1.deposit\"}\n{\"args\":[],\"call\":\"account/1.read\"}\n";
-    let mut host = silo_with(&rt, lines)?;
+// The second unit reads the first one's version before the batch of that is sealed.
+fn add_seal<R: Threads + Wait + Sync>(
+    rt: &R,
+    alloc: Global,
+    out: &mut String,
+    host: &mut MemoryHost,
+    input: &str,
+) -> Result<Status, AllocError> {
     let gate = ReadBeforeSeal {
         sealing: AtomicBool::new(false),
         has_read: AtomicBool::new(false),
         missed: AtomicBool::new(false),
     };
-    let status = command_by(&rt, &mut host, &gate, WORKERS)?;
-    let missed = gate.missed.load(Ordering::SeqCst);
-    assert!(rt; status == Status::Done);
-    assert!(rt; !missed, "a place that wasn't reached");
-    assert_eq!(rt;
-        output_of(&host),
-        "{\"n\":1,\"reply\":5,\"unit\":1}\n{\"n\":2,\"reply\":5,\"unit\":2}\n"
-    );
-    Ok(())
+    let status = carry_by(rt, alloc, host, &gate, WORKERS, input)?;
+    add_end(out, status, host)?;
+    add_missed(out, &gate.missed)?;
+    Ok(status)
 }
 
-#[test]
-fn two_units_have_locks_at_once(rt: HostRuntime) -> Result<(), Fail> {
-    let lines =
-        "{\"args\":[5],\"call\":\"account/1.deposit\"}\n{\"args\":[4],\"call\":\"account/2.deposit\"}\n";
-    let mut host = silo_with(&rt, lines)?;
+// Each of the two units has a lock while the other has one.
+fn add_locks<R: Threads + Wait + Sync>(
+    rt: &R,
+    alloc: Global,
+    out: &mut String,
+    host: &mut MemoryHost,
+    input: &str,
+) -> Result<Status, AllocError> {
     let gate = BothGranted {
         first: AtomicBool::new(false),
         second: AtomicBool::new(false),
         missed: AtomicBool::new(false),
     };
-    let status = command_by(&rt, &mut host, &gate, WORKERS)?;
-    let missed = gate.missed.load(Ordering::SeqCst);
-    assert!(rt; status == Status::Done);
-    assert!(rt; !missed, "a place that wasn't reached");
-    let output = output_of(&host);
-    let first = output.contains("{\"n\":1,\"reply\":5,\"unit\":1}\n");
-    let second = output.contains("{\"n\":2,\"reply\":4,\"unit\":2}\n");
-    assert!(rt; first && second, "{output}");
-    Ok(())
+    let status = carry_by(rt, alloc, host, &gate, WORKERS, input)?;
+    add_end(out, status, host)?;
+    add_missed(out, &gate.missed)?;
+    Ok(status)
+}
+
+/// Carries two lines by two workers that a gate holds, and writes how that ended: at the word `seal` the gate is
+/// [`ReadBeforeSeal`], else [`BothGranted`].
+pub fn add_held<R: Threads + Wait + Sync>(
+    rt: &R,
+    alloc: Global,
+    out: &mut String,
+    host: &mut MemoryHost,
+    word: &str,
+    input: &str,
+) -> Result<Status, AllocError> {
+    if word == "seal" {
+        return add_seal(rt, alloc, out, host, input);
+    }
+    add_locks(rt, alloc, out, host, input)
 }

@@ -1,21 +1,13 @@
 // Six transfers between three accounts, four in flight, and what their replies and an image say of the balances.
-use crate::setting::{command, new_silo, output_of};
+use crate::answers::add_end;
+use crate::commands::{carry, copied};
 use host_memory::MemoryHost;
 use silo_top::Status;
+use std::alloc::{AllocError, Global};
 use std::sync::Wait;
-use std::test::Fail;
 use std::thread::Threads;
 
-/// The words of the run.
-pub const WORDS: &[&str] = &["run", "--width", "4"];
-
-// What makes the three accounts, with 100 in each.
-const DEPOSITS: &str = r#"{"args":[100],"call":"account/1.deposit"}
-{"args":[100],"call":"account/2.deposit"}
-{"args":[100],"call":"account/3.deposit"}
-"#;
-
-/// The run's lines. The fourth has no funds, but where the first is aborted.
+// The run's lines. The fourth has no funds, but where the first is aborted.
 const LINES: &str = r#"{"args":[1,2,30],"call":"atm/0.transfer"}
 {"args":[2,3,50],"call":"atm/0.transfer"}
 {"args":[3,1,10],"call":"atm/0.transfer"}
@@ -24,9 +16,7 @@ const LINES: &str = r#"{"args":[1,2,30],"call":"atm/0.transfer"}
 {"args":[2,1,5],"call":"atm/0.transfer"}
 "#;
 
-const BOOKS: &str = r#"{"args":[],"call":"books/0.all"}"#;
-
-// What it answers before the run.
+// The books before the run.
 const BEFORE: i64 = 100_100_100;
 
 // How a transfer's reply line names it, and what it adds to the books.
@@ -39,45 +29,53 @@ const MOVES: [(&str, i64); 6] = [
     ("\"n\":6,", -4_995),
 ];
 
-// A test goes on only where this holds.
-pub fn expect(holds: bool, what: &str) -> Result<(), Fail> {
-    if holds {
-        return Ok(());
+// The lines of a round, a transfer from each account to the next.
+const ROUND: &str = r#"{"args":[1,2,1],"call":"atm/0.transfer"}
+{"args":[2,3,1],"call":"atm/0.transfer"}
+{"args":[3,1,1],"call":"atm/0.transfer"}
+"#;
+
+/// The lines of so many rounds of transfers between the three accounts.
+pub fn rounds(alloc: Global, count: u64) -> Result<String, AllocError> {
+    let mut lines = String::new(alloc);
+    for _ in 0..count {
+        lines.push_str(ROUND)?;
     }
-    Err(what.into())
+    Ok(lines)
 }
 
-fn deposit_all<R: Threads + Wait + Sync + AllocGlobal>(
+/// Carries the six transfers.
+pub fn transfer<R: Threads + Wait + Sync>(
     rt: &R,
+    alloc: Global,
     host: &mut MemoryHost,
-) -> Result<(), Fail> {
-    host.set_input(DEPOSITS.as_bytes())?;
-    let status = command(rt, host, &["run"])?;
-    expect(status == Status::Done, "the deposits")
+) -> Result<Status, AllocError> {
+    carry(rt, alloc, host, "run --width 4", LINES)
 }
 
-/// A silo with the three accounts.
-pub fn new_books<R: Threads + Wait + Sync + AllocGlobal>(rt: &R) -> Result<MemoryHost, Fail> {
-    let mut host = new_silo(rt)?;
-    deposit_all(rt, &mut host)?;
+/// Writes how a copy of the host carries the six transfers, and by how many calls.
+pub fn add_transfers<R: Threads + Wait + Sync>(
+    rt: &R,
+    alloc: Global,
+    out: &mut String,
+    before: &MemoryHost,
+) -> Result<(), AllocError> {
+    let mut host = copied(before)?;
+    let status = transfer(rt, alloc, &mut host)?;
+    add_end(out, status, &host)?;
+    let calls = host.calls();
+    write!(out, ", {calls} calls")
+}
+
+/// A copy of the host that has carried the six transfers.
+pub fn transferred<R: Threads + Wait + Sync>(
+    rt: &R,
+    alloc: Global,
+    before: &MemoryHost,
+) -> Result<MemoryHost, AllocError> {
+    let mut host = copied(before)?;
+    transfer(rt, alloc, &mut host)?;
     Ok(host)
-}
-
-/// An image that a crash may leave after so many calls, or within the next one.
-pub fn image_of(host: &MemoryHost, after: u64, pick: u64) -> Result<MemoryHost, Fail> {
-    if after > host.calls() {
-        return Err("no such call".into());
-    }
-    Ok(host.crashed(after, pick)?)
-}
-
-/// Carries the lines.
-pub fn carry<R: Threads + Wait + Sync + AllocGlobal>(
-    rt: &R,
-    host: &mut MemoryHost,
-) -> Result<Status, Fail> {
-    host.set_input(LINES.as_bytes())?;
-    command(rt, host, WORDS)
 }
 
 // What a reply line adds to the books.
@@ -91,11 +89,6 @@ fn change_in(line: &str) -> i64 {
         }
     }
     0
-}
-
-/// How many reply lines there are.
-pub fn count_lines(output: &str) -> usize {
-    output.lines().count()
 }
 
 /// The books behind the first so many reply lines.
@@ -115,25 +108,4 @@ pub fn is_cut(books: i64, output: &str, least: usize) -> bool {
         }
     }
     false
-}
-
-// The value of a reply line.
-fn value_in(output: &str) -> Option<i64> {
-    let (_, behind) = output.split_once("\"reply\":")?;
-    let (value, _) = behind.split_once(",")?;
-    value.parse::<i64>().ok()
-}
-
-/// The books that a run over an image reads.
-pub fn read_books<R: Threads + Wait + Sync + AllocGlobal>(
-    rt: &R,
-    image: &mut MemoryHost,
-) -> Result<i64, Fail> {
-    image.set_input(BOOKS.as_bytes())?;
-    let status = command(rt, image, &["run"])?;
-    expect(status == Status::Done, "an image opens")?;
-    match value_in(output_of(image)) {
-        Some(books) => Ok(books),
-        None => Err("no books".into()),
-    }
 }

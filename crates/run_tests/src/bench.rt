@@ -1,0 +1,225 @@
+use crate::answers::{
+    add_end, add_images, add_left, add_money, add_output, add_said, add_size, add_whether_has,
+    add_whether_new,
+};
+use crate::bank::{NEW_LOG, new_books, new_silo, program_text};
+use crate::commands::{carry, copied};
+use crate::faults::add_fault;
+use crate::gates::add_held;
+use crate::names::{MANAGER, fault_of};
+use crate::stops::add_stops;
+use crate::transfers::{add_transfers, rounds};
+use host_memory::MemoryHost;
+use silo_top::Status;
+use std::alloc::{AllocError, Global};
+use std::sync::Wait;
+use std::thread::Threads;
+
+/// A host, the input of its next command, how its last command ended, and how many syncs there were before that.
+#[derive(Drop)]
+pub struct Bench {
+    alloc: Global,
+    host: MemoryHost,
+    input: String,
+    status: Status,
+    syncs: u64,
+}
+
+fn number_of(word: &str) -> u64 {
+    word.parse::<u64>().unwrap_or(0)
+}
+
+// So many blanks.
+fn blanks(alloc: Global, count: u64) -> Result<String, AllocError> {
+    let mut text = String::new(alloc);
+    for _ in 0..count {
+        text.push(' ')?;
+    }
+    Ok(text)
+}
+
+impl Bench {
+    /// An empty folder.
+    pub fn new(alloc: Global) -> Result<Bench, AllocError> {
+        let host = MemoryHost::new(alloc, &[])?;
+        Ok(Bench {
+            alloc,
+            host,
+            input: String::new(alloc),
+            status: Status::Done,
+            syncs: 0,
+        })
+    }
+
+    /// What is told of a line, with its line feed: nothing of one that only says what cases show, or lays out what they find.
+    pub fn told<R: Threads + Wait + Sync>(
+        &mut self,
+        rt: &R,
+        line: &str,
+    ) -> Result<String, AllocError> {
+        let mut out = String::new(self.alloc);
+        let (word, rest) = line.split_once(' ').unwrap_or((line, ""));
+        if self.take_host(rt, word)? || self.take_input(word, rest)? || self.lay(word, rest)? {
+            out.push_str("\n")?;
+            return Ok(out);
+        }
+        out.push_str(" -> ")?;
+        if self.add_lines(rt, &mut out, word, rest)? {
+            return Ok(out);
+        }
+        self.add_case(rt, &mut out, word, rest)?;
+        out.push_str("\n")?;
+        Ok(out)
+    }
+
+    // Takes another host by a case that does so.
+    fn take_host<R: Threads + Wait + Sync>(
+        &mut self,
+        rt: &R,
+        word: &str,
+    ) -> Result<bool, AllocError> {
+        let taken = match word {
+            "empty" => MemoryHost::new(self.alloc, &[]),
+            "new" => new_silo(rt, self.alloc),
+            "books" => new_books(rt, self.alloc),
+            "crash" => copied(&self.host),
+            _ => return Ok(false),
+        };
+        self.host = taken?;
+        Ok(true)
+    }
+
+    // Takes another input by a case that does so.
+    fn take_input(&mut self, word: &str, rest: &str) -> Result<bool, AllocError> {
+        let taken = match word {
+            "bank" => program_text(self.alloc),
+            "rounds" => rounds(self.alloc, number_of(rest)),
+            "blanks" => blanks(self.alloc, number_of(rest)),
+            _ => return Ok(false),
+        };
+        self.input = taken?;
+        Ok(true)
+    }
+
+    // Changes the host or the input by a case that does so.
+    fn lay(&mut self, word: &str, rest: &str) -> Result<bool, AllocError> {
+        match word {
+            "" | "#" => {}
+            "log" => self.cut_log(number_of(rest))?,
+            "fail" => self.fail(rest)?,
+            "<" => self.add_input(rest)?,
+            _ => return Ok(false),
+        }
+        Ok(true)
+    }
+
+    fn cut_log(&mut self, length: u64) -> Result<(), AllocError> {
+        let length = length.min(NEW_LOG.len() as u64) as usize;
+        self.host.set_file(MANAGER, &NEW_LOG[..length])
+    }
+
+    fn fail(&mut self, words: &str) -> Result<(), AllocError> {
+        let fault = fault_of(words);
+        self.host.fail_on(fault.what, fault.channel, fault.nth)
+    }
+
+    // A line more, with a line feed before it unless it is the first.
+    fn add_input(&mut self, line: &str) -> Result<(), AllocError> {
+        if !self.input.is_empty() {
+            self.input.push_str("\n")?;
+        }
+        self.input.push_str(line)
+    }
+
+    // Carries a command over the input that was laid out.
+    fn carry<R: Threads + Wait + Sync>(&mut self, rt: &R, words: &str) -> Result<(), AllocError> {
+        self.syncs = self.host.syncs();
+        self.status = carry(rt, self.alloc, &mut self.host, words, self.input.as_str())?;
+        self.input.clear();
+        Ok(())
+    }
+
+    // Carries the input that was laid out by workers that a gate holds.
+    fn hold<R: Threads + Wait + Sync>(
+        &mut self,
+        rt: &R,
+        out: &mut String,
+        gate: &str,
+    ) -> Result<(), AllocError> {
+        let input = self.input.as_str();
+        self.status = add_held(rt, self.alloc, out, &mut self.host, gate, input)?;
+        self.input.clear();
+        Ok(())
+    }
+
+    // Carries a command over the images of a crash, each with the input that was laid out.
+    fn carry_in_images<R: Threads + Wait + Sync>(
+        &mut self,
+        rt: &R,
+        out: &mut String,
+        words: &str,
+    ) -> Result<(), AllocError> {
+        let input = self.input.as_str();
+        add_images(rt, self.alloc, out, &self.host, words, input)?;
+        self.input.clear();
+        Ok(())
+    }
+
+    // Writes what was put out, by a case that tells all of it.
+    fn add_lines<R: Threads + Wait + Sync>(
+        &mut self,
+        rt: &R,
+        out: &mut String,
+        word: &str,
+        rest: &str,
+    ) -> Result<bool, AllocError> {
+        match word {
+            "silo" => {
+                self.carry(rt, rest)?;
+                add_output(out, self.status, &self.host)?;
+            }
+            "replies" => add_output(out, self.status, &self.host)?,
+            "images" => self.carry_in_images(rt, out, rest)?,
+            _ => return Ok(false),
+        }
+        Ok(true)
+    }
+
+    // Writes what another case tells.
+    fn add_case<R: Threads + Wait + Sync>(
+        &mut self,
+        rt: &R,
+        out: &mut String,
+        word: &str,
+        rest: &str,
+    ) -> Result<(), AllocError> {
+        match word {
+            "count" => {
+                self.carry(rt, rest)?;
+                add_end(out, self.status, &self.host)
+            }
+            "held" => self.hold(rt, out, rest),
+            "money" => add_money(rt, self.alloc, out, &self.host),
+            "transfers" => add_transfers(rt, self.alloc, out, &self.host),
+            "stops" => add_stops(rt, self.alloc, out, &self.host),
+            "fails" => add_fault(rt, self.alloc, out, &self.host, fault_of(rest)),
+            _ => self.add_kept(out, word, rest),
+        }
+    }
+
+    // Writes what a case tells that carries nothing.
+    fn add_kept(&self, out: &mut String, word: &str, rest: &str) -> Result<(), AllocError> {
+        match word {
+            "left" => add_left(out, &self.host, self.syncs),
+            "said" => add_said(self.alloc, out, self.status),
+            "size" => add_size(out, &self.host, rest),
+            "has" => add_whether_has(out, &self.host, rest),
+            "is-new" => add_whether_new(self.alloc, out, &self.host),
+            "calls" => {
+                let calls = self.host.calls();
+                write!(out, "{calls}")
+            }
+            _ => out.push_str("no such case"),
+        }
+    }
+}

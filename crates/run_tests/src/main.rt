@@ -1,0 +1,48 @@
+//! Carries the commands of a silo over hosts in memory, and tells behind each how it ended and what was put out. `stdin` has the
+//! cases, and `stdout` what must come out, worked out by hand from the repository's documents.
+//!
+//! | A line | does |
+//! |---|---|
+//! | `# ..` | says what the cases behind it show |
+//! | `empty`, `new`, `books` | takes a folder without files; a new silo of the bank program; one that has 100 in each of three accounts |
+//! | `log N` | gives the manager file the first N bytes of a new silo's |
+//! | `fail CALL CHANNEL N` | has the N-th call of this kind on this channel fail, counted from here on |
+//! | `crash` | takes what a crash leaves that loses all that is pending |
+//! | `< ..`, `bank`, `rounds N`, `blanks N` | gives the next command a line more, or the bank program, N rounds of three transfers, N blanks |
+//! | `silo WORDS` | carries the command, and tells how it ended and all that the host has put out by then |
+//! | `count WORDS` | carries the command, and tells how it ended and, where all was done, how many lines were put out |
+//! | `held seal`, `held locks` | does so for a run by two workers whose threads a gate holds: see [`gates`] |
+//! | `images WORDS` | carries the command over sixteen images that a crash may leave here, and tells each of its ends once |
+//! | `left` | tells how many syncs the last command asked for, and how long the manager file is |
+//! | `replies` | tells how the last command ended and all that the host has put out by then |
+//! | `said`, `calls` | tells the last command's number and its text; how many calls the host has had |
+//! | `size FILE`, `has LINE`, `is-new` | tells how long a file is; whether this line was put out; whether this is a new silo of the bank program |
+//! | `money` | tells the sum of the three accounts |
+//! | `transfers` | tells how a copy of the host carries six transfers, and by how many calls |
+//! | `stops`, `fails CALL CHANNEL N` | stops a copy after each of those calls; has one of them fail: see [`stops`] and [`faults`] |
+//!
+//! A channel is `input`, `output` or a file, which is `manager`, `program` or an account as `account/1`.
+#![tactic(auto)]
+
+mod answers;
+mod bank;
+mod bench;
+mod commands;
+mod faults;
+mod gates;
+mod names;
+mod stops;
+mod transfers;
+
+use crate::bench::Bench;
+use std::io;
+
+fn main(rt: HostRuntime) -> io::Result<()> {
+    let mut bench = Bench::new(rt.alloc())?;
+    for line in rt.lines(rt.alloc()) {
+        let line = line?;
+        let told = bench.told(&rt, line.as_str())?;
+        print!(rt; "{line}{told}")?;
+    }
+    Ok(())
+}
