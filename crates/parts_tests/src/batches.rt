@@ -1,166 +1,220 @@
+//! `batch`: a batch of finished units. The grains that they wrote are of type 1, and each has its key as its state.
+//!
+//! | A step | does |
+//! |---|---|
+//! | `aborted`, `chosen` | the next unit, from 1 on, is over, and has aborted or is to commit |
+//! | `unit UNIT KEY SOURCE ..` | one more finished unit, with the key of the grain that it wrote and its sources |
+//! | `units UNIT UNIT KEY SOURCE ..` | likewise each unit from one to another |
+//! | `decide` | takes the batch 5 of these, with a no on the first grain of its plan and a yes on the second, and decides it |
+//! | `counts`, `decisions`, `view` | tells numbers of the batch, what becomes of each unit, and what is shown of the batch |
+//! | `versions KEY` | tells the versions that go to the grain's file |
+//! | `to_commit` | tells how many units are to commit by the table |
+
 ghost use Rattle.std.specs.Prelude.{◌≡◌, List as Items};
 ghost use Rattle.open_batch.specs.declared.members.FinishedUnit.{FinishedUnit as Finished};
 ghost use Rattle.open_batch.specs.Taken.{IsOf};
 
-use base_types::{Call, GrainId, List, Origin, Outcome, State, UnitNo, Value};
-use cell_model::Decision;
-use core_model::{Effect, Verdict};
+use crate::cases::{Part, carry, no_step};
+use crate::effects::{effect, grain, one_write};
+use crate::printing::{add_count, add_versions};
+use crate::steps::{Step, state_of};
+use crate::units::call;
+use base_types::{List, Origin, Outcome, UnitNo};
+use core_model::{BatchView, Verdict};
 use dependency_sets::DepSet;
 use open_batch::{FinishedUnit, OpenBatch};
 use std::alloc::{AllocError, Global};
-use std::test::Fail;
 use unit_table::UnitTable;
 
-// A unit's number, the key of the grain that it wrote, and its sources.
-type Row<'a> = (u64, u32, &'a [u64]);
-
-fn grain(key: u32) -> GrainId {
-    GrainId { kind: 1, key }
+/// Finished units, what is known of their sources, and the batch that was taken of them.
+#[derive(Drop)]
+struct Bench {
+    units: UnitTable,
+    members: Vec<FinishedUnit>,
+    batch: Option<OpenBatch>,
 }
 
-fn call_of(alloc: Global) -> Call {
-    Call {
-        grain: grain(1),
-        method: 0,
-        args: List::new(alloc),
-    }
+/// Puts finished units and their batch through the steps.
+pub fn play(alloc: Global, out: &mut String, steps: &str) -> Result<(), AllocError> {
+    let mut bench = Bench {
+        units: UnitTable::new(alloc, UnitNo(1), 2),
+        members: Vec::new(alloc),
+        batch: None,
+    };
+    carry(&mut bench, alloc, out, steps)
 }
 
-// The unit wrote the grain, and read what these units wrote.
-fn finished(
-    alloc: Global,
-    unit: u64,
-    key: u32,
-    sources: &[u64],
-) -> Result<FinishedUnit, AllocError> {
-    let mut state = State::new(alloc);
-    state.push(Value::Int(i64::from(key)))?;
-    let mut writes = List::new(alloc);
-    writes.push((grain(key), state))?;
+fn deps_of(alloc: Global, sources: &[UnitNo]) -> Result<DepSet, AllocError> {
     let mut deps = DepSet::new(alloc)?;
     for source in sources {
-        deps.add_source(UnitNo(*source))?;
+        deps.add_source(*source)?;
     }
-    let effect = Effect {
-        unit: UnitNo(unit),
-        origin: Origin::Line(1),
-        call: call_of(alloc),
-        answers: List::new(alloc),
-        reads: List::new(alloc),
-        writes,
-        result: Outcome::Aborted,
-    };
+    Ok(deps)
+}
+
+// The unit, which wrote the grain of this key, and its sources.
+fn finished(
+    alloc: Global,
+    unit: UnitNo,
+    key: u32,
+    sources: &[UnitNo],
+) -> Result<FinishedUnit, AllocError> {
+    let deps = deps_of(alloc, sources)?;
+    let state = state_of(alloc, i64::from(key))?;
+    let writes = one_write(alloc, key, state)?;
+    let effect = effect(alloc, unit, List::new(alloc), List::new(alloc), writes);
     Ok(FinishedUnit { effect, deps })
 }
 
-fn members_of(alloc: Global, rows: &[Row]) -> Result<Vec<FinishedUnit>, AllocError> {
-    let mut members = Vec::new(alloc);
-    for (unit, key, sources) in rows {
-        members.push(finished(alloc, *unit, *key, sources)?)?;
-    }
-    Ok(members)
+fn add_unit(bench: &mut Bench, step: &Step<'_>) -> Result<(), AllocError> {
+    let sources = step.units(3)?;
+    let member = finished(step.alloc, step.unit(1), step.short(2), sources.as_slice())?;
+    bench.members.push(member)?;
+    Ok(())
 }
 
-// The first unit, 1, is over, with this verdict.
-fn table_of(alloc: Global, verdict: Verdict) -> Result<UnitTable, Fail> {
-    let mut units = UnitTable::new(alloc, UnitNo(1), 2);
+// The units from one number up to another.
+fn add_many(bench: &mut Bench, step: &Step<'_>) -> Result<(), AllocError> {
+    let sources = step.units(4)?;
+    let key = step.short(3);
+    for unit in step.number(1)..=step.number(2) {
+        let member = finished(step.alloc, UnitNo(unit), key, sources.as_slice())?;
+        bench.members.push(member)?;
+    }
+    Ok(())
+}
+
+// The next unit of the table, from 1 on, is over with this verdict.
+fn add_over(
+    bench: &mut Bench,
+    out: &mut String,
+    alloc: Global,
+    verdict: Verdict,
+) -> Result<(), AllocError> {
     let origin = Origin::Line(1);
-    units.reserve_begin(&origin)?;
-    if units.lines() > 9 {
-        return Err("a line has begun".into());
+    let Ok(()) = bench.units.reserve_begin(&origin) else {
+        return out.push_str(" = no room");
+    };
+    if bench.units.lines() > 9 {
+        return out.push_str(" = ten lines have begun");
     }
-    let unit = units.begin(origin, call_of(alloc), false);
-    if !units.is_running(unit) {
-        return Err("the unit doesn't run".into());
+    let unit = bench.units.begin(origin, call(alloc), false);
+    if !bench.units.is_running(unit) {
+        return out.push_str(" = not running");
     }
-    let _ = units.finish(unit, Outcome::Aborted);
-    if !units.is_over(unit) {
-        return Err("the unit isn't over".into());
+    let _ = bench.units.finish(unit, Outcome::Aborted);
+    if !bench.units.is_over(unit) {
+        return out.push_str(" = not over");
     }
-    units.set_verdict(unit, verdict);
-    Ok(units)
+    bench.units.set_verdict(unit, verdict);
+    Ok(())
 }
 
-// Votes on the next grain of the plan, and answers it.
-fn vote_next(batch: &mut OpenBatch, kept: bool) -> Result<GrainId, Fail>
+// Votes on the next grain of the plan, if there is one.
+fn vote_next(batch: &mut OpenBatch, kept: bool)
     ensures units { (ms : Items Finished) → IsOf batch.old ms → IsOf batch.new ms }
     ensures decisions { batch.new.decisions ≡ batch.old.decisions }
 {
     let Some(grain) = batch.next_unvoted() else {
-        return Err("no grain to vote on".into());
+        return;
     };
-    if !batch.may_vote(grain) {
-        return Err("a grain that may not be voted on".into());
+    if batch.may_vote(grain) {
+        batch.vote(grain, kept);
     }
-    batch.vote(grain, kept);
-    Ok(grain)
 }
 
 // Takes the batch of these units, with a no on the first grain of its plan and a yes on the second, and
 // decides it.
-fn decided(alloc: Global, members: &[FinishedUnit], units: &UnitTable) -> Result<OpenBatch, Fail> {
+fn decided(
+    alloc: Global,
+    members: &[FinishedUnit],
+    units: &UnitTable,
+) -> Result<Option<OpenBatch>, AllocError> {
     if members.len() > 64 {
-        return Err("too many units".into());
+        return Ok(None);
     }
     let mut batch = OpenBatch::take(alloc, 5, members, units)?;
-    vote_next(&mut batch, false)?;
-    vote_next(&mut batch, true)?;
+    vote_next(&mut batch, false);
+    vote_next(&mut batch, true);
     batch.decide(members, units);
-    Ok(batch)
+    Ok(Some(batch))
 }
 
-#[test]
-fn a_failed_vote_takes_its_dependent_along(rt: HostRuntime) -> Result<(), Fail> {
-    let alloc = rt.alloc();
-    let units = table_of(alloc, Verdict::Aborted)?;
-    let members = members_of(alloc, &[(11, 7, &[]), (12, 9, &[11]), (13, 9, &[])])?;
-    let batch = decided(alloc, &members, &units)?;
-    let want = [
-        Decision::Vote { grain: grain(7) },
-        Decision::Dependency { on: UnitNo(11) },
-        Decision::Commit,
-    ];
-    let found = batch.decisions().ok_or("the batch isn't decided")?;
-    assert!(rt; found == want.as_slice());
-    assert_eq!(rt; batch.commits(), 1);
+fn take(bench: &mut Bench, alloc: Global) -> Result<(), AllocError> {
+    bench.batch = decided(alloc, bench.members.as_slice(), &bench.units)?;
     Ok(())
 }
 
-#[test]
-fn a_unit_with_an_aborted_source_is_left_out(rt: HostRuntime) -> Result<(), Fail> {
-    let alloc = rt.alloc();
-    let units = table_of(alloc, Verdict::Aborted)?;
-    let members = members_of(alloc, &[(11, 8, &[1]), (12, 9, &[]), (13, 7, &[])])?;
-    let batch = decided(alloc, &members, &units)?;
-    let view = batch.view(&members, &units)?;
-    assert!(rt; view.votes.as_slice() == [(grain(7), false), (grain(9), true)].as_slice());
-    assert!(rt; view.aborted.as_slice() == [UnitNo(1)].as_slice());
-    assert_eq!(rt; view.effects.len(), 3);
-    assert_eq!(rt; batch.versions(&members, &units, grain(8))?.len(), 0);
-    assert_eq!(rt; batch.versions(&members, &units, grain(9))?.len(), 1);
-    Ok(())
+fn add_counts(out: &mut String, batch: &OpenBatch) -> Result<(), AllocError> {
+    let number = batch.number();
+    let size = batch.size();
+    let commits = batch.commits();
+    let voted = batch.is_voted();
+    let open = batch.is_open();
+    write!(
+        out,
+        " = batch {number} of {size}, {commits} commit, voted {voted}, open {open}"
+    )
 }
 
-// Unit 1 wrote the grain 9, unit 2 the grain 7, and each later one read from unit 1 and wrote the grain 9.
-fn many(alloc: Global) -> Result<Vec<FinishedUnit>, AllocError> {
-    let mut members = members_of(alloc, &[(1, 9, &[]), (2, 7, &[])])?;
-    for unit in 3..=64 {
-        members.push(finished(alloc, unit, 9, &[1])?)?;
+fn add_decisions(out: &mut String, batch: &OpenBatch) -> Result<(), AllocError> {
+    let decisions = batch.decisions();
+    write!(out, " = {decisions:?}")
+}
+
+fn add_shown(out: &mut String, view: &BatchView) -> Result<(), AllocError> {
+    let effects = view.effects.len();
+    let votes = view.votes.as_slice();
+    let aborted = view.aborted.as_slice();
+    write!(
+        out,
+        " = {effects} effects, votes {votes:?}, aborted {aborted:?}"
+    )
+}
+
+fn add_view(out: &mut String, bench: &Bench, batch: &OpenBatch) -> Result<(), AllocError> {
+    let view = batch.view(bench.members.as_slice(), &bench.units)?;
+    add_shown(out, &view)
+}
+
+fn add_kept(
+    out: &mut String,
+    bench: &Bench,
+    batch: &OpenBatch,
+    key: u32,
+) -> Result<(), AllocError> {
+    let versions = batch.versions(bench.members.as_slice(), &bench.units, grain(key))?;
+    add_versions(out, versions.as_slice())
+}
+
+fn add_to_commit(out: &mut String, bench: &Bench, batch: &OpenBatch) -> Result<(), AllocError> {
+    let effects = batch.to_commit(bench.members.as_slice(), &bench.units)?;
+    add_count(out, effects.len())
+}
+
+fn look(bench: &Bench, out: &mut String, step: &Step<'_>) -> Result<(), AllocError> {
+    let Some(batch) = &bench.batch else {
+        return out.push_str(" = no batch");
+    };
+    match step.word(0) {
+        "counts" => add_counts(out, batch),
+        "decisions" => add_decisions(out, batch),
+        "view" => add_view(out, bench, batch),
+        "versions" => add_kept(out, bench, batch, step.short(1)),
+        "to_commit" => add_to_commit(out, bench, batch),
+        _ => no_step(out),
     }
-    Ok(members)
 }
 
-#[test]
-fn a_batch_has_64_units(rt: HostRuntime) -> Result<(), Fail> {
-    let alloc = rt.alloc();
-    let units = table_of(alloc, Verdict::Chosen)?;
-    let members = many(alloc)?;
-    let batch = decided(alloc, &members, &units)?;
-    assert_eq!(rt;
-        (batch.number(), batch.size(), batch.commits()),
-        (5, 64, 63)
-    );
-    assert!(rt; batch.is_voted() && !batch.is_open());
-    assert_eq!(rt; batch.to_commit(&members, &units)?.len(), 1);
-    Ok(())
+impl Part for Bench {
+    fn step(&mut self, out: &mut String, step: &Step<'_>) -> Result<(), AllocError> {
+        match step.word(0) {
+            "aborted" => add_over(self, out, step.alloc, Verdict::Aborted),
+            "chosen" => add_over(self, out, step.alloc, Verdict::Chosen),
+            "unit" => add_unit(self, step),
+            "units" => add_many(self, step),
+            "decide" => take(self, step.alloc),
+            _ => look(self, out, step),
+        }
+    }
 }

@@ -1,117 +1,78 @@
+//! `cascade`: which units of a batch commit.
+//!
+//! | A step | does |
+//! |---|---|
+//! | `unit UNIT SOURCE ..` | one more unit, with its sources |
+//! | `failed GRAIN UNIT SOURCE ..` | likewise, but the file of this grain failed, which it wrote |
+//! | `aborted UNIT ..` | these units have aborted |
+//! | `decide` | tells what becomes of each unit |
+
+use crate::cases::{Part, carry, no_step};
+use crate::steps::Step;
 use base_types::{GrainId, List, UnitNo};
 use cascade_abort::{Decision, Prepared, decide_batch};
 use std::alloc::{AllocError, Global};
-use std::test::Fail;
 
-// A unit, the key of the grain whose file failed, and its dependencies.
-type Row<'a> = (u64, Option<u32>, &'a [u64]);
-
-fn units_of(alloc: Global, numbers: &[u64]) -> Result<List<UnitNo>, AllocError> {
-    let mut units = List::new(alloc);
-    for number in numbers {
-        units.push(UnitNo(*number))?;
-    }
-    Ok(units)
+/// A batch, and the units that are known to have aborted.
+#[derive(Drop)]
+struct Batch {
+    units: List<Prepared>,
+    aborted: List<UnitNo>,
 }
 
-fn grain(key: u32) -> GrainId {
-    GrainId { kind: 1, key }
+/// Puts a batch through the steps.
+pub fn play(alloc: Global, out: &mut String, steps: &str) -> Result<(), AllocError> {
+    let mut batch = Batch {
+        units: List::new(alloc),
+        aborted: List::new(alloc),
+    };
+    carry(&mut batch, alloc, out, steps)
 }
 
-fn votes(key: u32) -> Decision {
-    Decision::Vote { grain: grain(key) }
-}
-
-fn depends(on: u64) -> Decision {
-    Decision::Dependency { on: UnitNo(on) }
-}
-
-fn batch_of(alloc: Global, rows: &[Row]) -> Result<List<Prepared>, AllocError> {
-    let mut batch = List::new(alloc);
-    for (unit, failed, deps) in rows {
-        let deps = units_of(alloc, deps)?;
-        batch.push(Prepared {
-            unit: UnitNo(*unit),
-            failed: failed.map(grain),
-            deps,
-        })?;
-    }
-    Ok(batch)
-}
-
-// What becomes of the batch, written over decisions that are wrong.
-fn decided(alloc: Global, rows: &[Row], aborted: &[u64]) -> Result<Vec<Decision>, Fail> {
-    let batch = batch_of(alloc, rows)?;
-    let aborted = units_of(alloc, aborted)?;
-    let mut into = vec![in alloc; votes(99); batch.len()]?;
-    decide_batch(&batch, &aborted, &mut into);
-    Ok(into)
-}
-
-#[test]
-fn each_unit_is_decided_where_those_before_it_are(rt: HostRuntime) -> Result<(), Fail> {
-    const COMMIT: Decision = Decision::Commit;
-    let rows: [(&str, &[Row], &[u64], &[Decision]); 11] = [
-        ("nobody", &[], &[3], &[]),
-        (
-            "a deposit and its read",
-            &[(1, None, &[]), (2, None, &[1])],
-            &[],
-            &[COMMIT, COMMIT],
-        ),
-        (
-            "a failed file with a dependent",
-            &[(1, Some(7), &[]), (2, None, &[1])],
-            &[],
-            &[votes(7), depends(1)],
-        ),
-        (
-            "a failed file beside another",
-            &[(1, Some(7), &[]), (2, None, &[])],
-            &[],
-            &[votes(7), COMMIT],
-        ),
-        (
-            "a chain",
-            &[(1, Some(7), &[]), (2, None, &[1]), (3, None, &[2])],
-            &[],
-            &[votes(7), depends(1), depends(2)],
-        ),
-        ("an aborted source", &[(4, None, &[3])], &[3], &[depends(3)]),
-        (
-            "a failed file over an aborted source",
-            &[(4, Some(7), &[3])],
-            &[3],
-            &[votes(7)],
-        ),
-        (
-            "three sources, two of them dead",
-            &[(9, None, &[8, 3, 5])],
-            &[5, 8],
-            &[depends(5)],
-        ),
-        (
-            "a later unit that is dead",
-            &[(2, None, &[5]), (5, Some(7), &[])],
-            &[],
-            &[COMMIT, votes(7)],
-        ),
-        (
-            "a source of each kind",
-            &[(6, Some(7), &[]), (7, None, &[6, 2])],
-            &[2],
-            &[votes(7), depends(2)],
-        ),
-        (
-            "a reader of an alive unit",
-            &[(1, None, &[]), (2, Some(8), &[1]), (3, None, &[1])],
-            &[],
-            &[COMMIT, votes(8), COMMIT],
-        ),
-    ];
-    for (what, batch, aborted, want) in rows {
-        let found = decided(rt.alloc(), batch, aborted)?;
-        assert!(rt; found.as_slice() == want, "{what}");
-    }
+fn add_unit(batch: &mut Batch, step: &Step<'_>) -> Result<(), AllocError> {
+    let deps = step.units(2)?;
+    batch.units.push(Prepared {
+        unit: step.unit(1),
+        failed: None,
+        deps,
+    })?;
     Ok(())
+}
+
+// The file of a grain failed, which the unit wrote.
+fn add_failed(batch: &mut Batch, step: &Step<'_>) -> Result<(), AllocError> {
+    let deps = step.units(3)?;
+    batch.units.push(Prepared {
+        unit: step.unit(2),
+        failed: Some(step.grain(1)),
+        deps,
+    })?;
+    Ok(())
+}
+
+fn set_aborted(batch: &mut Batch, step: &Step<'_>) -> Result<(), AllocError> {
+    batch.aborted = step.units(1)?;
+    Ok(())
+}
+
+// Decides the batch over decisions that are wrong.
+fn add_decisions(alloc: Global, out: &mut String, batch: &Batch) -> Result<(), AllocError> {
+    let wrong = Decision::Vote {
+        grain: GrainId { kind: 1, key: 99 },
+    };
+    let mut decisions = vec![in alloc; wrong; batch.units.len()]?;
+    decide_batch(&batch.units, &batch.aborted, &mut decisions);
+    write!(out, " = {decisions:?}")
+}
+
+impl Part for Batch {
+    fn step(&mut self, out: &mut String, step: &Step<'_>) -> Result<(), AllocError> {
+        match step.word(0) {
+            "unit" => add_unit(self, step),
+            "failed" => add_failed(self, step),
+            "aborted" => set_aborted(self, step),
+            "decide" => add_decisions(step.alloc, out, self),
+            _ => no_step(out),
+        }
+    }
 }

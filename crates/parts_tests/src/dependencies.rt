@@ -1,61 +1,44 @@
-use base_types::{List, UnitNo};
+//! `dependencies`: the sources of a unit.
+//!
+//! | A step | does |
+//! |---|---|
+//! | `add UNIT ..` | adds these sources, one after another |
+//! | `list` | tells the sources |
+//! | `aborted UNIT ..` | tells the oldest source that is one of these |
+
+use crate::cases::{Part, carry, no_step};
+use crate::printing::add_units;
+use crate::steps::Step;
 use dependency_sets::DepSet;
 use std::alloc::{AllocError, Global};
-use std::test::Fail;
 
-fn units_of(alloc: Global, numbers: &[u64]) -> Result<List<UnitNo>, AllocError> {
-    let mut units = List::new(alloc);
-    for number in numbers {
-        units.push(UnitNo(*number))?;
-    }
-    Ok(units)
-}
-
-fn set_of(alloc: Global, numbers: &[u64]) -> Result<DepSet, AllocError> {
+/// Puts the sources of a unit through the steps.
+pub fn play(alloc: Global, out: &mut String, steps: &str) -> Result<(), AllocError> {
     let mut set = DepSet::new(alloc)?;
-    for number in numbers {
-        set.add_source(UnitNo(*number))?;
-    }
-    Ok(set)
+    carry(&mut set, alloc, out, steps)
 }
 
-#[test]
-fn sources_stand_in_order_each_once(rt: HostRuntime) -> Result<(), Fail> {
-    let rows: [(&[u64], &[u64]); 8] = [
-        (&[], &[]),
-        (&[5], &[5]),
-        (&[5, 3], &[3, 5]),
-        (&[3, 5], &[3, 5]),
-        (&[5, 3, 9, 4], &[3, 4, 5, 9]),
-        (&[5, 5], &[5]),
-        (&[3, 5, 3, 9, 5, 9], &[3, 5, 9]),
-        (&[18446744073709551615, 1], &[1, 18446744073709551615]),
-    ];
-    for (added, want) in rows {
-        let set = set_of(rt.alloc(), added)?;
-        let mut numbers = set.list().iter().map(|unit| unit.0);
-        let same = numbers.by_ref().eq(want.iter().copied());
-        assert!(rt; same, "{} added", added.len());
+fn add(set: &mut DepSet, step: &Step<'_>) -> Result<(), AllocError> {
+    let sources = step.units(1)?;
+    for source in sources.as_slice() {
+        set.add_source(*source)?;
     }
     Ok(())
 }
 
-#[test]
-fn the_oldest_aborted_source_is_named(rt: HostRuntime) -> Result<(), Fail> {
-    let rows: [(&[u64], &[u64], Option<u64>); 7] = [
-        (&[3, 5, 9], &[], None),
-        (&[3, 5, 9], &[5], Some(5)),
-        (&[9, 5, 3], &[9, 3], Some(3)),
-        (&[3, 5, 9], &[2, 4, 10], None),
-        (&[3, 5, 9], &[9, 9], Some(9)),
-        (&[], &[1], None),
-        (&[7], &[1, 7], Some(7)),
-    ];
-    for (added, aborted, want) in rows {
-        let alloc = rt.alloc();
-        let set = set_of(alloc, added)?;
-        let aborted = units_of(alloc, aborted)?;
-        assert_eq!(rt; set.first_aborted(&aborted), want.map(UnitNo));
+fn add_aborted(out: &mut String, set: &DepSet, step: &Step<'_>) -> Result<(), AllocError> {
+    let aborted = step.units(1)?;
+    let oldest = set.first_aborted(&aborted);
+    write!(out, " = {oldest:?}")
+}
+
+impl Part for DepSet {
+    fn step(&mut self, out: &mut String, step: &Step<'_>) -> Result<(), AllocError> {
+        match step.word(0) {
+            "add" => add(self, step),
+            "list" => add_units(out, self.list()),
+            "aborted" => add_aborted(out, self, step),
+            _ => no_step(out),
+        }
     }
-    Ok(())
 }

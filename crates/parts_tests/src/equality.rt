@@ -1,83 +1,113 @@
-use base_types::{Call, GrainId, List, Origin, Outcome, State, Text, UnitNo, Value};
+//! `same`: what units did, and outcomes, compared with one another.
+//!
+//! | A step | tells what is the same |
+//! |---|---|
+//! | `effects ARGUMENT READ ARGUMENT READ` | of two units that called with this argument and read this state |
+//! | `copy ARGUMENT READ` | of a unit and its copy |
+//! | `outcomes KIND TEXT KIND TEXT` | of two outcomes, and of the first one and its copy: each `fault` or `value` with its text, or `aborted` |
+
+use crate::cases::{Part, carry, no_step};
+use crate::effects::{effect, one_read, one_write};
+use crate::printing::add_flag;
+use crate::steps::{Step, state_of};
+use base_types::{List, Outcome, Text, UnitNo, Value};
 use core_equality::Same;
-use core_model::{Effect, Read};
+use core_model::Effect;
 use std::alloc::{AllocError, Global};
-use std::test::Fail;
 
-const GRAIN: GrainId = GrainId { kind: 1, key: 7 };
+/// What compares takes nothing along from step to step.
+#[derive(Clone, Copy)]
+struct Comparing;
 
-fn state_of(alloc: Global, number: i64) -> Result<State, AllocError> {
-    let mut state = State::new(alloc);
-    state.push(Value::Int(number))?;
-    Ok(state)
+/// Compares what the steps say.
+pub fn play(alloc: Global, out: &mut String, steps: &str) -> Result<(), AllocError> {
+    carry(&mut Comparing, alloc, out, steps)
 }
 
-// What unit 5 did: it called method 2 with this number, read this state of unit 3, and wrote 9.
-fn effect_of(alloc: Global, argument: i64, read: i64) -> Result<Effect, AllocError> {
+fn args_of(alloc: Global, argument: i64) -> Result<List<Value>, AllocError> {
     let mut args = List::new(alloc);
     args.push(Value::Int(argument))?;
-    let mut reads = List::new(alloc);
-    reads.push(Read {
-        grain: GRAIN,
-        state: state_of(alloc, read)?,
-        source: UnitNo(3),
-    })?;
-    let mut writes = List::new(alloc);
-    writes.push((GRAIN, state_of(alloc, 9)?))?;
-    Ok(Effect {
-        unit: UnitNo(5),
-        origin: Origin::Line(1),
-        call: Call {
-            grain: GRAIN,
-            method: 2,
-            args,
-        },
-        answers: List::new(alloc),
-        reads,
-        writes,
-        result: Outcome::Aborted,
-    })
+    Ok(args)
 }
 
-#[test]
-fn what_a_unit_did_is_told_from_what_it_did_not(rt: HostRuntime) -> Result<(), Fail> {
-    let alloc = rt.alloc();
-    let effect = effect_of(alloc, 4, 6)?;
-    let rows: [(&str, i64, i64, bool, bool); 3] = [
-        ("the same", 4, 6, true, true),
-        ("another argument", -4, 6, false, true),
-        ("another state", 4, 60, true, false),
-    ];
-    for (what, argument, read, calls, reads) in rows {
-        let other = effect_of(alloc, argument, read)?;
-        assert_eq!(rt; effect.call.is_same(&other.call), calls, "{what}");
-        assert_eq!(rt; effect.reads.is_same(&other.reads), reads, "{what}");
-        assert!(rt; effect.result.is_same(&other.result), "{what}");
-        assert!(rt; effect.origin.is_same(&other.origin), "{what}");
+// What unit 5 did: it called with this number, read this state of unit 3, and wrote 9.
+fn effect_of(alloc: Global, argument: i64, read: i64) -> Result<Effect, AllocError> {
+    let args = args_of(alloc, argument)?;
+    let reads = one_read(alloc, state_of(alloc, read)?, UnitNo(3))?;
+    let writes = one_write(alloc, 7, state_of(alloc, 9)?)?;
+    Ok(effect(alloc, UnitNo(5), args, reads, writes))
+}
+
+// Writes what is the same of what two units did, and the other one's number and how much it wrote.
+fn add_same(out: &mut String, one: &Effect, other: &Effect) -> Result<(), AllocError> {
+    let call = one.call.is_same(&other.call);
+    let reads = one.reads.is_same(&other.reads);
+    let answers = one.answers.is_same(&other.answers);
+    write!(out, " = call {call}, reads {reads}, answers {answers}")?;
+    let result = one.result.is_same(&other.result);
+    let origin = one.origin.is_same(&other.origin);
+    write!(out, ", result {result}, origin {origin}")?;
+    let unit = other.unit.0;
+    let writes = other.writes.len();
+    write!(out, ", unit {unit} with {writes} write")
+}
+
+fn add_other(out: &mut String, one: &Effect, step: &Step<'_>) -> Result<(), AllocError> {
+    let other = effect_of(step.alloc, step.int(3), step.int(4))?;
+    add_same(out, one, &other)
+}
+
+fn compare(out: &mut String, step: &Step<'_>) -> Result<(), AllocError> {
+    let one = effect_of(step.alloc, step.int(1), step.int(2))?;
+    add_other(out, &one, step)
+}
+
+fn add_copy(out: &mut String, one: &Effect) -> Result<(), AllocError> {
+    let copy = one.copy()?;
+    add_same(out, one, &copy)
+}
+
+fn compare_copy(out: &mut String, step: &Step<'_>) -> Result<(), AllocError> {
+    let one = effect_of(step.alloc, step.int(1), step.int(2))?;
+    add_copy(out, &one)
+}
+
+// A fault with this text, the value of it, or aborted.
+fn outcome_of(alloc: Global, kind: &str, text: &str) -> Result<Outcome, AllocError> {
+    let Some(text) = Text::new(alloc, text)? else {
+        return Ok(Outcome::Aborted);
+    };
+    match kind {
+        "fault" => Ok(Outcome::Fault(text)),
+        "value" => Ok(Outcome::Value(Value::Text(text))),
+        _ => Ok(Outcome::Aborted),
     }
-    Ok(())
 }
 
-#[test]
-fn a_copied_effect_is_the_same(rt: HostRuntime) -> Result<(), Fail> {
-    let effect = effect_of(rt.alloc(), 4, 6)?;
-    let copy = effect.copy()?;
-    assert_eq!(rt; copy.unit, effect.unit);
-    assert!(rt; copy.call.is_same(&effect.call));
-    assert!(rt; copy.reads.is_same(&effect.reads));
-    assert!(rt; copy.answers.is_same(&effect.answers));
-    assert_eq!(rt; copy.writes.len(), 1);
-    Ok(())
+fn add_other_outcome(out: &mut String, one: &Outcome, step: &Step<'_>) -> Result<(), AllocError> {
+    let other = outcome_of(step.alloc, step.word(3), step.word(4))?;
+    add_flag(out, one.is_same(&other))
 }
 
-#[test]
-fn a_result_is_no_fault_of_the_same_text(rt: HostRuntime) -> Result<(), Fail> {
-    let alloc = rt.alloc();
-    let text = Text::new(alloc, "no")?.ok_or("too long")?;
-    let fault = Outcome::Fault(text.copy()?);
-    let value = Outcome::Value(Value::Text(text));
-    assert!(rt; !fault.is_same(&value));
-    assert!(rt; !value.is_same(&Outcome::Aborted));
-    assert!(rt; fault.is_same(&fault.copy()?));
-    Ok(())
+fn add_outcome_copy(out: &mut String, one: &Outcome) -> Result<(), AllocError> {
+    let copy = one.copy()?;
+    let same = one.is_same(&copy);
+    write!(out, ", its copy {same}")
+}
+
+fn compare_outcomes(out: &mut String, step: &Step<'_>) -> Result<(), AllocError> {
+    let one = outcome_of(step.alloc, step.word(1), step.word(2))?;
+    add_other_outcome(out, &one, step)?;
+    add_outcome_copy(out, &one)
+}
+
+impl Part for Comparing {
+    fn step(&mut self, out: &mut String, step: &Step<'_>) -> Result<(), AllocError> {
+        match step.word(0) {
+            "effects" => compare(out, step),
+            "copy" => compare_copy(out, step),
+            "outcomes" => compare_outcomes(out, step),
+            _ => no_step(out),
+        }
+    }
 }

@@ -1,11 +1,34 @@
-use base_types::{BadRequest, Entry, GrainId, Settled, State, UnitNo, Value};
+//! The lists that the core keeps beside its units and cells.
+//!
+//! | A step | does |
+//! |---|---|
+//! | | `entries`: the entries of settled lines |
+//! | `push LINE LINE` | makes room for two entries, of bad lines, and appends them |
+//! | `next`, `more`, `count` | tells the next entry's line, whether there is one, and how many entries there are |
+//! | `emit` | the next entry is emitted |
+//! | | `queue`: the units whose decisions grains have to learn |
+//! | `push UNIT GRAIN UNIT GRAIN UNIT GRAIN` | makes room for three pairs, and appends them |
+//! | `has UNIT GRAIN`, `first` | tells whether the pair is there, and which came first |
+//! | `remove UNIT GRAIN` | takes the pair off |
+//! | | `last`: the last state of each grain |
+//! | `place GRAIN`, `put GRAIN NUMBER` | makes the grain's place; gives the grain a state, in its place |
+//! | `get GRAIN` | tells the grain's last state |
+//! | | `handed`: the states that units will hand to the grains |
+//! | `keep UNIT GRAIN NUMBER` | keeps a state |
+//! | `take UNIT GRAIN` | hands the state out |
+
+use crate::cases::{Part, carry, no_step};
+use crate::printing::{add_count, add_flag, add_state};
+use crate::steps::Step;
+use base_types::{BadRequest, Entry, Settled, UnitNo};
 use core_lists::{EntryList, HandedStates, LastStates, LearnQueue};
 use std::alloc::{AllocError, Global};
-use std::test::Fail;
 
-const FIRST: GrainId = GrainId { kind: 0, key: 1 };
-
-const SECOND: GrainId = GrainId { kind: 1, key: 1 };
+/// Puts the entries of settled lines through the steps.
+pub fn play_entries(alloc: Global, out: &mut String, steps: &str) -> Result<(), AllocError> {
+    let mut entries = EntryList::new(alloc);
+    carry(&mut entries, alloc, out, steps)
+}
 
 fn bad_line(line: u32) -> Entry {
     Entry {
@@ -15,84 +38,128 @@ fn bad_line(line: u32) -> Entry {
     }
 }
 
-fn state_of(alloc: Global, number: i64) -> Result<State, AllocError> {
-    let mut state = State::new(alloc);
-    state.push(Value::Int(number))?;
-    Ok(state)
-}
-
-// The number that a state has.
-fn number_in(state: Option<&State>) -> Option<i64> {
-    match state?.get(0) {
-        Some(Value::Int(number)) => Some(*number),
-        _ => None,
-    }
-}
-
-#[test]
-fn entries_are_emitted_in_the_order_in_which_they_came(rt: HostRuntime) -> Result<(), Fail> {
-    let mut entries = EntryList::new(rt.alloc());
+fn push_two(entries: &mut EntryList, step: &Step<'_>) -> Result<(), AllocError> {
     entries.reserve(2)?;
-    entries.push(bad_line(3));
-    entries.push(bad_line(5));
-    assert_eq!(rt; entries.next().map(|entry| entry.line), Some(3));
-    entries.emit();
-    assert!(rt; entries.has_next());
-    assert_eq!(rt; entries.next().map(|entry| entry.line), Some(5));
-    entries.emit();
-    assert!(rt; !entries.has_next());
-    assert_eq!(rt; entries.entries().len(), 2);
+    entries.push(bad_line(step.short(1)));
+    entries.push(bad_line(step.short(2)));
     Ok(())
 }
 
-#[test]
-fn pairs_are_taken_off_the_queue(rt: HostRuntime) -> Result<(), Fail> {
-    let mut queue = LearnQueue::new(rt.alloc());
-    queue.reserve(3)?;
-    queue.push(UnitNo(7), FIRST);
-    queue.push(UnitNo(7), SECOND);
-    queue.push(UnitNo(9), FIRST);
-    assert!(rt; queue.contains(UnitNo(9), FIRST));
-    assert!(rt; !queue.contains(UnitNo(9), SECOND));
-    queue.remove(UnitNo(7), SECOND);
-    assert_eq!(rt; queue.first(), Some((UnitNo(7), FIRST)));
-    queue.remove(UnitNo(7), FIRST);
-    assert_eq!(rt; queue.first(), Some((UnitNo(9), FIRST)));
-    queue.remove(UnitNo(9), FIRST);
-    assert_eq!(rt; queue.first(), None);
-    Ok(())
-}
-
-#[test]
-fn a_grain_has_the_state_that_was_put_last(rt: HostRuntime) -> Result<(), Fail> {
-    let mut last = LastStates::new(rt.alloc());
-    last.make_place(FIRST)?;
-    assert_eq!(rt; number_in(last.get(FIRST)), None);
-    last.put(FIRST, state_of(rt.alloc(), 40)?);
-    last.make_place(FIRST)?;
-    assert_eq!(rt; number_in(last.get(FIRST)), Some(40));
-    last.put(FIRST, state_of(rt.alloc(), 41)?);
-    assert_eq!(rt; number_in(last.get(FIRST)), Some(41));
-    assert_eq!(rt; number_in(last.get(SECOND)), None);
-    Ok(())
-}
-
-#[test]
-fn a_unit_hands_each_state_once(rt: HostRuntime) -> Result<(), Fail> {
-    let mut handed = HandedStates::new(rt.alloc());
-    handed.keep(UnitNo(7), FIRST, state_of(rt.alloc(), 40)?)?;
-    handed.keep(UnitNo(7), SECOND, state_of(rt.alloc(), 41)?)?;
-    handed.keep(UnitNo(9), FIRST, state_of(rt.alloc(), 42)?)?;
-    let rows = [
-        (UnitNo(7), SECOND, Some(41)),
-        (UnitNo(7), SECOND, None),
-        (UnitNo(7), FIRST, Some(40)),
-        (UnitNo(9), FIRST, Some(42)),
-        (UnitNo(9), SECOND, None),
-    ];
-    for (unit, grain, number) in rows {
-        let state = handed.take(unit, grain);
-        assert_eq!(rt; number_in(state.as_ref()), number);
+// The next entry's line, where an entry isn't emitted.
+fn add_next(out: &mut String, entries: &EntryList) -> Result<(), AllocError> {
+    match entries.next() {
+        Some(entry) => {
+            let line = entry.line;
+            write!(out, " = line {line}")
+        }
+        None => out.push_str(" = none"),
     }
+}
+
+fn emit(entries: &mut EntryList, out: &mut String) -> Result<(), AllocError> {
+    if !entries.has_next() {
+        return out.push_str(" = none");
+    }
+    entries.emit();
     Ok(())
+}
+
+impl Part for EntryList {
+    fn step(&mut self, out: &mut String, step: &Step<'_>) -> Result<(), AllocError> {
+        match step.word(0) {
+            "push" => push_two(self, step),
+            "next" => add_next(out, self),
+            "more" => add_flag(out, self.has_next()),
+            "emit" => emit(self, out),
+            "count" => add_count(out, self.entries().len()),
+            _ => no_step(out),
+        }
+    }
+}
+
+/// Puts the queue of decisions through the steps.
+pub fn play_queue(alloc: Global, out: &mut String, steps: &str) -> Result<(), AllocError> {
+    let mut queue = LearnQueue::new(alloc);
+    carry(&mut queue, alloc, out, steps)
+}
+
+fn push_three(queue: &mut LearnQueue, step: &Step<'_>) -> Result<(), AllocError> {
+    queue.reserve(3)?;
+    queue.push(step.unit(1), step.grain(2));
+    queue.push(step.unit(3), step.grain(4));
+    queue.push(step.unit(5), step.grain(6));
+    Ok(())
+}
+
+fn remove(queue: &mut LearnQueue, step: &Step<'_>) -> Result<(), AllocError> {
+    queue.remove(step.unit(1), step.grain(2));
+    Ok(())
+}
+
+fn add_first(out: &mut String, queue: &LearnQueue) -> Result<(), AllocError> {
+    let first = queue.first();
+    write!(out, " = {first:?}")
+}
+
+impl Part for LearnQueue {
+    fn step(&mut self, out: &mut String, step: &Step<'_>) -> Result<(), AllocError> {
+        match step.word(0) {
+            "push" => push_three(self, step),
+            "has" => add_flag(out, self.contains(step.unit(1), step.grain(2))),
+            "remove" => remove(self, step),
+            "first" => add_first(out, self),
+            _ => no_step(out),
+        }
+    }
+}
+
+/// Puts the last states through the steps.
+pub fn play_last(alloc: Global, out: &mut String, steps: &str) -> Result<(), AllocError> {
+    let mut last = LastStates::new(alloc);
+    carry(&mut last, alloc, out, steps)
+}
+
+fn put(last: &mut LastStates, step: &Step<'_>) -> Result<(), AllocError> {
+    let grain = step.grain(1);
+    let state = step.state(2)?;
+    last.make_place(grain)?;
+    last.put(grain, state);
+    Ok(())
+}
+
+impl Part for LastStates {
+    fn step(&mut self, out: &mut String, step: &Step<'_>) -> Result<(), AllocError> {
+        match step.word(0) {
+            "place" => self.make_place(step.grain(1)),
+            "put" => put(self, step),
+            "get" => add_state(out, self.get(step.grain(1))),
+            _ => no_step(out),
+        }
+    }
+}
+
+/// Puts the states that units will hand to the grains through the steps.
+pub fn play_handed(alloc: Global, out: &mut String, steps: &str) -> Result<(), AllocError> {
+    let mut handed = HandedStates::new(alloc);
+    carry(&mut handed, alloc, out, steps)
+}
+
+fn keep(handed: &mut HandedStates, step: &Step<'_>) -> Result<(), AllocError> {
+    let state = step.state(3)?;
+    handed.keep(step.unit(1), step.grain(2), state)
+}
+
+fn take(handed: &mut HandedStates, out: &mut String, step: &Step<'_>) -> Result<(), AllocError> {
+    let state = handed.take(step.unit(1), step.grain(2));
+    add_state(out, state.as_ref())
+}
+
+impl Part for HandedStates {
+    fn step(&mut self, out: &mut String, step: &Step<'_>) -> Result<(), AllocError> {
+        match step.word(0) {
+            "keep" => keep(self, step),
+            "take" => take(self, out, step),
+            _ => no_step(out),
+        }
+    }
 }

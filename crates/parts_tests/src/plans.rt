@@ -1,108 +1,104 @@
-use base_types::{Call, Ends, GrainId, List, Origin, Outcome, State, UnitNo, Value};
-use core_model::{Effect, Read};
+//! `plan`: the work of a batch, grain by grain. The grains are of type 1, and each version has its unit's number as its state.
+//!
+//! | A step | does |
+//! |---|---|
+//! | `unit UNIT SOURCE KEY ..` | one more unit, with the unit that it read from, and the keys of the grains that it wrote |
+//! | `aborted UNIT ..` | these units have aborted |
+//! | `end KEY END` | the grain's file ends there |
+//! | `plan` | tells for each file where its versions go, and which |
+
+use crate::cases::{Part, carry, no_step};
+use crate::effects::{effect, grain, one_read};
+use crate::printing::add_each;
+use crate::steps::{Step, state_of};
+use base_types::{Ends, GrainId, List, State, UnitNo};
+use core_model::Effect;
 use prepare_batch::{FileWork, plan};
 use std::alloc::{AllocError, Global};
-use std::test::Fail;
+use test_cases::add_grain;
 
-// A unit's number, the unit that it read from, and the keys of the grains that it wrote.
-type Row<'a> = (u32, u64, &'a [u32]);
-
-fn grain(key: u32) -> GrainId {
-    GrainId { kind: 1, key }
+/// What the units of a batch did, the units that are known to have aborted, and where the files end.
+#[derive(Drop)]
+struct Batch {
+    effects: List<Effect>,
+    aborted: List<UnitNo>,
+    ends: Ends,
 }
 
-// The state has the unit's number.
-fn state_of(alloc: Global, unit: i64) -> Result<State, AllocError> {
-    let mut state = State::new(alloc);
-    state.push(Value::Int(unit))?;
-    Ok(state)
+/// Puts a batch through the steps.
+pub fn play(alloc: Global, out: &mut String, steps: &str) -> Result<(), AllocError> {
+    let mut batch = Batch {
+        effects: List::new(alloc),
+        aborted: List::new(alloc),
+        ends: Ends::new(alloc),
+    };
+    carry(&mut batch, alloc, out, steps)
 }
 
-fn effect_of(alloc: Global, row: &Row) -> Result<Effect, AllocError> {
-    let (unit, source, keys) = row;
-    let mut reads = List::new(alloc);
-    reads.push(Read {
-        grain: grain(5),
-        state: State::new(alloc),
-        source: UnitNo(*source),
-    })?;
+// The unit wrote its number to the grains of these keys.
+fn writes_of(
+    alloc: Global,
+    unit: i64,
+    keys: &[UnitNo],
+) -> Result<List<(GrainId, State)>, AllocError> {
     let mut writes = List::new(alloc);
-    for key in *keys {
-        writes.push((grain(*key), state_of(alloc, i64::from(*unit))?))?;
+    for key in keys {
+        let key = u32::try_from(key.0).unwrap_or(0);
+        writes.push((grain(key), state_of(alloc, unit)?))?;
     }
-    Ok(Effect {
-        unit: UnitNo(u64::from(*unit)),
-        origin: Origin::Line(1),
-        call: Call {
-            grain: grain(5),
-            method: 0,
-            args: List::new(alloc),
-        },
-        answers: List::new(alloc),
+    Ok(writes)
+}
+
+fn effect_of(step: &Step<'_>) -> Result<Effect, AllocError> {
+    let keys = step.units(3)?;
+    let reads = one_read(step.alloc, State::new(step.alloc), step.unit(2))?;
+    let writes = writes_of(step.alloc, step.int(1), keys.as_slice())?;
+    Ok(effect(
+        step.alloc,
+        step.unit(1),
+        List::new(step.alloc),
         reads,
         writes,
-        result: Outcome::Aborted,
-    })
+    ))
 }
 
-// Units 11 to 14 wrote the grains 3, 7 and 9; unit 12 read from unit 2, which is aborted, and unit 14 from unit 12.
-fn batch(alloc: Global) -> Result<List<Effect>, AllocError> {
-    let rows: [Row; 4] = [
-        (11, 1, &[7, 9]),
-        (12, 2, &[3, 8]),
-        (13, 0, &[3, 9]),
-        (14, 12, &[9]),
-    ];
-    let mut effects = List::new(alloc);
-    for row in &rows {
-        effects.push(effect_of(alloc, row)?)?;
-    }
-    Ok(effects)
+fn add_unit(batch: &mut Batch, step: &Step<'_>) -> Result<(), AllocError> {
+    let effect = effect_of(step)?;
+    batch.effects.push(effect)?;
+    Ok(())
 }
 
-fn planned(alloc: Global) -> Result<List<FileWork>, AllocError> {
-    let mut aborted = List::new(alloc);
-    aborted.push(UnitNo(2))?;
-    let mut ends = Ends::new(alloc);
-    ends.put(grain(7), 120)?;
-    ends.put(grain(8), 40)?;
-    plan(alloc, &batch(alloc)?, &aborted, &ends)
+fn set_aborted(batch: &mut Batch, step: &Step<'_>) -> Result<(), AllocError> {
+    batch.aborted = step.units(1)?;
+    Ok(())
 }
 
-#[test]
-fn each_written_grain_has_one_piece_at_its_end(rt: HostRuntime) -> Result<(), Fail> {
-    let works = planned(rt.alloc())?;
-    let wanted = [(3, 0, 1), (7, 120, 1), (9, 0, 3)];
-    assert_eq!(rt; works.len(), wanted.len());
-    for (work, (key, at, count)) in works.as_slice().iter().zip(wanted) {
-        assert_eq!(rt;
-            (work.grain, work.at, work.versions.len()),
-            (grain(key), at, count)
-        );
+fn add_work(out: &mut String, work: &FileWork) -> Result<(), AllocError> {
+    out.push_str(" [")?;
+    add_grain(out, work.grain)?;
+    let at = work.at;
+    write!(out, " at {at}:")?;
+    add_each(out, work.versions.as_slice())?;
+    out.push_str("]")
+}
+
+fn add_plan(out: &mut String, alloc: Global, batch: &Batch) -> Result<(), AllocError> {
+    let works = plan(alloc, &batch.effects, &batch.aborted, &batch.ends)?;
+    out.push_str(" =")?;
+    for work in works.as_slice() {
+        add_work(out, work)?;
     }
     Ok(())
 }
 
-#[test]
-fn versions_stand_in_batch_order_with_their_states(rt: HostRuntime) -> Result<(), Fail> {
-    let works = planned(rt.alloc())?;
-    let work = works.get(2).ok_or("no third piece")?;
-    for (version, unit) in work.versions.as_slice().iter().zip([11_u32, 13, 14]) {
-        assert_eq!(rt; version.unit, UnitNo(u64::from(unit)));
-        let Some(Value::Int(number)) = version.state.get(0) else {
-            return Err("a state without its unit".into());
-        };
-        assert_eq!(rt; *number, i64::from(unit));
+impl Part for Batch {
+    fn step(&mut self, out: &mut String, step: &Step<'_>) -> Result<(), AllocError> {
+        match step.word(0) {
+            "unit" => add_unit(self, step),
+            "aborted" => set_aborted(self, step),
+            "end" => self.ends.put(grain(step.short(1)), step.number(2)),
+            "plan" => add_plan(out, step.alloc, self),
+            _ => no_step(out),
+        }
     }
-    Ok(())
-}
-
-#[test]
-fn a_batch_that_wrote_nothing_has_no_work(rt: HostRuntime) -> Result<(), Fail> {
-    let alloc = rt.alloc();
-    let mut effects = List::new(alloc);
-    effects.push(effect_of(alloc, &(11, 0, &[]))?)?;
-    let works = plan(alloc, &effects, &List::new(alloc), &Ends::new(alloc))?;
-    assert!(rt; works.is_empty());
-    Ok(())
 }

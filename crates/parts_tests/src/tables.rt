@@ -1,78 +1,95 @@
-use base_types::Mode::{Read, Update};
-use base_types::{GrainId, List, Mode, Shape, State, Store, Text, TypeShape, UnitNo, Value};
+//! `table`: the cells of a program of one type, whose field is 100 at first; the store has 40 for its grain `0/1`.
+//!
+//! | A step | does |
+//! |---|---|
+//! | `take UNIT GRAIN MODE` | gives the lock, which is free, and tells the source and the state that the unit finds |
+//! | `ask UNIT GRAIN MODE` | tells what the unit is answered |
+//! | `look UNIT GRAIN` | tells whether the unit has a lock, and whether it has the grain alone |
+//! | `free UNIT GRAIN` | the unit gives its lock back |
+//! | `top GRAIN` | tells who wrote the newest version |
+
+use crate::cases::{Part, carry, no_step};
+use crate::printing::add_found;
+use crate::steps::{Step, state_of};
+use base_types::{GrainId, List, Shape, Store, Text, TypeShape};
 use cell_model::Ask;
 use cell_table::CellTable;
 use std::alloc::{AllocError, Global};
-use std::test::Fail;
 
-// The first grain has a state in the store, the second its type's initial field, and the third no type.
-const KEPT: GrainId = GrainId { kind: 0, key: 1 };
-
-const FRESH: GrainId = GrainId { kind: 0, key: 2 };
-
-const TYPELESS: GrainId = GrainId { kind: 9, key: 1 };
-
-fn state_of(alloc: Global, number: i64) -> Result<State, AllocError> {
-    let mut state = State::new(alloc);
-    state.push(Value::Int(number))?;
-    Ok(state)
-}
-
-fn table(alloc: Global) -> Result<CellTable, Fail> {
-    let name = Text::new(alloc, "counter")?.ok_or("too long")?;
+fn shape(alloc: Global) -> Result<Shape, AllocError> {
     let mut types = List::new(alloc);
-    types.push(TypeShape {
-        name,
-        initial: state_of(alloc, 100)?,
-        params: List::new(alloc),
-    })?;
-    let mut store = Store::new(alloc);
-    store.put(KEPT, state_of(alloc, 40)?)?;
-    Ok(CellTable::new(alloc, Shape { types }, store))
+    if let Some(name) = Text::new(alloc, "counter")? {
+        types.push(TypeShape {
+            name,
+            initial: state_of(alloc, 100)?,
+            params: List::new(alloc),
+        })?;
+    }
+    Ok(Shape { types })
 }
 
-// Gives the unit the lock where it is free, and answers the number that it finds.
-fn take(
-    table: &mut CellTable,
-    unit: UnitNo,
-    grain: GrainId,
-    mode: Mode,
-) -> Result<Option<i64>, AllocError> {
+fn store(alloc: Global) -> Result<Store, AllocError> {
+    let mut store = Store::new(alloc);
+    store.put(GrainId { kind: 0, key: 1 }, state_of(alloc, 40)?)?;
+    Ok(store)
+}
+
+/// Puts the cells through the steps.
+pub fn play(alloc: Global, out: &mut String, steps: &str) -> Result<(), AllocError> {
+    let mut table = CellTable::new(alloc, shape(alloc)?, store(alloc)?);
+    carry(&mut table, alloc, out, steps)
+}
+
+// Gives the unit the lock, which is free.
+fn take(table: &mut CellTable, out: &mut String, step: &Step<'_>) -> Result<(), AllocError> {
+    let unit = step.unit(1);
+    let grain = step.grain(2);
+    let mode = step.mode(3);
     table.make_room(grain)?;
     let Ask::Free = table.ask(unit, grain, mode) else {
-        return Ok(None);
+        return out.push_str(" = not free");
     };
     let found = table.top_over(grain, None)?;
     table.lock(unit, grain, mode);
-    match found.state.get(0) {
-        Some(Value::Int(number)) => Ok(Some(*number)),
-        _ => Ok(None),
-    }
+    add_found(out, found.source, &found.state)
 }
 
-#[test]
-fn a_grain_opens_with_what_is_kept_of_it(rt: HostRuntime) -> Result<(), Fail> {
-    let mut table = table(rt.alloc())?;
-    let rows = [(KEPT, Some(40)), (FRESH, Some(100)), (TYPELESS, None)];
-    for (grain, number) in rows {
-        assert_eq!(rt; table.top_unit(grain), UnitNo(0));
-        assert_eq!(rt; take(&mut table, UnitNo(3), grain, Read)?, number);
-        assert!(rt; table.is_held_by(UnitNo(3), grain));
-        assert!(rt; !table.is_held_alone_by(UnitNo(3), grain));
+fn ask(table: &CellTable, out: &mut String, step: &Step<'_>) -> Result<(), AllocError> {
+    let answer = table.ask(step.unit(1), step.grain(2), step.mode(3));
+    write!(out, " = {answer:?}")
+}
+
+fn look(table: &CellTable, out: &mut String, step: &Step<'_>) -> Result<(), AllocError> {
+    let held = table.is_held_by(step.unit(1), step.grain(2));
+    let alone = table.is_held_alone_by(step.unit(1), step.grain(2));
+    write!(out, " = held {held}, alone {alone}")
+}
+
+// The unit gives its lock back.
+fn give_back(table: &mut CellTable, out: &mut String, step: &Step<'_>) -> Result<(), AllocError> {
+    let unit = step.unit(1);
+    let grain = step.grain(2);
+    if !table.is_held_by(unit, grain) {
+        return out.push_str(" = not held");
     }
+    table.release(unit, grain, None);
     Ok(())
 }
 
-#[test]
-fn a_lock_of_one_grain_is_none_of_another(rt: HostRuntime) -> Result<(), Fail> {
-    let mut table = table(rt.alloc())?;
-    assert_eq!(rt; take(&mut table, UnitNo(3), KEPT, Update)?, Some(40));
-    let older = Ask::MustDie { holder: UnitNo(3) };
-    assert_eq!(rt; table.ask(UnitNo(5), KEPT, Read), older);
-    assert_eq!(rt; table.ask(UnitNo(5), FRESH, Read), Ask::Free);
-    if table.is_held_by(UnitNo(3), KEPT) {
-        table.release(UnitNo(3), KEPT, None);
+fn add_top(out: &mut String, table: &CellTable, step: &Step<'_>) -> Result<(), AllocError> {
+    let top = table.top_unit(step.grain(1)).0;
+    write!(out, " = {top}")
+}
+
+impl Part for CellTable {
+    fn step(&mut self, out: &mut String, step: &Step<'_>) -> Result<(), AllocError> {
+        match step.word(0) {
+            "take" => take(self, out, step),
+            "ask" => ask(self, out, step),
+            "look" => look(self, out, step),
+            "free" => give_back(self, out, step),
+            "top" => add_top(out, self, step),
+            _ => no_step(out),
+        }
     }
-    assert_eq!(rt; table.ask(UnitNo(5), KEPT, Update), Ask::Free);
-    Ok(())
 }

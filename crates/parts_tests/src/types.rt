@@ -1,132 +1,214 @@
-use base_types::{
-    Call, Ends, Entry, GrainId, List, Outcome, Settled, State, Store, TEXT_LIMIT, Text, UnitNo,
-    Value,
-};
-use std::alloc::Global;
-use std::test::Fail;
+//! The plain types.
+//!
+//! | A step | does |
+//! |---|---|
+//! | | `store`: the grains' states |
+//! | `put GRAIN NUMBER`, `set GRAIN NUMBER` | gives the grain a state, or a copy of its own with another number |
+//! | `get GRAIN` | tells the grain's state |
+//! | | `ends`: where the grains' files end |
+//! | `put GRAIN END`, `room GRAIN` | gives the grain's file an end; makes room for one |
+//! | `raise GRAIN END END` | raises the end to one and then to the other, and tells it after each |
+//! | `get GRAIN` | tells the end |
+//! | | `copy`: texts, copies, and a history |
+//! | `text BYTES` | tells whether a text of so many bytes is taken |
+//! | `call GRAIN METHOD NUMBER TEXT`, `fault TEXT`, `lock LINE UNIT UNIT GRAIN` | tells the copy of a call with two arguments, of a fault, and of an entry that says which unit's lock of which grain aborted a line's unit |
+//! | `write GRAIN NUMBER`, `units UNIT ..` | tells the copy of a list of one write, and of a list of units |
+//! | `history` | tells how many bytes a history of two events takes |
 
-fn text_of(alloc: Global, text: &str) -> Result<Text, Fail> {
-    Ok(Text::new(alloc, text)?.ok_or("too long")?)
+use crate::cases::{Part, carry, no_step};
+use crate::printing::{add_flag, add_state, add_units};
+use crate::steps::Step;
+use base_types::{
+    Call, Ends, Entry, GrainId, List, Outcome, Settled, State, Store, Text, UnitNo, Value,
+};
+use core_model::CoreEvent;
+use event_history::History;
+use std::alloc::{AllocError, Global};
+use std::mem;
+use test_cases::{add_grain, add_outcome, add_values};
+
+/// Puts a store through the steps.
+pub fn play_store(alloc: Global, out: &mut String, steps: &str) -> Result<(), AllocError> {
+    let mut store = Store::new(alloc);
+    carry(&mut store, alloc, out, steps)
 }
 
-#[test]
-fn a_text_of_257_bytes_is_refused(rt: HostRuntime) -> Result<(), Fail> {
-    let alloc = rt.alloc();
-    let mut long = String::new(alloc);
-    for _ in 0..TEXT_LIMIT {
+fn put(store: &mut Store, step: &Step<'_>) -> Result<(), AllocError> {
+    let state = step.state(2)?;
+    store.put(step.grain(1), state)
+}
+
+// Gives the first field of a copy of the grain's state another number, and puts that.
+fn set(store: &mut Store, step: &Step<'_>) -> Result<(), AllocError> {
+    let Some(state) = store.get(step.grain(1)) else {
+        return Ok(());
+    };
+    let mut state = state.copy()?;
+    if state.len() > 0 {
+        state.set(0, Value::Int(step.int(2)));
+    }
+    store.put(step.grain(1), state)
+}
+
+impl Part for Store {
+    fn step(&mut self, out: &mut String, step: &Step<'_>) -> Result<(), AllocError> {
+        match step.word(0) {
+            "put" => put(self, step),
+            "set" => set(self, step),
+            "get" => add_state(out, self.get(step.grain(1))),
+            _ => no_step(out),
+        }
+    }
+}
+
+/// Puts ends through the steps.
+pub fn play_ends(alloc: Global, out: &mut String, steps: &str) -> Result<(), AllocError> {
+    let mut ends = Ends::new(alloc);
+    carry(&mut ends, alloc, out, steps)
+}
+
+// Raises an end twice in one room.
+fn raise(ends: &mut Ends, out: &mut String, step: &Step<'_>) -> Result<(), AllocError> {
+    let grain = step.grain(1);
+    ends.room(grain)?;
+    ends.raise(grain, step.number(2));
+    let first = ends.get(grain);
+    ends.raise(grain, step.number(3));
+    let second = ends.get(grain);
+    write!(out, " = {first:?}, {second:?}")
+}
+
+fn add_end(out: &mut String, ends: &Ends, step: &Step<'_>) -> Result<(), AllocError> {
+    let end = ends.get(step.grain(1));
+    write!(out, " = {end:?}")
+}
+
+impl Part for Ends {
+    fn step(&mut self, out: &mut String, step: &Step<'_>) -> Result<(), AllocError> {
+        match step.word(0) {
+            "put" => self.put(step.grain(1), step.number(2)),
+            "room" => self.room(step.grain(1)),
+            "raise" => raise(self, out, step),
+            "get" => add_end(out, self, step),
+            _ => no_step(out),
+        }
+    }
+}
+
+/// What copies takes nothing along from step to step.
+#[derive(Clone, Copy)]
+struct Copying;
+
+/// Copies what the steps say.
+pub fn play_copies(alloc: Global, out: &mut String, steps: &str) -> Result<(), AllocError> {
+    carry(&mut Copying, alloc, out, steps)
+}
+
+// Whether a text of so many bytes is taken.
+fn add_text(out: &mut String, step: &Step<'_>) -> Result<(), AllocError> {
+    let mut long = String::new(step.alloc);
+    for _ in 0..step.short(1) {
         long.push('a')?;
     }
-    assert!(rt; Text::new(alloc, long.as_str())?.is_some());
-    long.push('a')?;
-    assert!(rt; Text::new(alloc, long.as_str())?.is_none());
-    Ok(())
+    let text = Text::new(step.alloc, long.as_str())?;
+    add_flag(out, text.is_some())
 }
 
-#[test]
-fn a_copied_call_has_the_arguments_of_its_source(rt: HostRuntime) -> Result<(), Fail> {
-    let alloc = rt.alloc();
-    let mut args = List::new(alloc);
-    args.push(Value::Int(-5))?;
-    args.push(Value::Text(text_of(alloc, "funds")?))?;
-    let grain = GrainId { kind: 3, key: 7 };
-    let call = Call {
-        grain,
-        method: 2,
-        args,
-    };
-    let copy = call.copy()?;
-    assert_eq!(rt; copy.grain, grain);
-    assert_eq!(rt; copy.method, 2);
-    assert_eq!(rt; copy.args.len(), 2);
-    assert!(rt; matches!(copy.args.get(0), Some(Value::Int(-5))));
-    let Some(Value::Text(text)) = copy.args.get(1) else {
-        return Err("no text".into());
-    };
-    assert_eq!(rt; text.as_str(), "funds");
-    let fault = Outcome::Fault(text.copy()?).copy()?;
-    assert!(rt; matches!(fault, Outcome::Fault(_)));
-    Ok(())
-}
-
-#[test]
-fn a_store_gives_back_what_was_put_last(rt: HostRuntime) -> Result<(), Fail> {
-    let alloc = rt.alloc();
-    let grain = GrainId { kind: 0, key: 1 };
-    let mut state = State::new(alloc);
-    state.push(Value::Int(0))?;
-    let mut store = Store::new(alloc);
-    store.put(grain, state.copy()?)?;
-    if state.len() > 0 {
-        state.set(0, Value::Int(9));
+fn call_of(step: &Step<'_>) -> Result<Call, AllocError> {
+    let mut args = List::new(step.alloc);
+    args.push(Value::Int(step.int(3)))?;
+    if let Some(text) = Text::new(step.alloc, step.word(4))? {
+        args.push(Value::Text(text))?;
     }
-    store.put(grain, state)?;
-    let found = store.get(grain).ok_or("no state")?;
-    assert_eq!(rt; found.as_slice().len(), 1);
-    assert!(rt; matches!(found.get(0), Some(Value::Int(9))));
-    assert!(rt; store.get(GrainId { kind: 1, key: 1 }).is_none());
-    let mut ends = Ends::new(alloc);
-    ends.put(grain, 19)?;
-    assert_eq!(rt; ends.get(grain), Some(19));
-    assert_eq!(rt; ends.get(GrainId { kind: 0, key: 2 }), None);
-    Ok(())
+    Ok(Call {
+        grain: step.grain(1),
+        method: u16::try_from(step.number(2)).unwrap_or(0),
+        args,
+    })
 }
 
-#[test]
-fn an_end_is_raised_and_never_lowered(rt: HostRuntime) -> Result<(), Fail> {
-    let grain = GrainId { kind: 2, key: 9 };
-    let mut ends = Ends::new(rt.alloc());
-    ends.room(grain)?;
-    assert_eq!(rt; ends.get(grain), None);
-    ends.raise(grain, 40);
-    assert_eq!(rt; ends.get(grain), Some(40));
-    ends.room(grain)?;
-    ends.raise(grain, 15);
-    assert_eq!(rt; ends.get(grain), Some(40));
-    ends.raise(grain, 59);
-    assert_eq!(rt; ends.get(grain), Some(59));
-    Ok(())
+fn add_call(out: &mut String, step: &Step<'_>) -> Result<(), AllocError> {
+    let call = call_of(step)?;
+    let copy = call.copy()?;
+    out.push_str(" = ")?;
+    add_grain(out, copy.grain)?;
+    let method = copy.method;
+    write!(out, ".{method}")?;
+    add_values(out, copy.args.as_slice())
 }
 
-#[test]
-fn a_copied_entry_says_what_its_source_says(rt: HostRuntime) -> Result<(), Fail> {
-    let alloc = rt.alloc();
-    let by = UnitNo(3);
-    let grain = GrainId { kind: 0, key: 7 };
+fn add_fault(out: &mut String, step: &Step<'_>) -> Result<(), AllocError> {
+    let Some(text) = Text::new(step.alloc, step.word(1))? else {
+        return out.push_str(" = too long");
+    };
+    let fault = Outcome::Fault(text.copy()?).copy()?;
+    out.push_str(" = ")?;
+    add_outcome(out, &fault)
+}
+
+fn add_entry(out: &mut String, entry: &Entry) -> Result<(), AllocError> {
+    let line = entry.line;
+    let unit = entry.unit.0;
+    let Settled::Lock { by, grain } = &entry.what else {
+        return out.push_str(" = no lock");
+    };
+    let by = by.0;
+    write!(out, " = line {line}, unit {unit}, lock of {by} at ")?;
+    add_grain(out, *grain)
+}
+
+// The copy of an entry that says which unit's lock of which grain aborted a unit.
+fn add_lock(out: &mut String, step: &Step<'_>) -> Result<(), AllocError> {
     let entry = Entry {
-        line: 5,
-        unit: UnitNo(8),
-        what: Settled::Lock { by, grain },
+        line: step.short(1),
+        unit: step.unit(2),
+        what: Settled::Lock {
+            by: step.unit(3),
+            grain: step.grain(4),
+        },
     };
     let copy = entry.copy()?;
-    assert_eq!(rt; copy.line, 5);
-    assert_eq!(rt; copy.unit, UnitNo(8));
-    let Settled::Lock {
-        by: older,
-        grain: held,
-    } = copy.what
-    else {
-        return Err("no lock".into());
-    };
-    assert_eq!(rt; older, by);
-    assert_eq!(rt; held, grain);
+    add_entry(out, &copy)
+}
+
+// The copy of a list of one write.
+fn add_writes(out: &mut String, step: &Step<'_>) -> Result<(), AllocError> {
+    let mut writes = List::new(step.alloc);
+    writes.push((step.grain(1), step.state(2)?))?;
+    let copy: List<(GrainId, State)> = writes.copy()?;
+    for write in copy.as_slice() {
+        out.push_str(" = ")?;
+        add_grain(out, write.0)?;
+        add_values(out, write.1.as_slice())?;
+    }
     Ok(())
 }
 
-#[test]
-fn a_copied_list_has_the_items_of_its_source(rt: HostRuntime) -> Result<(), Fail> {
-    let alloc = rt.alloc();
-    let grain = GrainId { kind: 1, key: 4 };
-    let mut state = State::new(alloc);
-    state.push(Value::Int(6))?;
-    let mut writes = List::new(alloc);
-    writes.push((grain, state))?;
-    let copy = writes.copy()?;
-    let written = copy.get(0).ok_or("no write")?;
-    assert_eq!(rt; copy.len(), 1);
-    assert_eq!(rt; written.0, grain);
-    assert!(rt; matches!(written.1.get(0), Some(Value::Int(6))));
-    let units = List::from_vec(vec![in alloc; UnitNo(4), UnitNo(2)]?);
-    let want = [UnitNo(4), UnitNo(2)];
-    assert!(rt; units.copied()?.as_slice() == want.as_slice());
-    Ok(())
+fn add_copied(out: &mut String, step: &Step<'_>) -> Result<(), AllocError> {
+    let units = step.units(1)?;
+    let copy = units.copied()?;
+    add_units(out, copy.as_slice())
+}
+
+fn add_history(out: &mut String) -> Result<(), AllocError> {
+    let mut history = History::new();
+    history.note(&CoreEvent::Emitted);
+    history.note(&CoreEvent::Halt);
+    let bytes = mem::size_of::<History>();
+    write!(out, " = {bytes} bytes")
+}
+
+impl Part for Copying {
+    fn step(&mut self, out: &mut String, step: &Step<'_>) -> Result<(), AllocError> {
+        match step.word(0) {
+            "text" => add_text(out, step),
+            "call" => add_call(out, step),
+            "fault" => add_fault(out, step),
+            "lock" => add_lock(out, step),
+            "write" => add_writes(out, step),
+            "units" => add_copied(out, step),
+            "history" => add_history(out),
+            _ => no_step(out),
+        }
+    }
 }

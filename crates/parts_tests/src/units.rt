@@ -1,12 +1,42 @@
+//! `units`: the units of a program of one type, of which the first will have the number 1. All read and want the grain `0/7`.
+//!
+//! | A step | does |
+//! |---|---|
+//! | `open UNIT TYPES` | another table, whose first unit will have this number, of a program of so many types |
+//! | `line`, `child UNIT` | a line's unit begins, or a child of this running unit; tells its number |
+//! | `room` | tells whether room is made for a line's unit |
+//! | `read UNIT SOURCE` | the unit reads what this one wrote |
+//! | `finish UNIT` | the unit finishes; tells its dependencies |
+//! | `refuse UNIT`, `end UNIT` | the unit is refused, or ends as a plain run |
+//! | `abort UNIT` | the unit, which is over, is decided: it has aborted |
+//! | `want UNIT` | the unit waits for the grain |
+//! | `bad`, `halt` | a line is bad; the run is to stop |
+//! | `running UNIT` | tells how many reads, which children and which sources a running unit has |
+//! | `life UNIT` | tells where it is in its life, and what is decided of it |
+//! | `kept UNIT` | tells whether it is over, whether it is decided for good, and whether it is kept as a running one |
+//! | `result UNIT`, `outcome UNIT` | tells its result, and its outcome once that is decided for good |
+//! | `lines`, `wants` | tells the numbers of lines and types and whether the run is to stop; who waits for which grain |
+//! | `shared` | tells that a table may be shared by threads, which is so where this is built |
+
+use crate::cases::{Part, carry, no_step};
+use crate::printing::{add_flag, add_numbers, add_units};
+use crate::steps::Step;
 use base_types::{Call, GrainId, List, Origin, Outcome, State, UnitNo};
-use core_model::{Phase, Read, Verdict};
+use core_model::{Read, Verdict};
 use std::alloc::{AllocError, Global};
-use std::test::Fail;
-use unit_table::{BeginFault, UnitTable};
+use test_cases::add_outcome;
+use unit_table::UnitTable;
 
 const GRAIN: GrainId = GrainId { kind: 0, key: 7 };
 
-fn call(alloc: Global) -> Call {
+/// Puts the units through the steps.
+pub fn play(alloc: Global, out: &mut String, steps: &str) -> Result<(), AllocError> {
+    let mut table = UnitTable::new(alloc, UnitNo(1), 1);
+    carry(&mut table, alloc, out, steps)
+}
+
+/// A call without arguments.
+pub fn call(alloc: Global) -> Call {
     Call {
         grain: GRAIN,
         method: 0,
@@ -14,143 +44,212 @@ fn call(alloc: Global) -> Call {
     }
 }
 
-fn begin_line(alloc: Global, table: &mut UnitTable) -> Result<UnitNo, Fail> {
-    let origin = Origin::Line(1);
-    table.reserve_begin(&origin)?;
-    if table.lines() > 9 {
-        return Err("ten lines have begun".into());
-    }
-    Ok(table.begin(origin, call(alloc), false))
+fn open(table: &mut UnitTable, step: &Step<'_>) -> Result<(), AllocError> {
+    *table = UnitTable::new(step.alloc, step.unit(1), step.number(2));
+    Ok(())
 }
 
-fn begin_child(alloc: Global, table: &mut UnitTable, parent: UnitNo) -> Result<UnitNo, Fail> {
+// The next line's unit begins.
+fn begin_line(table: &mut UnitTable, out: &mut String, alloc: Global) -> Result<(), AllocError> {
+    let origin = Origin::Line(1);
+    let Ok(()) = table.reserve_begin(&origin) else {
+        return out.push_str(" = no room");
+    };
+    if table.lines() > 9 {
+        return out.push_str(" = ten lines have begun");
+    }
+    let unit = table.begin(origin, call(alloc), false).0;
+    write!(out, " = {unit}")
+}
+
+fn begin_child(table: &mut UnitTable, out: &mut String, step: &Step<'_>) -> Result<(), AllocError> {
+    let parent = step.unit(1);
     let origin = Origin::Child {
         parent,
         index: 0,
         depth: 2,
     };
     if !table.is_running(parent) {
-        return Err("the parent doesn't run".into());
+        return not_running(out);
     }
-    table.reserve_begin(&origin)?;
-    Ok(table.begin(origin, call(alloc), false))
+    let Ok(()) = table.reserve_begin(&origin) else {
+        return out.push_str(" = no room");
+    };
+    let unit = table.begin(origin, call(step.alloc), false).0;
+    write!(out, " = {unit}")
 }
 
-// A running unit reads the grain, which the source wrote.
-fn read(
-    alloc: Global,
-    table: &mut UnitTable,
-    unit: UnitNo,
-    source: UnitNo,
-) -> Result<(), AllocError> {
+fn make_room(table: &mut UnitTable, out: &mut String) -> Result<(), AllocError> {
+    let room = table.reserve_begin(&Origin::Line(1));
+    write!(out, " = {room:?}")
+}
+
+fn not_running(out: &mut String) -> Result<(), AllocError> {
+    out.push_str(" = not running")
+}
+
+// The unit reads the grain, which the source wrote.
+fn read(table: &mut UnitTable, out: &mut String, step: &Step<'_>) -> Result<(), AllocError> {
+    let unit = step.unit(1);
+    let source = step.unit(2);
     if !table.is_running(unit) {
-        return Err(AllocError);
+        return not_running(out);
     }
     table.reserve_read(unit)?;
     let read = Read {
         grain: GRAIN,
-        state: State::new(alloc),
+        state: State::new(step.alloc),
         source,
     };
     table.note_read(unit, read, source.0 != 0);
     Ok(())
 }
 
-#[test]
-fn a_child_is_known_to_its_parent(rt: HostRuntime) -> Result<(), Fail> {
-    let mut table = UnitTable::new(rt.alloc(), UnitNo(5), 3);
-    assert_eq!(rt; table.phase(UnitNo(5)), Phase::Unborn);
-    let parent = begin_line(rt.alloc(), &mut table)?;
-    let child = begin_child(rt.alloc(), &mut table, parent)?;
-    assert_eq!(rt; parent, UnitNo(5));
-    assert_eq!(rt; child, UnitNo(6));
-    assert_eq!(rt; table.lines(), 1);
-    assert_eq!(rt; table.kinds(), 3);
-    assert_eq!(rt; table.phase(child), Phase::Running);
-    if table.is_running(parent) {
-        assert!(rt; table.kids(parent).first() == Some(&UnitNo(6)));
-    }
-    Ok(())
-}
-
-#[test]
-fn a_finished_unit_hands_its_dependencies_out(rt: HostRuntime) -> Result<(), Fail> {
-    let mut table = UnitTable::new(rt.alloc(), UnitNo(5), 1);
-    let unit = begin_line(rt.alloc(), &mut table)?;
-    read(rt.alloc(), &mut table, unit, UnitNo(0))?;
-    read(rt.alloc(), &mut table, unit, UnitNo(4))?;
+fn finish(table: &mut UnitTable, out: &mut String, unit: UnitNo) -> Result<(), AllocError> {
     if !table.is_running(unit) {
-        return Err("the unit doesn't run".into());
+        return not_running(out);
     }
-    assert_eq!(rt; table.reads(unit).len(), 2);
-    assert_eq!(rt; table.deps(unit).len(), 1);
     let deps = table.finish(unit, Outcome::Aborted);
-    assert!(rt; deps.list().first() == Some(&UnitNo(4)));
-    assert!(rt; table.is_over(unit));
-    assert!(rt; !table.is_decided(unit));
-    if table.is_over(unit) {
-        table.set_verdict(unit, Verdict::Aborted);
+    add_units(out, deps.list())
+}
+
+fn refuse(table: &mut UnitTable, out: &mut String, unit: UnitNo) -> Result<(), AllocError> {
+    if !table.is_running(unit) {
+        return not_running(out);
     }
-    assert_eq!(rt; table.verdict(unit), Verdict::Aborted);
-    assert!(rt; table.outcome_copy(unit)?.is_some());
-    assert!(rt; table.result(unit).is_some());
+    table.refuse(unit);
     Ok(())
 }
 
-#[test]
-fn a_unit_that_is_over_waits_no_more(rt: HostRuntime) -> Result<(), Fail> {
-    let mut table = UnitTable::new(rt.alloc(), UnitNo(5), 1);
-    let refused = begin_line(rt.alloc(), &mut table)?;
-    let plain = begin_line(rt.alloc(), &mut table)?;
-    for unit in [refused, plain, UnitNo(9)] {
-        table.reserve_want()?;
-        table.want(unit, GRAIN);
+fn end(table: &mut UnitTable, out: &mut String, unit: UnitNo) -> Result<(), AllocError> {
+    if !table.is_running(unit) {
+        return not_running(out);
     }
-    if table.is_running(refused) {
-        table.refuse(refused);
-    }
-    if table.is_running(plain) {
-        table.end(plain, Outcome::Aborted);
-    }
-    assert_eq!(rt; table.wants().len(), 1);
-    assert_eq!(rt; table.phase(refused), Phase::Refused);
-    assert_eq!(rt; table.verdict(refused), Verdict::Aborted);
-    assert_eq!(rt; table.phase(plain), Phase::Ended);
-    assert!(rt; table.running(plain).is_none());
+    table.end(unit, Outcome::Aborted);
     Ok(())
 }
 
-#[test]
-fn lines_and_the_stop_are_noted(rt: HostRuntime) -> Result<(), Fail> {
-    let mut table = UnitTable::new(rt.alloc(), UnitNo(1), 1);
-    if table.lines() == 0 {
-        table.bad_line();
+// The unit, which is over, is decided: it has aborted.
+fn decide(table: &mut UnitTable, out: &mut String, unit: UnitNo) -> Result<(), AllocError> {
+    if !table.is_over(unit) {
+        return out.push_str(" = not over");
     }
+    table.set_verdict(unit, Verdict::Aborted);
+    Ok(())
+}
+
+fn want(table: &mut UnitTable, step: &Step<'_>) -> Result<(), AllocError> {
+    table.reserve_want()?;
+    table.want(step.unit(1), GRAIN);
+    Ok(())
+}
+
+fn bad_line(table: &mut UnitTable, out: &mut String) -> Result<(), AllocError> {
+    if table.lines() > 9 {
+        return out.push_str(" = ten lines have begun");
+    }
+    table.bad_line();
+    Ok(())
+}
+
+fn halt(table: &mut UnitTable) -> Result<(), AllocError> {
     table.halt();
-    assert_eq!(rt; table.lines(), 1);
-    assert!(rt; table.is_halted());
     Ok(())
 }
 
-#[test]
-fn no_unit_has_the_number_2_to_the_63(rt: HostRuntime) -> Result<(), Fail> {
-    let mut table = UnitTable::new(rt.alloc(), UnitNo((1 << 63) - 1), 1);
-    assert_eq!(rt; table.reserve_begin(&Origin::Line(1)), Ok(()));
-    begin_line(rt.alloc(), &mut table)?;
-    assert_eq!(rt;
-        table.reserve_begin(&Origin::Line(2)),
-        Err(BeginFault::NoNumber)
-    );
-    Ok(())
+// Writes what is kept of a running unit: its children, how many reads, and its dependencies.
+fn add_running(out: &mut String, table: &UnitTable, unit: UnitNo) -> Result<(), AllocError> {
+    if !table.is_running(unit) {
+        return not_running(out);
+    }
+    let reads = table.reads(unit).len();
+    write!(out, " = {reads} reads, children")?;
+    add_numbers(out, table.kids(unit))?;
+    out.push_str(", sources")?;
+    add_numbers(out, table.deps(unit))
+}
+
+fn add_life(out: &mut String, table: &UnitTable, unit: UnitNo) -> Result<(), AllocError> {
+    let phase = table.phase(unit);
+    let verdict = table.verdict(unit);
+    write!(out, " = {phase:?}, {verdict:?}")
+}
+
+fn add_kept(out: &mut String, table: &UnitTable, unit: UnitNo) -> Result<(), AllocError> {
+    let over = table.is_over(unit);
+    let decided = table.is_decided(unit);
+    let running = table.running(unit).is_some();
+    write!(out, " = over {over}, decided {decided}, running {running}")
+}
+
+fn add_known(out: &mut String, outcome: Option<&Outcome>) -> Result<(), AllocError> {
+    let Some(outcome) = outcome else {
+        return out.push_str(" = none");
+    };
+    out.push_str(" = ")?;
+    add_outcome(out, outcome)
+}
+
+fn add_decided(out: &mut String, table: &UnitTable, unit: UnitNo) -> Result<(), AllocError> {
+    let outcome = table.outcome_copy(unit)?;
+    add_known(out, outcome.as_ref())
+}
+
+fn add_lines(out: &mut String, table: &UnitTable) -> Result<(), AllocError> {
+    let lines = table.lines();
+    let kinds = table.kinds();
+    let halted = table.is_halted();
+    write!(out, " = {lines} lines, {kinds} types, halted {halted}")
+}
+
+fn add_wants(out: &mut String, table: &UnitTable) -> Result<(), AllocError> {
+    let wants = table.wants();
+    write!(out, " = {wants:?}")
 }
 
 fn is_shared<T: Send + Sync>(_shared: &T) -> bool {
     true
 }
 
-#[test]
-fn a_table_may_be_shared(rt: HostRuntime) -> Result<(), Fail> {
-    let table = UnitTable::new(rt.alloc(), UnitNo(1), 1);
-    assert!(rt; is_shared(&table));
-    Ok(())
+fn look(table: &UnitTable, out: &mut String, step: &Step<'_>) -> Result<(), AllocError> {
+    let unit = step.unit(1);
+    match step.word(0) {
+        "running" => add_running(out, table, unit),
+        "life" => add_life(out, table, unit),
+        "kept" => add_kept(out, table, unit),
+        "result" => add_known(out, table.result(unit)),
+        "outcome" => add_decided(out, table, unit),
+        "lines" => add_lines(out, table),
+        "wants" => add_wants(out, table),
+        "shared" => add_flag(out, is_shared(table)),
+        _ => no_step(out),
+    }
+}
+
+// Notes what ends a unit, or another look.
+fn ends(table: &mut UnitTable, out: &mut String, step: &Step<'_>) -> Result<(), AllocError> {
+    let unit = step.unit(1);
+    match step.word(0) {
+        "finish" => finish(table, out, unit),
+        "refuse" => refuse(table, out, unit),
+        "end" => end(table, out, unit),
+        "abort" => decide(table, out, unit),
+        "want" => want(table, step),
+        "bad" => bad_line(table, out),
+        "halt" => halt(table),
+        _ => look(table, out, step),
+    }
+}
+
+impl Part for UnitTable {
+    fn step(&mut self, out: &mut String, step: &Step<'_>) -> Result<(), AllocError> {
+        match step.word(0) {
+            "open" => open(self, step),
+            "line" => begin_line(self, out, step.alloc),
+            "child" => begin_child(self, out, step),
+            "room" => make_room(self, out),
+            "read" => read(self, out, step),
+            _ => ends(self, out, step),
+        }
+    }
 }

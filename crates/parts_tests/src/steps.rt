@@ -1,0 +1,85 @@
+use base_types::{GrainId, List, Mode, State, UnitNo, Value};
+use std::alloc::{AllocError, Global};
+
+/// The words of a step: what is done, and with what. A word that isn't there is empty, and a number that isn't there 0.
+#[derive(Drop)]
+pub struct Step<'a> {
+    pub alloc: Global,
+    words: Vec<&'a str>,
+}
+
+/// A state of one field.
+pub fn state_of(alloc: Global, number: i64) -> Result<State, AllocError> {
+    let mut state = State::new(alloc);
+    state.push(Value::Int(number))?;
+    Ok(state)
+}
+
+fn number_in(word: &str) -> u64 {
+    word.parse::<u64>().unwrap_or(0)
+}
+
+impl<'a> Step<'a> {
+    pub fn new(alloc: Global, text: &'a str) -> Result<Step<'a>, AllocError> {
+        let mut words = Vec::new(alloc);
+        for word in text.split_whitespace() {
+            words.push(word)?;
+        }
+        Ok(Step { alloc, words })
+    }
+
+    pub fn word(&self, at: usize) -> &'a str {
+        match self.words.get(at) {
+            Some(word) => word,
+            None => "",
+        }
+    }
+
+    pub fn number(&self, at: usize) -> u64 {
+        number_in(self.word(at))
+    }
+
+    /// A number below 2^32.
+    pub fn short(&self, at: usize) -> u32 {
+        u32::try_from(self.number(at)).unwrap_or(0)
+    }
+
+    pub fn unit(&self, at: usize) -> UnitNo {
+        UnitNo(self.number(at))
+    }
+
+    /// A grain, as `0/7`.
+    pub fn grain(&self, at: usize) -> GrainId {
+        let (kind, key) = self.word(at).split_once('/').unwrap_or(("", ""));
+        GrainId {
+            kind: kind.parse::<u16>().unwrap_or(0),
+            key: key.parse::<u32>().unwrap_or(0),
+        }
+    }
+
+    /// `update`, or else to read.
+    pub fn mode(&self, at: usize) -> Mode {
+        if self.word(at) == "update" {
+            return Mode::Update;
+        }
+        Mode::Read
+    }
+
+    pub fn int(&self, at: usize) -> i64 {
+        self.word(at).parse::<i64>().unwrap_or(0)
+    }
+
+    /// A state of one field, with this number.
+    pub fn state(&self, at: usize) -> Result<State, AllocError> {
+        state_of(self.alloc, self.int(at))
+    }
+
+    /// The units from this word on.
+    pub fn units(&self, from: usize) -> Result<List<UnitNo>, AllocError> {
+        let mut units = List::new(self.alloc);
+        for word in self.words.get(from..).unwrap_or(&[]) {
+            units.push(UnitNo(number_in(word)))?;
+        }
+        Ok(units)
+    }
+}
