@@ -1,4 +1,4 @@
-use base_types::{Call, GrainId, List, Origin, Outcome, State, UnitNo, Value};
+use base_types::{Call, GrainId, List, Origin, Outcome, State, Text, UnitNo, Value};
 use core_model::{Effect, Read};
 use std::alloc::{AllocError, Global};
 
@@ -7,11 +7,16 @@ pub fn grain(key: u32) -> GrainId {
     GrainId { kind: 1, key }
 }
 
-/// One read, of the grain `1/7`: this state, which the source wrote.
-pub fn one_read(alloc: Global, state: State, source: UnitNo) -> Result<List<Read>, AllocError> {
+/// One read, of the grain of this key: this state, which the source wrote.
+pub fn one_read(
+    alloc: Global,
+    key: u32,
+    state: State,
+    source: UnitNo,
+) -> Result<List<Read>, AllocError> {
     let mut reads = List::new(alloc);
     reads.push(Read {
-        grain: grain(7),
+        grain: grain(key),
         state,
         source,
     })?;
@@ -49,5 +54,17 @@ pub fn effect(
         reads,
         writes,
         result: Outcome::Aborted,
+    }
+}
+
+/// A fault with this text, the value of it, or aborted.
+pub fn outcome_of(alloc: Global, kind: &str, text: &str) -> Result<Outcome, AllocError> {
+    let Some(text) = Text::new(alloc, text)? else {
+        return Ok(Outcome::Aborted);
+    };
+    match kind {
+        "fault" => Ok(Outcome::Fault(text)),
+        "value" => Ok(Outcome::Value(Value::Text(text))),
+        _ => Ok(Outcome::Aborted),
     }
 }

@@ -7,15 +7,15 @@
 //! | `outcomes KIND TEXT KIND TEXT` | of two outcomes, and of the first one and its copy: each `fault` or `value` with its text, or `aborted` |
 
 use crate::cases::{Part, carry, no_step};
-use crate::effects::{effect, one_read, one_write};
+use crate::effects::{effect, one_read, one_write, outcome_of};
 use crate::printing::add_flag;
 use crate::steps::{Step, state_of};
-use base_types::{List, Outcome, Text, UnitNo, Value};
+use base_types::{List, Outcome, UnitNo, Value};
 use core_equality::Same;
 use core_model::Effect;
 use std::alloc::{AllocError, Global};
 
-/// What compares takes nothing along from step to step.
+/// Compares, and keeps nothing from one step to the next.
 #[derive(Clone, Copy)]
 struct Comparing;
 
@@ -33,7 +33,7 @@ fn args_of(alloc: Global, argument: i64) -> Result<List<Value>, AllocError> {
 // What unit 5 did: it called with this number, read this state of unit 3, and wrote 9.
 fn effect_of(alloc: Global, argument: i64, read: i64) -> Result<Effect, AllocError> {
     let args = args_of(alloc, argument)?;
-    let reads = one_read(alloc, state_of(alloc, read)?, UnitNo(3))?;
+    let reads = one_read(alloc, 7, state_of(alloc, read)?, UnitNo(3))?;
     let writes = one_write(alloc, 7, state_of(alloc, 9)?)?;
     Ok(effect(alloc, UnitNo(5), args, reads, writes))
 }
@@ -70,18 +70,6 @@ fn add_copy(out: &mut String, one: &Effect) -> Result<(), AllocError> {
 fn compare_copy(out: &mut String, step: &Step<'_>) -> Result<(), AllocError> {
     let one = effect_of(step.alloc, step.int(1), step.int(2))?;
     add_copy(out, &one)
-}
-
-// A fault with this text, the value of it, or aborted.
-fn outcome_of(alloc: Global, kind: &str, text: &str) -> Result<Outcome, AllocError> {
-    let Some(text) = Text::new(alloc, text)? else {
-        return Ok(Outcome::Aborted);
-    };
-    match kind {
-        "fault" => Ok(Outcome::Fault(text)),
-        "value" => Ok(Outcome::Value(Value::Text(text))),
-        _ => Ok(Outcome::Aborted),
-    }
 }
 
 fn add_other_outcome(out: &mut String, one: &Outcome, step: &Step<'_>) -> Result<(), AllocError> {

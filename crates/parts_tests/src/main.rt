@@ -10,17 +10,22 @@ mod batches;
 mod cascades;
 mod cases;
 mod cells;
+mod copies;
 mod dependencies;
 mod effects;
+mod ends;
+mod entries;
 mod equality;
-mod lists;
+mod handed_states;
+mod last_states;
 mod locks;
 mod plans;
 mod printing;
+mod queue;
 mod stacks;
 mod steps;
+mod stores;
 mod tables;
-mod types;
 mod units;
 
 use std::alloc::{AllocError, Global};
@@ -46,13 +51,13 @@ fn play_list(alloc: Global, out: &mut String, part: &str, steps: &str) -> Result
     match part {
         "plan" => plans::play(alloc, out, steps),
         "same" => equality::play(alloc, out, steps),
-        "entries" => lists::play_entries(alloc, out, steps),
-        "queue" => lists::play_queue(alloc, out, steps),
-        "last" => lists::play_last(alloc, out, steps),
-        "handed" => lists::play_handed(alloc, out, steps),
-        "store" => types::play_store(alloc, out, steps),
-        "ends" => types::play_ends(alloc, out, steps),
-        "copy" => types::play_copies(alloc, out, steps),
+        "entries" => entries::play(alloc, out, steps),
+        "queue" => queue::play(alloc, out, steps),
+        "last" => last_states::play(alloc, out, steps),
+        "handed" => handed_states::play(alloc, out, steps),
+        "store" => stores::play(alloc, out, steps),
+        "ends" => ends::play(alloc, out, steps),
+        "copy" => copies::play(alloc, out, steps),
         _ => out.push_str(" = no such part"),
     }
 }

@@ -51,7 +51,7 @@ fn writes_of(
 
 fn effect_of(step: &Step<'_>) -> Result<Effect, AllocError> {
     let keys = step.units(3)?;
-    let reads = one_read(step.alloc, State::new(step.alloc), step.unit(2))?;
+    let reads = one_read(step.alloc, 5, State::new(step.alloc), step.unit(2))?;
     let writes = writes_of(step.alloc, step.int(1), keys.as_slice())?;
     Ok(effect(
         step.alloc,

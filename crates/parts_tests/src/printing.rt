@@ -1,6 +1,6 @@
-use base_types::{State, UnitNo, Version};
+use base_types::{Outcome, State, UnitNo, Version};
 use std::alloc::AllocError;
-use test_cases::add_values;
+use test_cases::{add_outcome, add_values};
 
 /// Writes ` = true`.
 pub fn add_flag(out: &mut String, flag: bool) -> Result<(), AllocError> {
@@ -57,4 +57,13 @@ pub fn add_each(out: &mut String, versions: &[Version]) -> Result<(), AllocError
         add_values(out, version.state.as_slice())?;
     }
     Ok(())
+}
+
+/// Writes ` = aborted`, or ` = none`.
+pub fn add_known(out: &mut String, outcome: Option<&Outcome>) -> Result<(), AllocError> {
+    let Some(outcome) = outcome else {
+        return out.push_str(" = none");
+    };
+    out.push_str(" = ")?;
+    add_outcome(out, outcome)
 }

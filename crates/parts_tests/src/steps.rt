@@ -1,7 +1,8 @@
 use base_types::{GrainId, List, Mode, State, UnitNo, Value};
 use std::alloc::{AllocError, Global};
 
-/// The words of a step: what is done, and with what. A word that isn't there is empty, and a number that isn't there 0.
+/// The words of a step, from 0 on: what is done, and with what. A word that isn't there is empty, and what isn't there as a
+/// number is 0.
 #[derive(Drop)]
 pub struct Step<'a> {
     pub alloc: Global,
@@ -20,6 +21,7 @@ fn number_in(word: &str) -> u64 {
 }
 
 impl<'a> Step<'a> {
+    /// The words of a text.
     pub fn new(alloc: Global, text: &'a str) -> Result<Step<'a>, AllocError> {
         let mut words = Vec::new(alloc);
         for word in text.split_whitespace() {
@@ -28,6 +30,7 @@ impl<'a> Step<'a> {
         Ok(Step { alloc, words })
     }
 
+    /// The word itself.
     pub fn word(&self, at: usize) -> &'a str {
         match self.words.get(at) {
             Some(word) => word,
@@ -35,6 +38,7 @@ impl<'a> Step<'a> {
         }
     }
 
+    /// A number without a sign.
     pub fn number(&self, at: usize) -> u64 {
         number_in(self.word(at))
     }
@@ -44,6 +48,7 @@ impl<'a> Step<'a> {
         u32::try_from(self.number(at)).unwrap_or(0)
     }
 
+    /// A unit, by its number.
     pub fn unit(&self, at: usize) -> UnitNo {
         UnitNo(self.number(at))
     }
@@ -57,7 +62,7 @@ impl<'a> Step<'a> {
         }
     }
 
-    /// `update`, or else to read.
+    /// A mode: `update`, or else to read.
     pub fn mode(&self, at: usize) -> Mode {
         if self.word(at) == "update" {
             return Mode::Update;
@@ -65,6 +70,7 @@ impl<'a> Step<'a> {
         Mode::Read
     }
 
+    /// A number that may have a sign.
     pub fn int(&self, at: usize) -> i64 {
         self.word(at).parse::<i64>().unwrap_or(0)
     }

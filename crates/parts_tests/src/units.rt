@@ -19,12 +19,11 @@
 //! | `shared` | tells that a table may be shared by threads, which is so where this is built |
 
 use crate::cases::{Part, carry, no_step};
-use crate::printing::{add_flag, add_numbers, add_units};
+use crate::printing::{add_flag, add_known, add_numbers, add_units};
 use crate::steps::Step;
 use base_types::{Call, GrainId, List, Origin, Outcome, State, UnitNo};
 use core_model::{Read, Verdict};
 use std::alloc::{AllocError, Global};
-use test_cases::add_outcome;
 use unit_table::UnitTable;
 
 const GRAIN: GrainId = GrainId { kind: 0, key: 7 };
@@ -182,14 +181,6 @@ fn add_kept(out: &mut String, table: &UnitTable, unit: UnitNo) -> Result<(), All
     write!(out, " = over {over}, decided {decided}, running {running}")
 }
 
-fn add_known(out: &mut String, outcome: Option<&Outcome>) -> Result<(), AllocError> {
-    let Some(outcome) = outcome else {
-        return out.push_str(" = none");
-    };
-    out.push_str(" = ")?;
-    add_outcome(out, outcome)
-}
-
 fn add_decided(out: &mut String, table: &UnitTable, unit: UnitNo) -> Result<(), AllocError> {
     let outcome = table.outcome_copy(unit)?;
     add_known(out, outcome.as_ref())
@@ -211,6 +202,17 @@ fn is_shared<T: Send + Sync>(_shared: &T) -> bool {
     true
 }
 
+// A look at all units.
+fn look_at_all(table: &UnitTable, out: &mut String, step: &Step<'_>) -> Result<(), AllocError> {
+    match step.word(0) {
+        "lines" => add_lines(out, table),
+        "wants" => add_wants(out, table),
+        "shared" => add_flag(out, is_shared(table)),
+        _ => no_step(out),
+    }
+}
+
+// A look at one unit, or at all.
 fn look(table: &UnitTable, out: &mut String, step: &Step<'_>) -> Result<(), AllocError> {
     let unit = step.unit(1);
     match step.word(0) {
@@ -219,14 +221,11 @@ fn look(table: &UnitTable, out: &mut String, step: &Step<'_>) -> Result<(), Allo
         "kept" => add_kept(out, table, unit),
         "result" => add_known(out, table.result(unit)),
         "outcome" => add_decided(out, table, unit),
-        "lines" => add_lines(out, table),
-        "wants" => add_wants(out, table),
-        "shared" => add_flag(out, is_shared(table)),
-        _ => no_step(out),
+        _ => look_at_all(table, out, step),
     }
 }
 
-// Notes what ends a unit, or another look.
+// What ends a unit or is noted, or a look.
 fn ends(table: &mut UnitTable, out: &mut String, step: &Step<'_>) -> Result<(), AllocError> {
     let unit = step.unit(1);
     match step.word(0) {

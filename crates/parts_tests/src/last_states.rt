@@ -1,0 +1,37 @@
+//! `last`: the last state of each grain.
+//!
+//! | A step | does |
+//! |---|---|
+//! | `place GRAIN`, `put GRAIN NUMBER` | makes the grain's place; gives the grain a state, in its place |
+//! | `get GRAIN` | tells the grain's last state |
+
+use crate::cases::{Part, carry, no_step};
+use crate::printing::add_state;
+use crate::steps::Step;
+use core_lists::LastStates;
+use std::alloc::{AllocError, Global};
+
+/// Puts the last states through the steps.
+pub fn play(alloc: Global, out: &mut String, steps: &str) -> Result<(), AllocError> {
+    let mut last = LastStates::new(alloc);
+    carry(&mut last, alloc, out, steps)
+}
+
+fn put(last: &mut LastStates, step: &Step<'_>) -> Result<(), AllocError> {
+    let grain = step.grain(1);
+    let state = step.state(2)?;
+    last.make_place(grain)?;
+    last.put(grain, state);
+    Ok(())
+}
+
+impl Part for LastStates {
+    fn step(&mut self, out: &mut String, step: &Step<'_>) -> Result<(), AllocError> {
+        match step.word(0) {
+            "place" => self.make_place(step.grain(1)),
+            "put" => put(self, step),
+            "get" => add_state(out, self.get(step.grain(1))),
+            _ => no_step(out),
+        }
+    }
+}
