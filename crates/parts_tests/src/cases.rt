@@ -28,6 +28,9 @@ fn carry_step<P: Part>(
 ) -> Result<(), AllocError> {
     let step = Step::new(alloc, text)?;
     write!(out, ";{text}")?;
+    if !step.is_spelled() {
+        return out.push_str(" = no such word");
+    }
     part.step(out, &step)
 }
 

@@ -2,7 +2,7 @@
 //! `stdin` has the cases, and `stdout` what must come out, worked out by hand.
 //!
 //! A case is a line: the name of a part, and its steps, a `;` before each. A step is a word with units, numbers, texts and
-//! grains, as `0/7`, by the number of the type and the key; the modules list the steps of each part. A line without a `;` says
+//! grains, as `0/7`, by the number of the type and the key; the modules list the steps of each part. A line that begins with `#` says
 //! what the cases behind it show. States have one number.
 #![tactic(auto)]
 
@@ -67,6 +67,9 @@ fn told(alloc: Global, line: &str) -> Result<String, AllocError> {
     let mut out = String::new(alloc);
     let Some((part, steps)) = line.split_once(';') else {
         out.push_str(line)?;
+        if !line.is_empty() && !line.starts_with('#') {
+            out.push_str(" = no such case")?;
+        }
         return Ok(out);
     };
     out.push_str(part)?;

@@ -20,6 +20,25 @@ fn number_in(word: &str) -> u64 {
     word.parse::<u64>().unwrap_or(0)
 }
 
+fn is_number(word: &str) -> bool {
+    word.parse::<u64>().is_ok() || word.parse::<i64>().is_ok()
+}
+
+fn is_grain(word: &str) -> bool {
+    match word.split_once('/') {
+        Some((kind, key)) => kind.parse::<u16>().is_ok() && key.parse::<u32>().is_ok(),
+        None => false,
+    }
+}
+
+// Whether it is a number, a grain, or a word that steps know.
+fn is_known(word: &str) -> bool {
+    match word {
+        "read" | "update" | "value" | "fault" | "aborted" | "funds" | "no" => true,
+        _ => is_number(word) || is_grain(word),
+    }
+}
+
 impl<'a> Step<'a> {
     /// The words of a text.
     pub fn new(alloc: Global, text: &'a str) -> Result<Step<'a>, AllocError> {
@@ -28,6 +47,16 @@ impl<'a> Step<'a> {
             words.push(word)?;
         }
         Ok(Step { alloc, words })
+    }
+
+    /// Whether each word behind the first is one that may stand there.
+    pub fn is_spelled(&self) -> bool {
+        for word in self.words.get(1..).unwrap_or(&[]) {
+            if !is_known(word) {
+                return false;
+            }
+        }
+        true
     }
 
     /// The word itself.

@@ -41,7 +41,10 @@ pub fn add_left(out: &mut String, host: &MemoryHost, before: u64) -> Result<(), 
 
 /// Writes how long a file is.
 pub fn add_size(out: &mut String, host: &MemoryHost, name: &str) -> Result<(), AllocError> {
-    match host.file(file_of(name)) {
+    let Some(file) = file_of(name) else {
+        return out.push_str("no such file");
+    };
+    match host.file(file) {
         Some(bytes) => {
             let size = bytes.len();
             write!(out, "{size}")
@@ -98,7 +101,7 @@ pub fn add_money<R: Threads + Wait + Sync>(
     }
 }
 
-// Writes a status, and what the host has put out, where these aren't written already.
+// Writes a status, what the host has put out, and an empty line, where these aren't written already.
 fn add_once(
     alloc: Global,
     out: &mut String,
@@ -107,6 +110,7 @@ fn add_once(
 ) -> Result<(), AllocError> {
     let mut end = String::new(alloc);
     add_output(&mut end, status, host)?;
+    end.push_str("\n")?;
     if out.contains(end.as_str()) {
         return Ok(());
     }

@@ -25,8 +25,8 @@ pub struct Bench {
     syncs: u64,
 }
 
-fn number_of(word: &str) -> u64 {
-    word.parse::<u64>().unwrap_or(0)
+fn number_of(word: &str) -> Option<u64> {
+    word.parse::<u64>().ok()
 }
 
 // So many blanks.
@@ -91,10 +91,16 @@ impl Bench {
 
     // Takes another input by a case that does so.
     fn take_input(&mut self, word: &str, rest: &str) -> Result<bool, AllocError> {
+        if word == "bank" {
+            self.input = program_text(self.alloc)?;
+            return Ok(true);
+        }
+        let Some(count) = number_of(rest) else {
+            return Ok(false);
+        };
         let taken = match word {
-            "bank" => program_text(self.alloc),
-            "rounds" => rounds(self.alloc, number_of(rest)),
-            "blanks" => blanks(self.alloc, number_of(rest)),
+            "rounds" => rounds(self.alloc, count),
+            "blanks" => blanks(self.alloc, count),
             _ => return Ok(false),
         };
         self.input = taken?;
@@ -104,23 +110,32 @@ impl Bench {
     // Changes the host or the input by a case that does so.
     fn lay(&mut self, word: &str, rest: &str) -> Result<bool, AllocError> {
         match word {
-            "" | "#" => {}
-            "log" => self.cut_log(number_of(rest))?,
-            "fail" => self.fail(rest)?,
-            "<" => self.add_input(rest)?,
-            _ => return Ok(false),
+            "" | "#" => Ok(true),
+            "log" => self.cut_log(rest),
+            "fail" => self.fail(rest),
+            "<" => {
+                self.add_input(rest)?;
+                Ok(true)
+            }
+            _ => Ok(false),
         }
+    }
+
+    fn cut_log(&mut self, length: &str) -> Result<bool, AllocError> {
+        let Some(length) = number_of(length) else {
+            return Ok(false);
+        };
+        let length = length.min(NEW_LOG.len() as u64) as usize;
+        self.host.set_file(MANAGER, &NEW_LOG[..length])?;
         Ok(true)
     }
 
-    fn cut_log(&mut self, length: u64) -> Result<(), AllocError> {
-        let length = length.min(NEW_LOG.len() as u64) as usize;
-        self.host.set_file(MANAGER, &NEW_LOG[..length])
-    }
-
-    fn fail(&mut self, words: &str) -> Result<(), AllocError> {
-        let fault = fault_of(words);
-        self.host.fail_on(fault.what, fault.channel, fault.nth)
+    fn fail(&mut self, words: &str) -> Result<bool, AllocError> {
+        let Some(fault) = fault_of(words) else {
+            return Ok(false);
+        };
+        self.host.fail_on(fault.what, fault.channel, fault.nth)?;
+        Ok(true)
     }
 
     // A line more, with a line feed before it unless it is the first.
@@ -202,8 +217,21 @@ impl Bench {
             "money" => add_money(rt, self.alloc, out, &self.host),
             "transfers" => add_transfers(rt, self.alloc, out, &self.host),
             "stops" => add_stops(rt, self.alloc, out, &self.host),
-            "fails" => add_fault(rt, self.alloc, out, &self.host, fault_of(rest)),
+            "fails" => self.add_fails(rt, out, rest),
             _ => self.add_kept(out, word, rest),
+        }
+    }
+
+    // Writes what a copy of the host comes to whose call fails.
+    fn add_fails<R: Threads + Wait + Sync>(
+        &self,
+        rt: &R,
+        out: &mut String,
+        words: &str,
+    ) -> Result<(), AllocError> {
+        match fault_of(words) {
+            Some(fault) => add_fault(rt, self.alloc, out, &self.host, fault),
+            None => out.push_str("no such case"),
         }
     }
 

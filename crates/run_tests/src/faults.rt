@@ -67,6 +67,9 @@ fn add_failed<R: Threads + Wait + Sync>(
     host.fail_on(fault.what, fault.channel, fault.nth)?;
     let status = transfer(rt, alloc, host)?;
     add_end(out, status, host)?;
+    if output_of(host) == whole {
+        out.push_str(", as if no call failed")?;
+    }
     let sound = count_sound(rt, alloc, host, status, whole)?;
     write!(out, ", {sound} of {IMAGES} images are sound")
 }

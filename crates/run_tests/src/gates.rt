@@ -80,10 +80,10 @@ impl Gate for BothGranted {
     }
 }
 
-// Whether a place was waited for in vain.
-fn add_missed(out: &mut String, missed: &AtomicBool) -> Result<(), AllocError> {
+// Whether what the gate waits for came, and whether a place was waited for in vain.
+fn add_places(out: &mut String, came: bool, missed: &AtomicBool) -> Result<(), AllocError> {
     let missed = missed.load(Ordering::SeqCst);
-    write!(out, ", missed a place: {missed}")
+    write!(out, ", came to its places: {came}, missed one: {missed}")
 }
 
 // The second unit reads the first one's version before the batch of that is sealed.
@@ -101,7 +101,8 @@ fn add_seal<R: Threads + Wait + Sync>(
     };
     let status = carry_by(rt, alloc, host, &gate, WORKERS, input)?;
     add_end(out, status, host)?;
-    add_missed(out, &gate.missed)?;
+    let came = gate.has_read.load(Ordering::SeqCst);
+    add_places(out, came, &gate.missed)?;
     Ok(status)
 }
 
@@ -120,12 +121,13 @@ fn add_locks<R: Threads + Wait + Sync>(
     };
     let status = carry_by(rt, alloc, host, &gate, WORKERS, input)?;
     add_end(out, status, host)?;
-    add_missed(out, &gate.missed)?;
+    let came = gate.first.load(Ordering::SeqCst) && gate.second.load(Ordering::SeqCst);
+    add_places(out, came, &gate.missed)?;
     Ok(status)
 }
 
 /// Carries two lines by two workers that a gate holds, and writes how that ended: at the word `seal` the gate is
-/// [`ReadBeforeSeal`], else [`BothGranted`].
+/// [`ReadBeforeSeal`], and at `locks` [`BothGranted`].
 pub fn add_held<R: Threads + Wait + Sync>(
     rt: &R,
     alloc: Global,
@@ -134,8 +136,12 @@ pub fn add_held<R: Threads + Wait + Sync>(
     word: &str,
     input: &str,
 ) -> Result<Status, AllocError> {
-    if word == "seal" {
-        return add_seal(rt, alloc, out, host, input);
+    match word {
+        "seal" => add_seal(rt, alloc, out, host, input),
+        "locks" => add_locks(rt, alloc, out, host, input),
+        _ => {
+            out.push_str("no such case")?;
+            Ok(Status::BadUse)
+        }
     }
-    add_locks(rt, alloc, out, host, input)
 }

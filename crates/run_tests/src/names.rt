@@ -16,47 +16,47 @@ pub struct Fault {
 }
 
 /// The file of a name: `manager`, `program`, or of the account with the key that stands behind `account/`.
-pub fn file_of(name: &str) -> FileId {
+pub fn file_of(name: &str) -> Option<FileId> {
     match name {
-        "manager" => MANAGER,
-        "program" => PROGRAM,
+        "manager" => Some(MANAGER),
+        "program" => Some(PROGRAM),
         _ => {
-            let (_, key) = name.split_once('/').unwrap_or(("", name));
-            let key = key.parse::<u32>().unwrap_or(0);
-            FileId::Grain {
+            let key = name.strip_prefix("account/")?.parse::<u32>().ok()?;
+            Some(FileId::Grain {
                 slot: 0,
                 grain: GrainId { kind: 0, key },
-            }
+            })
         }
     }
 }
 
-fn channel_of(name: &str) -> Channel {
+fn channel_of(name: &str) -> Option<Channel> {
     match name {
-        "input" => Channel::Input,
-        "output" => Channel::Output,
-        _ => Channel::File(file_of(name)),
+        "input" => Some(Channel::Input),
+        "output" => Some(Channel::Output),
+        _ => Some(Channel::File(file_of(name)?)),
     }
 }
 
-fn kind_of(word: &str) -> CallKind {
+fn kind_of(word: &str) -> Option<CallKind> {
     match word {
-        "pull" => CallKind::Pull,
-        "emit" => CallKind::Emit,
-        "length" => CallKind::Length,
-        "read" => CallKind::Read,
-        "write" => CallKind::Write,
-        _ => CallKind::Sync,
+        "pull" => Some(CallKind::Pull),
+        "emit" => Some(CallKind::Emit),
+        "length" => Some(CallKind::Length),
+        "read" => Some(CallKind::Read),
+        "write" => Some(CallKind::Write),
+        "sync" => Some(CallKind::Sync),
+        _ => None,
     }
 }
 
 /// The call that words name, as `sync manager 3`.
-pub fn fault_of(words: &str) -> Fault {
-    let (what, rest) = words.split_once(' ').unwrap_or((words, ""));
-    let (name, nth) = rest.split_once(' ').unwrap_or((rest, ""));
-    Fault {
-        what: kind_of(what),
-        channel: channel_of(name),
-        nth: nth.parse::<u64>().unwrap_or(0),
-    }
+pub fn fault_of(words: &str) -> Option<Fault> {
+    let (what, rest) = words.split_once(' ')?;
+    let (name, nth) = rest.split_once(' ')?;
+    Some(Fault {
+        what: kind_of(what)?,
+        channel: channel_of(name)?,
+        nth: nth.parse::<u64>().ok()?,
+    })
 }

@@ -77,7 +77,9 @@ impl Bench {
     // What is told of a text that is written as a pattern.
     fn add_told(&self, out: &mut String, word: &str, case: &str) -> Result<(), AllocError> {
         let (word, times) = word.split_once('*').unwrap_or((word, "1"));
-        let times = times.parse::<u32>().unwrap_or(0);
+        let Ok(times) = times.parse::<u32>() else {
+            return out.push_str("no such number");
+        };
         let made = text_of(self.alloc, word, case, times)?;
         match add_reading(self.alloc, out, word, made.text.as_slice()) {
             Ok(()) => Ok(()),

@@ -27,11 +27,17 @@ fn words_of(alloc: Global, list: &str) -> Result<Vec<String>, AllocError> {
 // What is told of a line: nothing of one that only says what lists show.
 fn told(alloc: Global, line: &str) -> Result<String, AllocError> {
     let mut out = String::new(alloc);
-    if let Some(list) = line.strip_prefix("silo") {
-        let words = words_of(alloc, list)?;
-        let read = read_words(alloc, words.as_slice());
-        write!(out, " -> {read:?}")?;
+    if line.is_empty() || line.starts_with('#') {
+        return Ok(out);
     }
+    let (name, list) = line.split_once(' ').unwrap_or((line, ""));
+    if name != "silo" {
+        out.push_str(" -> no such case")?;
+        return Ok(out);
+    }
+    let words = words_of(alloc, list)?;
+    let read = read_words(alloc, words.as_slice());
+    write!(out, " -> {read:?}")?;
     Ok(out)
 }
 
