@@ -38,8 +38,8 @@ pub record IsResumed (types : ProgramTree) (old new : Machine) (one : Input) (pa
   pub over : is_over new ≡ is_done pause
   pub room : HasRoomForParts new
 
--- The work goes on: its machine was given what it asked for and is at its next pause, and nothing else has changed.
-pub record GoesOn (types : ProgramTree) (old new : Work) (one : Input) (pause : Pause) : Type 0 where
+-- The work's machine was given what it asked for and is at its next pause, and nothing else of the work has changed.
+pub record HasResumed (types : ProgramTree) (old new : Work) (one : Input) (pause : Pause) : Type 0 where
   pub call : new.call ≡ old.call
   pub held : new.held ≡ old.held
   pub sources : new.sources ≡ old.sources

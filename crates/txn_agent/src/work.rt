@@ -1,7 +1,7 @@
 ghost use Rattle.std.specs.Prelude.{◌≡◌, [], ◌∷◌, ◌++◌, IfOk};
 ghost use Rattle.script_tree.specs.Programs.{program_tree};
 ghost use Rattle.script_machine.specs.Machines.{Fits};
-ghost use Rattle.txn_agent.specs.Working.{GoesOn};
+ghost use Rattle.txn_agent.specs.Working.{HasResumed};
 
 use base_types::{Call, GrainId, List, Origin, UnitNo};
 use script_check::Checked;
@@ -46,7 +46,7 @@ impl Work {
         input: Input,
     ) -> Result<(Work, Pause), AllocError>
         requires fits { Fits (program_tree checked.now) self.machine input }
-        ensures { IfOk result (λ made. GoesOn (program_tree checked.now) self made.0 input made.1) }
+        ensures { IfOk result (λ made. HasResumed (program_tree checked.now) self made.0 input made.1) }
     {
         let mut work = self;
         let pause = work.machine.resume(alloc, checked, input)?;

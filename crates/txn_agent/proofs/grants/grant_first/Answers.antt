@@ -2,7 +2,7 @@ use Rattle.std.proofs.Common.{subst}
 use Rattle.script_tree.specs.Programs.{program_tree}
 use Rattle.script_machine.specs.declared.machine.Input.TheVariants.{Grain}
 use Rattle.txn_agent.specs.declared.work.Work.{Work}
-use Rattle.txn_agent.specs.Working.{GoesOn}
+use Rattle.txn_agent.specs.Working.{HasResumed}
 use Rattle.txn_agent.proofs.Acting.{grant_acts, grant_happened, grant_moves, grant_stays}
 use Rattle.txn_agent.proofs.Resuming.{first_known}
 use Rattle.txn_agent.proofs.Replied.{not-granted}
@@ -22,7 +22,7 @@ returns-in_ok-work-in-Granted-clause-told g c = grant_happened g.A.Access.may_co
 
 pub returns-in_ok-work-in-Granted-clause-doing : goal.returns-in_ok-work-in-Granted-clause-doing
 returns-in_ok-work-in-Granted-clause-doing g c =
-    let on = subst (λ (w : Work). GoesOn (program_tree c.args.checked.now) w c.in_ok-work-in-Granted.work (Grain c.in-Granted.state) c.in_ok-work-in-Granted.pause) c.in_ok-locked-in-Granted.ensures c.in_ok-work-in-Granted.ensures in
+    let on = subst (λ (w : Work). HasResumed (program_tree c.args.checked.now) w c.in_ok-work-in-Granted.work (Grain c.in-Granted.state) c.in_ok-work-in-Granted.pause) c.in_ok-locked-in-Granted.ensures c.in_ok-work-in-Granted.ensures in
     first_known g.A.Access.may_come (program_tree c.args.checked.now) (g.A.Access.sight c.args.access.now) (g.A.Access.sight c.put.new.access) c.args.carried c.args.work
     c.in_ok-work-in-Granted.work
     c.args.grain c.args.mode c.in-Granted.state c.in-Granted.source c.in_ok-work-in-Granted.pause c.in_ok-reply.reply
