@@ -1,7 +1,7 @@
 #!/usr/bin/env python3
 """What each crate's line in crates.txt lists is what the crate's own files name, and nothing else.
 
-    checks/crate_lists.py            looks whether it is so (checks/run calls it)
+    checks/crate_lists.py [--check]  looks whether it is so (checks/run calls it)
     checks/crate_lists.py --write    writes the lists anew from the sources
 
 A file names a library by `Rattle.NAME.` in a contract, a specification or a proof, and by `NAME::` or `use NAME` in code.
