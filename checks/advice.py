@@ -188,14 +188,24 @@ with tempfile.TemporaryDirectory() as room:
     guarded = subprocess.run(["sh", "-c", f'"{PROGRAM}" "${{FOLDER:?}}" init'], capture_output=True, cwd=room, env={"PATH": os.environ["PATH"]})
     rows.row("a name that isn't set, guarded", (guarded.returncode != 0, b"FOLDER" in guarded.stderr), (True, True))
 
-    # There are no checksums: a key that was changed on the disk still reads, and the audit alone tells.
-    changed = folder("changed", BANK, deposit(5))
-    with open(os.path.join(changed, "manager-0.otx"), "r+b") as file:
-        file.seek(40)  # the call's key, in docs/FORMATS.md's first deposit from 39 on
-        file.write(b"\x58")
-    rows.row("history of a changed byte", lines(run(changed, "history"))[0]["call"], "account/22529.deposit")
-    rows.row("a run over it", run(changed, "run", given=ask()), Ended(0, reply(1, 5, 2), b""))
-    rows.row("the audit of it", lines(run(changed, "audit")), [{"count": 2, "first_bad": 1}])
+    # There are no checksums: what a byte of the log that was changed on the disk comes to, by its place in the first deposit's block.
+    def changed(name, at, byte, given):
+        path = folder(name, BANK, given)
+        with open(os.path.join(path, "manager-0.otx"), "r+b") as file:
+            file.seek(at)
+            file.write(bytes([byte]))
+        return path
+
+    key = changed("key", 40, 0x58, deposit(5))
+    rows.row("history of a changed key", lines(run(key, "history"))[0]["call"], "account/22529.deposit")
+    rows.row("a run over it", run(key, "run", given=ask()), Ended(0, reply(1, 5, 2), b""))
+    rows.row("the audit of it", lines(run(key, "audit")), [{"count": 2, "first_bad": 1}])
+    rows.row("the audit of a closed gate", lines(run(changed("gate", 15, 0, deposit(5)), "audit")), [{"count": 0, "first_bad": None}])
+    rows.row("the audit of another line", lines(run(changed("line", 33, 7, deposit(5)), "audit")), [{"count": 1, "first_bad": None}])
+    rows.row("the audit of a unit that wrote nothing", lines(run(changed("unit", 24, 9, ask()), "audit")), [{"count": 1, "first_bad": None}])
+    cut = folder("cut", BANK, deposit(5))
+    os.truncate(os.path.join(cut, "manager-0.otx"), 80)
+    rows.row("the opening of a file that is cut", run(cut, "audit"), Ended(9, b"", b"silo: damaged manager-0.otx at 16\n"))
 
     # The bytes of a record, by what docs/OPERATIONS.md says: of a line's, of a child's, of its parent's.
     with open(os.path.join(TOP, "docs", "OPERATIONS.md")) as file:
@@ -226,6 +236,7 @@ with tempfile.TemporaryDirectory() as room:
         subprocess.run(["strace", "-f", "-c", "-o", counts, PROGRAM, few, "run"], input=b"", capture_output=True)
         none = {words[-1]: int(words[3]) for words in map(str.split, open(counts)) if len(words) in (5, 6) and words[3].isdigit()}
         rows.row("reads of 20 blocks and of one grain's versions", asked["pread64"] - none["pread64"], 3 * 20 + 1)
-        rows.row("lengths of 20 blocks", asked["statx"] - none["statx"] >= 20, True)
+        lengths = [sum(counted.get(name, 0) for name in ("statx", "fstat", "newfstatat")) for counted in (asked, none)]
+        rows.row("lengths of 20 blocks", lengths[0] - lengths[1] >= 20, True)
 
 rows.end()
