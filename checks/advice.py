@@ -207,6 +207,14 @@ with tempfile.TemporaryDirectory() as room:
     os.truncate(os.path.join(cut, "manager-0.otx"), 80)
     rows.row("the opening of a file that is cut", run(cut, "audit"), Ended(9, b"", b"silo: damaged manager-0.otx at 16\n"))
 
+    # What `init` syncs of folders is the one that it fills: that its name lasts in the one above it is what `sync` is for.
+    if shutil.which("strace"):
+        fresh = os.path.join(room, "fresh")
+        os.mkdir(fresh)
+        traced = subprocess.run(["strace", "-y", "-f", "-e", "trace=fsync", PROGRAM, fresh, "init"], input=BANK, capture_output=True)
+        rows.row("folders that init syncs", {*re.findall(rb"fsync\(\d+<([^>]*)>", traced.stderr)}, {os.path.realpath(fresh).encode()})
+        rows.row("their parent's sync", subprocess.run(["sync", os.path.join(fresh, "..")]).returncode, 0)
+
     # The bytes of a record, by what docs/OPERATIONS.md says: of a line's, of a child's, of its parent's.
     with open(os.path.join(TOP, "docs", "OPERATIONS.md")) as file:
         row = re.search(r"\| a transaction in the log \| (.*) \|", file.read())[1]

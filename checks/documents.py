@@ -1,6 +1,6 @@
 """The documents: each command that they show prints what stands beneath it, and what they name is there.
 
-In README.md and docs/ a block that begins with ```console is run, document by document, in a folder of its own that has `silo` and
+In README.md, docs/ and the examples a block that begins with ```console is run, document by document, in a folder of its own that has `silo` and
 `examples` in it: a line behind `$ ` is a command, the lines beneath it are all that it prints. A block that begins with ```file NAME
 is written to that file first. Where the last cell of a table's row is a command, that is run too, and has to end with 0. Then all
 documents are run once more in one folder, in the order in which a reader meets them. Links and paths that a document names have to
@@ -9,6 +9,7 @@ be there.
 README.md has at most 1,500 words. Where crates are listed they stand in the groups and the order of crates.txt, and none is left
 out. In docs/WORDS.md each word stands in the file that its row names.
 """
+import glob
 import os
 import re
 import shutil
@@ -20,7 +21,7 @@ from harness import PROGRAM, TOP, Rows
 rows = Rows("documents")
 MOST_WORDS = 1500
 FIRST = ["README.md", "docs/TUTORIAL.md", "docs/LANGUAGE.md", "docs/PATTERNS.md", "docs/OPERATIONS.md"]
-OTHERS = sorted(os.path.join("docs", name) for name in os.listdir(os.path.join(TOP, "docs")) if name.endswith(".md"))
+OTHERS = sorted(os.path.relpath(path, TOP) for path in glob.glob(os.path.join(TOP, "docs", "*.md")) + glob.glob(os.path.join(TOP, "examples", "*", "README.md")))
 # In the order in which a reader meets them.
 DOCUMENTS = FIRST + [name for name in OTHERS if name not in FIRST]
 FOLDERS = ("docs", "examples", "bench", "checks", "crates", "tools", ".ci")
