@@ -137,6 +137,7 @@ def lists_crates(texts):
 
 def words_stand(text):
     """Each row of WORDS.md: its first words stand in the file that it names."""
+    rows.row("WORDS.md: each row names a file", len(re.findall(r"(?m)^\| .*\| `.+?` \|$", text)), len(re.findall(r"(?m)^\| ", text)) - 1)
     for words, path in re.findall(r"(?m)^\| (.+?) \| .+? \| `(.+?)` \|$", text):
         parts = path.split("/")
         with open(os.path.join(TOP, path) if parts[0] in FOLDERS else os.path.join(TOP, "crates", path)) as file:
