@@ -13,14 +13,18 @@ from harness import TOP, Rows
 
 rows = Rows("launcher")
 
-# It says what it was asked, writes what rt writes of two crates, and makes a program that says its words and its input.
+# It says what it was asked, and does it: `all check` writes what rt writes of two libraries, and `run` makes a program that says its words
+# and its input.
 RT = r"""#!/bin/bash
 echo "$PWD $*" >>"$ASKED"
 sleep "${PAUSE:-0}"
-printf '== low\nfn low::f: proved\nlogic=proved tests=0\n'
-sleep "${PAUSE:-0}"
-[ -z "$FAILS" ] || { printf '== high\n'; seq 100; echo "fn high::f: not proved"; exit 1; }
-printf '== high\n== silo\nlogic=proved\n== summary\n3 of 3 crates ok\n'
+if [ "$1" = all ]; then
+  printf '== low\nfn low::f: proved\nlogic=proved tests=0\n'
+  sleep "${PAUSE:-0}"
+  [ -z "$FAILS" ] || { printf '== high\n'; seq 100; echo "fn high::f: not proved"; exit 1; }
+  printf '== high\n== silo\nlogic=proved\n== summary\n3 of 3 crates ok\n'
+  exit
+fi
 mkdir -p out
 cat >out/silo <<'PROGRAM'
 #!/bin/bash
@@ -29,34 +33,79 @@ cat
 echo "silo: text" >&2
 exit "${NUMBER:-0}"
 PROGRAM
-sleep "${PAUSE:-0}"
 """
 
-# A kit's rt in Python: a crate's sum goes down to each crate along every way, and it says how often it read a crate's text.
+# A kit's rt in Python, with what tools/prove uses of it: a sum goes down to each crate along every way, and what is begun and ended is told.
 PYTHON_RT = r"""#!/usr/bin/env python3
-import os, sys, types
+import os, sys, time, types
 rtlib = types.ModuleType("rtlib")
 sys.modules["rtlib"] = rtlib
+TOP = os.path.dirname(os.path.dirname(os.getcwd()))
 READ = []
+
+def say(text):
+    with open(os.environ["ASKED"], "a") as file:
+        file.write(text + "\n")
+
+def root_above(folder):
+    return TOP
+
+def lock(crates):
+    say("lock " + " ".join(crate.name for crate in crates))
+    return []
+
+def guarded():
+    pass
+
+def stop_on_links(folder):
+    pass
+
+def files_of(folder):
+    return [folder + "/src/lib.rt"]
+
 class Crate:
-    def __init__(self, folder, *deps):
-        self.folder, self.deps = folder, deps
+    def __init__(self, folder, root, known):
+        with open(root + "/crates.txt") as file:
+            uses = dict(line.split("#")[0].split(":") for line in file if ":" in line)
+        self.folder, self.name = folder, os.path.basename(folder)
+        self.is_program = self.name == "silo"
+        known[self.name] = self
+        self.deps = [known.get(name) or Crate(root + "/crates/" + name, root, known) for name in uses[self.name].split()]
+
+    def below(self):
+        found = []
+        for dep in self.deps:
+            found += [it for it in [*dep.below(), dep] if it not in found]
+        return found
+
     def stamp(self):
-        READ.append(self.folder)
-        return f"({self.folder}{''.join(dep.stamp() for dep in self.deps)})"
-rtlib.Crate = Crate
-def main(words):
-    low = Crate("low")
-    middle = [Crate("m1", low), Crate("m2", low)]
-    high = Crate("high", low, *middle)
-    first, second = high.stamp(), high.stamp()
-    print(first, first == second, len(READ), *words)
-    os.makedirs("out", exist_ok=True)
-    with open("out/silo", "w") as file:
-        file.write("#!/bin/sh\n")
-    return 0
+        READ.append(self.name)
+        return "(" + self.name + "".join(dep.stamp() for dep in self.deps) + ")"
+
+    def build_rlib(self, flags, anew):
+        say("begin " + self.name + " " + " ".join(flags))
+        time.sleep(1.5 if self.name == "right" else 0.5)
+        say("end " + self.name)
+        print("logic=proved", file=self.out)
+        return self.name == os.environ.get("FAILS")
+
+    def run(self, flags, arguments):
+        say("begin " + self.name + " " + " ".join(flags))
+        READ.clear()
+        first, second = self.stamp(), self.stamp()
+        say(" ".join([first, str(first == second), str(len(READ))]))
+        os.makedirs("out", exist_ok=True)
+        with open("out/silo", "w") as file:
+            file.write("#!/bin/sh\n")
+        return 2
+
+for it in (root_above, lock, guarded, stop_on_links, files_of, Crate):
+    setattr(rtlib, it.__name__, it)
+if os.environ.get("LACKS"):
+    delattr(Crate, os.environ["LACKS"])
+
 if __name__ == "__main__":
-    sys.exit(main(sys.argv[1:]))
+    say("as it is: " + " ".join(sys.argv[1:]))
 """
 
 
@@ -75,7 +124,8 @@ def repository(room, rt=RT):
     file(f"{top}/crates.txt", "# crates\nlow:\nhigh may_wait=1: low std\nsilo: low high # all\nother: low\n")
     shutil.copy(os.path.join(TOP, "silo"), f"{top}/silo")
     os.makedirs(f"{top}/tools")
-    shutil.copy(os.path.join(TOP, "tools", "build"), f"{top}/tools/build")
+    for tool in ("build", "prove"):
+        shutil.copy(os.path.join(TOP, "tools", tool), f"{top}/tools/{tool}")
     file(f"{room}/bin/rt", rt, 0o755)
     return top
 
@@ -130,14 +180,14 @@ with tempfile.TemporaryDirectory() as room:
     says = re.fullmatch(rf"silo: proving 3 crates, (\d+) at a time, and building the program; the log is {log}\nsilo: text\n", errors)
     rows.row("a first run builds", (number, output, bool(says)), (0, "words bank run\nline\n", True))
     with open(f"{room}/asked") as it:
-        rows.row("what rt is asked", it.read(), f"{top}/crates/silo all test --jobs {says[1] if says else ''}\n")
+        rows.row("what rt is asked", it.read(), f"{top}/crates/silo all check --jobs {says[1] if says else ''}\n{top}/crates/silo run\n")
     rows.row("a second one doesn't", launch(room, "bank", "show"), (0, "words bank show\n", "silo: text\n"))
     rows.row("numbers are the program's", launch(room, "bank", NUMBER="9"), (9, "words bank\n", "silo: text\n"))
-    rows.row("rt was asked once", asked(room), 1)
+    rows.row("rt was asked once", asked(room), 2)
     later = time.time() + 5
     os.utime(f"{top}/crates/low/src/lib.rt", (later, later))
     launch(room)
-    rows.row("a source that changed is built", asked(room), 2)
+    rows.row("a source that changed is built", asked(room), 4)
 
     # Hints come where standard error is a terminal, and nowhere else.
     os.utime(f"{top}/crates/silo/out/silo", (later + 1, later + 1))
@@ -176,7 +226,7 @@ with tempfile.TemporaryDirectory() as room:
     repository(room)
     both = [subprocess.Popen(["./silo", "bank"], cwd=f"{room}/top", env=environment(room, PAUSE="1"), stdin=subprocess.DEVNULL, stdout=subprocess.PIPE, stderr=subprocess.PIPE) for _ in range(2)]
     said = [one.communicate(timeout=60) for one in both]
-    rows.row("two at once", (asked(room), [one.returncode for one in both], [output for output, _ in said]), (1, [0, 0], [b"words bank\n"] * 2))
+    rows.row("two at once", (asked(room), [one.returncode for one in both], [output for output, _ in said]), (2, [0, 0], [b"words bank\n"] * 2))
     rows.row("one waits", sum(b"silo: another build goes: waiting for it\n" in errors for _, errors in said), 1)
 
 with tempfile.TemporaryDirectory() as room:
@@ -190,13 +240,35 @@ with tempfile.TemporaryDirectory() as room:
     rows.row("an interrupt", (one.returncode != 0, os.path.exists(f"{top}/crates/silo/out/silo")), (True, False))
 
 with tempfile.TemporaryDirectory() as room:
-    # Each sum is made once a crate, and is the same; and as rt makes it where that is wanted.
+    # By the kit's own calls: what has most text above it first, side by side, with the jobs that are left over; each sum made once a crate.
     top = repository(room, PYTHON_RT)
-    for plain, read in (("", 8), ("1", 12)):
-        launch(room, "bank", SILO_PLAIN_RT=plain)
-        with open(f"{top}/out/build.log") as it:
-            found = it.read().split()
-        rows.row(f"sums, with {plain or 'none'}", found[:5], ["(high(low)(m1(low))(m2(low)))", "True", str(read), "all", "test"])
+    file(f"{top}/crates.txt", "low:\nleft: low\nright: low\ntall: left\nsilo: low left right tall\n")
+    for name in ("left", "right", "tall"):
+        file(f"{top}/crates/{name}/src/lib.rt", "// a crate\n")
+
+    def prove(jobs, **more):
+        """How tools/prove ends, and what the stand-in was asked."""
+        if os.path.exists(f"{room}/asked"):
+            os.remove(f"{room}/asked")
+        done = subprocess.run([f"{top}/tools/prove", jobs], cwd=f"{top}/crates/silo", env=environment(room, **more), capture_output=True, timeout=60)
+        with open(f"{room}/asked") as it:
+            return done.returncode, re.findall(r"(?m)^== (\w+)$", done.stdout.decode()), it.read().split("\n")[:-1]
+
+    sums = "(silo(low)(left(low))(right(low))(tall(left(low)))) True "
+    wanted = ["lock low left right tall silo", "begin low --jobs 4", "end low", "begin left --jobs 2", "begin right --jobs 2", "end left",
+              "begin tall --jobs 2", "end tall", "end right", "begin silo --jobs 4", f"{sums}10"]
+    rows.row("side by side", prove("4"), (0, ["low", "left", "tall", "right", "silo"], wanted))
+    one = [f"{word} --jobs 1" if word.startswith("begin") else word for name in ("low", "left", "right", "tall") for word in (f"begin {name}", f"end {name}")]
+    found = prove("1")
+    rows.row("one after another", (found[0], sorted(found[2][1:-2])), (0, sorted(one)))
+    rows.row("a library that fails", prove("4", FAILS="left"), (1, ["low", "left", "right"], [*wanted[:6], "end right"]))
+    plain = ["as it is: all check --jobs 4", "as it is: run"]
+    rows.row("a kit without what is used", prove("4", LACKS="stamp"), (0, [], plain))
+    rows.row("rt as it is", prove("4", SILO_PLAIN_RT="1"), (0, [], plain))
+    rows.row("no jobs", subprocess.run([f"{top}/tools/prove"], capture_output=True).returncode, 1)
+    if os.path.exists(f"{top}/crates/silo/out/silo"):
         os.remove(f"{top}/crates/silo/out/silo")
+    number, output, errors = launch(room, "bank")
+    rows.row("the launcher by it", (number, re.sub(r"\d+ at a time", "N at a time", errors)), (0, f"silo: proving 5 crates, N at a time, and building the program; the log is {top}/out/build.log\n"))
 
 rows.end()
