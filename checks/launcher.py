@@ -21,8 +21,8 @@ sleep "${PAUSE:-0}"
 if [ "$1" = all ]; then
   printf '== low\nfn low::f: proved\nlogic=proved tests=0\n'
   sleep "${PAUSE:-0}"
-  [ -z "$FAILS" ] || { printf '== high\n'; seq 100; echo "fn high::f: not proved"; exit 1; }
-  printf '== high\n== silo\nlogic=proved\n== summary\n3 of 3 crates ok\n'
+  [ -z "$FAILS" ] || { printf '== high\n'; seq 100; echo "fn high::f: not proved"; printf '== other\nlogic=proved\n== summary\nhigh: failed (1)\n'; exit 1; }
+  printf '== high\n== silo\nlogic=proved\n== summary\n4 of 4 crates ok\n'
   exit
 fi
 mkdir -p out
@@ -117,11 +117,11 @@ def file(path, text, mode=0o644):
 
 
 def repository(room, rt=RT):
-    """A repository of three crates, with the launcher and the build of this one."""
+    """A repository of four crates, with the launcher and the build of this one."""
     top = os.path.join(room, "top")
-    for name in ("low", "high", "silo"):
+    for name in ("low", "high", "other", "silo"):
         file(f"{top}/crates/{name}/src/lib.rt", f"// {name}\n" * 100)
-    file(f"{top}/crates.txt", "# crates\nlow:\nhigh may_wait=1: low std\nsilo: low high # all\nother: low\n")
+    file(f"{top}/crates.txt", "# crates\nlow:\nhigh may_wait=1: low std\nother: low\nsilo: low high other # all\nbeside: low\n")
     shutil.copy(os.path.join(TOP, "silo"), f"{top}/silo")
     os.makedirs(f"{top}/tools")
     for tool in ("build", "prove"):
@@ -177,7 +177,7 @@ with tempfile.TemporaryDirectory() as room:
 
     log = f"{top}/out/build.log"
     number, output, errors = launch(room, "bank", "run", given=b"line\n")
-    says = re.fullmatch(rf"silo: proving 3 crates, (\d+) at a time, and building the program; the log is {log}\nsilo: text\n", errors)
+    says = re.fullmatch(rf"silo: proving 4 crates, (\d+) at a time, and building the program; the log is {log}\nsilo: text\n", errors)
     rows.row("a first run builds", (number, output, bool(says)), (0, "words bank run\nline\n", True))
     with open(f"{room}/asked") as it:
         rows.row("what rt is asked", it.read(), f"{top}/crates/silo all check --jobs {says[1] if says else ''}\n{top}/crates/silo run\n")
@@ -208,7 +208,7 @@ with tempfile.TemporaryDirectory() as room:
     # What a build says on a terminal, in one line.
     os.remove(f"{top}/crates/silo/out/silo")
     number, shown = on_terminal(room, "bank", "show", PAUSE="2")
-    rows.row("progress", (number, [part.rstrip() for part in ("1 of 3 crates are proved, 0 min", "3 of 3 crates are proved, 0 min") if f"\rsilo: {part}" not in shown]), (0, []))
+    rows.row("progress", (number, [part.rstrip() for part in ("1 of 4 crates are proved, 0 min", "3 of 4 crates are proved, 0 min") if f"\rsilo: {part}" not in shown]), (0, []))
 
     # A build that fails.
     os.remove(f"{top}/crates/silo/out/silo")
@@ -252,7 +252,9 @@ with tempfile.TemporaryDirectory() as room:
             os.remove(f"{room}/asked")
         done = subprocess.run([f"{top}/tools/prove", jobs], cwd=f"{top}/crates/silo", env=environment(room, **more), capture_output=True, timeout=60)
         with open(f"{room}/asked") as it:
-            return done.returncode, re.findall(r"(?m)^== (\w+)$", done.stdout.decode()), it.read().split("\n")[:-1]
+            lines = it.read().split("\n")[:-1]
+        # Of two that are begun at one time either may say so first.
+        return done.returncode, re.findall(r"(?m)^== (\w+)$", done.stdout.decode()), lines[:3] + sorted(lines[3:5]) + lines[5:]
 
     sums = "(silo(low)(left(low))(right(low))(tall(left(low)))) True "
     wanted = ["lock low left right tall silo", "begin low --jobs 4", "end low", "begin left --jobs 2", "begin right --jobs 2", "end left",

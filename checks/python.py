@@ -189,8 +189,23 @@ with tempfile.TemporaryDirectory() as room:
         rows.row("a lock beside the folder", (held.returncode, run(bank, "audit").number), (1, 0))
     rows.row("the lock is given back", subprocess.run(["flock", "-n", bank + ".lock", "true"]).returncode, 0)
 
-    # Which program: that of SILO, or the repository's.
-    rows.row("the program", silo.find_program(), os.environ.get("SILO", os.path.join(TOP, "silo")))
+    # Which program: that of SILO, or the repository's, built or not.
+    asks = "import silo; print(silo.find_program())"
+    copied = os.path.join(room, "repository")
+    shutil.copytree(os.path.join(TOP, "tools", "python"), os.path.join(copied, "tools", "python"))
+    env = {name: value for name, value in os.environ.items() if name != "SILO"}
+
+    def program(**more):
+        done = subprocess.run([sys.executable, "-c", asks], cwd=os.path.join(copied, "tools", "python"), env={**env, **more}, capture_output=True)
+        return done.stdout.decode().strip()
+
+    rows.row("a program that SILO names", program(SILO=PROGRAM), PROGRAM)
+    rows.row("no program", program(PATH="/nowhere", SILO=os.path.join(room, "none")), "silo")
+    stand_in(copied, "silo")
+    rows.row("the launcher", program(), f"{copied}/silo")
+    os.makedirs(os.path.join(copied, "crates", "silo", "out"))
+    stand_in(copied, "crates/silo/out/silo")
+    rows.row("a program that is built", program(), f"{copied}/crates/silo/out/silo")
 
     # pip, without a network, from a copy.
     copy = os.path.join(room, "copy")

@@ -114,10 +114,11 @@ class Ended(SiloError):
 
 
 def find_program():
-    """The program: that which SILO names, that of the repository or the installation that this file stands in, or that on PATH."""
+    """The program: that which SILO names, that of the repository or the installation that this file stands in, or that on PATH. The
+    repository's is the one that is built already, else the launcher, which builds it first."""
     above = os.path.dirname(os.path.dirname(os.path.dirname(os.path.realpath(__file__))))
-    near = [os.path.join(above, "silo"), os.path.join(os.path.dirname(above), "bin", "silo")]
-    found = [path for path in (os.environ.get("SILO"), *near, shutil.which("silo")) if path and os.path.isfile(path)]
+    near = [os.path.join(above, "crates", "silo", "out", "silo"), os.path.join(above, "silo"), os.path.join(os.path.dirname(above), "bin", "silo")]
+    found = [path for path in (os.environ.get("SILO"), *near, shutil.which("silo")) if path and os.path.isfile(path) and os.access(path, os.X_OK)]
     return found[0] if found else "silo"
 
 
