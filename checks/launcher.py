@@ -1,0 +1,276 @@
+"""The launcher and the build that it starts, over a small repository with stand-ins for `rt` and the program: when it builds, what it says
+meanwhile, what it shows where a build fails, and the hints behind a number, on a terminal and elsewhere."""
+import os
+import pty
+import re
+import shutil
+import signal
+import subprocess
+import tempfile
+import time
+
+from harness import TOP, Rows
+
+rows = Rows("launcher")
+
+# It says what it was asked, and does it: `all check` writes what rt writes of two libraries, and `run` makes a program that says its words
+# and its input.
+RT = r"""#!/bin/bash
+echo "$PWD $*" >>"$ASKED"
+sleep "${PAUSE:-0}"
+if [ "$1" = all ]; then
+  printf '== low\nfn low::f: proved\nlogic=proved tests=0\n'
+  sleep "${PAUSE:-0}"
+  [ -z "$FAILS" ] || { printf '== high\n'; seq 100; echo "fn high::f: not proved"; printf '== other\nlogic=proved\n== summary\nhigh: failed (1)\n'; exit 1; }
+  printf '== high\n== silo\nlogic=proved\n== summary\n4 of 4 crates ok\n'
+  exit
+fi
+mkdir -p out
+cat >out/silo <<'PROGRAM'
+#!/bin/bash
+echo "words $*"
+cat
+echo "silo: text" >&2
+exit "${NUMBER:-0}"
+PROGRAM
+"""
+
+# A kit's rt in Python, with what tools/prove uses of it: a sum goes down to each crate along every way, and what is begun and ended is told.
+PYTHON_RT = r"""#!/usr/bin/env python3
+import os, sys, time, types
+rtlib = types.ModuleType("rtlib")
+sys.modules["rtlib"] = rtlib
+TOP = os.path.dirname(os.path.dirname(os.getcwd()))
+READ = []
+
+def say(text):
+    with open(os.environ["ASKED"], "a") as file:
+        file.write(text + "\n")
+
+def root_above(folder):
+    return TOP
+
+def lock(crates):
+    say("lock " + " ".join(crate.name for crate in crates))
+    return []
+
+def guarded():
+    pass
+
+def stop_on_links(folder):
+    pass
+
+def files_of(folder):
+    return [folder + "/src/lib.rt"]
+
+class Crate:
+    def __init__(self, folder, root, known):
+        with open(root + "/crates.txt") as file:
+            uses = dict(line.split("#")[0].split(":") for line in file if ":" in line)
+        self.folder, self.name = folder, os.path.basename(folder)
+        self.is_program = self.name == "silo"
+        known[self.name] = self
+        self.deps = [known.get(name) or Crate(root + "/crates/" + name, root, known) for name in uses[self.name].split()]
+
+    def below(self):
+        found = []
+        for dep in self.deps:
+            found += [it for it in [*dep.below(), dep] if it not in found]
+        return found
+
+    def stamp(self):
+        READ.append(self.name)
+        return "(" + self.name + "".join(dep.stamp() for dep in self.deps) + ")"
+
+    def build_rlib(self, flags, anew):
+        say("begin " + self.name + " " + " ".join(flags))
+        time.sleep(1.5 if self.name == "right" else 0.5)
+        say("end " + self.name)
+        print("logic=proved", file=self.out)
+        return self.name == os.environ.get("FAILS")
+
+    def run(self, flags, arguments):
+        say("begin " + self.name + " " + " ".join(flags))
+        READ.clear()
+        first, second = self.stamp(), self.stamp()
+        say(" ".join([first, str(first == second), str(len(READ))]))
+        os.makedirs("out", exist_ok=True)
+        with open("out/silo", "w") as file:
+            file.write("#!/bin/sh\n")
+        return 2
+
+for it in (root_above, lock, guarded, stop_on_links, files_of, Crate):
+    setattr(rtlib, it.__name__, it)
+if os.environ.get("LACKS"):
+    delattr(Crate, os.environ["LACKS"])
+
+if __name__ == "__main__":
+    say("as it is: " + " ".join(sys.argv[1:]))
+"""
+
+
+def file(path, text, mode=0o644):
+    os.makedirs(os.path.dirname(path), exist_ok=True)
+    with open(path, "w") as it:
+        it.write(text)
+    os.chmod(path, mode)
+
+
+def repository(room, rt=RT):
+    """A repository of four crates, with the launcher and the build of this one."""
+    top = os.path.join(room, "top")
+    for name in ("low", "high", "other", "silo"):
+        file(f"{top}/crates/{name}/src/lib.rt", f"// {name}\n" * 100)
+    file(f"{top}/crates.txt", "# crates\nlow:\nhigh may_wait=1: low std\nother: low\nsilo: low high other # all\nbeside: low\n")
+    shutil.copy(os.path.join(TOP, "silo"), f"{top}/silo")
+    os.makedirs(f"{top}/tools")
+    for tool in ("build", "prove"):
+        shutil.copy(os.path.join(TOP, "tools", tool), f"{top}/tools/{tool}")
+    file(f"{room}/bin/rt", rt, 0o755)
+    return top
+
+
+def environment(room, **more):
+    path = f"{room}/bin:{os.environ['PATH']}"
+    return {**os.environ, "PATH": path, "ASKED": f"{room}/asked", "SILO_PLAIN_RT": "", **more}
+
+
+def launch(room, *words, given=b"", **more):
+    """How the launcher ended, without a terminal."""
+    done = subprocess.run(["./silo", *words], cwd=f"{room}/top", env=environment(room, **more), input=given, capture_output=True, timeout=60)
+    return done.returncode, done.stdout.decode(), done.stderr.decode()
+
+
+def on_terminal(room, *words, given=None, **more):
+    """How it ended where standard error is a terminal: the number, and what that shows."""
+    ours, theirs = pty.openpty()
+    with open(given or os.devnull, "rb") as stdin:
+        started = subprocess.Popen(["./silo", *words], cwd=f"{room}/top", env=environment(room, **more), stdin=stdin, stdout=subprocess.DEVNULL, stderr=theirs)
+    os.close(theirs)
+    shown = b""
+    while True:
+        try:
+            read = os.read(ours, 4096)
+        except OSError:
+            break
+        if not read:
+            break
+        shown += read
+    os.close(ours)
+    return started.wait(timeout=60), shown.decode().replace("\r\n", "\n")
+
+
+def asked(room):
+    """How often rt was asked."""
+    if not os.path.exists(f"{room}/asked"):
+        return 0
+    with open(f"{room}/asked") as it:
+        return len(it.readlines())
+
+
+with tempfile.TemporaryDirectory() as room:
+    top = repository(room)
+    number, output, errors = launch(room, "--help")
+    rows.row("--help", (number, output.startswith("usage: silo FOLDER COMMAND\n"), errors, asked(room)), (0, True, "", 0))
+    for command in ("init", "run", "show", "history", "audit", "load"):
+        rows.row(f"--help has {command}", bool(re.search(rf"(?m)^  {command}\b", output)), True)
+
+    log = f"{top}/out/build.log"
+    number, output, errors = launch(room, "bank", "run", given=b"line\n")
+    says = re.fullmatch(rf"silo: proving 4 crates, (\d+) at a time, and building the program; the log is {log}\nsilo: text\n", errors)
+    rows.row("a first run builds", (number, output, bool(says)), (0, "words bank run\nline\n", True))
+    with open(f"{room}/asked") as it:
+        rows.row("what rt is asked", it.read(), f"{top}/crates/silo all check --jobs {says[1] if says else ''}\n{top}/crates/silo run\n")
+    rows.row("a second one doesn't", launch(room, "bank", "show"), (0, "words bank show\n", "silo: text\n"))
+    rows.row("numbers are the program's", launch(room, "bank", NUMBER="9"), (9, "words bank\n", "silo: text\n"))
+    rows.row("rt was asked once", asked(room), 2)
+    later = time.time() + 5
+    os.utime(f"{top}/crates/low/src/lib.rt", (later, later))
+    launch(room)
+    rows.row("a source that changed is built", asked(room), 4)
+
+    # Hints come where standard error is a terminal, and nowhere else.
+    os.utime(f"{top}/crates/silo/out/silo", (later + 1, later + 1))
+    file(f"{room}/p.grain", "type")
+    hints = {
+        "0": "",
+        "2": "silo: hint: ./silo --help prints the commands\n",
+        "5": "",
+        "6": 'silo: hint: ./tools/why bank says what may be in the way; where lines were carried, docs/OPERATIONS.md, "After a failed sync", comes first\n',
+        "7": "silo: hint: ./tools/why bank says what is missing\n",
+        "10": f"silo: hint: ./tools/explain {room}/p.grain shows the line\n",
+    }
+    for number, hint in hints.items():
+        found = on_terminal(room, "bank", "init", given=f"{room}/p.grain", NUMBER=number)
+        rows.row(f"the hint behind {number}", found, (int(number), f"silo: text\n{hint}"))
+        rows.row(f"no hint without a terminal: {number}", launch(room, "bank", NUMBER=number)[2], "silo: text\n")
+
+    # What a build says on a terminal, in one line.
+    os.remove(f"{top}/crates/silo/out/silo")
+    number, shown = on_terminal(room, "bank", "show", PAUSE="2")
+    rows.row("progress", (number, [part.rstrip() for part in ("1 of 4 crates are proved, 0 min", "3 of 4 crates are proved, 0 min") if f"\rsilo: {part}" not in shown]), (0, []))
+
+    # A build that fails.
+    os.remove(f"{top}/crates/silo/out/silo")
+    number, output, errors = launch(room, "bank", "show", FAILS="1")
+    lines = errors.splitlines()
+    rows.row("a build that fails", (number, output, lines[1:3], lines[-2:]), (1, "", ["72", "73"], [
+        "fn high::f: not proved", f"silo: the program wasn't built: rt ended with 1. The whole log is {log}"]))
+    rows.row("how much of the log it shows", len(lines), 1 + 30 + 1)
+    os.remove(f"{room}/bin/rt")
+    number, output, errors = launch(room, "bank", "show", PATH="/usr/bin:/bin")
+    rows.row("no rt", (number, output, errors), (1, "", "silo: there is no `rt`, the command of the Rattle kit, on PATH: README.md says where it comes from\n"))
+
+with tempfile.TemporaryDirectory() as room:
+    # Two at once: one builds, the other waits for it.
+    repository(room)
+    both = [subprocess.Popen(["./silo", "bank"], cwd=f"{room}/top", env=environment(room, PAUSE="1"), stdin=subprocess.DEVNULL, stdout=subprocess.PIPE, stderr=subprocess.PIPE) for _ in range(2)]
+    said = [one.communicate(timeout=60) for one in both]
+    rows.row("two at once", (asked(room), [one.returncode for one in both], [output for output, _ in said]), (2, [0, 0], [b"words bank\n"] * 2))
+    rows.row("one waits", sum(b"silo: another build goes: waiting for it\n" in errors for _, errors in said), 1)
+
+with tempfile.TemporaryDirectory() as room:
+    # An interrupt ends the build and what it started.
+    top = repository(room)
+    one = subprocess.Popen(["./silo", "bank"], cwd=top, env=environment(room, PAUSE="30"), stdin=subprocess.DEVNULL, stdout=subprocess.PIPE, stderr=subprocess.PIPE, start_new_session=True)
+    while not asked(room):
+        time.sleep(0.05)
+    os.killpg(one.pid, signal.SIGINT)
+    one.communicate(timeout=20)
+    rows.row("an interrupt", (one.returncode != 0, os.path.exists(f"{top}/crates/silo/out/silo")), (True, False))
+
+with tempfile.TemporaryDirectory() as room:
+    # By the kit's own calls: what has most text above it first, side by side, with the jobs that are left over; each sum made once a crate.
+    top = repository(room, PYTHON_RT)
+    file(f"{top}/crates.txt", "low:\nleft: low\nright: low\ntall: left\nsilo: low left right tall\n")
+    for name in ("left", "right", "tall"):
+        file(f"{top}/crates/{name}/src/lib.rt", "// a crate\n")
+
+    def prove(jobs, **more):
+        """How tools/prove ends, and what the stand-in was asked."""
+        if os.path.exists(f"{room}/asked"):
+            os.remove(f"{room}/asked")
+        done = subprocess.run([f"{top}/tools/prove", jobs], cwd=f"{top}/crates/silo", env=environment(room, **more), capture_output=True, timeout=60)
+        with open(f"{room}/asked") as it:
+            lines = it.read().split("\n")[:-1]
+        # Of two that are begun at one time either may say so first.
+        return done.returncode, re.findall(r"(?m)^== (\w+)$", done.stdout.decode()), lines[:3] + sorted(lines[3:5]) + lines[5:]
+
+    sums = "(silo(low)(left(low))(right(low))(tall(left(low)))) True "
+    wanted = ["lock low left right tall silo", "begin low --jobs 4", "end low", "begin left --jobs 2", "begin right --jobs 2", "end left",
+              "begin tall --jobs 2", "end tall", "end right", "begin silo --jobs 4", f"{sums}10"]
+    rows.row("side by side", prove("4"), (0, ["low", "left", "tall", "right", "silo"], wanted))
+    one = [f"{word} --jobs 1" if word.startswith("begin") else word for name in ("low", "left", "right", "tall") for word in (f"begin {name}", f"end {name}")]
+    found = prove("1")
+    rows.row("one after another", (found[0], sorted(found[2][1:-2])), (0, sorted(one)))
+    rows.row("a library that fails", prove("4", FAILS="left"), (1, ["low", "left", "right"], [*wanted[:6], "end right"]))
+    plain = ["as it is: all check --jobs 4", "as it is: run"]
+    rows.row("a kit without what is used", prove("4", LACKS="stamp"), (0, [], plain))
+    rows.row("rt as it is", prove("4", SILO_PLAIN_RT="1"), (0, [], plain))
+    rows.row("no jobs", subprocess.run([f"{top}/tools/prove"], capture_output=True).returncode, 1)
+    if os.path.exists(f"{top}/crates/silo/out/silo"):
+        os.remove(f"{top}/crates/silo/out/silo")
+    number, output, errors = launch(room, "bank")
+    rows.row("the launcher by it", (number, re.sub(r"\d+ at a time", "N at a time", errors)), (0, f"silo: proving 5 crates, N at a time, and building the program; the log is {top}/out/build.log\n"))
+
+rows.end()
