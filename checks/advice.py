@@ -1,9 +1,10 @@
 """What README.md and docs/OPERATIONS.md advise beyond the numbers and replies: each row is a case in which following them helps, or in
 which the obvious thing would not.
 
-The cases that need a disk that fails give the program a file limit, a folder under a file's name, or, where there is a C compiler, a
-library that fails one call of the system.
+The cases that need a disk that fails give the program a limit of its files, a folder under a file's name, or, where there is a C
+compiler, a library that has one call of the system fail (`checks/faults.c`).
 """
+import errno
 import fcntl
 import json
 import os
@@ -14,6 +15,7 @@ import signal
 import subprocess
 import tempfile
 
+import shim
 from harness import BANK, PROGRAM, TOP, Ended, Rows, ask, deposit, reply, run
 
 rows = Rows("advice")
@@ -22,25 +24,6 @@ rows = Rows("advice")
 SHOP = b"""type account { field balance = 0; method add(n) create update { set balance = balance + n; return balance; } }
 type shop { method sell(n) create plain { let b = call account/1.add(n); return b; } }
 type desk { method sell(n) suppress plain { let b = call account/1.add(n); return b; } }
-"""
-FAIL = r"""
-#define _GNU_SOURCE
-#include <dlfcn.h>
-#include <errno.h>
-#include <stdlib.h>
-#include <unistd.h>
-/* Fails the call of this name that FAIL_AT numbers from 1. */
-static int fails(void) { static int calls; const char *at = getenv("FAIL_AT"); return at && ++calls == atoi(at); }
-#ifdef SYNCS
-int fdatasync(int file) { int (*next)(int) = dlsym(RTLD_NEXT, "fdatasync"); if (fails()) { errno = EIO; return -1; } return next(file); }
-#else
-ssize_t pwrite64(int file, const void *bytes, size_t count, off64_t at) {
-  ssize_t (*next)(int, const void *, size_t, off64_t) = dlsym(RTLD_NEXT, "pwrite64");
-  if (fails()) { errno = EIO; return -1; }
-  return next(file, bytes, count, at);
-}
-ssize_t pwrite(int file, const void *bytes, size_t count, off_t at) { return pwrite64(file, bytes, count, at); }
-#endif
 """
 
 
@@ -79,14 +62,9 @@ with tempfile.TemporaryDirectory() as room:
         return path
 
     def failing(kind, at, *words, given=b""):
-        """A run in which the call of this kind and number fails; None where there is no compiler, or the call isn't made so."""
-        library = os.path.join(room, kind + ".so")
-        if not os.path.exists(library):
-            compiler = shutil.which("cc")
-            made = compiler and subprocess.run([compiler, "-shared", "-fPIC", "-x", "c", "-", "-o", library, *(["-DSYNCS"] if kind == "syncs" else [])], input=FAIL.encode(), capture_output=True).returncode == 0
-            if not made:
-                return None
-        return started(*words, given=given, env={**os.environ, "LD_PRELOAD": library, "FAIL_AT": str(at)})
+        """A run in which this call on the log fails, of those of this kind."""
+        settings = shim.words(library, kinds=kind, names="manager-*", at=at, fail=errno.EIO)
+        return started(*words, given=given, env={**os.environ, **settings})
 
     # The fault `aborted` is the abort of a transaction that the line's began, and may be sent again.
     # By a lock: the shop's child meets the lock of an older line.
@@ -139,18 +117,19 @@ with tempfile.TemporaryDirectory() as room:
     rows.row("a unit that is aborted", [found.get("unit") for found in lines(ended) if "aborted" in found], [2])
     rows.row("its number in the next run", run(anew, "run", given=ask(2)).output, reply(1, 0, 2))
     # So it is with one in doubt that isn't in the log: after the next run `history` has another's under its number and line.
-    # The writes of a first deposit: a version, a block, its gate. The syncs: the opening's, the version's, the block's, the gate's.
-    doubt = folder("doubt", BANK)
-    ended = failing("writes", 3, doubt, "run", given=deposit(5))
-    if ended is None or ended.number == 0:
-        print("advice: no call of the system could be made to fail, so doubts aren't shown")
+    # The log's writes for a first deposit are a block and its gate; its syncs the opening's, the block's and the gate's.
+    library = shim.build(room)
+    if library is None:
+        print("advice: there is no C compiler, so doubts aren't shown")
     else:
+        doubt = folder("doubt", BANK)
+        ended = failing("write", 2, doubt, "run", given=deposit(5))
         rows.row("a gate that isn't written", ended, Ended(6, b'{"in_doubt":true,"n":1,"unit":1}\n', b"silo: disk fault in manager-0.otx\n"))
         rows.row("history before anything else", run(doubt, "history").output, b"")
         rows.row("the next run", run(doubt, "run", given=deposit(7, 2)).output, reply(1, 7, 1))
         rows.row("history after it", run(doubt, "history").output, b'{"args":[7],"call":"account/2.deposit","n":1,"reply":7,"unit":1}\n')
         kept = folder("kept", BANK)
-        ended = failing("syncs", 4, kept, "run", given=deposit(5))
+        ended = failing("sync", 3, kept, "run", given=deposit(5))
         rows.row("a gate that isn't synced", ended, Ended(6, b'{"in_doubt":true,"n":1,"unit":1}\n', b"silo: disk fault in manager-0.otx\n"))
         rows.row("its history", run(kept, "history").output, b'{"args":[5],"call":"account/1.deposit","n":1,"reply":5,"unit":1}\n')
 
@@ -207,11 +186,15 @@ with tempfile.TemporaryDirectory() as room:
     os.truncate(os.path.join(cut, "manager-0.otx"), 80)
     rows.row("the opening of a file that is cut", run(cut, "audit"), Ended(9, b"", b"silo: damaged manager-0.otx at 16\n"))
 
+    traces = shutil.which("strace") and subprocess.run(["strace", "true"], capture_output=True).returncode == 0
+    if not traces:
+        print("advice: nothing can be traced here, so calls of the system aren't counted")
     # What `init` syncs of folders is the one that it fills: that its name lasts in the one above it is what `sync` is for.
-    if shutil.which("strace"):
+    if traces:
         fresh = os.path.join(room, "fresh")
         os.mkdir(fresh)
         traced = subprocess.run(["strace", "-y", "-f", "-e", "trace=fsync", PROGRAM, fresh, "init"], input=BANK, capture_output=True)
+        assert traced.returncode == 0, traced.stderr
         rows.row("folders that init syncs", {*re.findall(rb"fsync\(\d+<([^>]*)>", traced.stderr)}, {os.path.realpath(fresh).encode()})
         rows.row("their parent's sync", subprocess.run(["sync", os.path.join(fresh, "..")]).returncode, 0)
 
@@ -234,7 +217,7 @@ with tempfile.TemporaryDirectory() as room:
     rows.row("bytes of a child's record and its parent's", grows(sizes, log, line("shop/1.sell", 1)), 2 * batch + child + 2 * number + grain + own + 2 * number + number + 1)
 
     # The calls of the system at opening.
-    if shutil.which("strace"):
+    if traces:
         many = folder("many", BANK, *[deposit(1) for _ in range(20)])
         counts = os.path.join(room, "counts")
         started_by = subprocess.run(["strace", "-f", "-c", "-o", counts, PROGRAM, many, "run"], input=b"", capture_output=True)
