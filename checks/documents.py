@@ -1,10 +1,10 @@
 """The documents: each command that they show prints what stands beneath it, and what they name is there.
 
-In README.md, docs/ and the examples a block that begins with ```console is run, document by document, in a folder of its own that has `silo` and
-`examples` in it: a line behind `$ ` is a command, the lines beneath it are all that it prints. A block that begins with ```file NAME
-is written to that file first. Where the last cell of a table's row is a command, that is run too, and has to end with 0. Then all
-documents are run once more in one folder, in the order in which a reader meets them. Links and paths that a document names have to
-be there.
+In README.md, docs/ and the examples a block that begins with ```console is run, document by document, in a folder of its own that has
+`silo`, `examples` and `tools` in it: a line behind `$ ` is a command, the lines beneath it are all that it prints. A block that begins
+with ```file NAME is written to that file first. Where the last cell of a table's row is a command, that is run too, and has to end with
+0. Then all documents are run once more in one folder, in the order in which a reader meets them. Links, paths and headings that a
+document names have to be there.
 
 README.md has at most 1,500 words. Where crates are listed they stand in the groups and the order of crates.txt, and none is left
 out. In docs/WORDS.md each word stands in the file that its row names.
@@ -146,6 +146,14 @@ def words_stand(text):
             rows.row(f"WORDS.md: {word} in {path}", word.lower().split(" of ")[0].split(" by ")[0] in where, True)
 
 
+def sections(text):
+    """The parts of documents that a document names, as pairs: a document, and a heading of it."""
+    document, heading = r"`((?:docs/)?[A-Z-]+\.md)`", r'"([A-Z][^"]*)"'
+    yield from re.findall(rf"{document}, {heading}", text)
+    for found in re.finditer(rf'("[A-Z][^"]*"(?: and "[A-Z][^"]*")*) in {document}', text):
+        yield from ((found[2], name) for name in re.findall(heading, found[1]))
+
+
 CRATES = set(os.listdir(os.path.join(TOP, "crates")))
 GROUPS = groups()
 TEXTS = {}
@@ -158,6 +166,8 @@ for name, text in TEXTS.items():
         shows(name, text, room)
     for target, place in named(name, text):
         rows.row(f"{name} names {target}", os.path.exists(place), True)
+    for document, heading in sections(text):
+        rows.row(f"{name} names {heading} of {document}", bool(re.search(rf"(?m)^#+ {re.escape(heading)}$", TEXTS.get(document, ""))), True)
 with tempfile.TemporaryDirectory() as room:
     furnish(room)
     for name, text in TEXTS.items():
