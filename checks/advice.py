@@ -150,7 +150,7 @@ with tempfile.TemporaryDirectory() as room:
     os.close(write_end)
     read_end, write_end = os.pipe()
     os.set_blocking(write_end, False)
-    os.write(write_end, b"x" * fcntl.fcntl(write_end, fcntl.F_GETPIPE_SZ))
+    os.write(write_end, b"x" * fcntl.fcntl(write_end, getattr(fcntl, "F_GETPIPE_SZ", 1032)))
     rows.row("a full output that doesn't wait", run(streams, "run", given=deposit(5), streams={"stdout": write_end}).number, 5)
     os.close(read_end)
     os.close(write_end)
