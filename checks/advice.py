@@ -22,7 +22,7 @@ rows = Rows("advice")
 
 # A transaction that begins another one, a plain run that does, and what the other one does.
 SHOP = b"""type account { field balance = 0; method add(n) create update { set balance = balance + n; return balance; } }
-type shop { method sell(n) create plain { let b = call account/1.add(n); return b; } }
+type shop { method sell(n) create plain { let b = call account/1.add(n); return b; } method both(n) create plain { call account/1.add(n); call account/2.add(n); return n; } }
 type desk { method sell(n) suppress plain { let b = call account/1.add(n); return b; } }
 """
 
@@ -91,6 +91,15 @@ with tempfile.TemporaryDirectory() as room:
     ended = started(blocked, "run", given=line("desk/1.sell", 1), preexec_fn=small_files(size + 30))
     rows.row("a child whose block fails", ended, Ended(0, b'{"fault":"aborted","n":1,"unit":1}\n', b""))
     rows.row("its line sent again, the disk mended", run(blocked, "run", given=line("desk/1.sell", 1)).output, b'{"n":1,"reply":1,"unit":1}\n')
+
+    # What a transaction began and committed stays, so its line sent again would do that twice: `history` tells.
+    stays = folder("stays", SHOP)
+    os.mkdir(os.path.join(stays, "grain-0-0-2.otx"))
+    rows.row("a line of which a child stays", run(stays, "run", given=line("shop/1.both", 5)).output, b'{"fault":"aborted","n":1,"unit":1}\n')
+    rows.row("what its unit began", [found["call"] for found in lines(run(stays, "history")) if found.get("parent") == 1], ["account/1.add"])
+    os.rmdir(os.path.join(stays, "grain-0-0-2.otx"))
+    run(stays, "run", given=line("shop/1.both", 5))
+    rows.row("sent again all the same", lines(run(stays, "show"))[:2], [{"fields": {"balance": 10}, "grain": "account/1"}, {"fields": {"balance": 5}, "grain": "account/2"}])
 
     # `init` of nothing makes a silo without types, for good.
     empty = folder("empty", b"")
@@ -208,7 +217,7 @@ with tempfile.TemporaryDirectory() as room:
         assert run(path, "run", given=given).number == 0
         return os.path.getsize(os.path.join(path, name)) - before
 
-    sizes = folder("sizes", SHOP.replace(b"return b; } }\ntype desk", b'return b; } method no() create plain { fail "no"; } method word(s) create plain { return s; } }\ntype desk'))
+    sizes = folder("sizes", SHOP.replace(b"return n; } }\ntype desk", b'return n; } method no() create plain { fail "no"; } method word(s) create plain { return s; } }\ntype desk'))
     log = "manager-0.otx"
     rows.row("bytes of a line's record", grows(sizes, log, line("account/1.add", 1)), batch + own + 2 * number + grain)
     rows.row("bytes of a version", grows(sizes, "grain-0-0-1.otx", line("account/1.add", 1)), head + number)
