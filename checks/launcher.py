@@ -160,6 +160,17 @@ def on_terminal(room, *words, given=None, **more):
     return started.wait(timeout=60), shown.decode().replace("\r\n", "\n")
 
 
+def within(folder):
+    """The processes whose current folder is in this one."""
+    found = []
+    for name in filter(str.isdigit, os.listdir("/proc")):
+        try:
+            found += [name] * os.readlink(f"/proc/{name}/cwd").startswith(folder)
+        except OSError:
+            pass
+    return found
+
+
 def asked(room):
     """How often rt was asked."""
     if not os.path.exists(f"{room}/asked"):
@@ -232,12 +243,17 @@ with tempfile.TemporaryDirectory() as room:
 with tempfile.TemporaryDirectory() as room:
     # An interrupt ends the build and what it started.
     top = repository(room)
-    one = subprocess.Popen(["./silo", "bank"], cwd=top, env=environment(room, PAUSE="30"), stdin=subprocess.DEVNULL, stdout=subprocess.PIPE, stderr=subprocess.PIPE, start_new_session=True)
+    # A check that runs in the background may have been started to ignore it.
+    heeds = {"start_new_session": True, "preexec_fn": lambda: signal.signal(signal.SIGINT, signal.SIG_DFL)}
+    one = subprocess.Popen(["./silo", "bank"], cwd=top, env=environment(room, PAUSE="30"), stdin=subprocess.DEVNULL, stdout=subprocess.PIPE, stderr=subprocess.PIPE, **heeds)
     while not asked(room):
         time.sleep(0.05)
     os.killpg(one.pid, signal.SIGINT)
     one.communicate(timeout=20)
-    rows.row("an interrupt", (one.returncode != 0, os.path.exists(f"{top}/crates/silo/out/silo")), (True, False))
+    until = time.monotonic() + 10
+    while within(top) and time.monotonic() < until:
+        time.sleep(0.05)
+    rows.row("an interrupt", (one.returncode != 0, os.path.exists(f"{top}/crates/silo/out/silo"), within(top)), (True, False, []))
 
 with tempfile.TemporaryDirectory() as room:
     # By the kit's own calls: what has most text above it first, side by side, with the jobs that are left over; each sum made once a crate.
