@@ -86,8 +86,11 @@ class Crate:
         say("begin " + self.name + " " + " ".join(flags))
         time.sleep(1.5 if self.name == "right" else 0.5)
         say("end " + self.name)
+        if self.name == os.environ.get("KILLED"):
+            del os.environ["KILLED"]
+            return -9
         print("logic=proved", file=self.out)
-        return self.name == os.environ.get("FAILS")
+        return int(self.name == os.environ.get("FAILS"))
 
     def run(self, flags, arguments):
         say("begin " + self.name + " " + " ".join(flags))
@@ -280,6 +283,8 @@ with tempfile.TemporaryDirectory() as room:
     found = prove("1")
     rows.row("one after another", (found[0], sorted(found[2][1:-2])), (0, sorted(one)))
     rows.row("a library that fails", prove("4", FAILS="left"), (1, ["low", "left", "right"], [*wanted[:6], "end right"]))
+    killed = [*wanted[:6], "begin tall --jobs 2", "end tall", "end right", "begin right --jobs 2", "end right", "begin silo --jobs 2", wanted[-1]]
+    rows.row("a check that is killed", prove("4", KILLED="right"), (0, ["low", "left", "tall", "right", "right", "silo"], killed))
     plain = ["as it is: all check --jobs 4", "as it is: run"]
     rows.row("a kit without what is used", prove("4", LACKS="stamp"), (0, [], plain))
     rows.row("rt as it is", prove("4", SILO_PLAIN_RT="1"), (0, [], plain))
