@@ -1,26 +1,73 @@
 #!/usr/bin/env bash
-# Counts the system calls of a run of N transfers over 64 accounts, and of opening its log again; needs strace:
-#   bench/calls.sh [N] [WIDTH]
-# 1,000 transfers at width 1: 4,001 fdatasync, 4,000 pwrite64, 3,071 openat, 1,000 write, 14 read; at width 64: 1,034 fdatasync, 1,033
-# pwrite64, 1,088 openat. A log of 1,000 transfers opens with 3,073 pread64 and 1,003 statx where each is a batch of its own, and with
-# 121 and 19 where 64 share one. A vote opens its grain's file, since two handles are kept: so descriptors don't grow with grains.
+# Counts the system calls of an `init`, of a run of N transfers over 64 accounts, of a run that only opens its log, and of each report;
+# needs strace:
+#   [BEFORE=PROGRAM] bench/calls.sh [N] [WIDTH | --workers K]
+# Calls for memory, threads and libraries aren't counted. Where BEFORE names a program, each line is a call, how often that program
+# makes it, and how often the one here does; it fails where a command makes more calls in all than it did there, by more than 2.
+# 1,000 transfers at width 1: 3,991 fdatasync, 3,990 pwrite64, 3,061 openat, 1,000 write, 14 read; at width 64: 921 fdatasync, 920
+# pwrite64, 975 openat. A log of 1,000 transfers opens with 3,075 pread64, 1,003 statx and 71 openat where each is a batch of its own,
+# and with 123, 19 and 71 where 64 share one. A vote opens its grain's file, since two handles are kept: so descriptors don't grow
+# with grains. Of the log by batches of 64 `show` makes 175 pread64, 72 openat and a write a grain, `history` the same and a write a
+# record, and `audit` 2,229 pread64 and 2,131 openat, two for each transfer.
 top=$(cd "$(dirname "${BASH_SOURCE[0]}")/.." && pwd)
-program=${SILO:-$top/crates/silo/out/silo}
-n=${1:-1000}
-width=${2:-1}
-command -v strace >/dev/null || { echo "calls.sh: there is no strace here" >&2; exit 0; }
 [ -n "${SILO:-}" ] || "$top/silo" </dev/null >/dev/null 2>&1
-folder=$(mktemp -d) || exit 1
-trap 'rm -rf "$folder"' EXIT
-awk 'BEGIN { for (i = 0; i < 64; i++) printf "{\"args\":[1000],\"call\":\"account/%d.deposit\"}\n", i }' >"$folder/accounts"
-awk -v n="$n" 'BEGIN { for (i = 1; i <= n; i++) printf "{\"args\":[%d,%d,1],\"call\":\"teller/0.transfer\"}\n", i % 64, (i + 1) % 64 }' >"$folder/requests"
-mkdir "$folder/silo"
-"$program" "$folder/silo" init <"$top/examples/bank/bank.grain" || exit 1
-"$program" "$folder/silo" run --width 64 <"$folder/accounts" >/dev/null || exit 1
-counted() {
-  echo "$2 $n transfers:"
-  strace -c -o "$folder/counts" "$program" "$folder/silo" run --width "$width" <"$1" >/dev/null || exit 1
-  awk 'NR > 2 && $NF != "total" && $4 >= 10 { printf "  %s %d", $NF, $4 } END { print "" }' "$folder/counts"
-}
-counted "$folder/requests" "carrying"
-counted /dev/null "opening a log of"
+command -v strace >/dev/null || { echo "calls.sh: there is no strace here" >&2; exit 0; }
+n=${1:-1000}
+manner=(--width "${2:-1}")
+[ "${2:-}" != --workers ] || manner=(--workers "${3:-2}")
+exec python3 - "$top" "${SILO:-$top/crates/silo/out/silo}" "${BEFORE:-}" "$n" "${manner[@]}" <<'END'
+import os, subprocess, sys, tempfile
+
+top, here, before, count, manner = sys.argv[1], sys.argv[2], sys.argv[3], int(sys.argv[4]), sys.argv[5:]
+sys.path.insert(0, os.path.join(top, "bench"))
+import bank_lines
+
+# Calls by which a process gets memory, threads and its libraries, waits for another thread or ends.
+ASIDE = {"execve", "brk", "mmap", "munmap", "mprotect", "mremap", "madvise", "arch_prctl", "set_tid_address", "set_robust_list", "rseq", "prlimit64",
+         "access", "clone3", "clone", "futex", "sched_yield", "sched_getaffinity", "rt_sigprocmask", "rt_sigaction", "sigaltstack", "getrandom",
+         "poll", "exit", "exit_group", "gettid", "getpid", "nanosleep", "clock_nanosleep", "prctl"}
+
+def counted(program, folder, given, *words):
+    """How often the program makes each call over this input."""
+    with tempfile.NamedTemporaryFile() as told, tempfile.TemporaryFile() as lines:
+        lines.write(given)
+        lines.seek(0)
+        ran = subprocess.run(["strace", "-f", "-qq", "-c", "-o", told.name, program, folder, *words], stdin=lines, stdout=subprocess.DEVNULL)
+        if ran.returncode != 0:
+            sys.exit(f"calls.sh: {' '.join(words)} ended with {ran.returncode}")
+        rows = [row.split() for row in told.read().decode().splitlines()]
+    # Rows of numbers have the count in the fourth place, and the name at the end.
+    return {row[-1]: int(row[3]) for row in rows if len(row) >= 5 and row[3].isdigit() and row[-1] not in (*ASIDE, "total")}
+
+def all_counts(program):
+    """The counts of each command, over a new silo."""
+    lines = bank_lines.transfers(count)
+    with tempfile.TemporaryDirectory() as room:
+        folder = os.path.join(room, "silo")
+        os.mkdir(folder)
+        found = {"init": counted(program, folder, bank_lines.bank(top), "init")}
+        subprocess.run([program, folder, "run", "--width", "64"], input=b"".join(lines[:64]), stdout=subprocess.DEVNULL, check=True)
+        found[f"run {' '.join(manner)}, {count} transfers"] = counted(program, folder, b"".join(lines[64:]), "run", *manner)
+        found["run, no line"] = counted(program, folder, b"", "run")
+        for report in ("show", "history", "audit"):
+            found[report] = counted(program, folder, b"", report)
+    return found
+
+now = all_counts(here)
+old = all_counts(before) if before else None
+more = []
+for command, calls in now.items():
+    print(f"{command}:")
+    if old is None:
+        print("  " + ", ".join(f"{number} {call}" for call, number in sorted(calls.items(), key=lambda it: -it[1])))
+        continue
+    then = old[command]
+    for call in sorted({*calls, *then}, key=lambda it: -max(calls.get(it, 0), then.get(it, 0))):
+        print(f"  {call}: {then.get(call, 0)} -> {calls.get(call, 0)}")
+    total = sum(then.values()), sum(calls.values())
+    print(f"  in all: {total[0]} -> {total[1]}")
+    if total[1] > total[0] + 2:
+        more.append(f"{command} makes {total[1]} calls in place of {total[0]}")
+if more:
+    sys.exit("calls.sh: " + "; ".join(more))
+END

@@ -40,18 +40,22 @@ def reply(n, balance, unit):
     return b'{"n":%d,"reply":%d,"unit":%d}\n' % (n, balance, unit)
 
 
-def run(*words, given=b"", closed=(), streams=None, memory=None, threads=None, program=PROGRAM):
-    """Runs the program over this input, with these descriptors closed, and at most so many bytes of memory and threads."""
+def run(*words, given=b"", closed=(), streams=None, memory=None, threads=None, bound=False, on=None, shim=None, seconds=100, program=PROGRAM):
+    """Runs the program over this input, with these descriptors closed, and at most so many bytes of memory and threads; `bound` by
+    what the folder's files permit, which the superuser isn't; `on` these processors alone; with the words `shim` in the environment
+    beside the others. One that takes longer than so many seconds is ended, and has no number."""
 
     def prepare():
         if memory is not None:
             resource.setrlimit(resource.RLIMIT_AS, (memory, memory))
         if threads is not None:
             resource.setrlimit(resource.RLIMIT_NPROC, (threads, threads))
-            # The superuser isn't bound by that: another user is, whose threads are these alone.
-            if os.geteuid() == 0:
-                os.setgid(OTHER_USER)
-                os.setuid(OTHER_USER)
+        # The superuser isn't bound by that: another user is, whose threads are these alone.
+        if (threads is not None or bound) and os.geteuid() == 0:
+            os.setgid(OTHER_USER)
+            os.setuid(OTHER_USER)
+        if on is not None:
+            os.sched_setaffinity(0, on)
         for number in closed:
             os.close(number)
 
@@ -59,15 +63,20 @@ def run(*words, given=b"", closed=(), streams=None, memory=None, threads=None, p
         given_to.write(given)
         given_to.seek(0)
         at = {"stdin": given_to, "stdout": output, "stderr": errors, **(streams or {})}
-        done = subprocess.run([program, *words], preexec_fn=prepare, timeout=100, **at)
+        # What is done between fork and exec makes a start slow, and isn't for threads.
+        before = prepare if closed or memory is not None or threads is not None or bound or on is not None else None
+        try:
+            number = subprocess.run([program, *words], preexec_fn=before, timeout=seconds, env={**os.environ, **(shim or {})}, **at).returncode
+        except subprocess.TimeoutExpired:
+            number = None
         output.seek(0)
         errors.seek(0)
-        return Ended(done.returncode, output.read(), errors.read())
+        return Ended(number, output.read(), errors.read())
 
 
-def start(*words):
+def start(*words, shim=None):
     """Starts the program, whose input is a pipe that stays open."""
-    return subprocess.Popen([PROGRAM, *words], stdin=subprocess.PIPE, stdout=subprocess.PIPE, stderr=subprocess.PIPE)
+    return subprocess.Popen([PROGRAM, *words], stdin=subprocess.PIPE, stdout=subprocess.PIPE, stderr=subprocess.PIPE, env={**os.environ, **(shim or {})})
 
 
 class Rows:

@@ -1,0 +1,220 @@
+"""The program while calls of the system fail:  checks/faults.py [--all]
+
+A library stands between the program and the C library (`checks/faults.c`), where there is a C compiler, and has one call of a command
+fail, or each one from there on, or carry out a part alone: each call in turn with `--all`, else some of them. Then the number is one
+that docs/OPERATIONS.md has, and names the file; each reply is in the log, which replays; a call that wasn't in vain aborts nobody;
+no money is made or lost; reports print the front of what they print else; and a later run goes on.
+"""
+import concurrent.futures
+import errno
+import json
+import os
+import shutil
+import sys
+import tempfile
+
+import kept
+import shim
+from harness import Rows, run
+
+MEMORY = "/dev/shm" if os.path.isdir("/dev/shm") else None
+# Of so many calls one is tried, in a check that isn't told to try all of them, beside the first of each kind on each kind of file.
+STRIDE = 4
+
+# The files of a folder and the standard streams, as the library names them; what is said on standard error may fail.
+FILES = ".,0,1,manager-*,program-*,grain-*"
+# How calls fail: which kinds of them, and how the library is told so.
+WAYS = {
+    "EIO": {"kinds": "open,look,read,write,sync,size,lock", "fail": errno.EIO},
+    "EIO from there on": {"kinds": "open,look,read,write,sync,size,lock", "fail": errno.EIO, "on": 1},
+    "ENOSPC": {"kinds": "open,write,sync,size", "fail": errno.ENOSPC},
+    "EINTR": {"kinds": "open,read,write,sync,lock", "fail": errno.EINTR},
+    "a part": {"kinds": "read,write", "short": 1},
+}
+
+rows = Rows("faults")
+
+LINES = [
+    *(kept.line("teller/0.transfer", at % 4, (at * 3 + 1) % 4, 1 + at) for at in range(8)),
+    kept.line("teller/0.transfer", 1, 2, 100_000),
+    b"no request\n",
+    kept.line("account/2.read"),
+    kept.line("account/3.read"),
+]
+# Lines whose transactions begin others.
+NESTED = [
+    kept.line("mover/0.move", 1, 2, 5),
+    kept.line("mover/1.count", 2, 3, 6),
+    kept.line("mover/0.spoil", 3, 0, 7),
+    kept.line("teller/0.transfer", 0, 1, 8),
+    kept.line("mover/1.count", 0, 3, 9),
+]
+
+
+class Case:
+    """A command over a copy of a folder, and what is asked of it where calls failed on some files."""
+
+    def __init__(self, room, library, name, template, words, given=b""):
+        self.room, self.library, self.name, self.template, self.words, self.given = room, library, name, template, words, given
+
+    def run(self, label, **settings):
+        """Runs the command in a new copy: the copy, how it ended, and the calls that it made."""
+        folder = os.path.join(self.room, f"{self.name} {label}".replace(" ", "_"))
+        shutil.copytree(self.template, folder)
+        noted = folder + ".notes"
+        ended = run(folder, *self.words, given=self.given, shim=shim.words(self.library, notes=noted, names=FILES, **settings))
+        calls = shim.notes(noted)
+        if os.path.exists(noted):
+            os.remove(noted)
+        return folder, ended, calls
+
+    def try_one(self, way, at):
+        """What is wrong where this call, of those that may, fails in this way."""
+        folder, ended, calls = self.run(f"{way} {at}", at=at, **WAYS[way])
+        failed = {call.name for call in calls if call.done == "fails"}
+        try:
+            wrong = self.wrong(folder, ended, failed)
+            # A call that was interrupted may be made again.
+            if way != "EINTR":
+                wrong += self.untold(ended, failed)
+        except (ValueError, LookupError) as error:
+            wrong = [f"what it left can't be read: {error!r}, {ended}"]
+        done = [call for call in calls if call.done != "-"]
+        shutil.rmtree(folder)
+        return f"{self.name}, {way} at {at}, {done[0].kind + ' ' + done[0].name if done else 'no call'}", wrong
+
+
+    def untold(self, ended, failed):
+        """What is wrong where nothing tells that these calls failed."""
+        return [f"it ended with 0 where calls failed on {sorted(failed)}"] if failed and ended.number == 0 else []
+
+
+class Run(Case):
+    """A run of lines."""
+
+    def wrong(self, folder, ended, failed):
+        return kept.judge(folder, BEFORE, self.given.splitlines(), ended, failed)
+
+    def untold(self, ended, failed):
+        return kept.passed_over(ended, failed)
+
+
+class Nested(Run):
+    """A run of lines that begin transactions: one of these that is aborted has no reply of its own."""
+
+    def untold(self, ended, failed):
+        return []
+
+
+class Report(Case):
+    """A report, which prints the front of what it prints else, and changes nothing."""
+
+    def wrong(self, folder, ended, failed):
+        whole = REPORTS[self.words[0]]
+        wrong = kept.wrong_number(ended, failed)
+        if not whole.startswith(ended.output) or (ended.number == 0 and ended.output != whole):
+            wrong.append(f"it printed {ended.output}")
+        if bytes_of(folder) != bytes_of(self.template):
+            wrong.append("a file was changed")
+        return wrong
+
+
+class Making(Case):
+    """`init`: it makes a silo or leaves none, and a second one makes it."""
+
+    def wrong(self, folder, ended, failed):
+        wrong = kept.wrong_number(ended, failed)
+        # Behind a failed call of the last sync it may be a silo all the same.
+        again = run(folder, "init", given=kept.PROGRAM_TEXT).number
+        if again not in ((8,) if ended.number == 0 else (0, 8)):
+            wrong.append(f"a second init ended with {again} behind {ended.number}")
+        if ended.number == 4 and again != 0:
+            wrong.append("something was made without an input")
+        used = run(folder, "run", given=kept.line("account/0.deposit", 5))
+        if used != (0, b'{"n":1,"reply":5,"unit":1}\n', b""):
+            wrong.append(f"a run in what was made ended so: {used}")
+        return wrong
+
+
+class Load(Case):
+    """`load`: where it made a silo its log replays, and what it summed up is in it."""
+
+    def untold(self, ended, failed):
+        return super().untold(ended, failed) if ended.number != 0 or json.loads(ended.output)["aborted"] == 0 else []
+
+    def wrong(self, folder, ended, failed):
+        wrong = kept.wrong_number(ended, failed - {"0"})
+        audit = run(folder, "audit")
+        again = run(folder, "load", "4", "7").number
+        if (audit.number, again) == (7, 0):
+            return wrong + [f"no silo behind {ended}"] * (ended.number == 0)
+        if (audit.number, again) != (0, 8) or not audit.output.endswith(b'"first_bad":null}\n'):
+            return [*wrong, f"an audit ended so: {audit}, and a second load with {again}"]
+        if ended.number == 0:
+            told = json.loads(ended.output)
+            records = [json.loads(record) for record in kept.history(folder)[0]]
+            found = tuple(sum(key in record for record in records) for key in ("reply", "fault"))
+            if found != (told["committed"], told["faulted"]) or told["requests"] != 68 or sum(found) + told["aborted"] != 68:
+                wrong.append(f"{told} beside {found} records")
+            if kept.money(folder) != told["total"]:
+                wrong.append(f"{told}, and the balances make {kept.money(folder)}")
+            if not failed and told != SUMMARY:
+                wrong.append(f"{told}, though no call failed")
+        elif not SUMMARY_LINE.startswith(ended.output[:1]) or ended.output.endswith(b"\n"):
+            wrong.append(f"with {ended.number} it printed {ended.output}")
+        return wrong
+
+
+def bytes_of(folder):
+    """What each file of a folder holds."""
+    held = {}
+    for name in sorted(os.listdir(folder)):
+        with open(os.path.join(folder, name), "rb") as file:
+            held[name] = file.read()
+    return held
+
+
+def tries(case, stride):
+    """Which calls are to fail, and how, of those that the command makes where none fails."""
+    _, ended, calls = case.run("plain")
+    rows.row(f"{case.name} where nothing fails", ended.number, 0)
+    rows.row(f"{case.name} makes calls that the library notes", {"open", "read"} <= {call.kind for call in calls}, True)
+    for turn, (way, settings) in enumerate(WAYS.items()):
+        chosen = [(call.kind, call.name.split("-")[0]) for call in calls if call.kind in settings["kinds"].split(",") and call.name not in ("2", "?")]
+        firsts = {chosen.index(call) + 1 for call in chosen}
+        yield from ((case, way, at) for at in sorted(firsts | set(range(1 + turn % stride, len(chosen) + 1, stride))))
+
+
+with tempfile.TemporaryDirectory(dir=MEMORY) as room:
+    library = shim.build(room)
+    if library is None:
+        print("faults: there is no C compiler here, so no call fails")
+        rows.end()
+    empty, template = os.path.join(room, "empty"), os.path.join(room, "template")
+    os.mkdir(empty)
+    os.mkdir(template)
+    kept.make(template)
+    BEFORE = kept.history(template)[0]
+    REPORTS = {command: run(template, command).output for command in ("show", "history", "audit")}
+    loaded = os.path.join(room, "loaded")
+    os.mkdir(loaded)
+    SUMMARY_LINE = run(loaded, "load", "4", "7", "--width", "8").output
+    SUMMARY = json.loads(SUMMARY_LINE)
+
+    given = b"".join(LINES)
+    cases = [
+        Run(room, library, "a run at width 4", template, ["run", "--width", "4"], given),
+        Run(room, library, "a run by 2 workers", template, ["run", "--workers", "2"], given),
+        Nested(room, library, "transactions within others at width 4", template, ["run", "--width", "4"], b"".join(NESTED)),
+        Making(room, library, "init", empty, ["init"], kept.PROGRAM_TEXT),
+        Load(room, library, "load", empty, ["load", "4", "7", "--width", "8"]),
+        *(Report(room, library, command, template, [command]) for command in REPORTS),
+    ]
+    stride = 1 if "--all" in sys.argv[1:] else STRIDE
+    with concurrent.futures.ThreadPoolExecutor(4) as pool:
+        todo = [pool.submit(case.try_one, way, at) for case in cases for case, way, at in tries(case, stride)]
+        for one in todo:
+            what, wrong = one.result()
+            rows.row(what, wrong, [])
+
+rows.end()
