@@ -214,6 +214,8 @@ with tempfile.TemporaryDirectory() as room:
         "7": "silo: hint: ./tools/why bank says what is missing\n",
         "10": f"silo: hint: ./tools/explain {room}/p.grain shows the line\n",
     }
+    found = on_terminal(room, "a b", "run", NUMBER="7")
+    rows.row("a folder with a blank", found, (7, "silo: text\nsilo: hint: ./tools/why a\\ b says what is missing\n"))
     for number, hint in hints.items():
         found = on_terminal(room, "bank", "init", given=f"{room}/p.grain", NUMBER=number)
         rows.row(f"the hint behind {number}", found, (int(number), f"silo: text\n{hint}"))

@@ -145,7 +145,9 @@ with tempfile.TemporaryDirectory() as room:
     at = folder("mounted")
     text = os.path.join(TOP, "examples", "bank", "bank.grain")
     done = subprocess.run(["unshare", "-m", "sh", "-c", script, "sh", at, PROGRAM, text, sys.executable, WHY], capture_output=True) if shutil.which("unshare") else None
+    bare = ["unshare", "-m", "sh", "-c", 'umount -l /proc && exec "$@"', "sh", sys.executable, WHY, bank]
     if done and done.stdout:
+        rows.row("no /proc", subprocess.run(bare, capture_output=True).stdout, b"/proc isn't mounted, and silo looks for a folder's files under it\n")
         said = done.stdout.decode().split("\n")
         rows.row("a full disk", said[0], f"the disk of {at}/bank is full")
         rows.row("read-only: silo", said[1] in ("0", "6"), True)
