@@ -190,12 +190,15 @@ class Silo:
     """A silo's folder, over which requests are run and reports are made.
 
     Clients of one folder take turns by a lock on FOLDER.lock, which a Silo has while its `with` block goes, or else for each call. `limit`
-    is the most bytes that one input has: longer ones are split."""
+    is the most bytes that one input has: longer ones are split.
+
+    Once a batch is in doubt, a Silo asks its folder nothing more, and raises `Ended` with 6: what has to be done first is told in
+    docs/OPERATIONS.md, and then another Silo goes on."""
 
     def __init__(self, folder, program=None, width=64, tries=5, limit=INPUT_LIMIT):
         self.folder, self.program = folder, program or find_program()
         self.width, self.tries, self.limit = width, tries, limit
-        self._held, self._depth = None, 0
+        self._held, self._depth, self._is_in_doubt = None, 0, False
 
     def __enter__(self):
         if self._depth == 0:
@@ -211,6 +214,8 @@ class Silo:
 
     def ask(self, *words, given=b""):
         """Runs the program over the folder. Gives its number, its text on standard error, and its whole output lines, read as JSON."""
+        if self._is_in_doubt:
+            raise Ended(DISK, "a batch is in doubt: " + AFTER_DISK)
         done = subprocess.run([self.program, self.folder, *words], input=given, capture_output=True)
         whole = done.stdout.split(b"\n")[:-1]  # a last line without its line feed was cut, and is none
         return done.returncode, done.stderr.decode(errors="replace"), [json.loads(line) for line in whole]
@@ -298,6 +303,7 @@ class Silo:
         before = self.records()
         number, text, found = self.ask("run", "--width", str(width), given=b"".join(lines))
         replies, others = {reply["n"]: reply for reply in found}, None
+        self._is_in_doubt = any("in_doubt" in reply for reply in found)
         if number == DISK:
             text += AFTER_DISK
         elif number in NOT_CARRIED:
