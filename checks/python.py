@@ -202,6 +202,18 @@ with tempfile.TemporaryDirectory() as room:
         rows.row("a lock beside the folder", (held.returncode, run(bank, "audit").number), (1, 0))
     rows.row("the lock is given back", subprocess.run(["flock", "-n", bank + ".lock", "true"]).returncode, 0)
 
+    with silo.Silo(folder("ten"), PROGRAM) as it:
+        it.call("account/3.deposit", 4)
+    os.remove(it.folder + ".lock")
+    os.mkdir(it.folder + ".lock")
+    rows.row("a report where no lock can be made", it.show(), {"account/3": {"balance": 4}})
+    try:
+        it.call("account/3.deposit", 4)
+        raised = None
+    except OSError as fault:
+        raised = fault.filename
+    rows.row("a run where no lock can be made", (raised, it.records()), (it.folder + ".lock", 1))
+
     # Which program: that of SILO, or the repository's, built or not.
     asks = "import silo; print(silo.find_program())"
     copied = os.path.join(room, "repository")

@@ -19,6 +19,7 @@ What is aborted by a file that failed (`vote`, `disk`) isn't sent again: look at
 Needs Python 3.8 and nothing else.
 """
 import collections
+import contextlib
 import fcntl
 import json
 import os
@@ -280,7 +281,10 @@ class Silo:
             return self._run([line_of(*call) for call in calls], self.width)
 
     def _report(self, *words, given=b""):
-        with self:
+        with contextlib.ExitStack() as turn:
+            # Where no lock can be made, as beside a folder that may only be read, a report is made without its turn.
+            with contextlib.suppress(OSError):
+                turn.enter_context(self)
             number, text, lines = self.ask(*words, given=given)
         if number != 0:
             raise Ended(number, text)
