@@ -52,6 +52,10 @@ with tempfile.TemporaryDirectory() as room:
             rows.row(f"{what}: install again", said(*make, "install")[0], 0)
             rows.row(f"{what}: uninstall", said(*make, "uninstall"), (0, "", ""))
             rows.row(f"{what}: nothing is left", files(prefix), [])
+        # Without a program that is named, the one of the repository is built first.
+        env = {name: value for name, value in os.environ.items() if name != "SILO"}
+        planned = said("make", "-n", "-C", TOP, "install", "DESTDIR=/none", env=env)[1].split("\n")
+        rows.row("what is built and installed", [line for line in planned if "tools/build" in line or "bin/silo" in line][:2], ["tools/build", "install -m 755 crates/silo/out/silo /none/usr/local/bin/silo"])
     else:
         print("install: there is no make, so an install isn't shown")
 
@@ -59,7 +63,7 @@ with tempfile.TemporaryDirectory() as room:
         number, made, errors = said(os.path.join(TOP, "tools", "package"), room, env={**os.environ, "SILO": PROGRAM})
         made = made.strip()
         rows.row("package", (number, errors, os.path.dirname(made)), (0, "", room))
-        rows.row("its name", said("dpkg-deb", "--field", made, "Package", "Depends", "Recommends")[1], "Package: silo\nDepends: libc6\nRecommends: python3\n")
+        rows.row("its name", said("dpkg-deb", "--field", made, "Package", "Depends", "Recommends")[1], "Package: silo\nDepends: libc6 (>= 2.34)\nRecommends: python3\n")
         rows.row("its folder", said("dpkg-deb", "-x", made, os.path.join(room, "unpacked"))[0], 0)
         rows.row("the package's files", files(f"{room}/unpacked/usr"), sorted([*BIN, *REST, *DOCUMENTS, "share/man/man1/silo.1.gz"]))
         rows.row("whose they are", {line.split()[1] for line in said("dpkg-deb", "-c", made)[1].splitlines()}, {"root/root"})

@@ -86,8 +86,11 @@ class Crate:
         say("begin " + self.name + " " + " ".join(flags))
         time.sleep(1.5 if self.name == "right" else 0.5)
         say("end " + self.name)
+        if self.name == os.environ.get("KILLED"):
+            del os.environ["KILLED"]
+            return -9
         print("logic=proved", file=self.out)
-        return self.name == os.environ.get("FAILS")
+        return int(self.name == os.environ.get("FAILS"))
 
     def run(self, flags, arguments):
         say("begin " + self.name + " " + " ".join(flags))
@@ -160,6 +163,17 @@ def on_terminal(room, *words, given=None, **more):
     return started.wait(timeout=60), shown.decode().replace("\r\n", "\n")
 
 
+def within(folder):
+    """The processes whose current folder is in this one."""
+    found = []
+    for name in filter(str.isdigit, os.listdir("/proc")):
+        try:
+            found += [name] * os.readlink(f"/proc/{name}/cwd").startswith(folder)
+        except OSError:
+            pass
+    return found
+
+
 def asked(room):
     """How often rt was asked."""
     if not os.path.exists(f"{room}/asked"):
@@ -200,6 +214,8 @@ with tempfile.TemporaryDirectory() as room:
         "7": "silo: hint: ./tools/why bank says what is missing\n",
         "10": f"silo: hint: ./tools/explain {room}/p.grain shows the line\n",
     }
+    found = on_terminal(room, "a b", "run", NUMBER="7")
+    rows.row("a folder with a blank", found, (7, "silo: text\nsilo: hint: ./tools/why a\\ b says what is missing\n"))
     for number, hint in hints.items():
         found = on_terminal(room, "bank", "init", given=f"{room}/p.grain", NUMBER=number)
         rows.row(f"the hint behind {number}", found, (int(number), f"silo: text\n{hint}"))
@@ -232,12 +248,17 @@ with tempfile.TemporaryDirectory() as room:
 with tempfile.TemporaryDirectory() as room:
     # An interrupt ends the build and what it started.
     top = repository(room)
-    one = subprocess.Popen(["./silo", "bank"], cwd=top, env=environment(room, PAUSE="30"), stdin=subprocess.DEVNULL, stdout=subprocess.PIPE, stderr=subprocess.PIPE, start_new_session=True)
+    # A check that runs in the background may have been started to ignore it.
+    heeds = {"start_new_session": True, "preexec_fn": lambda: signal.signal(signal.SIGINT, signal.SIG_DFL)}
+    one = subprocess.Popen(["./silo", "bank"], cwd=top, env=environment(room, PAUSE="30"), stdin=subprocess.DEVNULL, stdout=subprocess.PIPE, stderr=subprocess.PIPE, **heeds)
     while not asked(room):
         time.sleep(0.05)
     os.killpg(one.pid, signal.SIGINT)
     one.communicate(timeout=20)
-    rows.row("an interrupt", (one.returncode != 0, os.path.exists(f"{top}/crates/silo/out/silo")), (True, False))
+    until = time.monotonic() + 10
+    while within(top) and time.monotonic() < until:
+        time.sleep(0.05)
+    rows.row("an interrupt", (one.returncode != 0, os.path.exists(f"{top}/crates/silo/out/silo"), within(top)), (True, False, []))
 
 with tempfile.TemporaryDirectory() as room:
     # By the kit's own calls: what has most text above it first, side by side, with the jobs that are left over; each sum made once a crate.
@@ -264,6 +285,8 @@ with tempfile.TemporaryDirectory() as room:
     found = prove("1")
     rows.row("one after another", (found[0], sorted(found[2][1:-2])), (0, sorted(one)))
     rows.row("a library that fails", prove("4", FAILS="left"), (1, ["low", "left", "right"], [*wanted[:6], "end right"]))
+    killed = [*wanted[:6], "begin tall --jobs 2", "end tall", "end right", "begin right --jobs 2", "end right", "begin silo --jobs 2", wanted[-1]]
+    rows.row("a check that is killed", prove("4", KILLED="right"), (0, ["low", "left", "tall", "right", "right", "silo"], killed))
     plain = ["as it is: all check --jobs 4", "as it is: run"]
     rows.row("a kit without what is used", prove("4", LACKS="stamp"), (0, [], plain))
     rows.row("rt as it is", prove("4", SILO_PLAIN_RT="1"), (0, [], plain))

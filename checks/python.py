@@ -143,8 +143,21 @@ with tempfile.TemporaryDirectory() as room:
     doubt = stand_in(room, "doubt", f'echo "$2" >>"{room}/doubt.asked"', """[ "$2" != run ] || { echo '{"in_doubt":true,"n":1,"unit":4}'; echo "silo: disk fault in manager-0.otx" >&2; exit 6; }""")
     with silo.Silo(bank, doubt) as it:
         found = it.batch([("account/1.deposit", [5]), ("account/1.deposit", [6])])
+        for what, ask in (("a call", lambda: it.call("account/1.read")), ("a report", it.show)):
+            try:
+                ask()
+                raised = None
+            except silo.Ended as ended:
+                raised = (ended.number, ended.text)
+            rows.row(f"{what} behind it", raised, (6, "a batch is in doubt: " + silo.AFTER_DISK))
     wanted = [("InDoubt", "unit 4 is in the log or isn't", False, None), ("Unanswered", "silo ended with 6: silo: disk fault in manager-0.otx\n" + silo.AFTER_DISK.strip(), False, None)]
     rows.row("a batch in doubt", ([shown(result) for result in found], found[0].before, asked(room, "doubt")), (wanted, 7, ["run"]))
+    busy = silo.Silo(bank, PROGRAM)
+    held = subprocess.Popen(["flock", bank, "sh", "-c", "echo; read -r line"], stdin=subprocess.PIPE, stdout=subprocess.PIPE)
+    held.stdout.readline()
+    rows.row("a folder that another process has", busy.batch([("account/1.read", [])])[0].number, 6)
+    held.communicate(b"\n", timeout=60)
+    rows.row("and then", busy.call("account/1.read"), 1)
 
     # A long input is split, in the order of the calls; what an ended run wasn't reached for is told as not sent.
     counted = turned(room, "counted", "0", runs=0)
@@ -188,6 +201,18 @@ with tempfile.TemporaryDirectory() as room:
         held = subprocess.run(["flock", "-n", bank + ".lock", "true"])
         rows.row("a lock beside the folder", (held.returncode, run(bank, "audit").number), (1, 0))
     rows.row("the lock is given back", subprocess.run(["flock", "-n", bank + ".lock", "true"]).returncode, 0)
+
+    with silo.Silo(folder("ten"), PROGRAM) as it:
+        it.call("account/3.deposit", 4)
+    os.remove(it.folder + ".lock")
+    os.mkdir(it.folder + ".lock")
+    rows.row("a report where no lock can be made", it.show(), {"account/3": {"balance": 4}})
+    try:
+        it.call("account/3.deposit", 4)
+        raised = None
+    except OSError as fault:
+        raised = fault.filename
+    rows.row("a run where no lock can be made", (raised, it.records()), (it.folder + ".lock", 1))
 
     # Which program: that of SILO, or the repository's, built or not.
     asks = "import silo; print(silo.find_program())"

@@ -108,7 +108,9 @@ with tempfile.TemporaryDirectory() as room:
         rows.row("a closed file: silo", as_other(shared, "run"), FAULT)
         rows.row("a closed file", why_other(shared), f"no permission to read and write manager-0.otx in {shared}: it is 600, of user 0, and this is user {me}")
         os.chmod(os.path.join(shared, "grain-0-0-1.otx"), 0o444)
-        rows.row("two closed files", why_other(shared), f"no permission to read and write grain-0-0-1.otx in {shared} and 1 more: it is 444, of user 0, and this is user {me}")
+        rows.row("two closed files", why_other(shared), f"no permission to read and write manager-0.otx in {shared} and 1 more: it is 600, of user 0, and this is user {me}")
+        os.chmod(os.path.join(shared, "manager-0.otx"), 0o666)
+        rows.row("a file for reading", why_other(shared), f"no permission to write grain-0-0-1.otx in {shared}: it is 444, of user 0, and this is user {me}")
         os.chmod(room, 0o700)
         rows.row("a closed way to it", why_other(shared), f"{shared} can't be reached: Permission denied")
         os.chmod(room, 0o755)
@@ -143,7 +145,9 @@ with tempfile.TemporaryDirectory() as room:
     at = folder("mounted")
     text = os.path.join(TOP, "examples", "bank", "bank.grain")
     done = subprocess.run(["unshare", "-m", "sh", "-c", script, "sh", at, PROGRAM, text, sys.executable, WHY], capture_output=True) if shutil.which("unshare") else None
+    bare = ["unshare", "-m", "sh", "-c", 'umount -l /proc && exec "$@"', "sh", sys.executable, WHY, bank]
     if done and done.stdout:
+        rows.row("no /proc", subprocess.run(bare, capture_output=True).stdout, b"/proc isn't mounted, and silo looks for a folder's files under it\n")
         said = done.stdout.decode().split("\n")
         rows.row("a full disk", said[0], f"the disk of {at}/bank is full")
         rows.row("read-only: silo", said[1] in ("0", "6"), True)

@@ -19,6 +19,7 @@ What is aborted by a file that failed (`vote`, `disk`) isn't sent again: look at
 Needs Python 3.8 and nothing else.
 """
 import collections
+import contextlib
 import fcntl
 import json
 import os
@@ -190,12 +191,15 @@ class Silo:
     """A silo's folder, over which requests are run and reports are made.
 
     Clients of one folder take turns by a lock on FOLDER.lock, which a Silo has while its `with` block goes, or else for each call. `limit`
-    is the most bytes that one input has: longer ones are split."""
+    is the most bytes that one input has: longer ones are split.
+
+    Once a batch is in doubt, a Silo asks its folder nothing more, and raises `Ended` with 6: what has to be done first is told in
+    docs/OPERATIONS.md, and then another Silo goes on."""
 
     def __init__(self, folder, program=None, width=64, tries=5, limit=INPUT_LIMIT):
         self.folder, self.program = folder, program or find_program()
         self.width, self.tries, self.limit = width, tries, limit
-        self._held, self._depth = None, 0
+        self._held, self._depth, self._is_in_doubt = None, 0, False
 
     def __enter__(self):
         if self._depth == 0:
@@ -211,6 +215,8 @@ class Silo:
 
     def ask(self, *words, given=b""):
         """Runs the program over the folder. Gives its number, its text on standard error, and its whole output lines, read as JSON."""
+        if self._is_in_doubt:
+            raise Ended(DISK, "a batch is in doubt: " + AFTER_DISK)
         done = subprocess.run([self.program, self.folder, *words], input=given, capture_output=True)
         whole = done.stdout.split(b"\n")[:-1]  # a last line without its line feed was cut, and is none
         return done.returncode, done.stderr.decode(errors="replace"), [json.loads(line) for line in whole]
@@ -275,7 +281,10 @@ class Silo:
             return self._run([line_of(*call) for call in calls], self.width)
 
     def _report(self, *words, given=b""):
-        with self:
+        with contextlib.ExitStack() as turn:
+            # Where no lock can be made, as beside a folder that may only be read, a report is made without its turn.
+            with contextlib.suppress(OSError):
+                turn.enter_context(self)
             number, text, lines = self.ask(*words, given=given)
         if number != 0:
             raise Ended(number, text)
@@ -298,6 +307,7 @@ class Silo:
         before = self.records()
         number, text, found = self.ask("run", "--width", str(width), given=b"".join(lines))
         replies, others = {reply["n"]: reply for reply in found}, None
+        self._is_in_doubt = any("in_doubt" in reply for reply in found)
         if number == DISK:
             text += AFTER_DISK
         elif number in NOT_CARRIED:
