@@ -1,12 +1,13 @@
 """Random programs and requests, against a plain player:  checks/differential.py [ROUNDS [SEED]]
 
 A round makes a program of random types and methods, whose calls join, get units of their own or run outside transactions, some of
-them by `attempt`, and carries random requests by two runs, each of a random width and list of turns. Then the log, which
-examples/reader reads, is played from its front, one unit after another, by plain_player, which knows nothing of locks, versions or
-batches. Each unit gives its record's result over the states that those before it left, asks for the children that the log has
+them by `attempt`, and carries random requests by two runs, each of a random width and list of turns, and by one of 1, 2 or 16
+workers. Then the log, which examples/reader reads, is played from its front, one unit after another, by plain_player, which knows
+nothing of locks, versions or batches. Each unit gives its record's result over the states that those before it left, asks for the children that the log has
 before it, and is answered what these gave; the grains end with the states that the folder holds; each request has one reply, which is
 that of its record, or of a run outside transactions over what its children gave, and an aborted one has no record, and names a lock,
-since no call on a file fails here; and replies stand in the log's order. The same seed gives the same rounds.
+since no call on a file fails here; and replies stand in the log's order. The same seed gives the same rounds, but for what workers
+make of theirs.
 """
 import collections
 import contextlib
@@ -175,7 +176,9 @@ def random_request(draw, program):
     return f"{kind.name}/{draw.randrange(KEYS)}.{method.name}", [draw.choice([*range(-1, 5), "a"][: 6 + (draw.random() < 0.02)]) for _ in method.parameters]
 
 
-def random_words(draw):
+def random_words(draw, part):
+    if part == 3:
+        return ["run", "--workers", draw.choice(["1", "2", "16"])]
     words = ["run", "--width", str(draw.choice([1, 2, 3, 4, 4, 8, 8, 16, 64]))]
     if draw.random() < 0.9:
         most = draw.choice([2, 5, 10, 50])
@@ -279,9 +282,9 @@ def check_round(rows, what, draw):
     replay = Replay(program)
     with tempfile.TemporaryDirectory() as folder:
         rows.row(f"{what}: init", run(folder, "init", given=text_of(program).encode()), (0, b"", b""))
-        for part in (1, 2):
+        for part in (1, 2, 3):
             requests = [random_request(draw, program) for _ in range(draw.randrange(1, 40))]
-            words = random_words(draw)
+            words = random_words(draw, part)
             ended = run(folder, *words, given=lines_of(requests))
             rows.row(f"{what}, run {part}: {' '.join(words)}", replay.go_on(requests, ended, read_folder(folder)), [])
     return replay.told

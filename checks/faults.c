@@ -1,10 +1,11 @@
 /* Stands between a program and the C library, where it is loaded before that one: notes the program's calls on files and on its
-   standard streams, has some of them fail, and moves folders and files while it runs. By these words of the environment:
+   standard streams, has some of them fail, moves folders and files while it runs, and disturbs its threads. By these words of the
+   environment:
 
    SHIM_NOTES  a file: each call is noted there before it is made, as a line of its kind, the last part of the file's path, and what
                is done at it: `fails`, `short`, `moves` or `-`
    SHIM_KINDS  the kinds of calls that count, with commas; all where it isn't given. The kinds are open, look (stat and its like), read,
-               write, sync, size (ftruncate and its like) and lock
+               write, sync, size (ftruncate and its like), lock, and memory (malloc and realloc), which counts only where it is given
    SHIM_NAMES  the files whose calls count: last parts of paths, with commas, `0`, `1` and `2` for the standard streams, and `.` for a
                folder; all where it isn't given. A name that ends with `*` is each that begins so
    SHIM_AT     which of the calls that count something is done at, from 1 on; at none where it isn't given
@@ -14,6 +15,9 @@
    SHIM_MOVES  pairs of paths, a line each: what stands at the first is moved to the second, one pair after the other; then the call
                is made
    SHIM_NEXT   such pairs, which are moved at the next call that counts
+   SHIM_NOISE  a number above 0, of which other noise comes for another number: at some of these calls, of those that ask for memory or
+               give it back, of those that give the processor away, and of those that wait for another thread, the thread gives the
+               processor away or sleeps for up to 200 microseconds; and some waits end at once, as if by a signal
 
    Nothing is done where two calls of one thread are nested. */
 #define _GNU_SOURCE
@@ -21,14 +25,18 @@
 #include <errno.h>
 #include <fcntl.h>
 #include <pthread.h>
+#include <sched.h>
+#include <stdint.h>
 #include <stdarg.h>
 #include <stdio.h>
 #include <stdlib.h>
 #include <string.h>
+#include <linux/futex.h>
 #include <sys/file.h>
 #include <sys/stat.h>
 #include <sys/syscall.h>
 #include <sys/uio.h>
+#include <time.h>
 #include <unistd.h>
 
 #define FILES 1024
@@ -43,34 +51,38 @@ static long counted;
 static int notes = -1;
 static const char *kinds_wanted, *names_wanted, *moves, *next_moves;
 static long at, fails;
-static int from_there_on, is_short;
+static int from_there_on, is_short, counts_memory;
+static uint64_t noise;
 static __thread int within;
+static __thread uint64_t drawn;
+
+void *__libc_malloc(size_t size);
+void *__libc_realloc(void *held, size_t size);
+void __libc_free(void *held);
 
 static long number(const char *word) {
   const char *text = getenv(word);
   return text ? atol(text) : 0;
 }
 
-__attribute__((constructor)) static void begin(void) {
-  const char *path = getenv("SHIM_NOTES");
-  kinds_wanted = getenv("SHIM_KINDS");
-  names_wanted = getenv("SHIM_NAMES");
-  moves = getenv("SHIM_MOVES");
-  next_moves = getenv("SHIM_NEXT");
-  at = number("SHIM_AT");
-  fails = number("SHIM_FAIL");
-  from_there_on = getenv("SHIM_ON") != NULL;
-  is_short = getenv("SHIM_SHORT") != NULL;
-  if (path) {
-    /* A number that the program wouldn't get, and none of the standard streams' where one of these is closed. */
-    int low = (int)syscall(SYS_openat, AT_FDCWD, path, O_WRONLY | O_CREAT | O_APPEND, 0666);
-    if (low >= 0) {
-      notes = (int)syscall(SYS_fcntl, low, F_DUPFD_CLOEXEC, 700);
-      syscall(SYS_close, low);
-    }
+/* A number below this one; others for other threads and other noise. */
+static uint64_t draw(uint64_t below) {
+  if (drawn == 0) drawn = noise * 0x9e3779b97f4a7c15u + (uint64_t)(uintptr_t)&drawn;
+  drawn = drawn * 6364136223846793005u + 1442695040888963407u;
+  return (drawn >> 33) % below;
+}
+
+/* Gives the processor away or sleeps a while, at one of so many calls. */
+static void disturb(uint64_t of) {
+  int before = errno;
+  if (noise == 0 || draw(of) != 0) return;
+  if (draw(2) == 0) {
+    syscall(SYS_sched_yield);
+  } else {
+    struct timespec nap = {0, (long)draw(200) * 1000};
+    syscall(SYS_nanosleep, &nap, NULL);
   }
-  /* What the program starts has no shim. */
-  unsetenv("LD_PRELOAD");
+  errno = before;
 }
 
 /* Whether a word is one of these, with commas between them. */
@@ -83,6 +95,30 @@ static int is_among(const char *word, const char *words) {
     from = comma ? comma + 1 : NULL;
   }
   return 0;
+}
+
+__attribute__((constructor)) static void begin(void) {
+  const char *path = getenv("SHIM_NOTES");
+  kinds_wanted = getenv("SHIM_KINDS");
+  names_wanted = getenv("SHIM_NAMES");
+  moves = getenv("SHIM_MOVES");
+  next_moves = getenv("SHIM_NEXT");
+  at = number("SHIM_AT");
+  fails = number("SHIM_FAIL");
+  from_there_on = getenv("SHIM_ON") != NULL;
+  is_short = getenv("SHIM_SHORT") != NULL;
+  counts_memory = kinds_wanted != NULL && is_among("memory", kinds_wanted);
+  noise = (uint64_t)number("SHIM_NOISE");
+  if (path) {
+    /* A number that the program wouldn't get, and none of the standard streams' where one of these is closed. */
+    int low = (int)syscall(SYS_openat, AT_FDCWD, path, O_WRONLY | O_CREAT | O_APPEND, 0666);
+    if (low >= 0) {
+      notes = (int)syscall(SYS_fcntl, low, F_DUPFD_CLOEXEC, 700);
+      syscall(SYS_close, low);
+    }
+  }
+  /* What the program starts has no shim. */
+  unsetenv("LD_PRELOAD");
 }
 
 static const char *last_part(const char *path) {
@@ -111,6 +147,7 @@ static enum deed deed_of(const char *kind, const char *name) {
   const char *done = "-";
   int before = errno;
   if (within) return GO_ON;
+  disturb(8);
   within = 1;
   pthread_mutex_lock(&one_at_a_time);
   if ((!kinds_wanted || is_among(kind, kinds_wanted)) && (!names_wanted || is_among(name, names_wanted))) {
@@ -153,6 +190,44 @@ int openat64(int folder, const char *path, int flags, ...) { MODE_OF(flags) FAIL
 int close(int file) {
   if (file >= 0 && file < FILES) names[file][0] = 0;
   return REAL(close)(file);
+}
+
+void *malloc(size_t size) {
+  disturb(256);
+  return counts_memory && deed_of("memory", "") == FAILS ? NULL : __libc_malloc(size);
+}
+
+void *realloc(void *held, size_t size) {
+  disturb(256);
+  return counts_memory && deed_of("memory", "") == FAILS ? NULL : __libc_realloc(held, size);
+}
+
+void free(void *held) {
+  disturb(256);
+  __libc_free(held);
+}
+
+int sched_yield(void) {
+  disturb(8);
+  return (int)syscall(SYS_sched_yield);
+}
+
+long syscall(long which, ...) {
+  static long (*real)(long, ...);
+  long given[6];
+  va_list more;
+  va_start(more, which);
+  for (int at = 0; at < 6; at++) given[at] = va_arg(more, long);
+  va_end(more);
+  if (which == SYS_futex && noise) {
+    disturb(2);
+    if ((given[1] & FUTEX_CMD_MASK) == FUTEX_WAIT && draw(8) == 0) {
+      errno = EINTR;
+      return -1;
+    }
+  }
+  if (!real) real = REAL(syscall);
+  return real(which, given[0], given[1], given[2], given[3], given[4], given[5]);
 }
 
 ssize_t read(int file, void *into, size_t count) { enum deed deed = deed_of("read", name_of(file)); return deed == FAILS ? -1 : REAL(read)(file, into, part(deed, count)); }

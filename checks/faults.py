@@ -1,7 +1,7 @@
 """The program while calls of the system fail:  checks/faults.py [--all]
 
 A library stands between the program and the C library (`checks/faults.c`), where there is a C compiler, and has one call of a command
-fail, or each one from there on, or carry out a part alone: each call in turn with `--all`, else some of them. Then the number is one
+fail, or each one from there on, or carry out a part alone, or refuses it memory: each call in turn with `--all`, else some of them. Then the number is one
 that docs/OPERATIONS.md has, and names the file; each reply is in the log, which replays; a call that wasn't in vain aborts nobody;
 no money is made or lost; reports print the front of what they print else; and a later run goes on.
 """
@@ -30,7 +30,10 @@ WAYS = {
     "ENOSPC": {"kinds": "open,write,sync,size", "fail": errno.ENOSPC},
     "EINTR": {"kinds": "open,read,write,sync,lock", "fail": errno.EINTR},
     "a part": {"kinds": "read,write", "short": 1},
+    "no memory": {"kinds": "memory", "names": None, "fail": errno.ENOMEM},
 }
+# So many calls that ask for memory are tried where not all are.
+ASKED = 50
 
 rows = Rows("faults")
 
@@ -62,7 +65,7 @@ class Case:
         folder = os.path.join(self.room, f"{self.name} {label}".replace(" ", "_"))
         shutil.copytree(self.template, folder)
         noted = folder + ".notes"
-        ended = run(folder, *self.words, given=self.given, shim=shim.words(self.library, notes=noted, names=FILES, **settings))
+        ended = run(folder, *self.words, given=self.given, shim=shim.words(self.library, **{"notes": noted, "names": FILES, **settings}))
         calls = shim.notes(noted)
         if os.path.exists(noted):
             os.remove(noted)
@@ -96,7 +99,8 @@ class Run(Case):
         return kept.judge(folder, BEFORE, self.given.splitlines(), ended, failed)
 
     def untold(self, ended, failed):
-        return kept.passed_over(ended, failed)
+        # A run by workers can do without the memory of a thread.
+        return [] if failed == {shim.NO_FILE} and "--workers" in self.words else kept.passed_over(ended, failed)
 
 
 class Nested(Run):
@@ -180,7 +184,13 @@ def tries(case, stride):
     rows.row(f"{case.name} where nothing fails", ended.number, 0)
     rows.row(f"{case.name} makes calls that the library notes", {"open", "read"} <= {call.kind for call in calls}, True)
     for turn, (way, settings) in enumerate(WAYS.items()):
-        chosen = [(call.kind, call.name.split("-")[0]) for call in calls if call.kind in settings["kinds"].split(",") and call.name not in ("2", "?")]
+        if way == "no memory":
+            folder, _, asked = case.run("asked", kinds="memory", names=None)
+            shutil.rmtree(folder)
+            count = sum(call.kind == "memory" for call in asked)
+            yield from ((case, way, at) for at in range(1, count + 1, 1 if stride == 1 else count // ASKED + 1))
+            continue
+        chosen = [(call.kind, call.name.split("-")[0]) for call in calls if call.kind in settings["kinds"].split(",") and call.name not in ("2", shim.NO_FILE)]
         firsts = {chosen.index(call) + 1 for call in chosen}
         yield from ((case, way, at) for at in sorted(firsts | set(range(1 + turn % stride, len(chosen) + 1, stride))))
 

@@ -7,6 +7,9 @@ import subprocess
 from harness import TOP
 
 
+# The name of what isn't on a file.
+NO_FILE = "?"
+
 Noted = collections.namedtuple("Noted", "kind name done")
 
 
