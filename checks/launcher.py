@@ -296,4 +296,9 @@ with tempfile.TemporaryDirectory() as room:
     number, output, errors = launch(room, "bank")
     rows.row("the launcher by it", (number, re.sub(r"\d+ at a time", "N at a time", errors)), (0, f"silo: proving 5 crates, N at a time, and building the program; the log is {top}/out/build.log\n"))
 
+if shutil.which("rt"):
+    # The kit's own rt, with its sums made once.
+    said = [subprocess.run([rt, "version"], stdin=subprocess.DEVNULL, capture_output=True).stdout for rt in ("rt", f"{TOP}/tools/rt")]
+    rows.row("tools/rt is rt", (said[0] != b"", said[1]), (True, said[0]))
+
 rows.end()
