@@ -210,16 +210,16 @@ impl Signals {
         low(self.rooms.load(Ordering::SeqCst))
     }
 
-    /// A worker that may not begin a line sleeps, by what [`Signals::may_begin`] found: until enough is written, or while no room
-    /// came since this count was seen; it may also return for no reason.
+    /// A worker that may not begin a line calls the one who settles, and sleeps, by what [`Signals::may_begin`] found: until enough
+    /// is written, or while no room came since this count was seen; it may also return for no reason.
     pub fn keep_back<R: Wait>(&self, rt: &R, room: u32, stand: &Stand) {
         let longest = Duration::from_millis(LONGEST_SLEEP);
+        self.call();
         if !stand.is_early {
             self.rooms.park_timeout(rt, room, longest);
             return;
         }
         self.early.fetch_add(1, Ordering::SeqCst);
-        self.call();
         self.written.park_timeout(rt, low(stand.written), longest);
         self.early.fetch_sub(1, Ordering::SeqCst);
     }
