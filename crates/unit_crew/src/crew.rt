@@ -1,9 +1,11 @@
 ghost use Rattle.std.specs.Prelude.{◌≡◌, ◌<◌, ◌≤◌, IfOk, length, filter, count_by, not};
+ghost use Rattle.core_access.specs.Sights.{Looks};
 ghost use Rattle.script_tree.specs.Programs.{program_tree};
 ghost use Rattle.txn_agent.specs.declared.agent.Agent.{Agent as AnAgent};
 ghost use Rattle.txn_agent.specs.Stepping.{has_freed_all, is_freeing};
 ghost use Rattle.unit_crew.specs.Crews.{IsCrew, HasTypes, WorksOn};
 
+use crate::looks::was_aborted;
 use base_types::Origin;
 use core_access::Access;
 use script_check::Checked;
@@ -11,7 +13,7 @@ use settle_loop::{Gate, GatePlace};
 use std::alloc::{AllocError, Global};
 use txn_agent::Advanced;
 use unit_carrier::Agents;
-use worker_signals::Signals;
+use worker_signals::{Signals, Stand};
 
 /// How many events a unit makes at most before a stop is looked for.
 const MOST_STEPS: usize = 64;
@@ -101,7 +103,7 @@ fn go_far<A: Access, G: Gate>(
 }
 
 /// Each unit goes on as far as it can. Answers whether one moved.
-pub(crate) fn go_on<A: Access, G: Gate>(
+fn go_each<A: Access, G: Gate>(
     alloc: Global,
     checked: &Checked,
     access: &mut A,
@@ -122,6 +124,43 @@ pub(crate) fn go_on<A: Access, G: Gate>(
         let went = go_far(alloc, checked, access, agents, gate, signals, halted, index)?;
         moved = moved | went;
     }
+    Ok(moved)
+}
+
+/// Tells of the line that it died by a lock, where its unit was aborted and has none left.
+fn tell_death<A: Access>(access: &mut A, agents: &Agents, signals: &Signals, stand: &Stand)
+    requires fit { A.is_fit access.old }
+    ensures fit { A.is_fit access.new }
+    ensures aside { A.aside access.new ≡ A.aside access.old }
+    ensures looked { Looks A.may_come (A.sight access.old) (A.sight access.new) }
+{
+    if let Some(first) = agents.list.first() {
+        if first.is_line() && first.has_freed_all() && was_aborted(access, first.unit()) {
+            signals.meet(stand);
+        }
+    }
+}
+
+/// Each unit goes on as far as it can, and where the line died by a lock, the others are told. Answers whether a unit moved.
+pub(crate) fn go_on<A: Access, G: Gate>(
+    alloc: Global,
+    checked: &Checked,
+    access: &mut A,
+    agents: &mut Agents,
+    gate: &G,
+    signals: &Signals,
+    stand: &Stand,
+    halted: bool,
+) -> Result<bool, AllocError>
+    requires fit { A.is_fit access.old }
+    requires crew { IsCrew (program_tree checked.now) (A.sight access.old) agents.old.list.items }
+    ensures fit { A.is_fit access.new }
+    ensures aside { A.aside access.new ≡ A.aside access.old }
+    ensures works { WorksOn (HasTypes (program_tree checked.now)) (A.sight access.old) (A.sight access.new) }
+    ensures crew { IfOk result (λ _. IsCrew (program_tree checked.now) (A.sight access.new) agents.new.list.items) }
+{
+    let moved = go_each(alloc, checked, access, agents, gate, signals, halted)?;
+    tell_death(access, agents, signals, stand);
     Ok(moved)
 }
 

@@ -12,7 +12,7 @@ use script_check::Checked;
 use settle_loop::{Gate, GatePlace};
 use std::alloc::{AllocError, Global};
 use unit_carrier::{Agents, start_line};
-use worker_signals::Signals;
+use worker_signals::{Signals, Stand};
 
 /// Begins the next line of the run, where one is left; a unit that begins is carried. Answers whether a line was left. Where
 /// another took it first, its event doesn't apply.
@@ -25,6 +25,7 @@ pub(crate) fn begin_next<A: Access, L: Lines, G: Gate>(
     agents: &mut Agents,
     gate: &G,
     signals: &Signals,
+    stand: &mut Stand,
 ) -> Result<bool, AllocError>
     requires fit { A.is_fit access.old }
     requires before { before ≤ (ends (A.sight access.old).first).units.lines }
@@ -38,7 +39,7 @@ pub(crate) fn begin_next<A: Access, L: Lines, G: Gate>(
     ensures none { IfOk result (λ left. left ≡ false → agents.new.list.items ≡ agents.old.list.items) }
 {
     let next = next_line(access)?;
-    signals.begin_line(next);
+    signals.come_to(next);
     let place = next.saturating_sub(1).saturating_sub(before);
     match lines.line_at(alloc, place as usize)? {
         None => return Ok(false),
@@ -47,6 +48,7 @@ pub(crate) fn begin_next<A: Access, L: Lines, G: Gate>(
             match began {
                 None => return Ok(true),
                 Some(unit) => {
+                    signals.carry(stand, next);
                     gate.reach(GatePlace::Begun { unit });
                     return Ok(true);
                 }

@@ -3,8 +3,9 @@ ghost use Rattle.core_model.specs.Legal.{ends};
 ghost use Rattle.core_access.specs.Sights.{run_seen, IsHistory, Looks};
 ghost use Rattle.unit_crew.specs.Through.{IsHalted};
 
+use base_types::{Outcome, UnitNo};
 use core_access::Access;
-use core_model::{CoreAnswer, CoreQuestion};
+use core_model::{CoreAnswer, CoreQuestion, KnownOutcome};
 use std::alloc::AllocError;
 
 /// Whether a stop or a doubt stands. It takes no memory.
@@ -35,5 +36,20 @@ pub(crate) fn next_line<A: Access>(access: &mut A) -> Result<u64, AllocError>
     match access.see(&CoreQuestion::NextLine)? {
         CoreAnswer::NextLine(next) => Ok(next),
         _ => unreachable!(),
+    }
+}
+
+/// Whether the unit was aborted by now: soon after it was over that is so of one that was refused a lock. Without memory for its
+/// outcome it isn't told.
+pub(crate) fn was_aborted<A: Access>(access: &mut A, unit: UnitNo) -> bool
+    requires fit { A.is_fit access.old }
+    ensures fit { A.is_fit access.new }
+    ensures aside { A.aside access.new ≡ A.aside access.old }
+    ensures looked { Looks A.may_come (A.sight access.old) (A.sight access.new) }
+{
+    match access.see(&CoreQuestion::Outcome { unit }) {
+        Ok(CoreAnswer::Outcome(KnownOutcome::Decided(Outcome::Aborted))) => true,
+        Ok(_told) => false,
+        Err(AllocError) => false,
     }
 }

@@ -1,6 +1,6 @@
-ghost use Rattle.std.specs.Prelude.{◌≡◌, ◌⊎◌, ◌+◌, ◌≤◌, [], IfOk, length};
+ghost use Rattle.std.specs.Prelude.{◌≡◌, ◌⊎◌, ◌+◌, ◌≤◌, [], IfOk, OnErr, length};
 ghost use Rattle.core_model.specs.Legal.{ends};
-ghost use Rattle.core_access.specs.Sights.{Counts, IsHistory};
+ghost use Rattle.core_access.specs.Sights.{Counts, IsHistory, Looks, run_seen};
 ghost use Rattle.promise_spec.specs.UnitRule.{Basis};
 ghost use Rattle.script_tree.specs.Programs.{program_tree};
 ghost use Rattle.turn_cell.specs.History.{StartsWith};
@@ -21,7 +21,7 @@ use settle_loop::Gate;
 use std::alloc::{AllocError, Global};
 use std::sync::Wait;
 use unit_carrier::Agents;
-use worker_signals::Signals;
+use worker_signals::{Signals, Stand};
 
 /// What a round came to.
 #[derive(Clone, Copy)]
@@ -46,6 +46,7 @@ fn go_round<A: Access, L: Lines, G: Gate>(
     agents: &mut Agents,
     gate: &G,
     signals: &Signals,
+    stand: &mut Stand,
 ) -> Result<Round, AllocError>
     requires fit { A.is_fit access.old }
     requires before { before ≤ (ends (A.sight access.old).first).units.lines }
@@ -58,17 +59,20 @@ fn go_round<A: Access, L: Lines, G: Gate>(
     ensures over { IfOk result (λ round. IsOverAt (before + length (L.lines lines.old)) (A.sight access.new) round) }
 {
     let halted = is_halted(access)?;
-    let moved = go_on(alloc, checked, access, agents, gate, signals, halted)?;
+    let moved = go_on(alloc, checked, access, agents, gate, signals, stand, halted)?;
     drop_freed(agents);
     if halted {
         if freeing_in(agents) == 0 {
             return Ok(Round::Over);
         }
     } else if agents.list.is_empty() {
-        if signals.is_ahead() {
+        signals.end_line(stand);
+        if !signals.may_begin(stand) {
             return Ok(Round::Ahead);
         }
-        if begin_next(alloc, checked, lines, before, access, agents, gate, signals)? {
+        if begin_next(
+            alloc, checked, lines, before, access, agents, gate, signals, stand,
+        )? {
             return Ok(Round::Moved);
         }
         return Ok(Round::Over);
@@ -90,6 +94,7 @@ fn go_rounds<A: Access, L: Lines, G: Gate, R: Wait>(
     access: &mut A,
     gate: &G,
     signals: &Signals,
+    stand: &mut Stand,
 ) -> Result<(), AllocError>
     requires fit { A.is_fit access.old }
     requires before { before ≤ (ends (A.sight access.old).first).units.lines }
@@ -104,6 +109,7 @@ fn go_rounds<A: Access, L: Lines, G: Gate, R: Wait>(
     let mut agents = Agents::new(alloc);
     for _ in rt.forever() {
         let seen = signals.seen();
+        let room = signals.room();
         match go_round(
             alloc,
             checked,
@@ -113,11 +119,32 @@ fn go_rounds<A: Access, L: Lines, G: Gate, R: Wait>(
             &mut agents,
             gate,
             signals,
+            stand,
         )? {
             Round::Over => return Ok(()),
             Round::Moved => {}
-            Round::Stayed => signals.wait(rt, seen),
-            Round::Ahead => signals.let_write(rt),
+            Round::Stayed => signals.wait(rt, seen, stand),
+            Round::Ahead => signals.keep_back(rt, room, stand),
+        }
+    }
+    unreachable!()
+}
+
+/// Waits until a stop or a doubt is seen. It takes no memory.
+fn wait_for_stop<A: Access, R: Wait>(rt: &R, access: &mut A, signals: &Signals, stand: &mut Stand)
+    requires fit { A.is_fit access.old }
+    ensures fit { A.is_fit access.new }
+    ensures aside { A.aside access.new ≡ A.aside access.old }
+    ensures legal { IsHistory (A.sight access.new) }
+    ensures looked { Looks A.may_come (A.sight access.old) (A.sight access.new) }
+    ensures halted { IsHalted (run_seen (A.sight access.new)) }
+{
+    for _ in rt.forever() {
+        let seen = signals.seen();
+        match is_halted(access) {
+            Ok(true) => return,
+            Ok(false) => signals.wait(rt, seen, stand),
+            Err(AllocError) => unreachable!(),
         }
     }
     unreachable!()
@@ -132,7 +159,8 @@ fn go_rounds<A: Access, L: Lines, G: Gate, R: Wait>(
 ///
 /// # Errors
 ///
-/// Want of memory alone, of which the signals are told too. What was put by then stands.
+/// Want of memory alone. The signals are told of it, by which the one who settles puts a stop; the answer comes once a stop or a
+/// doubt is seen. What was put by then stands.
 pub fn carry_lines<A: Access, L: Lines, G: Gate, R: Wait>(
     rt: &R,
     alloc: Global,
@@ -165,15 +193,21 @@ pub fn carry_lines<A: Access, L: Lines, G: Gate, R: Wait>(
     // How it ended.
     ensures shown { IfOk result (λ _. Showed IsHalted (A.sight access.new) ⊎ Showed (IsPastLine (before + length (L.lines lines.old))) (A.sight access.new)) }
     ensures through { IfOk result (λ _. AreThrough (A.sight access.new)) }
+    ensures halted { OnErr result (Showed IsHalted (A.sight access.new)) }
 {
-    match go_rounds(rt, alloc, checked, lines, before, access, gate, signals) {
+    let mut stand = Stand::new();
+    match go_rounds(
+        rt, alloc, checked, lines, before, access, gate, signals, &mut stand,
+    ) {
         Ok(()) => {
+            signals.leave(&mut stand);
             is_halted(access)?;
             return Ok(());
         }
         Err(fault) => {
+            signals.leave(&mut stand);
             signals.fail();
-            is_halted(access)?;
+            wait_for_stop(rt, access, signals, &mut stand);
             return Err(fault);
         }
     }

@@ -27,11 +27,11 @@ returns-then-freeing_in-eq0-clause-over g c = (
   halted-through (IsBasisOf (program_tree c.args.checked.now) c.args.before (g.L.Lines.lines c.args.lines.now)) (program_tree c.args.checked.now) (g.A.Access.sight c.is_halted.new.access) (g.A.Access.sight c.go_on.new.access) c.drop_freed.new.agents.list.items (c.in_ok-halted.ensures.halted c.if-halted.true) (works-types (program_tree c.args.checked.now) c.args.before (g.L.Lines.lines c.args.lines.now) (g.A.Access.sight c.is_halted.new.access) (g.A.Access.sight c.go_on.new.access) c.go_on.ensures.works) (sym c.freeing_in.ensures ∙ c.if-freeing_in-eq0.true) (drops-crew (program_tree c.args.checked.now) (g.A.Access.sight c.go_on.new.access) c.go_on.new.agents.list.items c.drop_freed.new.agents.list.items c.drop_freed.ensures c.in_ok-moved.ensures.crew),
 )
 
-pub returns-then-is_ahead-clause-works : goal.returns-then-is_ahead-clause-works
-returns-then-is_ahead-clause-works g c = works-on (IsBasisOf (program_tree c.args.checked.now) c.args.before (g.L.Lines.lines c.args.lines.now)) (g.A.Access.sight c.args.access.now) (g.A.Access.sight c.is_halted.new.access) (g.A.Access.sight c.go_on.new.access) (works-looks (IsBasisOf (program_tree c.args.checked.now) c.args.before (g.L.Lines.lines c.args.lines.now)) g.A.Access.may_come (g.A.Access.sight c.args.access.now) (g.A.Access.sight c.is_halted.new.access) c.is_halted.ensures.looked) (works-types (program_tree c.args.checked.now) c.args.before (g.L.Lines.lines c.args.lines.now) (g.A.Access.sight c.is_halted.new.access) (g.A.Access.sight c.go_on.new.access) c.go_on.ensures.works)
+pub returns-then-not-may_begin-clause-works : goal.returns-then-not-may_begin-clause-works
+returns-then-not-may_begin-clause-works g c = works-on (IsBasisOf (program_tree c.args.checked.now) c.args.before (g.L.Lines.lines c.args.lines.now)) (g.A.Access.sight c.args.access.now) (g.A.Access.sight c.is_halted.new.access) (g.A.Access.sight c.go_on.new.access) (works-looks (IsBasisOf (program_tree c.args.checked.now) c.args.before (g.L.Lines.lines c.args.lines.now)) g.A.Access.may_come (g.A.Access.sight c.args.access.now) (g.A.Access.sight c.is_halted.new.access) c.is_halted.ensures.looked) (works-types (program_tree c.args.checked.now) c.args.before (g.L.Lines.lines c.args.lines.now) (g.A.Access.sight c.is_halted.new.access) (g.A.Access.sight c.go_on.new.access) c.go_on.ensures.works)
 
-pub returns-then-is_ahead-clause-crew : goal.returns-then-is_ahead-clause-crew
-returns-then-is_ahead-clause-crew g c = drops-crew (program_tree c.args.checked.now) (g.A.Access.sight c.go_on.new.access) c.go_on.new.agents.list.items c.drop_freed.new.agents.list.items c.drop_freed.ensures c.in_ok-moved.ensures.crew
+pub returns-then-not-may_begin-clause-crew : goal.returns-then-not-may_begin-clause-crew
+returns-then-not-may_begin-clause-crew g c = drops-crew (program_tree c.args.checked.now) (g.A.Access.sight c.go_on.new.access) c.go_on.new.agents.list.items c.drop_freed.new.agents.list.items c.drop_freed.ensures c.in_ok-moved.ensures.crew
 
 pub begin_next-requires-clause-crew : goal.begin_next-requires-clause-crew
 begin_next-requires-clause-crew g c = drops-crew (program_tree c.args.checked.now) (g.A.Access.sight c.go_on.new.access) c.go_on.new.agents.list.items c.drop_freed.new.agents.list.items c.drop_freed.ensures c.in_ok-moved.ensures.crew

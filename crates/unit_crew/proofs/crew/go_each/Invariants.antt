@@ -1,7 +1,7 @@
 use Rattle.std.proofs.Common.{◌≡◌, ◌≤◌, length}
 use Rattle.script_tree.specs.Programs.{program_tree}
 use Rattle.unit_crew.specs.Crews.{IsCrew, HasTypes, WorksOn}
-use Rattle.unit_crew.proofs.crew.go_on.Given as goal
+use Rattle.unit_crew.proofs.crew.go_each.Given as goal
 
 abbrev pub invariant-loop-index : goal.invariant-loop-index
 invariant-loop-index g l = record {
