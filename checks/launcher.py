@@ -275,7 +275,9 @@ with tempfile.TemporaryDirectory() as room:
         with open(f"{room}/asked") as it:
             lines = it.read().split("\n")[:-1]
         # Of two that are begun at one time either may say so first.
-        return done.returncode, re.findall(r"(?m)^== (\w+)$", done.stdout.decode()), lines[:3] + sorted(lines[3:5]) + lines[5:]
+        said = re.findall(r"(?m)^== (\w+)$\n(?:.*\n)*?^prove: \1 (is proved|isn't proved, and ended with -?\d+): \d s, with --jobs \d$", done.stdout.decode())
+        names = [name if how == "is proved" else f"{name} {how.split()[-1]}" for name, how in said]
+        return done.returncode, names, lines[:3] + sorted(lines[3:5]) + lines[5:]
 
     sums = "(silo(low)(left(low))(right(low))(tall(left(low)))) True "
     wanted = ["lock low left right tall silo", "begin low --jobs 4", "end low", "begin left --jobs 2", "begin right --jobs 2", "end left",
@@ -284,9 +286,9 @@ with tempfile.TemporaryDirectory() as room:
     one = [f"{word} --jobs 1" if word.startswith("begin") else word for name in ("low", "left", "right", "tall") for word in (f"begin {name}", f"end {name}")]
     found = prove("1")
     rows.row("one after another", (found[0], sorted(found[2][1:-2])), (0, sorted(one)))
-    rows.row("a library that fails", prove("4", FAILS="left"), (1, ["low", "left", "right"], [*wanted[:6], "end right"]))
+    rows.row("a library that fails", prove("4", FAILS="left"), (1, ["low", "left 1", "right"], [*wanted[:6], "end right"]))
     killed = [*wanted[:6], "begin tall --jobs 2", "end tall", "end right", "begin right --jobs 2", "end right", "begin silo --jobs 2", wanted[-1]]
-    rows.row("a check that is killed", prove("4", KILLED="right"), (0, ["low", "left", "tall", "right", "right", "silo"], killed))
+    rows.row("a check that is killed", prove("4", KILLED="right"), (0, ["low", "left", "tall", "right -9", "right", "silo"], killed))
     plain = ["as it is: all check --jobs 4", "as it is: run"]
     rows.row("a kit without what is used", prove("4", LACKS="stamp"), (0, [], plain))
     rows.row("rt as it is", prove("4", SILO_PLAIN_RT="1"), (0, [], plain))
