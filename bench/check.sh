@@ -1,36 +1,36 @@
 #!/usr/bin/env bash
-# Times the check of two silos, with N starts and with 10 N, from one seed:  bench/check.sh [N] [SEED]
-# No command of the program runs it. So this makes a program in a folder of its own beside this checkout's crates, and runs it by
-# rt try, which proves nothing: it wants the kit, and no crate built before. The program carries rt try's checks of each access, so
-# the seconds are those of a slower program than the proved one. They are of the processor's time.
-# The proved program takes 0.038 s for 10,000 starts from the seed 7 and 0.430 s for 100,000, 11 times as long; as rt try builds
-# it, ten times as many starts took 8 to 13 times as long. docs/TWO-SILOS.md ("Cost") has more figures and the counts.
+# Times `check N SEED` of the program, and `check` with a tenth of the starts:  bench/check.sh [N] [SEED]
+# N is 10000 and SEED 7 where they aren't given. Prints the line, the seconds and the most memory of each of the two runs, and how
+# many times as long the first took. Ends with 1 where 10,000 starts took more than 3 seconds or 100 MB.
+# docs/TWO-SILOS.md ("Cost") has more figures, and the counts.
 top=$(cd "$(dirname "${BASH_SOURCE[0]}")/.." && pwd)
-n=${1:-10000}
-seed=${2:-7}
-folder=$(mktemp -d) || exit 1
-trap 'rm -rf "$folder"' EXIT
-mkdir -p "$folder/crates/check_bench/src" || exit 1
-(cd "$top" && tar cf - --exclude=out crates) | tar xf - -C "$folder" || exit 1
-{ cat "$top/crates.txt"; echo "check_bench: base_types silo_nodes two_silos"; } >"$folder/crates.txt"
-cat >"$folder/crates/check_bench/src/main.rt" <<END
-#![tactic(auto)]
+[ -n "${SILO:-}" ] || "$top/silo" </dev/null >/dev/null 2>&1
+exec python3 - "${SILO:-$top/crates/silo/out/silo}" "$@" <<'END'
+import os, subprocess, sys, time
 
-use std::io;
-use std::time::CpuClock;
-use two_silos::check;
+program = sys.argv[1]
+starts = int(sys.argv[2]) if len(sys.argv) > 2 else 10_000
+seed = sys.argv[3] if len(sys.argv) > 3 else "7"
+SECONDS, MEGABYTES = 3, 100
 
-fn main(rt: HostRuntime) -> io::Result<()> {
-    for starts in [$n, $((10 * n))] {
-        let begun = rt.thread_cpu_time()?;
-        let summary = check(starts, $seed, rt.alloc())?;
-        let line = summary.line(rt.alloc())?;
-        let spent = rt.thread_cpu_time()?;
-        print!(rt; "check {starts} $seed: {line}")?;
-        println!(rt; "  in {} ms", spent.as_millis().wrapping_sub(begun.as_millis()))?;
-    }
-    Ok(())
-}
+
+def measured(count):
+    """The line, the seconds, and the most memory in MB."""
+    begun = time.monotonic()
+    child = subprocess.Popen([program, ".", "check", str(count), seed], stdin=subprocess.DEVNULL, stdout=subprocess.PIPE)
+    line = child.stdout.read()
+    _, status, used = os.wait4(child.pid, 0)
+    took = time.monotonic() - begun
+    if status != 0:
+        sys.exit(f"check.sh: check {count} {seed} ended with {os.waitstatus_to_exitcode(status)}")
+    return line.decode().rstrip(), took, used.ru_maxrss / 1000
+
+
+short = measured(starts // 10)
+long = measured(starts)
+for count, (line, took, memory) in ((starts // 10, short), (starts, long)):
+    print(f"check {count} {seed}: {line}\n  in {took:.3f} s, with at most {memory:.0f} MB")
+print(f"{starts} starts took {long[1] / short[1]:.1f} times as long as {starts // 10}")
+if starts <= 10_000 and (long[1] > SECONDS or long[2] > MEGABYTES):
+    sys.exit(f"check.sh: more than {SECONDS} s or {MEGABYTES} MB")
 END
-cd "$folder/crates/check_bench" || exit 1
-rt try --steps 1 --seconds 1800 </dev/null

@@ -5,10 +5,10 @@ use Rattle.std.specs.List.{AllByRecursion}
 use Rattle.std.specs.declared.alloc.Global.{Global}
 use Rattle.std.proofs.lemmas.Fmt.{decimal_injective}
 use Rattle.std.proofs.lemmas.Slice.Eq.{bytes_eq-Decides}
-use Rattle.promise_spec.specs.Words.{Choice, Width, Turns, Workers, GivenOption, manner_of, IsNoTurns, AreOptions, Command, Init, Run, Show, History, Audit, Load, Say, SpellsRun, SpellsLoad}
+use Rattle.promise_spec.specs.Words.{Choice, Width, Turns, Workers, GivenOption, manner_of, IsNoTurns, AreOptions, Command, Init, Run, Show, History, Audit, Load, Check, Say, SpellsRun, SpellsLoad, SpellsCheck}
 use Rattle.command_words.specs.Parts.{WidthName, TurnsName, WorkersName, WordPart, OptionPart, NumberPart, option_values, number_words}
 use Rattle.command_words.specs.CutParts.{texts_of, HaveParts}
-use Rattle.command_words.specs.Options.{Chosen, Ask, AreLoadNumbers, is_first, chosen_manner, run_chosen, load_chosen, has_option}
+use Rattle.command_words.specs.Options.{Chosen, Ask, AreLoadNumbers, AreCheckNumbers, is_first, chosen_manner, run_chosen, load_chosen, has_option}
 use Rattle.command_words.specs.declared.words.RunOptions.{RunOptions}
 use Rattle.command_words.specs.declared.words.LoadOptions.{LoadOptions}
 use Rattle.command_words.specs.declared.words.Words.TheVariants as words
@@ -94,6 +94,14 @@ load_said texts o first numbers a =
       manner = right_manner a.parts c a.spelled a.may ∙ ap manner_of two.4;
     }
 
+pub check_said : (texts : Texts) (starts seed : ℕ) → is_first (codes "check") texts ≡ true → AreCheckNumbers starts seed
+    → drop 1 texts ≡ decimal starts ∷ decimal seed ∷ [] → SpellsCheck texts starts seed
+check_said texts starts seed first numbers e = record {
+  few = numbers.0;
+  small = numbers.1;
+  words_are = first_word (codes "check") texts first ∙ ap (λ (l : Texts). codes "check" ∷ l) e;
+}
+
 -- ---- what was refused isn't
 
 pub run_unsaid : (texts : Texts) → is_first (codes "run") texts ≡ true → ((chosen : Chosen) → Ask (drop 1 texts) chosen [] → ⊥)
@@ -104,6 +112,7 @@ run_unsaid texts first none takes Show k = other_first (codes "run") texts (code
 run_unsaid texts first none takes History k = other_first (codes "run") texts (codes "history" ∷ []) first k refl
 run_unsaid texts first none takes Audit k = other_first (codes "run") texts (codes "audit" ∷ []) first k refl
 run_unsaid texts first none takes (Load n seed m) k = other_first (codes "run") texts _ first k.words_are refl
+run_unsaid texts first none takes (Check n seed) k = other_first (codes "run") texts _ first k.words_are refl
 
 none_chosen : (options : List GivenOption) → AllByRecursion (λ (g : GivenOption). IsNoTurns g.what) options → (chosen_in options).turns ≡ None
 none_chosen [] none = refl
@@ -125,3 +134,15 @@ load_unsaid texts first none takes Audit k = other_first (codes "load") texts (c
 load_unsaid texts first none takes (Load n seed m) k =
     none (chosen_in (k.before ++ (k.between ++ k.behind))) n seed (k.many.0, k.many.1, k.small) (none_chosen (k.before ++ (k.between ++ k.behind)) k.no_turns)
     (load_asks takes k.before k.between k.behind n seed (drop 1 texts) k.are (omega (arith, k.many.1)) k.small (ap (λ (l : Texts). drop 1 l) k.words_are))
+load_unsaid texts first none takes (Check n seed) k = other_first (codes "load") texts _ first k.words_are refl
+
+pub check_unsaid : (texts : Texts) → is_first (codes "check") texts ≡ true
+    → ((starts seed : ℕ) → AreCheckNumbers starts seed → drop 1 texts ≡ decimal starts ∷ decimal seed ∷ [] → ⊥)
+    → (takes : GivenOption → Bool) (command : Command) → Say takes texts command → ⊥
+check_unsaid texts first none takes Init k = other_first (codes "check") texts (codes "init" ∷ []) first k refl
+check_unsaid texts first none takes (Run m) k = other_first (codes "check") texts _ first k.words_are refl
+check_unsaid texts first none takes Show k = other_first (codes "check") texts (codes "show" ∷ []) first k refl
+check_unsaid texts first none takes History k = other_first (codes "check") texts (codes "history" ∷ []) first k refl
+check_unsaid texts first none takes Audit k = other_first (codes "check") texts (codes "audit" ∷ []) first k refl
+check_unsaid texts first none takes (Load n seed m) k = other_first (codes "check") texts _ first k.words_are refl
+check_unsaid texts first none takes (Check n seed) k = none n seed (k.few, k.small) (ap (λ (l : Texts). drop 1 l) k.words_are)

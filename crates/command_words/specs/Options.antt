@@ -4,7 +4,7 @@ use Rattle.std.specs.Option.{option_map_or}
 use Rattle.std.specs.Str.{bytes_eq}
 use Rattle.std.specs.Fmt.{decimal}
 use Rattle.std.specs.declared.alloc.Global.{Global}
-use Rattle.promise_spec.specs.Words.{Choice, Width, Turns, Workers, GivenOption, Manner, IsWithin, list_text, Command, Init, Run, Show, History, Audit, Load}
+use Rattle.promise_spec.specs.Words.{Choice, Width, Turns, Workers, GivenOption, Manner, IsWithin, list_text, Command, Init, Run, Show, History, Audit, Load, Check}
 use Rattle.command_words.specs.declared.cutting.CutWords.{CutWords}
 use Rattle.command_words.specs.declared.words.RunOptions.{RunOptions}
 use Rattle.command_words.specs.declared.words.LoadOptions.{LoadOptions}
@@ -59,6 +59,10 @@ pub record Ask (words : List (List ℕ)) (chosen : Chosen) (numbers : List (List
 abbrev pub AreLoadNumbers : ℕ → ℕ → Type 0
 AreLoadNumbers transfers seed = (1 ≤ transfers) × (transfers ≤ 100000) × (seed < 2 ^ 64)
 
+-- the numbers of a check: 10,000 starts at most, and a seed below 2 to the 64
+abbrev pub AreCheckNumbers : ℕ → ℕ → Type 0
+AreCheckNumbers starts seed = (starts ≤ 10000) × (seed < 2 ^ 64)
+
 -- the first word is this one
 abbrev pub is_first : List ℕ → List (List ℕ) → Bool
 is_first name [] = false
@@ -90,6 +94,7 @@ command_of words.Show = Show
 command_of words.History = History
 command_of words.Audit = Audit
 command_of (words.Load options) = Load options.transfers options.seed (chosen_manner (load_chosen options))
+command_of (words.Check numbers) = Check numbers.starts numbers.seed
 
 -- an option that the answer may stem from: workers are as many as it has
 abbrev pub workers_of : Words → Option ℕ

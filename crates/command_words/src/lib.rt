@@ -13,4 +13,4 @@ mod words;
 
 pub use faults::WordsFault;
 pub use reading::read_words;
-pub use words::{LoadOptions, RunOptions, Words};
+pub use words::{CheckNumbers, LoadOptions, RunOptions, Words};

@@ -1,18 +1,21 @@
 //! The words of a command, read.
-ghost use Rattle.std.specs.Prelude.{◌≡◌, ℕ, Bool, List, [], ◌∷◌, None, Err, IfOk, drop, decimal};
+ghost use Rattle.std.specs.Prelude.{◌≡◌, ◌≤◌, ℕ, Bool, List, [], ◌∷◌, None, Err, IfOk, IfSome, drop, decimal};
 ghost use Rattle.promise_spec.specs.Words.{GivenOption, Command, Say};
 ghost use Rattle.command_words.specs.CutParts.{texts_of};
-ghost use Rattle.command_words.specs.Options.{Chosen, Ask, AreLoadNumbers, is_first, run_chosen, load_chosen, has_option, command_of};
+ghost use Rattle.command_words.specs.Options.{Chosen, Ask, AreLoadNumbers, is_first, run_chosen, load_chosen, has_option, command_of, AreCheckNumbers};
 
 use crate::cutting::cut_words;
 use crate::faults::WordsFault;
 use crate::numbers::{read_large, read_small};
 use crate::options::read_options;
-use crate::words::{LoadOptions, RunOptions, Words};
+use crate::words::{CheckNumbers, LoadOptions, RunOptions, Words};
 use std::alloc::Global;
 
 /// The most transfers of a load.
 const TRANSFER_LIMIT: u32 = 100_000;
+
+/// The most starts of a check.
+const START_LIMIT: u32 = 10_000;
 
 /// The options of a run.
 fn read_run(alloc: Global, words: &[String]) -> Result<RunOptions, WordsFault>
@@ -58,6 +61,39 @@ fn read_load(alloc: Global, words: &[String]) -> Result<LoadOptions, WordsFault>
     })
 }
 
+/// How many starts of a check a text spells.
+fn read_starts(text: &str) -> Option<u32>
+    ensures some { IfSome result (λ n. (text.now ≡ decimal n) × (n ≤ 10000)) }
+    ensures none { result ≡ None → (n : ℕ) → n ≤ 10000 → text.now ≡ decimal n → ⊥ }
+{
+    let Some(starts) = read_small(text) else {
+        return None;
+    };
+    if starts > START_LIMIT {
+        return None;
+    }
+    Some(starts)
+}
+
+/// The numbers of a check, which are all words behind the first.
+fn read_check(words: &[String]) -> Result<CheckNumbers, WordsFault>
+    ensures said { IfOk result (λ numbers. AreCheckNumbers numbers.starts numbers.seed
+        × (drop 1 (texts_of words.now) ≡ decimal numbers.starts ∷ decimal numbers.seed ∷ [])) }
+    ensures bad_use { result ≡ Err WordsFault.BadUse → (starts seed : ℕ) → AreCheckNumbers starts seed
+        → drop 1 (texts_of words.now) ≡ decimal starts ∷ decimal seed ∷ [] → ⊥ }
+{
+    let [_, first, second] = words else {
+        return Err(WordsFault::BadUse);
+    };
+    let Some(starts) = read_starts(first.as_str()) else {
+        return Err(WordsFault::BadUse);
+    };
+    let Some(seed) = read_large(second.as_str()) else {
+        return Err(WordsFault::BadUse);
+    };
+    Ok(CheckNumbers { starts, seed })
+}
+
 /// Whether the first word is this one.
 fn first_is(words: &[String], name: &str) -> bool
     ensures { result ≡ is_first name.now (texts_of words.now) }
@@ -80,6 +116,9 @@ pub fn read_words(alloc: Global, words: &[String]) -> Result<Words, WordsFault>
     }
     if first_is(words, "load") {
         return Ok(Words::Load(read_load(alloc, words)?));
+    }
+    if first_is(words, "check") {
+        return Ok(Words::Check(read_check(words)?));
     }
     if words.len() != 1 {
         return Err(WordsFault::BadUse);

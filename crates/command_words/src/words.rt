@@ -24,6 +24,15 @@ pub struct LoadOptions {
     pub workers: Option<u32>,
 }
 
+/// The two numbers of `check`, which takes no option.
+#[derive(Debug, Clone, Copy, PartialEq, Eq)]
+pub struct CheckNumbers {
+    /// How many transactions are started, from 0 to 10,000.
+    pub starts: u32,
+    /// The seed that they are drawn from.
+    pub seed: u64,
+}
+
 /// A command with its options.
 #[derive(Debug, Drop)]
 pub enum Words {
@@ -39,4 +48,6 @@ pub enum Words {
     Audit,
     /// Makes a silo and carries lines that it draws.
     Load(LoadOptions),
+    /// Runs two-phase commit between silos.
+    Check(CheckNumbers),
 }

@@ -26,4 +26,6 @@ pub mod WrittenRefusal
 pub mod Transfer
 pub mod Load
 pub mod WrongAnswers
+pub mod Checks
+pub mod WrittenCheck
 pub mod WrittenInit

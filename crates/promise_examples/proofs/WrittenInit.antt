@@ -15,7 +15,7 @@ use Rattle.silo_spec.specs.Moments.{IsUntouched}
 use Rattle.silo_spec.specs.Making.{IsBeside, IsEarly, IsNewAt}
 use Rattle.promise_spec.specs.Programs.{text_limit, program_in}
 use Rattle.promise_spec.specs.Logs.{magic}
-use Rattle.promise_spec.specs.Words.{Command, Init, Run, Show, History, Audit, Load, Say}
+use Rattle.promise_spec.specs.Words.{Command, Init, Run, Show, History, Audit, Load, Check, Say}
 use Rattle.promise_spec.specs.Courses.{Observed}
 use Rattle.promise_spec.specs.Promise.{IsSoundFolder}
 use Rattle.promise_spec.specs.Commands.{IsProgramText, WasSilo, MakesSilo, ManagerLasts}
@@ -442,6 +442,7 @@ other_say Show says = absurd (cc says)
 other_say History says = absurd (cc says)
 other_say Audit says = absurd (cc says)
 other_say (Load n seed m) says = let letter : ◌≡◌ {A = ℕ} 105 108 = ap (λ (l : List (List ℕ)). get_or (get_or l 0 []) 0 0) says.words_are in absurd (omega (arith, letter))
+other_say (Check n seed) says = let letter : ◌≡◌ {A = ℕ} 105 99 = ap (λ (l : List (List ℕ)). get_or (get_or l 0 []) 0 0) says.words_are in absurd (omega (arith, letter))
 
 pub serves_none : (words : List (List ℕ)) → ((c : Command) → Say (λ g. true) words c → ⊥) → Serves (λ c. true) (λ g. true) words unused
 serves_none words none = record {

@@ -23,7 +23,7 @@ use Rattle.promise_spec.specs.Logs.{magic, IsLog, live_slot}
 use Rattle.promise_spec.specs.Images.{IsSound}
 use Rattle.promise_spec.specs.Openings.{Reading, NoSilo, DamagedAt, Reads, opened_as}
 use Rattle.promise_spec.specs.Outputs.{reply_lines}
-use Rattle.promise_spec.specs.Words.{GivenOption, Command, Init, Run, Show, History, Audit, Load, Manner}
+use Rattle.promise_spec.specs.Words.{GivenOption, Command, Init, Run, Show, History, Audit, Load, Check, Manner}
 use Rattle.promise_spec.specs.Endings as ending
 use Rattle.promise_spec.specs.Courses.{Observed, seen_at_entry}
 use Rattle.promise_spec.specs.Refusals.{IsHead, IsNamedIn, IsReadFor, IsRefusedBy, MustBeRead, IsUnopened}
@@ -31,6 +31,7 @@ use Rattle.promise_spec.specs.Reports.{show_text, history_text}
 use Rattle.promise_spec.specs.Promise.{Promises}
 use Rattle.promise_spec.specs.Commands.{MakesAs, MakesSilo, MayCut, IsReported, Reports, Audits}
 use Rattle.promise_spec.specs.Loads.{IsUnmadeBy, from_there, Loads}
+use Rattle.promise_spec.specs.Checks.{Checks}
 use Rattle.promise_spec.specs.Calls.{Understands, Obeys, Serves, GoesOn, AnswersAs}
 use Rattle.promise_spec.proofs.Lists.{in_append}
 use Rattle.promise_spec.proofs.Openings.{log_is_read, no_silo_is_read, sound_is_read, reads_is}
@@ -271,6 +272,15 @@ unloaded n seed m r loads is = elim loads.answers [
   ]
 ]
 
+unchecked : (n seed : ℕ) (r : Observed) → Checks n seed r → r.ending ≡ ending.BadUse → ⊥
+unchecked n seed r checks is = elim checks.ending [
+  | inl done ↦ (let e : ending.Done ≡ ending.BadUse = sym done ∙ is in absurd (cc e))
+  | inr other ↦ elim other [
+    | inl want ↦ (let e : ending.Memory ≡ ending.BadUse = sym want ∙ is in absurd (cc e))
+    | inr fault ↦ (let e : ending.WriteFault ≡ ending.BadUse = sym fault ∙ is in absurd (cc e))
+  ]
+]
+
 -- no command that is obeyed answers bad use
 never_bad_use : (c : Command) (r : Observed) → Obeys c r → r.ending ≡ ending.BadUse → ⊥
 never_bad_use Init r makes is = subst (λ (e : ending.Ending). MakesAs e r) is makes.ended
@@ -279,6 +289,7 @@ never_bad_use Show r reports is = unreported show_text r reports is
 never_bad_use History r reports is = unreported history_text r reports is
 never_bad_use Audit r audits is = unaudited r audits is
 never_bad_use (Load n seed m) r loads is = unloaded n seed m r loads is
+never_bad_use (Check n seed) r checks is = unchecked n seed r checks is
 
 module _ (built : Command → Bool) (takes : GivenOption → Bool) (words : List (List ℕ)) (r : Observed) (serves : Serves built takes words r) where
   pub other_answer : ((c : Command) → Understands built takes words c → ⊥) → r.ending ≢ ending.BadUse → r.ending ≢ ending.Memory → ⊥

@@ -13,3 +13,4 @@ pub mod WrittenBatch
 pub mod Readings
 pub mod WrittenRefusal
 pub mod WrittenInit
+pub mod WrittenCheck

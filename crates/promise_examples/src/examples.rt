@@ -22,6 +22,10 @@ ghost use Rattle.promise_examples.specs.WrittenVote.{reading_manner, failing, vo
 ghost use Rattle.promise_examples.specs.WrittenBatch.{both_commits, both_block, batched, batch_course, batched_steps};
 ghost use Rattle.promise_spec.specs.Batches.{EndsABatch};
 ghost use Rattle.promise_examples.specs.WrittenRefusal.{refused, refused_steps};
+ghost use Rattle.promise_examples.specs.WrittenCheck.{check_words, check_line, check_call, check_steps};
+ghost use Rattle.promise_spec.specs.Checks.{Checks};
+ghost use Rattle.two_silos.specs.Generated.{checked};
+ghost use Rattle.two_silos.specs.Summaries.{summary_of, line_of};
 ghost use Rattle.promise_examples.specs.WrittenInit.{init_words, made, made_steps, made_again, again_steps, cut_text, cut_fault, unmade, unmade_steps, halted, halted_steps, other_words, unused};
 ghost use Rattle.promise_spec.specs.Commands.{MakesSilo};
 ghost use Rattle.promise_spec.specs.Calls.{Serves};
@@ -344,6 +348,14 @@ pub fn bad_use_is_written_out()
     ensures served { Serves (λ c. true) (λ g. true) other_words unused }
     ensures any { (words : List (List ℕ)) → ((c : Command) → Say (λ g. true) words c → ⊥)
         → Serves (λ c. true) (λ g. true) words unused }
+{}
+
+/// And a call of `check` without a start, over an empty folder: it prints that 64 accounts have 64000, and leaves all else.
+pub fn a_check_is_written_out()
+    ensures line { line_of (summary_of 0 (checked 0 1)) ≡ check_line }
+    ensures hosted { IsHosted check_call check_steps }
+    ensures checks { Checks 0 1 check_call }
+    ensures served { Serves (λ c. true) (λ g. true) check_words check_call }
 {}
 
 /// The bank program of a load is a checked one, and its types and methods are numbered as a load's calls have them: the type

@@ -50,6 +50,9 @@ ghost use Rattle.promise_spec.specs.Promise.{Keeps, Promises};
 ghost use Rattle.promise_spec.specs.Commands.{MakesSilo, Reports};
 ghost use Rattle.promise_spec.specs.Calls.{Understands, Serves, GoesOn, AnswersAs};
 ghost use Rattle.promise_spec.specs.Loads.{KeepsLoad, summary_text};
+ghost use Rattle.promise_spec.specs.Checks.{Checks};
+ghost use Rattle.two_silos.specs.Generated.{checked};
+ghost use Rattle.two_silos.specs.Summaries.{summary_of, line_of};
 
 /// The opening log is the disk's: no run can take another for it, as one that answers from an old log again would, or one
 /// that opens or closes a gate of a batch left in doubt before the log is synced.
@@ -313,6 +316,23 @@ pub fn loads_tell_their_summary()
         → r.ending ≡ ending.WriteFault → ⊥ }
     ensures soon { (p : Program) (n seed : ℕ) (r : Observed) (c : Course) (m : Moment) (image : Image) → KeepsLoad p n seed r c
         → Member m (moments r c) → IsImage m.disk image → (IsLog live_slot (shape_in p) image (order c) → ⊥) → m.output ≢ r.old.output → ⊥ }
+{}
+
+/// No check keeps its promise that is done and prints anything but the line of its world, as one that prints nothing, or the line of
+/// other starts; that prints where memory was wanting; that reads input, changes a file, asks for a sync or makes a second call; that
+/// ends in another way; or that ends with a write fault though the output's count, below its last value, is what it was.
+pub fn checks_tell_their_world()
+    ensures text { (n seed : ℕ) (r : Observed) → Checks n seed r → r.ending ≡ ending.Done
+        → r.new.output ≢ r.old.output ++ line_of (summary_of n (checked n seed)) → ⊥ }
+    ensures early { (n seed : ℕ) (r : Observed) → Checks n seed r → r.ending ≡ ending.Memory → r.new.output ≢ r.old.output → ⊥ }
+    ensures read { (n seed : ℕ) (r : Observed) → Checks n seed r → r.new.input ≢ r.old.input → ⊥ }
+    ensures changed { (n seed : ℕ) (r : Observed) (f : FileId) → Checks n seed r → r.new.disk f ≢ r.old.disk f → ⊥ }
+    ensures synced { (n seed : ℕ) (r : Observed) → Checks n seed r → r.new.syncs ≢ r.old.syncs → ⊥ }
+    ensures second { (n seed : ℕ) (r : Observed) (m k : Moment) (more : List Moment) → Checks n seed r → r.new.past ≡ r.old.past ++ (m ∷ k ∷ more) → ⊥ }
+    ensures other { (n seed : ℕ) (r : Observed) → Checks n seed r → r.ending ≢ ending.Done → r.ending ≢ ending.Memory
+        → r.ending ≢ ending.WriteFault → ⊥ }
+    ensures fault { (n seed : ℕ) (r : Observed) → Checks n seed r → r.ending ≡ ending.WriteFault → r.faults_before Output < 2 ^ 64 - 1
+        → r.faults_after Output ≡ r.faults_before Output → ⊥ }
 {}
 
 /// A manager file with a block of 65 records has no log.

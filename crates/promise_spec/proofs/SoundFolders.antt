@@ -2,9 +2,9 @@
 use Rattle.std.proofs.Common.{◌≡◌, ◌≢◌, ◌⊎◌, inl, inr, ℕ, ◌<◌, ◌≤◌, List, [], ◌∷◌, ◌++◌, length, map, slice_index, None, refl, sym, ap, subst, ◌∙◌, arith, get_or-take}
 use Rattle.host_trait.specs.Disk.{FileState, MayLeave}
 use Rattle.host_trait.proofs.Crashes.{settled_only}
-use Rattle.host_trait.proofs.Moments.{both, weaker, weaker_twice, joined}
+use Rattle.host_trait.proofs.Moments.{both, one, weaker, weaker_twice, joined}
 use Rattle.host_trait.specs.declared.channels.FileId.{FileId}
-use Rattle.host_trait.specs.World.{World, Moment, Image, IsImage, Passes, moment_of, with_bytes}
+use Rattle.host_trait.specs.World.{World, Moment, Disk, Image, IsImage, Passes, moment_of, with_bytes}
 use Rattle.host_trait.proofs.Runs.{image_with, with_bytes-there}
 use Rattle.gate_block.specs.Log.{LogsUpTo, first_gate}
 use Rattle.gate_block.proofs.Logs.{no_blocks}
@@ -20,12 +20,13 @@ use Rattle.promise_spec.specs.Images.{IsSound}
 use Rattle.promise_spec.specs.Moments.{IsImageOf}
 use Rattle.promise_spec.specs.Endings as ending
 use Rattle.promise_spec.specs.Endings.{Ending}
-use Rattle.promise_spec.specs.Words.{Manner, Command, Init, Run, Show, History, Audit, Load}
+use Rattle.promise_spec.specs.Words.{Manner, Command, Init, Run, Show, History, Audit, Load, Check}
 use Rattle.promise_spec.specs.Courses.{Observed, Course, moments}
 use Rattle.promise_spec.specs.Crashes.{SurvivesCrashes}
 use Rattle.promise_spec.specs.Refusals.{IsUnopened}
 use Rattle.promise_spec.specs.Commands.{IsProgramText, MakesAs, MakesSilo, LeavesAsBefore, IsReported, Reports, Audits}
 use Rattle.promise_spec.specs.Loads.{bank_text, KeepsLoad, IsUnmade, from_there, LoadsFrom, Loads}
+use Rattle.promise_spec.specs.Checks.{Checks}
 use Rattle.promise_spec.specs.Calls.{Obeys, IsBadUse}
 use Rattle.promise_spec.specs.Promise.{IsSoundFolder, Promises}
 use Rattle.promise_spec.specs.SoundMoments.{shown_at, IsSoundAt, IsRestarted}
@@ -40,6 +41,10 @@ as_before p old new images sound = record {
   chain = λ one other left left_too. sound.chain one other (images one left) (images other left_too);
   sound = λ image left. sound.sound image (images image left);
 }
+
+-- the files are as they were
+pub same_files : (p : Program) (old new : World) → new.disk ≡ old.disk → IsSoundFolder p old → IsSoundFolder p new
+same_files p old new same sound = as_before p old new (λ image left. subst (λ (d : Disk). IsImage d image) same left) sound
 
 -- a folder that was left untouched stays sound
 pub untouched : (p : Program) (old new : World) → IsUntouched old new → IsSoundFolder p old → IsSoundFolder p new
@@ -82,6 +87,10 @@ audits_keep p r (inr is) sound = reported _ p r is.report sound
 -- words that say nothing
 pub bad_use_keeps : (p : Program) (r : Observed) → IsBadUse r → IsSoundFolder p r.old → IsSoundFolder p r.new
 bad_use_keeps p r bad sound = subst (IsSoundFolder p) (sym bad.unused) sound
+
+-- a check
+pub checks_keep : (n seed : ℕ) (p : Program) (r : Observed) → Checks n seed r → IsSoundFolder p r.old → IsSoundFolder p r.new
+checks_keep n seed p r checks sound = same_files p r.old r.new checks.files sound
 
 -- ---- new silos
 
@@ -270,6 +279,7 @@ obeying_keeps Show p bank r checked checked_too text seen obeys sound = (p, (che
 obeying_keeps History p bank r checked checked_too text seen obeys sound = (p, (checked, reports_keep _ p r obeys sound))
 obeying_keeps Audit p bank r checked checked_too text seen obeys sound = (p, (checked, audits_keep p r obeys sound))
 obeying_keeps (Load n seed m) p bank r checked checked_too text seen obeys sound = load_keeps n seed m p bank r checked checked_too text seen obeys sound
+obeying_keeps (Check n seed) p bank r checked checked_too text seen obeys sound = (p, (checked, checks_keep n seed p r obeys sound))
 
 -- ---- at each moment
 
@@ -381,6 +391,10 @@ load_moments n seed m p bank r checked checked_too text seen loads sound = by lo
         carried (inl unopened) = untouched_moments from.program from.made r.new from.checked unopened.untouched made
         carried (inr kept) = survived_moments from.program (from_there r from.made) kept.0 from.checked made kept.1.crashes
 
+-- of a check
+check_moments : (n seed : ℕ) (p : Program) (r : Observed) → IsChecked p → Checks n seed r → IsSoundFolder p r.old → Passes IsSoundAt r.old.past r.new.past
+check_moments n seed p r checked checks sound = one IsSoundAt r.old r.new checks.once (sound_at p (moment_of r.new) checked (same_files p r.old (shown_at (moment_of r.new)) checks.files sound))
+
 -- of a call, whatever its command
 pub obeying_moments : (c : Command) (p bank : Program) (r : Observed) → IsChecked p → IsChecked bank → bank.text ≡ bank_text → MayLeave (r.old.disk manager) (r.old.disk manager).seen → Obeys c r → IsSoundFolder p r.old
     → Passes IsSoundAt r.old.past r.new.past
@@ -390,6 +404,7 @@ obeying_moments Show p bank r checked checked_too text seen obeys sound = report
 obeying_moments History p bank r checked checked_too text seen obeys sound = report_moments _ p r checked obeys sound
 obeying_moments Audit p bank r checked checked_too text seen obeys sound = audit_moments p r checked obeys sound
 obeying_moments (Load n seed m) p bank r checked checked_too text seen obeys sound = load_moments n seed m p bank r checked checked_too text seen obeys sound
+obeying_moments (Check n seed) p bank r checked checked_too text seen obeys sound = check_moments n seed p r checked obeys sound
 
 -- ---- after a crash
 

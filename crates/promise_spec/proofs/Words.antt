@@ -7,7 +7,7 @@ use Rattle.std.specs.Str.Parse.{AllDigits, digits_value}
 use Rattle.std.proofs.lemmas.Bool.Decides.{nat_tests}
 use Rattle.std.proofs.lemmas.Fmt.{decimal_is_IsNumeral}
 use Rattle.std.proofs.lemmas.Str.Parse.{digit_from_value}
-use Rattle.promise_spec.specs.Words.{Choice, Width, Turns, Workers, Form, Apart, Joined, GivenOption, Manner, Command, Init, Run, Show, History, Audit, Load, Say, SpellsRun, SpellsLoad, choice_name, value_text, list_text, words_in, words_of_all, manner_of, IsWithin, IsNoTurns, AreOptions}
+use Rattle.promise_spec.specs.Words.{Choice, Width, Turns, Workers, Form, Apart, Joined, GivenOption, Manner, Command, Init, Run, Show, History, Audit, Load, Check, Say, SpellsRun, SpellsLoad, SpellsCheck, choice_name, value_text, list_text, words_in, words_of_all, manner_of, IsWithin, IsNoTurns, AreOptions}
 use Rattle.promise_spec.proofs.Lists.{tail_of, parts_of}
 
 -- ---- what a word says
@@ -73,7 +73,8 @@ command_by letter words =
     else (if letter == 115 then Show
     else (if letter == 104 then History
     else (if letter == 97 then Audit
-    else Load (get_or (numbers_in None words) 0 0) (get_or (numbers_in None words) 1 0) (manner_of (options_in None words))))))
+    else (if letter == 99 then Check (get_or (numbers_in None words) 0 0) (get_or (numbers_in None words) 1 0)
+    else Load (get_or (numbers_in None words) 0 0) (get_or (numbers_in None words) 1 0) (manner_of (options_in None words)))))))
 
 abbrev command_in : List (List ℕ) → Command
 command_in [] = Init
@@ -212,6 +213,13 @@ load_numbers before between behind n seed small_n small_seed =
     ∙ numbers_at n (words_of_all between ++ (decimal seed ∷ words_of_all behind)) small_n
     ∙ ap (λ (l : List ℕ). n ∷ l) second
 
+-- the words of a check behind its first have two numbers and no option
+check_numbers : (n seed : ℕ) → n < 2 ^ 64 → seed < 2 ^ 64 → numbers_in None (decimal n ∷ (decimal seed ∷ [])) ≡ n ∷ seed ∷ []
+check_numbers n seed small_n small_seed = numbers_at n (decimal seed ∷ []) small_n ∙ ap (λ (l : List ℕ). n ∷ l) (numbers_at seed [] small_seed)
+
+check_options : (n seed : ℕ) → n < 2 ^ 64 → seed < 2 ^ 64 → options_in None (decimal n ∷ (decimal seed ∷ [])) ≡ []
+check_options n seed small_n small_seed = options_past n (decimal seed ∷ []) small_n ∙ options_past seed [] small_seed
+
 -- a command from what is read
 abbrev load_from : List ℕ → List GivenOption → Command
 load_from numbers options = Load (get_or numbers 0 0) (get_or numbers 1 0) (manner_of options)
@@ -227,6 +235,9 @@ module _ (takes : GivenOption → Bool) (words : List (List ℕ)) where
       let options : options_in None (load_words k.before n k.between seed k.behind) ≡ k.before ++ (k.between ++ k.behind) = load_options k.before k.between k.behind n seed small k.small k.are.within in
       ap command_in k.words_are ∙ (λ i. load_from (numbers i) (options i)) ∙ ap (Load n seed) (sym k.manner)
 
+  check_back : (n seed : ℕ) → SpellsCheck words n seed → command_in words ≡ Check n seed
+  check_back n seed k = ap command_in k.words_are ∙ ap (λ (l : List ℕ). Check (get_or l 0 0) (get_or l 1 0)) (check_numbers n seed (omega (arith, k.few)) k.small)
+
   -- a command is read back from its words
   command_back : (c : Command) → Say takes words c → command_in words ≡ c
   command_back Init k = ap command_in k
@@ -235,6 +246,7 @@ module _ (takes : GivenOption → Bool) (words : List (List ℕ)) where
   command_back History k = ap command_in k
   command_back Audit k = ap command_in k
   command_back (Load n seed m) k = load_back n seed m k
+  command_back (Check n seed) k = check_back n seed k
 
 -- ---- words that say nothing
 
@@ -250,6 +262,7 @@ no_run rest takes refused Show k = absurd (cc (command_back takes (codes "run" �
 no_run rest takes refused History k = absurd (cc (command_back takes (codes "run" ∷ rest) History k))
 no_run rest takes refused Audit k = absurd (cc (command_back takes (codes "run" ∷ rest) Audit k))
 no_run rest takes refused (Load n seed m) k = absurd (cc (command_back takes (codes "run" ∷ rest) (Load n seed m) k))
+no_run rest takes refused (Check n seed) k = absurd (cc (command_back takes (codes "run" ∷ rest) (Check n seed) k))
 
 -- the words of a load say the two numbers and the options that are read in them, and nothing where these may not stand
 pub no_load : (rest : List (List ℕ)) (takes : GivenOption → Bool)
@@ -270,6 +283,21 @@ no_load rest takes refused (Load n seed m) k =
     let read : k.before ++ (k.between ++ k.behind) ≡ options_in None rest = sym (ap (options_in None) words ∙ options) in
     refused n seed (ap (numbers_in None) words ∙ numbers) k.many k.small
     (subst (AreOptions takes) read k.are) (subst (λ (l : List GivenOption). AllByRecursion (λ (g : GivenOption). IsNoTurns g.what) l) read k.no_turns)
+no_load rest takes refused (Check n seed) k = absurd (cc (command_back takes (codes "load" ∷ rest) (Check n seed) k))
+
+-- the words of a check say the two numbers that are read in them, and nothing where an option is
+pub no_check : (rest : List (List ℕ)) (takes : GivenOption → Bool) → ((n seed : ℕ) → numbers_in None rest ≡ n ∷ seed ∷ [] → options_in None rest ≡ [] → n ≤ 10000 → seed < 2 ^ 64 → ⊥)
+    → (c : Command) → Say takes (codes "check" ∷ rest) c → ⊥
+no_check rest takes refused Init k = absurd (cc (command_back takes (codes "check" ∷ rest) Init k))
+no_check rest takes refused (Run m) k = absurd (cc (command_back takes (codes "check" ∷ rest) (Run m) k))
+no_check rest takes refused Show k = absurd (cc (command_back takes (codes "check" ∷ rest) Show k))
+no_check rest takes refused History k = absurd (cc (command_back takes (codes "check" ∷ rest) History k))
+no_check rest takes refused Audit k = absurd (cc (command_back takes (codes "check" ∷ rest) Audit k))
+no_check rest takes refused (Load n seed m) k = absurd (cc (command_back takes (codes "check" ∷ rest) (Load n seed m) k))
+no_check rest takes refused (Check n seed) k =
+    let small : n < 2 ^ 64 = omega (arith, k.few) in
+    let words : rest ≡ decimal n ∷ (decimal seed ∷ []) = tail_of (codes "check") (codes "check") rest (decimal n ∷ (decimal seed ∷ [])) k.words_are in
+    refused n seed (ap (numbers_in None) words ∙ check_numbers n seed small k.small) (ap (options_in None) words ∙ check_options n seed small k.small) k.few k.small
 
 -- words say at most one command
 pub one_command : (takes : GivenOption → Bool) (words : List (List ℕ)) (c d : Command) → Say takes words c → Say takes words d → c ≡ d

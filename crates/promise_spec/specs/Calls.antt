@@ -3,13 +3,14 @@ use Rattle.std.specs.Prelude.{◌≡◌, ◌≢◌, ◌⊎◌, ℕ, Bool, true, 
 use Rattle.host_trait.specs.declared.channels.Channel.{Channel}
 use Rattle.host_trait.specs.declared.channels.Channel.TheVariants.{Input, Output}
 use Rattle.host_trait.specs.Faults.{NoneFailed}
-use Rattle.promise_spec.specs.Words.{GivenOption, Command, Init, Run, Show, History, Audit, Load, Say}
+use Rattle.promise_spec.specs.Words.{GivenOption, Command, Init, Run, Show, History, Audit, Load, Check, Say}
 use Rattle.promise_spec.specs.Endings.{Ending, BadUse, Memory, ReadFault, WriteFault, HasRisen, HasFailedAs, IsBegun}
 use Rattle.promise_spec.specs.Courses.{Observed}
 use Rattle.promise_spec.specs.Promise.{Promises}
 use Rattle.promise_spec.specs.Reports.{show_text, history_text}
 use Rattle.promise_spec.specs.Commands.{MakesSilo, Reports, Audits}
 use Rattle.promise_spec.specs.Loads.{Loads}
+use Rattle.promise_spec.specs.Checks.{Checks}
 
 -- what each command promises
 abbrev pub Obeys : Command → Observed → Type 0
@@ -19,6 +20,7 @@ Obeys Show r = Reports show_text r
 Obeys History r = Reports history_text r
 Obeys Audit r = Audits r
 Obeys (Load n seed m) r = Loads n seed m r
+Obeys (Check n seed) r = Checks n seed r
 
 -- nothing was done: the host is as it was. Only want of memory may come in place of bad use, where the words are read.
 pub record IsBadUse (r : Observed) : Type 0 where
@@ -44,6 +46,7 @@ GoesOn Show e = ⊥
 GoesOn History e = ⊥
 GoesOn Audit e = ⊥
 GoesOn (Load n seed m) e = IsBegun e
+GoesOn (Check n seed) e = ⊥
 
 -- What holds over any host, one that tells nothing of what it holds too: the words alone say what is bad use, but for want of
 -- memory, and a fault is shown by its count. No failed call is passed over, by want of memory neither: one on the input or the

@@ -29,5 +29,6 @@ pub mod Journals
 pub mod Reports
 pub mod Commands
 pub mod Loads
+pub mod Checks
 pub mod Calls
 pub mod SoundMoments

@@ -124,6 +124,12 @@ pub record SpellsLoad (takes : GivenOption → Bool) (words : List (List ℕ)) (
   pub words_are : words ≡ codes "load" ∷ (words_of_all before ++ (decimal n ∷ (words_of_all between ++ (decimal seed ∷ words_of_all behind))))
   pub manner : m ≡ manner_of (before ++ (between ++ behind))
 
+-- the words are those of `check` for so many starts drawn from this seed; it takes no option
+pub record SpellsCheck (words : List (List ℕ)) (n seed : ℕ) : Type 0 where
+  pub few : n ≤ 10000
+  pub small : seed < 2 ^ 64
+  pub words_are : words ≡ codes "check" ∷ (decimal n ∷ (decimal seed ∷ []))
+
 -- what a silo is asked to do
 pub data Command : Type 0 where
   Init : Command
@@ -132,6 +138,7 @@ pub data Command : Type 0 where
   History : Command
   Audit : Command
   Load : ℕ → ℕ → Manner → Command
+  Check : ℕ → ℕ → Command
 
 -- The words say this command. Those that only read, and `init`, are one word.
 abbrev pub Say : (GivenOption → Bool) → List (List ℕ) → Command → Type 0
@@ -141,3 +148,4 @@ Say takes words Show = words ≡ codes "show" ∷ []
 Say takes words History = words ≡ codes "history" ∷ []
 Say takes words Audit = words ≡ codes "audit" ∷ []
 Say takes words (Load n seed m) = SpellsLoad takes words n seed m
+Say takes words (Check n seed) = SpellsCheck words n seed

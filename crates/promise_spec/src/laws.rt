@@ -13,7 +13,7 @@ ghost use Rattle.promise_spec.specs.Serial.{IsSerial};
 ghost use Rattle.promise_spec.specs.Logs.{magic, IsLog, IsPrefix, live_slot};
 ghost use Rattle.promise_spec.specs.Images.{AreChained, AreNumbered, IsSound, IsSoundIfSilo};
 ghost use Rattle.promise_spec.specs.Openings.{NoSilo, Reads, opened_as};
-ghost use Rattle.promise_spec.specs.Words.{GivenOption, Manner, plain_manner, Command, Run, Load, Say};
+ghost use Rattle.promise_spec.specs.Words.{GivenOption, Manner, plain_manner, Command, Run, Load, Check, Say};
 ghost use Rattle.promise_spec.specs.Moments.{IsImageOf, IsLongest};
 ghost use Rattle.request_wire.specs.Reply.{reply_line};
 ghost use Rattle.promise_spec.specs.Outputs.{HavePlainNames, IsProper, Grew};
@@ -116,8 +116,8 @@ pub fn folders_are_read()
     ensures sound { (p : Program) (image : Image) → IsChecked p → (s : IsSound live_slot p image) → opened_as live_slot image ≡ Reads p s.log }
 {}
 
-/// The words of a command say one thing: one manner of a run, and one number of transfers, seed and manner of a load; and no
-/// words say two commands.
+/// The words of a command say one thing: one manner of a run, one number of transfers, seed and manner of a load, and one number
+/// of starts and seed of a check; and no words say two commands.
 pub fn words_say_one_command()
     ensures { (takes : GivenOption → Bool) (words : List (List ℕ)) (c d : Command) → Say takes words c → Say takes words d → c ≡ d }
 {}
@@ -153,6 +153,16 @@ pub fn words_are_read()
     ensures no_seed { (takes : GivenOption → Bool) (c : Command) → Say takes (codes "load" ∷ codes "4" ∷ []) c → ⊥ }
     ensures load_turns { (takes : GivenOption → Bool) (c : Command)
         → Say takes (codes "load" ∷ codes "4" ∷ codes "7" ∷ codes "--turns" ∷ codes "0" ∷ []) c → ⊥ }
+    ensures check { Say (λ g. true) (codes "check" ∷ codes "0" ∷ codes "1" ∷ []) (Check 0 1) }
+    ensures check_most { Say (λ g. true) (codes "check" ∷ codes "10000" ∷ codes "18446744073709551615" ∷ []) (Check 10000 18446744073709551615) }
+    ensures check_of_many { (takes : GivenOption → Bool) (c : Command) → Say takes (codes "check" ∷ codes "10001" ∷ codes "7" ∷ []) c → ⊥ }
+    ensures check_large_seed { (takes : GivenOption → Bool) (c : Command)
+        → Say takes (codes "check" ∷ codes "4" ∷ codes "18446744073709551616" ∷ []) c → ⊥ }
+    ensures check_no_seed { (takes : GivenOption → Bool) (c : Command) → Say takes (codes "check" ∷ codes "4" ∷ []) c → ⊥ }
+    ensures check_third_number { (takes : GivenOption → Bool) (c : Command)
+        → Say takes (codes "check" ∷ codes "4" ∷ codes "7" ∷ codes "9" ∷ []) c → ⊥ }
+    ensures check_option { (takes : GivenOption → Bool) (c : Command)
+        → Say takes (codes "check" ∷ codes "4" ∷ codes "7" ∷ codes "--width=2" ∷ []) c → ⊥ }
     ensures no_words { (takes : GivenOption → Bool) (c : Command) → Say takes [] c → ⊥ }
 {}
 

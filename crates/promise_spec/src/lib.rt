@@ -6,7 +6,7 @@
 //! `TurnRule`, `Causes`, `Family` (what the core's events are, and where records come from), `Openings` (what a folder
 //! reads as), `Words`, `Endings`, `Courses`, `Refusals`; the clauses `Orders`, `Replies` and `Crashes`, which `Headline`
 //! says alone; and the others, `Batches`, `Explained`, `Exits` and `Promise`. `Journals` has what a run's loop carries,
-//! `Reports`, `Commands` and `Loads` the other commands, and `Calls` the whole program. `SoundMoments` says when a folder
+//! `Reports`, `Commands`, `Loads` and `Checks` the other commands, and `Calls` the whole program. `SoundMoments` says when a folder
 //! is sound between calls.
 //!
 //! `laws` has what follows from the definitions alone, `steps` how a journal goes on call by call, and `folders` that each

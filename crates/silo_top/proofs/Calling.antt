@@ -3,7 +3,7 @@ use Rattle.std.proofs.Common.{◌≡◌, inl, inr, ℕ, List, [], refl, sym, ◌
 use Rattle.host_trait.specs.declared.channels.Channel.{Channel}
 use Rattle.host_trait.specs.World.{World}
 use Rattle.request_wire.specs.Lines.{lines_of}
-use Rattle.promise_spec.specs.Words.{Manner, Command, Init, Run, Show, History, Audit, Load}
+use Rattle.promise_spec.specs.Words.{Manner, Command, Init, Run, Show, History, Audit, Load, Check}
 use Rattle.promise_spec.specs.Endings.{Ending, BadUse, Memory, HasFailedAs, IsBegun}
 use Rattle.promise_spec.specs.Courses.{Observed}
 use Rattle.promise_spec.specs.Promise.{Promises}
@@ -14,6 +14,7 @@ use Rattle.silo_top.specs.declared.status.Status.{Status}
 use Rattle.silo_top.specs.Answering.{is_built, is_taken, IsAsked, AsksFor, observed_call, observed_run, AnswersRun}
 use Rattle.silo_top.proofs.AskedWords.{one_said}
 use Rattle.silo_top.proofs.Counted.{failed_risen, failed_input, failed_output}
+use Rattle.silo_top.proofs.Checked.{starved_checks}
 use Rattle.silo_top.proofs.Unopened.{starved_promised, starved_made, starved_unopened, starved_unmade}
 
 module _ (texts : List (List ℕ)) where
@@ -104,6 +105,7 @@ module _ (texts : List (List ℕ)) where
       obeys History u = inl (starved_unopened m asked w counts)
       obeys Audit u = inl (starved_unopened m asked w counts)
       obeys (Load k seed n) u = record { manner = (is (Load k seed n) u).0; answers = inl (starved_unmade m asked w counts) }
+      obeys (Check n seed) u = starved_checks n seed m asked w counts
 
   pub starved_answers : (counts : Channel → ℕ) → AnswersAs is_built is_taken texts Memory counts counts
   starved_answers counts = record {

@@ -5,6 +5,7 @@ pub mod Read
 pub mod Beginning
 pub mod AskedWords
 pub mod Counted
+pub mod Checked
 pub mod Unopened
 pub mod Calling
 pub mod Promised

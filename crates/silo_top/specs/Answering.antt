@@ -4,7 +4,7 @@ use Rattle.host_trait.specs.declared.channels.Channel.{Channel}
 use Rattle.host_trait.specs.declared.channels.Channel.TheVariants.{Input, Output}
 use Rattle.host_trait.specs.World.{World}
 use Rattle.request_wire.specs.Lines.{lines_of}
-use Rattle.promise_spec.specs.Words.{GivenOption, Manner, Command, Init, Run, Show, History, Audit, Load}
+use Rattle.promise_spec.specs.Words.{GivenOption, Manner, Command, Init, Run, Show, History, Audit, Load, Check}
 use Rattle.promise_spec.specs.Endings.{Ending, BadUse, ReadFault, WriteFault, HasRisen, HasFailedAs, IsBegun}
 use Rattle.promise_spec.specs.Courses.{Observed}
 use Rattle.promise_spec.specs.Calls.{Understands}
@@ -37,6 +37,7 @@ AsksFor Show input m asked = ⊤
 AsksFor History input m asked = ⊤
 AsksFor Audit input m asked = ⊤
 AsksFor (Load transfers seed n) input m asked = (m ≡ n) × (asked ≡ load_texts transfers seed)
+AsksFor (Check starts seed) input m asked = ⊤
 
 -- the call is carried so, and is asked so, as its words say
 abbrev pub IsAsked : List (List ℕ) → World → Manner → List (List ℕ) → Type 0

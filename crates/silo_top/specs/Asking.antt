@@ -1,12 +1,12 @@
 -- What the words ask for.
 use Rattle.std.specs.Prelude.{◌<◌, ◌≤◌, ℕ, List, [], Option, None, Some, unwrap_or, ⊤}
-use Rattle.promise_spec.specs.Words.{Manner, Command, Init as MakesOne, Run as CarriesLines, Show as TellsStates, History as TellsRecords, Audit as PlaysAgain, Load as CarriesLoad}
+use Rattle.promise_spec.specs.Words.{Manner, Command, Init as MakesOne, Run as CarriesLines, Show as TellsStates, History as TellsRecords, Audit as PlaysAgain, Load as CarriesLoad, Check as ChecksCommits}
 use Rattle.command_words.specs.Options.{Chosen}
 use Rattle.silo_top.specs.Answering.{turns_manner, workers_manner}
 use Rattle.silo_top.specs.declared.asking.Carriage.{Carriage}
 use Rattle.silo_top.specs.declared.asking.Carriage.TheVariants.{Turns, Workers}
 use Rattle.silo_top.specs.declared.asking.Asked.{Asked}
-use Rattle.silo_top.specs.declared.asking.Asked.TheVariants.{Init, Run, Show, History, Audit, Load}
+use Rattle.silo_top.specs.declared.asking.Asked.TheVariants.{Init, Run, Show, History, Audit, Load, Check}
 
 -- ---- how lines are carried
 
@@ -39,6 +39,7 @@ asked_command Show = TellsStates
 asked_command History = TellsRecords
 asked_command Audit = PlaysAgain
 asked_command (Load transfers seed how) = CarriesLoad transfers seed (carriage_manner how)
+asked_command (Check starts seed) = ChecksCommits starts seed
 
 -- lines can be carried so, and a load has so many transfers at most
 abbrev pub MayBeCarried : Asked → Type 0
@@ -48,3 +49,4 @@ MayBeCarried Show = ⊤
 MayBeCarried History = ⊤
 MayBeCarried Audit = ⊤
 MayBeCarried (Load transfers seed how) = IsCarriage how × (transfers ≤ 100000)
+MayBeCarried (Check starts seed) = ⊤

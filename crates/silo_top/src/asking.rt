@@ -38,6 +38,11 @@ pub(crate) enum Asked {
         seed: u64,
         how: Carriage,
     },
+    /// To run two-phase commit between silos: how many transactions are started, drawn from which seed.
+    Check {
+        starts: u32,
+        seed: u64,
+    },
 }
 
 /// The picks of an option, none where it isn't given.
@@ -110,5 +115,9 @@ pub(crate) fn read_asked(alloc: Global, words: &[String]) -> Result<Asked, Words
                 how,
             })
         }
+        Words::Check(numbers) => Ok(Asked::Check {
+            starts: numbers.starts,
+            seed: numbers.seed,
+        }),
     }
 }

@@ -2,12 +2,13 @@
 //!
 //! `asking` says which command the words ask for, `input` reads the input, `starting` makes a core and a
 //! settler of an opened silo, `carriage` carries lines over them, in turns or by workers, `carrying` serves an input so, `loading` makes a silo and carries drawn lines, `reporting`
-//! tells of a folder, and `running` puts these together. What a call promises is told in the words of `promise_spec`.
+//! tells of a folder, `checking` runs commits between silos, and `running` puts these together. What a call promises is told in the words of `promise_spec`.
 #![tactic(auto)]
 
 mod asking;
 mod carriage;
 mod carrying;
+mod checking;
 mod input;
 mod loading;
 mod reporting;

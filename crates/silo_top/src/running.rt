@@ -12,6 +12,7 @@ ghost use Rattle.silo_top.specs.Statuses.{status_ending};
 
 use crate::asking::{Asked, Carriage, read_asked};
 use crate::carrying::serve;
+use crate::checking::check;
 use crate::loading::load;
 use crate::reporting::{audit, history, show};
 use crate::status::Status;
@@ -67,7 +68,8 @@ fn run<R: Threads + Wait + Sync, H: Host, G: Gate + Sync>(
 /// Does all that the program does, and answers how it ended.
 ///
 /// `words` are those of the command line after the folder: `init`, `run` with a width and picks or with workers, `show`,
-/// `history`, `audit`, or `load` with two numbers and a width or workers. All else is `BadUse`, and nothing is done then.
+/// `history`, `audit`, `load` with two numbers and a width or workers, or `check` with two numbers. All else is `BadUse`, and nothing
+/// is done then.
 ///
 /// `init` reads a program's text from the input, and makes the folder a silo of it with an empty log.
 ///
@@ -78,6 +80,9 @@ fn run<R: Threads + Wait + Sync, H: Host, G: Gate + Sync>(
 /// replay. They leave the folder as it is.
 ///
 /// `load` makes the folder a silo of the bank program, carries lines that it draws from a seed, and prints one summary line.
+///
+/// `check` runs two-phase commit between silos over a link that loses, repeats and reorders, with transactions that it draws from a
+/// seed, and prints one summary line. It doesn't use the folder.
 ///
 /// What each of them promises, at each moment and at its end, is `Serves`, over a host that tells what it holds. Over any host
 /// a fault is answered only where a call on its channel failed, and no failed call on the input or the output is passed over
@@ -113,6 +118,7 @@ pub fn run_silo<Rt: Threads + Wait + Sync, H: Host, G: Gate + Sync>(
                 how,
             },
         ) => load(rt, alloc, host, gate, transfers, seed, &how),
+        Ok(Asked::Check { starts, seed }) => check(alloc, host, starts, seed),
         Err(WordsFault::BadUse) => Status::BadUse,
         Err(WordsFault::Memory) => Status::Memory,
     }

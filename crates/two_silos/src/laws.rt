@@ -1,4 +1,4 @@
-ghost use Rattle.std.specs.Prelude.{◌≡◌, ◌++◌, ◌∷◌, ◌+ℤ◌, [], List, Option, Some, ℕ, ℤ, true, false, get_or};
+ghost use Rattle.std.specs.Prelude.{◌≡◌, ◌++◌, ◌∷◌, ◌+ℤ◌, pos, [], List, Option, Some, ℕ, ℤ, true, false, get_or};
 ghost use Rattle.two_silos.specs.Nodes.{Decision, Done, GrainId, NodeEntry, Part, Shift, TxnId};
 ghost use Rattle.silo_nodes.specs.Packets.{Member, Distinct};
 ghost use Rattle.silo_nodes.specs.Node.{is_busy};
@@ -8,6 +8,8 @@ ghost use Rattle.two_silos.specs.World.{World, WorldEvent, Start, log_at, openin
 ghost use Rattle.two_silos.specs.Promise.{IsOpening, DecisionsAreKept, CommitsArePrepared, BalanceFollows, NoIsExact, NumberIsNew, QuietIsWhole, OrderAgrees};
 ghost use Rattle.two_silos.specs.Later.{IsLater, KeepsPart, given_in};
 ghost use Rattle.two_silos.specs.Money.{AreOnce, ArePayments, IsStill, all_opened, held_from, txns_amount};
+ghost use Rattle.two_silos.specs.Generated.{checked};
+ghost use Rattle.two_silos.specs.Summaries.{summary_of};
 
 /// What is done as committed is a commit of the coordinator's. What is done as aborted is none, then or later. A
 /// transaction is done at most once at each participant.
@@ -80,4 +82,10 @@ pub fn grains_are_kept_by_prepared()
 pub fn money_stays()
     ensures moved { (openings : List (List (GrainId × ℤ))) (es : List WorldEvent) → IsOpening openings → AreOnce openings → IsStill (run (begin openings) es) → held_from (run (begin openings) es) 0 openings ≡ all_opened openings +ℤ txns_amount (parts_in openings es) (run (begin openings) es).coordinator.commits }
     ensures stays { (openings : List (List (GrainId × ℤ))) (es : List WorldEvent) → IsOpening openings → AreOnce openings → ArePayments es → IsStill (run (begin openings) es) → held_from (run (begin openings) es) 0 openings ≡ all_opened openings }
+{}
+
+/// A check moves money between its accounts, and makes and loses none: where it leaves nothing undecided, whatever its starts and
+/// its seed, its 64 accounts of 1000 have 64000 together.
+pub fn checks_keep_money()
+    ensures { (starts seed : ℕ) → (summary_of starts (checked starts seed)).undecided ≡ 0 → (summary_of starts (checked starts seed)).total ≡ pos 64000 }
 {}

@@ -15,7 +15,7 @@ mod world;
 
 pub use events::WorldEvent;
 pub use laws::{
-    balances_follow, commits_are_prepared, decisions_are_kept, decisions_stay,
+    balances_follow, checks_keep_money, commits_are_prepared, decisions_are_kept, decisions_stay,
     grains_are_kept_by_prepared, money_stays, no_is_exact, numbers_are_given_once, numbers_are_new,
     orders_agree, parts_are_started, quiet_is_whole,
 };

@@ -1,7 +1,7 @@
 use Rattle.std.proofs.Common.{◌≡◌, ℕ, false, get_or, length, ap, List, [], ◌∷◌, refl, arith, lit<, lit≤}
 use Rattle.std.specs.Fmt.{digits}
-use Rattle.promise_spec.specs.Words.{Width, Turns, Workers, Apart, Joined, Init, Run, Show, History, Audit, Load}
-use Rattle.promise_spec.proofs.Words.{no_run, no_load}
+use Rattle.promise_spec.specs.Words.{Width, Turns, Workers, Apart, Joined, Init, Run, Show, History, Audit, Load, Check}
+use Rattle.promise_spec.proofs.Words.{no_run, no_load, no_check}
 use Rattle.promise_spec.proofs.laws.words_are_read.Goals as goal
 
 pub returns-clause-run : goal.returns-clause-run
@@ -122,6 +122,31 @@ returns-clause-no_seed c takes = no_load _ takes (λ n seed numbers many small a
 pub returns-clause-load_turns : goal.returns-clause-load_turns
 returns-clause-load_turns c takes = no_load _ takes (λ n seed numbers many small are no_turns. absurd no_turns.0)
 
+pub returns-clause-check : goal.returns-clause-check
+unfolding digits
+returns-clause-check c = record { few = lit≤ tt; small = lit< tt; words_are = refl }
+
+pub returns-clause-check_most : goal.returns-clause-check_most
+unfolding digits
+returns-clause-check_most c = record { few = lit≤ tt; small = lit< tt; words_are = refl }
+
+pub returns-clause-check_of_many : goal.returns-clause-check_of_many
+returns-clause-check_of_many c takes = no_check _ takes (λ n seed numbers options few small.
+    let e : 10001 ≡ n = ap (λ (l : List ℕ). get_or l 0 0) numbers in omega (arith, e, few))
+
+pub returns-clause-check_large_seed : goal.returns-clause-check_large_seed
+returns-clause-check_large_seed c takes = no_check _ takes (λ n seed numbers options few small.
+    let e : 18446744073709551616 ≡ seed = ap (λ (l : List ℕ). get_or l 1 0) numbers in omega (arith, e, small))
+
+pub returns-clause-check_no_seed : goal.returns-clause-check_no_seed
+returns-clause-check_no_seed c takes = no_check _ takes (λ n seed numbers options few small. absurd (cc numbers))
+
+pub returns-clause-check_third_number : goal.returns-clause-check_third_number
+returns-clause-check_third_number c takes = no_check _ takes (λ n seed numbers options few small. absurd (cc numbers))
+
+pub returns-clause-check_option : goal.returns-clause-check_option
+returns-clause-check_option c takes = no_check _ takes (λ n seed numbers options few small. absurd (cc options))
+
 pub returns-clause-no_words : goal.returns-clause-no_words
 returns-clause-no_words c takes Init said = absurd (cc said)
 returns-clause-no_words c takes (Run m) said = absurd (cc said.words_are)
@@ -129,3 +154,4 @@ returns-clause-no_words c takes Show said = absurd (cc said)
 returns-clause-no_words c takes History said = absurd (cc said)
 returns-clause-no_words c takes Audit said = absurd (cc said)
 returns-clause-no_words c takes (Load n seed m) said = absurd (cc said.words_are)
+returns-clause-no_words c takes (Check n seed) said = absurd (cc said.words_are)

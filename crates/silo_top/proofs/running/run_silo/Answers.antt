@@ -1,5 +1,5 @@
 use Rattle.std.proofs.Common.{◌≡◌, ℕ, List, [], Result, Err, ap, subst}
-use Rattle.promise_spec.specs.Words.{Command, Init, Run, Show, History, Audit, Load}
+use Rattle.promise_spec.specs.Words.{Command, Init, Run, Show, History, Audit, Load, Check}
 use Rattle.promise_spec.specs.Endings.{BadUse, Memory}
 use Rattle.promise_spec.specs.Calls.{Understands}
 use Rattle.command_words.specs.CutParts.{texts_of}
@@ -60,6 +60,13 @@ returns-in-Ok-Load-clause-serves g c = λ told m asked is. load_serves (texts_of
 
 pub returns-in-Ok-Load-clause-answers : goal.returns-in-Ok-Load-clause-answers
 returns-in-Ok-Load-clause-answers g c = run_answers (texts_of c.args.words.now) (Load c.in-Ok-Load.transfers c.in-Ok-Load.seed (carriage_manner c.in-Ok-Load.how)) (understood (texts_of c.args.words.now) c.in-Ok-Load.field-0 (Asked.Load c.in-Ok-Load.transfers c.in-Ok-Load.seed c.in-Ok-Load.how) c.in-Ok-Load.field-0-is c.in-Ok-Load.ensures.asked) (g.H.Host.faults c.args.host.now) (g.H.Host.faults c.load.new.host) (status_ending c.load.result) (λ begun. begun) c.load.ensures.answers
+
+pub returns-in-Ok-Check-clause-serves : goal.returns-in-Ok-Check-clause-serves
+returns-in-Ok-Check-clause-serves g c = λ told m asked is. obeyed_serves (texts_of c.args.words.now) (Check c.in-Ok-Check.starts c.in-Ok-Check.seed) (understood (texts_of c.args.words.now) c.in-Ok-Check.field-0 (Asked.Check c.in-Ok-Check.starts c.in-Ok-Check.seed) c.in-Ok-Check.field-0-is c.in-Ok-Check.ensures.asked)
+    (observed_call m asked (g.H.Host.world c.args.host.now) (g.H.Host.world c.check.new.host) (g.H.Host.faults c.args.host.now) (g.H.Host.faults c.check.new.host) c.check.result) (c.check.ensures.checks told m asked)
+
+pub returns-in-Ok-Check-clause-answers : goal.returns-in-Ok-Check-clause-answers
+returns-in-Ok-Check-clause-answers g c = exact_answers (texts_of c.args.words.now) (Check c.in-Ok-Check.starts c.in-Ok-Check.seed) (understood (texts_of c.args.words.now) c.in-Ok-Check.field-0 (Asked.Check c.in-Ok-Check.starts c.in-Ok-Check.seed) c.in-Ok-Check.field-0-is c.in-Ok-Check.ensures.asked) (g.H.Host.faults c.args.host.now) (g.H.Host.faults c.check.new.host) (status_ending c.check.result) (λ q. c.check.ensures.good q) c.check.ensures.exact
 
 pub load-requires-clause-how : goal.load-requires-clause-how
 load-requires-clause-how g c l u = (subst MayBeCarried c.in-Ok-Load.field-0-is c.in-Ok-Load.ensures.bounds).0
