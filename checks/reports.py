@@ -2,7 +2,7 @@
 import os
 import tempfile
 
-from harness import BANK, Ended, Rows, deposit, run
+from harness import BANK, Ended, Rows, ask, deposit, reply, run
 
 rows = Rows("reports")
 MEMORY = "/dev/shm" if os.path.isdir("/dev/shm") else None
@@ -64,6 +64,43 @@ with tempfile.TemporaryDirectory(dir=MEMORY) as room:
         with open(log, "wb") as file:
             file.write(content)
         rows.row(f"{command} with {what}", run(one, command), wanted)
+
+    # Folders that open and that no one-thread store left: a run goes on over them, answers truly from what they read, and leaves what
+    # it found but for the gate at which its own record begins.
+    with open(os.path.join(cut, "manager-0.otx"), "rb") as file:
+        logged = file.read()
+    (versions,) = [name for name in os.listdir(cut) if name not in ("manager-0.otx", "program-0.otx")]
+    with open(os.path.join(cut, versions), "rb") as file:
+        version = file.read()
+    for what, file_name, at, byte, balance in [
+        ("another result", "manager-0.otx", 60, 6, 5),
+        ("another balance", versions, version.index(b"\5"), 9, 9),
+    ]:
+        other = folder(what.replace(" ", "-"))
+        for name in os.listdir(cut):
+            with open(os.path.join(cut, name), "rb") as old, open(os.path.join(other, name), "wb") as new:
+                content = bytearray(old.read())
+                if name == file_name:
+                    content[at] = byte
+                new.write(content)
+        result = 6 if file_name == "manager-0.otx" else 5
+        found = open(os.path.join(other, "manager-0.otx"), "rb").read()
+        rows.row(f"audit of {what}", run(other, "audit"), silent(b'{"count":1,"first_bad":1}\n'))
+        rows.row(f"a run over {what}", run(other, "run", given=deposit(7) + ask() + deposit(1, account=2)),
+                 silent(reply(1, balance + 7, 2) + reply(2, balance + 7, 3) + reply(3, 1, 4)))
+        rows.row(f"history behind {what}", run(other, "history").output.splitlines(), [
+            b'{"args":[5],"call":"account/1.deposit","n":1,"reply":%d,"unit":1}' % result,
+            b'{"args":[7],"call":"account/1.deposit","n":1,"reply":%d,"unit":2}' % (balance + 7),
+            b'{"args":[],"call":"account/1.read","n":2,"reply":%d,"unit":3}' % (balance + 7),
+            b'{"args":[1],"call":"account/2.deposit","n":3,"reply":1,"unit":4}'])
+        rows.row(f"audit behind {what}", run(other, "audit"), silent(b'{"count":4,"first_bad":1}\n'))
+        gate = len(found) - 1
+        with open(os.path.join(other, "manager-0.otx"), "rb") as file:
+            left = file.read()
+        rows.row(f"the log behind {what}", (left[:gate], left[gate]), (found[:gate], 1))
+        with open(os.path.join(other, versions), "rb") as file:
+            rows.row(f"the versions behind {what}", file.read()[:len(version)],
+                     version if file_name == "manager-0.otx" else version[:at] + bytes([byte]) + version[at + 1:])
 
     # Loads: what a load of this number and seed sums up to, in two folders alike.
     rows.row("a load of four", run(folder("four"), "load", "4", "7"), silent(SUMMARY % (0, 68, 0, 68)))

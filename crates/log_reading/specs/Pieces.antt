@@ -1,5 +1,7 @@
 -- A part of a grain's file that is read at once.
-use Rattle.std.specs.Prelude.{◌≡◌, ℕ, ◌+◌, ◌-◌, ◌<◌, ◌≤◌, ◌^◌, Bool, IsTrue, List, length, take, drop}
+use Rattle.std.specs.Prelude.{◌≡◌, ℕ, ◌+◌, ◌-◌, ◌==◌, ◌<◌, ◌≤◌, ◌^◌, nat_le, Bool, ◌&&◌, IsTrue, List, length, take, drop}
+use Rattle.base_types.specs.declared.calls.GrainId.{GrainId}
+use Rattle.host_trait.specs.Files.{same_grain}
 use Rattle.host_trait.specs.World.{Image}
 use Rattle.host_trait.specs.declared.channels.FileId.TheVariants.{Grain}
 use Rattle.commit_log.specs.declared.records.Named.{Named}
@@ -22,3 +24,9 @@ pub record IsTextIn (piece : Piece) (named : Named) (text : List ℕ) : Type 0 w
   pub behind : piece.start ≤ named.written.place.offset
   pub within : named.written.place.offset - piece.start + named.written.place.len ≤ length piece.bytes.items
   pub same : text ≡ take named.written.place.len (drop (named.written.place.offset - piece.start) piece.bytes.items)
+
+-- whether a named version stands behind so many bytes that are read from an offset of this grain's file, and ends within 65,536
+-- bytes of it
+abbrev pub goes_on : GrainId → ℕ → ℕ → Named → Bool
+goes_on grain start size named =
+    same_grain named.written.grain grain && ((named.written.place.offset == start + size) && nat_le (size + named.written.place.len) 65536)

@@ -10,7 +10,7 @@ ghost use Rattle.log_reading.specs.Counts.{ReadFaulted};
 ghost use Rattle.log_reading.specs.Steps.{seen_in, live_slot};
 ghost use Rattle.log_reading.specs.Versions.{version_named};
 ghost use Rattle.grain_log.specs.Reads.{IsTextAt};
-ghost use Rattle.log_reading.specs.Pieces.{IsPieceOf, IsTextIn};
+ghost use Rattle.log_reading.specs.Pieces.{IsPieceOf, IsTextIn, goes_on};
 
 use crate::faults::FolderFault;
 use base_types::{GrainId, Shape, Version};
@@ -92,7 +92,7 @@ pub fn version_of(
 fn goes_on(grain: GrainId, start: u64, size: usize, named: Named) -> bool
     requires low { start < 2 ^ 62 }
     requires size { size ≤ 65536 }
-    ensures { result ≡ true → size + named.written.place.len ≤ 65536 }
+    ensures { result ≡ goes_on grain start size named }
 {
     let place = named.written.place;
     named.written.grain == grain
