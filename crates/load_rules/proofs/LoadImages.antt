@@ -11,13 +11,13 @@ use Rattle.promise_spec.specs.Programs.{Program, shape_in}
 use Rattle.promise_spec.specs.Records.{Commit, new_silo}
 use Rattle.promise_spec.specs.Serial.{IsSerial}
 use Rattle.promise_spec.specs.Logs.{live_slot, IsLog}
-use Rattle.promise_spec.specs.Images.{AreNumbered, IsSound}
+use Rattle.promise_spec.specs.Images.{AreNumbered, IsSoundFolder}
 use Rattle.promise_spec.specs.Moments.{IsImageOf, IsLongest}
 use Rattle.promise_spec.specs.Causes.{HasDoubt}
 use Rattle.promise_spec.specs.Endings.{Ending}
 use Rattle.promise_spec.specs.Courses.{Observed, Course, order, moments, lines, opening_standing, core_run, core_end}
 use Rattle.promise_spec.specs.Orders.{IsOrdered}
-use Rattle.promise_spec.specs.Crashes.{SurvivesCrashes}
+use Rattle.promise_spec.specs.Crashes.{SurvivesCrashes, StaySound}
 use Rattle.promise_spec.specs.Explained.{ComeOfEvents, IsExplained}
 use Rattle.promise_spec.specs.Exits.{IsDoubt, IsLeft}
 use Rattle.promise_spec.specs.Journals.{KeepsJournal, commits_of}
@@ -30,7 +30,7 @@ use Rattle.promise_laws.proofs.SerialRecords.{explained_serial}
 use Rattle.promise_laws.proofs.OneFamily.{explained_family}
 use Rattle.promise_laws.proofs.TrueReplies.{known_of}
 use Rattle.promise_laws.proofs.ShownOrder.{order_serial, order_numbered}
-use Rattle.promise_laws.proofs.ShownRuns.{explained, at_entry}
+use Rattle.promise_laws.proofs.ShownRuns.{explained, at_entry, opening_numbered, opening_serial}
 use Rattle.promise_laws.proofs.Doubted.{doubt-rose, doubt-told}
 use Rattle.load_rules.specs.Loading.{at_turns_end, turned_course, ShowsLoad}
 
@@ -118,18 +118,17 @@ module _ (p : Program) (n seed : ℕ) (r : Observed) (c : Course) (mid : World) 
 
   -- ---- the opening log
 
-  opening_sound : IsSerial p.types (new_silo p.types).states c.opening × AreNumbered (new_silo p.types).next c.opening
-  opening_sound =
-      let log : IsLog live_slot (shape_in p) o.some c.opening = o.opened o.some o.possible in
-      let sound : IsSound live_slot p o.some = o.folder.sound o.some (at_entry p then_seen then_course o o.some o.possible) log.silo in
-      let same : sound.log ≡ c.opening = one_log (shape_in p) o.some sound.log c.opening sound.is log in
-      (subst (IsSerial p.types (new_silo p.types).states) same sound.serial, subst (AreNumbered (new_silo p.types).next) same sound.numbered)
+  numbered : AreNumbered (new_silo p.types).next c.opening
+  numbered = opening_numbered p then_seen then_course o
+
+  serial : IsSoundFolder p r.old → IsSerial p.types (new_silo p.types).states c.opening
+  serial folder = opening_serial p then_seen then_course o folder
 
   -- each image has the program, as the program file is left alone
   has_program : (image : Image) → IsImageOf (moments r c) image → HasProgram p.text (image program_file)
   unfolding with_program
   has_program image of =
-      (o.folder.sound (with_program o.some image) mixed (o.opened o.some o.possible).silo).program
+      (o.folder.whole (with_program o.some image) mixed (o.opened o.some o.possible).silo).program
     where
       then_of : IsImageOf (moments then_seen then_course) image
       then_of = to_image image of
@@ -181,11 +180,10 @@ module _ (p : Program) (n seed : ℕ) (r : Observed) (c : Course) (mid : World) 
         (let a = to_image one of_one in
         let b = to_image other of_other in
         journaled.chained p c.opening r.old.output j.journal a.moment b.moment one other (kept_in one a) (kept_in other b));
-    sound = λ image of.
+    whole = λ image of.
         (let a = to_image image of in
-        journaled.sound p c.opening r.old.output j.journal a.moment image (kept_in image a) (has_program image of)
-        (subst (IsSerial p.types (new_silo p.types).states) order_is (order_serial p r c is opening_sound.0))
-        (subst (AreNumbered 1) order_is (order_numbered p r c is opening_sound.1)));
+        journaled.whole p c.opening r.old.output j.journal a.moment image (kept_in image a) (has_program image of)
+        (subst (AreNumbered 1) order_is (order_numbered p r c is numbered)));
     keeps = λ image of.
         (let k = kept_in image (to_image image of) in
         record { log = c.opening ++ commits_of (k.said ++ k.unsaid); is = k.log; longer = (commits_of (k.said ++ k.unsaid), refl) });
@@ -198,9 +196,16 @@ module _ (p : Program) (n seed : ℕ) (r : Observed) (c : Course) (mid : World) 
         });
   }
 
+  pub sound : IsSoundFolder p r.old → StaySound p r c
+  sound folder image of =
+      let a = to_image image of in
+      journaled.sound p c.opening r.old.output j.journal a.moment image (kept_in image a) (has_program image of)
+      (subst (IsSerial p.types (new_silo p.types).states) order_is (order_serial p r c is (serial folder)))
+      (subst (AreNumbered 1) order_is (order_numbered p r c is numbered))
+
   pub records : ComeOfEvents p r c
   records = record {
-    family = explained_family p r c is opening_sound.1;
+    family = explained_family p r c is numbered;
     whole = λ image log of is_log. j.batches image log (to_image image of) is_log;
   }
 

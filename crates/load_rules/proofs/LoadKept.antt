@@ -17,7 +17,7 @@ use Rattle.promise_spec.specs.Loads.{HasLoaded, KeepsLoad}
 use Rattle.promise_laws.proofs.Undisturbed.{calm_undisturbed}
 use Rattle.promise_laws.proofs.Unlocked.{single_unlocked}
 use Rattle.load_rules.specs.Loading.{ShowsLoad}
-use Rattle.load_rules.proofs.LoadImages.{is, part_of, ordered, crashes, records, exit, whole_order}
+use Rattle.load_rules.proofs.LoadImages.{is, part_of, ordered, crashes, sound, records, exit, whole_order}
 
 -- the last of some moments that wrote nothing hasn't either
 last_quiet : (output : List ℕ) (before : Moment) (early : List Moment) → before.output ≡ output → ((m : Moment) → Member m early → m.output ≡ output) → (last_of before early).output ≡ output
@@ -76,6 +76,7 @@ module _ (p : Program) (n seed : ℕ) (r : Observed) (c : Course) (mid : World) 
     };
     alone = λ unthreaded one childless e m. single_unlocked p r c (is p n seed r c mid counts turns_end turns told s) unthreaded one childless e (settled_entry e m);
     syncs = s.syncs;
+    most = s.most;
   }
 
   pub kept_load : KeepsLoad p n seed r c
@@ -83,6 +84,7 @@ module _ (p : Program) (n seed : ℕ) (r : Observed) (c : Course) (mid : World) 
     asked = s.asked;
     ordered = ordered p n seed r c mid counts turns_end turns told s;
     crashes = crashes p n seed r c mid counts turns_end turns told s;
+    sound = sound p n seed r c mid counts turns_end turns told s;
     records = records p n seed r c mid counts turns_end turns told s;
     exit = exit p n seed r c mid counts turns_end turns told s;
     settled = s.settled;

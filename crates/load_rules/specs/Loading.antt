@@ -1,11 +1,11 @@
 -- What a load has to show, so that it keeps its promise: the rest follows.
-use Rattle.std.specs.Prelude.{◌≡◌, ◌≢◌, ◌⊎◌, ◌+◌, ℕ, List, [], ◌++◌}
+use Rattle.std.specs.Prelude.{◌≡◌, ◌≢◌, ◌⊎◌, ◌+◌, ◌≤◌, ℕ, List, [], ◌++◌}
 use Rattle.core_model.specs.CoreState.{Member}
 use Rattle.host_trait.specs.declared.channels.Channel.{Channel}
 use Rattle.host_trait.specs.World.{World, Moment, Image, IsImage}
 use Rattle.promise_spec.specs.Programs.{Program, shape_in}
 use Rattle.promise_spec.specs.Logs.{IsLog, live_slot}
-use Rattle.promise_spec.specs.Causes.{NoneRose, HasDoubt, syncs_of}
+use Rattle.promise_spec.specs.Causes.{NoneRose, HasDoubt, syncs_of, most_syncs_of}
 use Rattle.promise_spec.specs.Endings as ending
 use Rattle.promise_spec.specs.Courses.{Observed, Course, order, lines, core_run, core_end}
 use Rattle.promise_spec.specs.Promise.{IsAnswered}
@@ -53,3 +53,4 @@ pub record ShowsLoad (p : Program) (n seed : ℕ) (r : Observed) (c : Course) (m
   pub done : (r.ending ≡ ending.Done) ⊎ (r.ending ≡ ending.WriteFault) → IsAnswered r c
   pub undoubted : r.ending ≡ ending.WriteFault → HasDoubt (core_run p c) → ⊥
   pub syncs : NoneRose r.faults_before r.faults_after → r.ending ≡ ending.Done → r.new.syncs ≡ r.old.syncs + syncs_of (core_run p c)
+  pub most : r.new.syncs ≤ r.old.syncs + most_syncs_of (core_run p c)

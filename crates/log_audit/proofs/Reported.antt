@@ -119,6 +119,7 @@ pub not_opened : {A : Type 0} (manner : Manner) (asked : List (List ℕ)) (old n
 not_opened manner asked old new before after result e is run refused faulted = record {
   untouched = untouched 1 old new run;
   unread = run.input;
+  syncs = run.syncs;
   refused = subst (λ (x : Ending). IsRefusedBy (seen_in old.disk) (opened_as live_slot (seen_in old.disk)) x) (sym is) refused;
   failed = subst (λ (x : Ending). HasFailedAs x before after) (sym is) (open_failed before after e faulted);
 }

@@ -14,11 +14,11 @@ use Rattle.log_reading.specs.Steps.{seen_in}
 use Rattle.promise_spec.specs.Programs.{Program, IsChecked}
 use Rattle.promise_spec.specs.Openings.{Reads}
 use Rattle.promise_spec.specs.Courses.{Observed, Course}
-use Rattle.promise_spec.specs.Promise.{IsSoundFolder}
+use Rattle.promise_spec.specs.Images.{IsWholeFolder}
 use Rattle.log_reading.specs.Steps.{live_slot}
 use Rattle.promise_laws.specs.Closings.{ReadsMayStay, IsBehind}
 use Rattle.promise_laws.specs.Obligations.{Opens}
-use Rattle.promise_laws.proofs.KeptRuns.{opens_sound}
+use Rattle.promise_laws.proofs.KeptRuns.{opens_whole}
 use Rattle.silo_opening.specs.Opened.{Stays, IsOpenedFrom}
 use Rattle.silo_opening.specs.declared.open.Opened.{Opened}
 use Rattle.opening_rules.specs.Behind.{program_of, FollowsOpening}
@@ -60,6 +60,6 @@ behind o r c mid is follows = record {
   late = follows.late;
 }
 
-pub opens : (q : Program) (o : Opened) (r : Observed) (c : Course) (mid : host.World) (is : IsOpenedFrom (seen_in r.old.disk) o) → FollowsOpening r c mid is.log → IsChecked q → IsSoundFolder q r.old → ReadsMayStay r.old → ReadsMayStay mid →
+pub opens : (q : Program) (o : Opened) (r : Observed) (c : Course) (mid : host.World) (is : IsOpenedFrom (seen_in r.old.disk) o) → FollowsOpening r c mid is.log → IsChecked q → IsWholeFolder q r.old → ReadsMayStay r.old → ReadsMayStay mid →
     Opens (program_of is) r c
-opens q o r c mid is follows checked sound stay stay_mid = opens_sound (program_of is) r c mid (behind o r c mid is follows) q checked sound stay stay_mid
+opens q o r c mid is follows checked whole stay stay_mid = opens_whole (program_of is) r c mid (behind o r c mid is follows) q checked whole stay stay_mid

@@ -1,5 +1,5 @@
 -- The run of the core that takes one batch of two deposits keeps both rules.
-use Rattle.std.proofs.Common.{◌≡◌, inl, ℕ, ◌+◌, true, List, [], ◌∷◌, length, refl, ap, ◌∙◌, arith}
+use Rattle.std.proofs.Common.{◌≡◌, inl, ℕ, ◌+◌, true, List, [], ◌∷◌, length, refl, sym, ap, subst, ◌∙◌, arith}
 use Rattle.std.specs.Prelude.{count_by}
 use Rattle.base_types.specs.declared.calls.GrainId.{GrainId}
 use Rattle.base_types.specs.declared.calls.Mode.TheVariants.{Update as Alone}
@@ -11,7 +11,7 @@ use Rattle.core_model.specs.CoreState.{same_grain, put, put_grain}
 use Rattle.script_meaning.specs.Play.{unit, next, play_over}
 use Rattle.promise_spec.specs.Records.{AreRecordsOf}
 use Rattle.promise_spec.specs.Cores.{applied_in, how_many}
-use Rattle.promise_spec.specs.Causes.{HasDoubt, is_no, is_unsealed, syncs_of}
+use Rattle.promise_spec.specs.Causes.{HasDoubt, is_no, is_vote_of, is_unsealed, syncs_of, most_syncs_of}
 use Rattle.promise_spec.specs.Batches.{EndsABatch, kept_by}
 use Rattle.promise_spec.specs.UnitRule.{KeepsUnitRule}
 use Rattle.promise_spec.specs.TurnRule.{KeepsTurnRule}
@@ -152,6 +152,17 @@ pub no_votes : (g : GrainId) → how_many (is_no g) core ≡ 0
 no_votes g =
     ap (λ (events : List CoreEvent). count_by (is_no g) events) all_apply
     ∙ none_counted (is_no g) batch_events (refl, (refl, (refl, (refl, (refl, (refl, (refl, (refl, (refl, (none_of (same_grain account_1 g), (refl, (refl, (refl, (refl, (refl, (refl, tt))))))))))))))))
+
+one_vote : how_many (is_vote_of account_1) core ≡ 1
+one_vote = ap (λ (events : List CoreEvent). count_by (is_vote_of account_1) events) all_apply
+
+pub voted_on : (g : GrainId) → g ≡ account_1 → how_many (is_vote_of g) core ≡ 0 → ⊥
+voted_on g same none = (let one : how_many (is_vote_of g) core ≡ 1 = subst (λ (x : GrainId). how_many (is_vote_of x) core ≡ 1) (sym same) one_vote in absurd (omega (arith, one, none)))
+
+-- one sync of the opening at most, one of the vote, and two of the batch
+pub four_most : most_syncs_of core ≡ 4
+unfolding put put_grain
+four_most = refl
 
 pub no_seals : how_many is_unsealed core ≡ 0
 no_seals = ap (λ (events : List CoreEvent). count_by is_unsealed events) all_apply

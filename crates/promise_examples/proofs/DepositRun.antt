@@ -24,13 +24,13 @@ use Rattle.promise_spec.specs.Moments.{IsImageOf}
 use Rattle.promise_spec.specs.Outputs.{IsProper, Grew, reply_lines}
 use Rattle.promise_spec.specs.Cores.{HasBegun, applied_in, how_many}
 use Rattle.promise_spec.specs.TurnRule.{KeepsTurnRule}
-use Rattle.promise_spec.specs.Causes.{RoseBy, HasDoubt, AreCaused, is_no, is_unsealed, syncs_of}
+use Rattle.promise_spec.specs.Causes.{RoseBy, HasDoubt, AreCaused, is_no, is_vote_of, is_unsealed, syncs_of, most_syncs_of}
 use Rattle.promise_spec.specs.Family.{IsUnitOf, IsReached, by_line}
 use Rattle.promise_spec.specs.Endings as ending
 use Rattle.promise_spec.specs.Courses.{Observed, Course, moments, lines, core_end}
 use Rattle.promise_spec.specs.Orders.{IsOrdered}
 use Rattle.promise_spec.specs.Replies.{AreReplies, IsTrueOf, HasNoRecord}
-use Rattle.promise_spec.specs.Crashes.{LeavesAlone, SurvivesCrashes, HoldsReplies}
+use Rattle.promise_spec.specs.Crashes.{LeavesAlone, SurvivesCrashes, StaySound, HoldsReplies}
 use Rattle.promise_spec.specs.Batches.{EndsABatch}
 use Rattle.promise_spec.specs.Exits.{IsLeft, IsNowhere}
 use Rattle.promise_spec.specs.Explained.{ComeOfEvents, AreAdded, AreSettled, IsExplained}
@@ -38,10 +38,10 @@ use Rattle.promise_spec.specs.Journals.{Settlement, KeepsJournal, Backs, commits
 use Rattle.promise_spec.specs.Promise.{IsSoundFolder, IsUndisturbed, IsNoLock, HasEnded, Keeps}
 use Rattle.promise_laws.specs.Obligations.{Shows}
 use Rattle.promise_examples.specs.Examples.{accounts, account_program, account_1, unit_no, first_commit, first_entry, deposit_events, account_run}
-use Rattle.promise_examples.specs.DepositRuns.{MayHaveDeposit, IsBetween, IsDepositRun, deposit_course}
+use Rattle.promise_examples.specs.DepositRuns.{MayHaveDeposit, LeavesOthers, IsBetween, IsDepositRun, deposit_course}
 use Rattle.promise_spec.proofs.Lists.{none_is}
 use Rattle.promise_spec.proofs.OneLog.{one_log}
-use Rattle.promise_spec.proofs.Journaled.{chained, longest, holds, sound}
+use Rattle.promise_spec.proofs.Journaled.{chained, longest, holds, whole as all_whole, sound}
 use Rattle.promise_examples.proofs.FirstDeposit.{five}
 use Rattle.promise_examples.proofs.Between.{at_each, exit_there, all_less}
 use Rattle.promise_examples.proofs.WholeBatches.{no_batch}
@@ -96,6 +96,18 @@ no_votes : (g : GrainId) → how_many (is_no g) core ≡ 0
 no_votes g =
     ap (λ (events : List CoreEvent). count_by (is_no g) events) all_apply
     ∙ none_counted (is_no g) deposit_events (refl, (refl, (refl, (refl, (refl, (none_of (same_grain account_1 g), (refl, (refl, (refl, (refl, tt))))))))))
+
+-- the one vote is on `account/1`
+one_vote : how_many (is_vote_of account_1) core ≡ 1
+one_vote = ap (λ (events : List CoreEvent). count_by (is_vote_of account_1) events) all_apply
+
+voted_on : (g : GrainId) → g ≡ account_1 → how_many (is_vote_of g) core ≡ 0 → ⊥
+voted_on g same none = (let one : how_many (is_vote_of g) core ≡ 1 = subst (λ (x : GrainId). how_many (is_vote_of x) core ≡ 1) (sym same) one_vote in absurd (omega (arith, one, none)))
+
+-- as many syncs are asked for at most
+four_most : most_syncs_of core ≡ 4
+unfolding put put_grain
+four_most = refl
 
 -- one of the opening, one of the vote, and two of the batch
 four_syncs : syncs_of core ≡ 4
@@ -221,10 +233,19 @@ module _ (r : Observed) (opened : Moment) (sealing : List Moment) (run : IsDepos
     quiet = λ m there. only (λ (n : Moment). n.output ≡ r.old.output) opened m run.quiet there;
     before = λ image is. only (λ (n : Moment). IsImage n.disk image → IsImage r.old.disk image) opened is.moment (λ left. (run.entry image left).0) is.member is.left;
     chain = λ one other a b. chained account_program [] r.old.output journal a.moment b.moment one other (keeps_at one a) (keeps_at other b);
-    sound = λ image is. sound account_program [] r.old.output journal is.moment image (keeps_at image is) (known is.moment is.member image is.left).1 serial numbered;
+    whole = λ image is. all_whole account_program [] r.old.output journal is.moment image (keeps_at image is) (known is.moment is.member image is.left).1 numbered;
     keeps = λ image is. let k = keeps_at image is in record { log = commits_of (k.said ++ k.unsaid); is = k.log; longer = (commits_of (k.said ++ k.unsaid), refl) };
     alone = alone;
   }
+
+  sound_all : StaySound account_program r course
+  sound_all image is = sound account_program [] r.old.output journal is.moment image (keeps_at image is) (known is.moment is.member image is.left).1 serial numbered
+
+  -- and the files of other grains
+  apart : (m : Moment) → Member m (moments r course) → LeavesOthers r m
+  apart =
+      at_each (LeavesOthers r) opened sealing (moment_of r.new) run.apart.0
+      (all_less (IsBetween r r.old.output MayHaveDeposit) (LeavesOthers r) sealing (λ m is. is.apart) run.sealed) run.apart.1
 
   -- the records come of the events
   of_events : ComeOfEvents account_program r course
@@ -289,6 +310,7 @@ module _ (r : Observed) (opened : Moment) (sealing : List Moment) (run : IsDepos
     };
     doubted = λ file is. absurd (let e : ending.Done ≡ ending.DiskFault file = sym run.ending ∙ is in cc e);
     ended = λ doubt. absurd (no_doubt doubt);
+    unvoted = λ g m none there. apart m there g (λ same. voted_on g same none);
   }
 
   begins : ending.IsBegun r.ending
@@ -309,11 +331,12 @@ module _ (r : Observed) (opened : Moment) (sealing : List Moment) (run : IsDepos
     complete = λ calm. record { calm = statuses.3; undisturbed = λ e there. only (λ (d : Entry). IsUndisturbed d.what) first_entry e tt there };
     alone = λ single one none e there. only (λ (d : Entry). IsNoLock d.what) first_entry e tt there;
     syncs = λ calm is. run.syncs ∙ ap (λ (n : ℕ). r.old.syncs + n) (sym four_syncs);
+    most = (let n = run.syncs in let few : most_syncs_of core ≡ 4 = four_most in omega (arith, n, few));
   }
 
   pub kept : Keeps account_program r course
   kept = record {
-    headline = record { ordered = ordered; replies = replies; crashes = crashes; holds = replied };
+    headline = record { ordered = ordered; replies = replies; crashes = crashes; sound = λ folder. sound_all; holds = replied };
     records = of_events;
     settled = written;
     explained = explained;

@@ -4,6 +4,7 @@ use Rattle.std.proofs.lemmas.List.{append-nil}
 use Rattle.core_model.specs.CoreState.{Member}
 use Rattle.host_trait.specs.World.{Moment, Image, IsImage, moment_of}
 use Rattle.host_trait.specs.declared.channels.Channel.{Channel}
+use Rattle.host_trait.specs.declared.channels.FileId.TheVariants.{Grain}
 use Rattle.request_wire.specs.Lines.{lines_of}
 use Rattle.promise_spec.specs.Programs.{Program, shape_in}
 use Rattle.promise_spec.specs.Records.{Commit}
@@ -16,6 +17,7 @@ use Rattle.promise_spec.specs.Batches.{EndsABatch}
 use Rattle.promise_spec.specs.Courses.{Observed, moments, lines, core_end}
 use Rattle.promise_spec.specs.Promise.{Keeps}
 use Rattle.promise_spec.proofs.Lists.{none_at}
+use Rattle.promise_spec.proofs.WholeFolders.{whole_if}
 use Rattle.promise_spec.proofs.OneLog.{one_log}
 use Rattle.promise_examples.proofs.FirstFamily.{no_family}
 use Rattle.promise_examples.proofs.WholeBatches.{no_batch}
@@ -82,13 +84,14 @@ module _ (p : Program) (r : Observed) (opening : List Commit) (run : IsEmptyRun 
         quiet = λ m there. elim there [ inl same ↦ ap (λ (n : Moment). n.output) same ∙ run.output | inr none ↦ absurd none ];
         before = λ image is. elim is.member [ inl same ↦ run.entry image (subst (λ (m : Moment). IsImage m.disk image) same is.left) | inr none ↦ absurd none ];
         chain = λ one other a b silo. (opening ++ [], whole one (at_exit one a), λ silo_too. (opening ++ [], whole other (at_exit other b), inl ([], sym (append-nil (opening ++ [])))));
-        sound = λ image is. run.sound image (at_exit image is);
+        whole = λ image is. whole_if live_slot p image (run.sound image (at_exit image is));
         keeps = λ image is. record { log = opening; is = run.logs image (at_exit image is); longer = ([], sym (append-nil opening)) };
         alone = λ m there. elim there [
           | inl same ↦ subst (LeavesAlone live_slot r) (sym same) run.alone
           | inr more ↦ elim more [ inl same ↦ subst (LeavesAlone live_slot r) (sym same) run.alone | inr none ↦ absurd none ]
         ];
       };
+      sound = λ folder image is. run.sound image (at_exit image is);
       holds = λ m image there left. record {
         written = [];
         rest = [];
@@ -117,6 +120,10 @@ module _ (p : Program) (r : Observed) (opening : List Commit) (run : IsEmptyRun 
       faults = record { votes = λ g. no_fault _; seals = no_fault _ };
       doubted = λ file is. absurd (let e : Done ≡ DiskFault file = sym run.ending ∙ is in cc e);
       ended = λ doubt. absurd (none_at doubt.at _ doubt.doubt.there);
+      unvoted = λ g m none there. elim there [
+        | inl same ↦ ap (λ (n : Moment). n.disk (Grain live_slot g)) same ∙ run.unwritten g
+        | inr more ↦ elim more [ inl same ↦ ap (λ (n : Moment). n.disk (Grain live_slot g)) same ∙ run.unwritten g | inr never ↦ absurd never ]
+      ];
     };
     exit = record {
       logs = λ image is. record { log = opening ++ []; is = whole image is; which = inl refl };
@@ -134,5 +141,6 @@ module _ (p : Program) (r : Observed) (opening : List Commit) (run : IsEmptyRun 
       complete = λ calm. record { calm = ended.3; undisturbed = λ e none. absurd none };
       alone = λ single one none e there. absurd there;
       syncs = λ calm is. run.syncs;
+      most = (let n = run.syncs in omega (arith, n));
     };
   }

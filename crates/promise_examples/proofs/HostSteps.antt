@@ -19,7 +19,7 @@ use Rattle.promise_examples.specs.WrittenRun.{disk_of, moment}
 
 -- ---- the files that a call leaves alone
 
-account_is : (g : GrainId) → same_grain g account_1 ≡ true → g ≡ account_1
+pub account_is : (g : GrainId) → same_grain g account_1 ≡ true → g ≡ account_1
 account_is g same =
     let parts = and_parts (g.kind == 0) (g.key == 1) same in
     let kind : g.kind ≡ 0 = eqb-true g.kind 0 parts.0 in

@@ -1,7 +1,10 @@
 -- The disks between, on the way of a deposit that is sealed: what their images have, and the moments that show them.
-use Rattle.std.proofs.Common.{◌≡◌, ℕ, ◌<◌, ◌≤◌, inl, inr, List, [], ◌++◌, length, take, drop, slice_index, refl, sym, ◌∙◌, ap, arith, length-append, length-take}
+use Rattle.std.proofs.Common.{◌≡◌, ◌≢◌, ℕ, ◌<◌, ◌≤◌, inl, inr, Bool, true, false, if◌then◌else◌, List, [], ◌++◌, length, take, drop, slice_index, refl, sym, ◌∙◌, ap, arith, length-append, length-take}
 use Rattle.std.proofs.lemmas.List.{ext_get_or, take-append-drop}
 use Rattle.std.proofs.Common.{get_or-take}
+use Rattle.base_types.specs.declared.calls.GrainId.{GrainId}
+use Rattle.cell_model.specs.Units.{same_grain}
+use Rattle.host_trait.specs.declared.channels.FileId.TheVariants.{Grain}
 use Rattle.host_trait.specs.Disk.{FileState, MayLeave, settled}
 use Rattle.host_trait.specs.World.{Image, IsImage, Disk, Moment}
 use Rattle.host_trait.proofs.Crashes.{settled_only}
@@ -10,9 +13,10 @@ use Rattle.silo_spec.specs.Silos.{manager, program_file, IsSilo}
 use Rattle.promise_spec.specs.Logs.{live_slot, magic}
 use Rattle.promise_spec.specs.Courses.{Observed}
 use Rattle.promise_spec.specs.Crashes.{LeavesAlone}
-use Rattle.promise_examples.specs.Examples.{program_bytes, grain_bytes, block_bytes, manager_of, manager_bytes}
-use Rattle.promise_examples.specs.DepositRuns.{HasNone, HasDeposit, MayHaveDeposit, IsBetween}
+use Rattle.promise_examples.specs.Examples.{account_1, program_bytes, grain_bytes, block_bytes, manager_of, manager_bytes}
+use Rattle.promise_examples.specs.DepositRuns.{HasNone, HasDeposit, MayHaveDeposit, LeavesOthers, IsBetween}
 use Rattle.promise_examples.specs.WrittenRun.{new_manager, disk_of, new_disk, pending_block, pending_gate, sealing_disk, sealed_disk}
+use Rattle.promise_examples.proofs.HostSteps.{account_is}
 use Rattle.promise_examples.proofs.NewSilo.{gate_only, gate_is_silo, shut_has_none, has_none, same_aside, empty_images, sealing_images, sealed_images}
 
 -- ---- the block while it's pending
@@ -84,8 +88,16 @@ module _ (r : Observed) (new : r.old.disk ≡ new_disk) where
     header = λ image left. keeps (image manager) (left manager) ∙ sym (ap (λ (d : Disk). take 15 (d manager).seen) new);
   }
 
+  -- the files of other grains are empty on either disk
+  same_grain_file : (log grain : FileState) (g : GrainId) (b : Bool) → same_grain g account_1 ≡ b → g ≢ account_1 → (if b then grain else settled []) ≡ (if b then settled [] else settled [])
+  same_grain_file log grain g true is other = absurd (other (account_is g is))
+  same_grain_file log grain g false is other = refl
+
+  pub apart_of : (output : List ℕ) (log grain : FileState) → LeavesOthers r (record { output = output; disk = disk_of log grain })
+  apart_of output log grain g other = same_grain_file log grain g (same_grain g account_1) refl other ∙ sym (ap (λ (d : Disk). d (Grain 0 g)) new)
+
   pub between_of : (output : List ℕ) (Has : Image → Type 0) (log grain : FileState) → KeepsFront log → ((image : Image) → IsImage (disk_of log grain) image → Has image) → IsBetween r output Has (record { output = output; disk = disk_of log grain })
-  between_of output Has log grain keeps has = record { output = refl; images = has; alone = alone_of output log grain keeps }
+  between_of output Has log grain keeps has = record { output = refl; images = has; alone = alone_of output log grain keeps; apart = apart_of output log grain }
 
   -- the moments of one output, for what each image has at them
   module _ (output : List ℕ) where
@@ -106,7 +118,7 @@ module _ (r : Observed) (new : r.old.disk ≡ new_disk) where
 
 -- a moment at which there is none is one at which there may be the deposit, and so is one at which there is
 pub if_none : (r : Observed) (output : List ℕ) (m : Moment) → IsBetween r output HasNone m → IsBetween r output MayHaveDeposit m
-if_none r output m is = record { output = is.output; images = λ image left. inl (is.images image left); alone = is.alone }
+if_none r output m is = record { output = is.output; images = λ image left. inl (is.images image left); alone = is.alone; apart = is.apart }
 
 pub if_has : (r : Observed) (output : List ℕ) (m : Moment) → IsBetween r output HasDeposit m → IsBetween r output MayHaveDeposit m
-if_has r output m is = record { output = is.output; images = λ image left. inr (is.images image left); alone = is.alone }
+if_has r output m is = record { output = is.output; images = λ image left. inr (is.images image left); alone = is.alone; apart = is.apart }

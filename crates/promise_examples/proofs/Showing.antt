@@ -5,14 +5,16 @@ use Rattle.host_trait.specs.World.{Moment, Image, IsImage, moment_of, last_of}
 use Rattle.promise_spec.specs.Programs.{Program}
 use Rattle.promise_spec.specs.Courses.{Observed, Course, moments}
 use Rattle.promise_spec.specs.Journals.{Settlement, Backs, commits_of}
-use Rattle.promise_spec.specs.Promise.{IsSoundFolder, Keeps}
+use Rattle.promise_spec.specs.Images.{IsSoundFolder}
+use Rattle.promise_spec.specs.Promise.{Keeps}
+use Rattle.promise_spec.proofs.WholeFolders.{whole_folder}
 use Rattle.promise_laws.specs.Obligations.{SaysIn, Opens, Journals, ExplainsEvents, LeavesAtExit, EndsRightly, Shows}
 
 module _ (p : Program) (r : Observed) (c : Course) (keeps : Keeps p r c) where
   -- it opened the folder, and some image was there at the return of the opening's last sync
   opens : IsSoundFolder p r.old → (some : Image) → IsImage (last_of (moment_of r.old) c.early).disk some → Opens p r c
   opens sound some possible = record {
-    folder = sound;
+    folder = whole_folder p r.old sound;
     read = keeps.headline.ordered.read;
     opened = λ image left. (keeps.headline.ordered.opened image left).log;
     some = some;
@@ -44,6 +46,7 @@ module _ (p : Program) (r : Observed) (c : Course) (keeps : Keeps p r c) where
     faults = keeps.explained.faults;
     doubted = keeps.explained.doubted;
     ended = keeps.explained.ended;
+    unvoted = keeps.explained.unvoted;
   }
 
   leaves : LeavesAtExit p r c
@@ -58,6 +61,7 @@ module _ (p : Program) (r : Observed) (c : Course) (keeps : Keeps p r c) where
     begun = keeps.ended.begun;
     done = keeps.ended.done;
     syncs = keeps.ended.syncs;
+    most = keeps.ended.most;
   }
 
   pub shows : IsSoundFolder p r.old → (some : Image) → IsImage (last_of (moment_of r.old) c.early).disk some

@@ -28,12 +28,12 @@ use Rattle.promise_spec.specs.Moments.{IsImageOf}
 use Rattle.promise_spec.specs.Outputs.{IsProper, Grew, reply_lines}
 use Rattle.promise_spec.specs.Cores.{applied_in, how_many}
 use Rattle.promise_spec.specs.TurnRule.{KeepsTurnRule}
-use Rattle.promise_spec.specs.Causes.{IsAbortedFor, NoneRose, RoseBy, HasDoubt, AreCaused, is_no, is_unsealed}
+use Rattle.promise_spec.specs.Causes.{IsAbortedFor, NoneRose, RoseBy, HasDoubt, AreCaused, is_no, is_vote_of, is_unsealed, most_syncs_of}
 use Rattle.promise_spec.specs.Endings as ending
 use Rattle.promise_spec.specs.Courses.{Observed, Course, moments, lines, core_end}
 use Rattle.promise_spec.specs.Orders.{IsOrdered}
 use Rattle.promise_spec.specs.Replies.{AreReplies, IsTrueOf}
-use Rattle.promise_spec.specs.Crashes.{LeavesAlone, SurvivesCrashes, HoldsReplies}
+use Rattle.promise_spec.specs.Crashes.{LeavesAlone, SurvivesCrashes, StaySound, HoldsReplies}
 use Rattle.promise_spec.specs.Batches.{EndsABatch}
 use Rattle.promise_spec.specs.Exits.{IsLeft}
 use Rattle.promise_spec.specs.Explained.{ComeOfEvents, AreSettled, IsExplained}
@@ -41,11 +41,11 @@ use Rattle.promise_spec.specs.Journals.{Settlement, KeepsJournal, Backs, commits
 use Rattle.promise_spec.specs.Promise.{IsSoundFolder, HasEnded, Keeps}
 use Rattle.promise_laws.specs.Obligations.{Shows}
 use Rattle.promise_examples.specs.Examples.{accounts, account_program, account_1, unit_no, voted_entry, dependent_entry, vote_entries, vote_events, account_run}
-use Rattle.promise_examples.specs.DepositRuns.{HasNone, IsBetween}
+use Rattle.promise_examples.specs.DepositRuns.{HasNone, LeavesOthers, IsBetween}
 use Rattle.promise_examples.specs.VoteRuns.{IsVoteRun, vote_course}
 use Rattle.promise_spec.proofs.Lists.{none_at, both_parts}
 use Rattle.promise_spec.proofs.OneLog.{one_log}
-use Rattle.promise_spec.proofs.Journaled.{chained, longest, holds, sound}
+use Rattle.promise_spec.proofs.Journaled.{chained, longest, holds, whole as all_whole, sound}
 use Rattle.promise_examples.proofs.Between.{at_each, exit_there, all_less}
 use Rattle.promise_examples.proofs.WholeBatches.{no_batch}
 use Rattle.promise_examples.proofs.Showing.{shows}
@@ -119,6 +119,17 @@ no_others g other =
 
 one_no : how_many (is_no account_1) core ≡ 1
 one_no = ap (λ (events : List CoreEvent). count_by (is_no account_1) events) all_apply
+
+one_vote : how_many (is_vote_of account_1) core ≡ 1
+one_vote = ap (λ (events : List CoreEvent). count_by (is_vote_of account_1) events) all_apply
+
+voted_on : (g : GrainId) → g ≡ account_1 → how_many (is_vote_of g) core ≡ 0 → ⊥
+voted_on g same none = (let one : how_many (is_vote_of g) core ≡ 1 = subst (λ (x : GrainId). how_many (is_vote_of x) core ≡ 1) (sym same) one_vote in absurd (omega (arith, one, none)))
+
+-- one sync of the opening at most, and one of the vote
+two_most : most_syncs_of core ≡ 2
+unfolding put put_grain
+two_most = refl
 
 no_seals : how_many is_unsealed core ≡ 0
 no_seals = ap (λ (events : List CoreEvent). count_by is_unsealed events) all_apply
@@ -245,13 +256,24 @@ module _ (r : Observed) (opened : Moment) (failing told : List Moment) (run : Is
       (all_less (IsBetween r (r.old.output ++ reply_lines (shape_in account_program) (voted_entry ∷ [])) HasNone) AllHaveNone told (λ m is. is.images) run.first))
       run.exit
 
+  sound_all : StaySound account_program r course
+  sound_all image is = sound account_program [] r.old.output journal is.moment image (keeps_at image is) (known is.moment is.member image is.left).1 tt tt
+
+  -- and the files of other grains
+  apart : (m : Moment) → Member m (moments r course) → LeavesOthers r m
+  apart =
+      at_each (LeavesOthers r) opened (failing ++ told) (moment_of r.new) run.apart.0
+      (both_parts (LeavesOthers r) failing told (all_less (IsBetween r r.old.output HasNone) (LeavesOthers r) failing (λ m is. is.apart) run.unsaid)
+      (all_less (IsBetween r (r.old.output ++ reply_lines (shape_in account_program) (voted_entry ∷ [])) HasNone) (LeavesOthers r) told (λ m is. is.apart) run.first))
+      run.apart.1
+
   crashes : SurvivesCrashes account_program r course
   crashes = record {
     past = run.past;
     quiet = λ m there. only (λ (n : Moment). n.output ≡ r.old.output) opened m run.quiet there;
     before = λ image is. only (λ (n : Moment). IsImage n.disk image → IsImage r.old.disk image) opened is.moment (λ left. (run.entry image left).0) is.member is.left;
     chain = λ one other a b. chained account_program [] r.old.output journal a.moment b.moment one other (keeps_at one a) (keeps_at other b);
-    sound = λ image is. sound account_program [] r.old.output journal is.moment image (keeps_at image is) (known is.moment is.member image is.left).1 tt tt;
+    whole = λ image is. all_whole account_program [] r.old.output journal is.moment image (keeps_at image is) (known is.moment is.member image is.left).1 tt;
     keeps = λ image is. let k = keeps_at image is in record { log = commits_of (k.said ++ k.unsaid); is = k.log; longer = (commits_of (k.said ++ k.unsaid), refl) };
     alone = alone;
   }
@@ -322,6 +344,7 @@ module _ (r : Observed) (opened : Moment) (failing told : List Moment) (run : Is
     faults = record { votes = λ g. votes g (same_grain account_1 g) refl; seals = seals };
     doubted = λ file is. absurd (let e : ending.Done ≡ ending.DiskFault file = sym run.ending ∙ is in cc e);
     ended = λ doubt. absurd (no_doubt doubt);
+    unvoted = λ g m none there. apart m there g (λ same. voted_on g same none);
   }
 
   begins : ending.IsBegun r.ending
@@ -348,11 +371,12 @@ module _ (r : Observed) (opened : Moment) (failing told : List Moment) (run : Is
     complete = λ calm. absurd (not_calm calm);
     alone = λ single one none e there. absurd (let two : r.manner.width ≡ 2 = run.pair.1 in let width : r.manner.width ≡ 1 = one in omega arith);
     syncs = λ calm is. absurd (not_calm calm);
+    most = (let n = run.syncs in let few : most_syncs_of core ≡ 2 = two_most in omega (arith, n, few));
   }
 
   pub kept : Keeps account_program r course
   kept = record {
-    headline = record { ordered = ordered; replies = replies; crashes = crashes; holds = replied };
+    headline = record { ordered = ordered; replies = replies; crashes = crashes; sound = λ folder. sound_all; holds = replied };
     records = of_events;
     settled = written;
     explained = explained;

@@ -27,8 +27,8 @@ use Rattle.promise_spec.specs.Programs.{shape_in}
 use Rattle.promise_spec.specs.Records.{Commit}
 use Rattle.promise_spec.specs.Logs.{live_slot, magic, IsLog, body_of}
 use Rattle.promise_spec.specs.Outputs.{IsProper, Grew, reply_lines}
-use Rattle.promise_spec.specs.Causes.{RoseBy}
-use Rattle.promise_spec.specs.Courses.{moments, core_end}
+use Rattle.promise_spec.specs.Causes.{RoseBy, most_syncs_of}
+use Rattle.promise_spec.specs.Courses.{moments, core_run, core_end}
 use Rattle.promise_spec.specs.Crashes.{Acknowledges, LeavesAlone}
 use Rattle.promise_spec.specs.Batches.{EndsABatch}
 use Rattle.promise_spec.specs.Explained.{AreSettled}
@@ -36,13 +36,14 @@ use Rattle.promise_spec.specs.Exits.{IsNowhere}
 use Rattle.promise_spec.specs.Replies.{HasNoRecord}
 use Rattle.promise_spec.specs.Journals.{Settlement, Backs, commits_of}
 use Rattle.promise_spec.specs.Promise.{Keeps, Promises}
+use Rattle.promise_spec.proofs.WholeFolders.{whole_folder}
 use Rattle.promise_spec.proofs.Lists.{head_of, tail_of, none_is}
 use Rattle.promise_spec.proofs.OneLog.{one_log}
 use Rattle.promise_laws.specs.Obligations.{SaysIn, Opens, Journals, ExplainsEvents, LeavesAtExit, EndsRightly, Shows}
 use Rattle.promise_laws.proofs.ShownRuns.{shown}
 use Rattle.promise_laws.proofs.ShownPromise.{promised}
 use Rattle.promise_examples.specs.Examples.{account_program, account_1, program_bytes, unit_no, first_commit, next_commit, first_version, first_entry, manager_of}
-use Rattle.promise_examples.specs.DepositRuns.{HasNone, IsBetween}
+use Rattle.promise_examples.specs.DepositRuns.{HasNone, LeavesOthers, IsBetween}
 use Rattle.promise_examples.specs.HostCalls.{IsHosted}
 use Rattle.promise_examples.specs.WrittenRun.{new_manager, disk_of, new_disk, pending_block, pending_gate, reply_text, opened}
 use Rattle.promise_examples.specs.WrittenDoubt.{pair_before}
@@ -52,11 +53,11 @@ use Rattle.promise_examples.proofs.FirstDeposit.{five, logged}
 use Rattle.promise_examples.proofs.FirstFamily.{only, either_of}
 use Rattle.promise_examples.proofs.AccountText.{account_is_checked}
 use Rattle.promise_examples.proofs.NewSilo.{gate_is_silo, shut_has_none, gate_only, has_none, new_images, seen_possible, new_folder, program_spelled}
-use Rattle.promise_examples.proofs.SealingDisks.{sealed_front, gate_front, alone_of, between_of, at_new, at_block, at_staged}
+use Rattle.promise_examples.proofs.SealingDisks.{sealed_front, gate_front, alone_of, apart_of, between_of, at_new, at_block, at_staged}
 use Rattle.promise_examples.proofs.HostSteps.{pulled, ended, wrote_grain, wrote_log, synced_grain, synced_log, emitted}
 use Rattle.promise_examples.proofs.Between.{at_each, exit_there, all_less}
 use Rattle.promise_examples.proofs.WholeBatches.{no_batch}
-use Rattle.promise_examples.proofs.BatchRules.{batch_unit_rule, batch_turn_rule, settled_is, emitted_is, records_are, both_end, no_doubt, no_votes, no_seals, four_syncs}
+use Rattle.promise_examples.proofs.BatchRules.{batch_unit_rule, batch_turn_rule, settled_is, emitted_is, records_are, both_end, no_doubt, no_votes, no_seals, voted_on, four_most, four_syncs}
 use Rattle.promise_examples.proofs.WrittenDoubt.{asks, sound_at_entry}
 
 -- ---- the bytes
@@ -169,7 +170,7 @@ abbrev IsOnWay : Moment → Type 0
 IsOnWay m = IsBetween batched [] MayHaveBoth m ⊎ IsBetween batched reply_text HasBoth m
 
 quiet : (m : Moment) → IsBetween batched [] HasNone m → IsOnWay m
-quiet m is = inl (record { output = is.output; images = λ image left. inl (is.images image left); alone = is.alone })
+quiet m is = inl (record { output = is.output; images = λ image left. inl (is.images image left); alone = is.alone; apart = is.apart })
 
 on_way : AllByRecursion IsOnWay batching
 on_way = (
@@ -209,6 +210,15 @@ may_have =
 way_alone : (m : Moment) → IsOnWay m → LeavesAlone live_slot batched m
 way_alone m (inl is) = is.alone
 way_alone m (inr is) = is.alone
+
+way_apart : (m : Moment) → IsOnWay m → LeavesOthers batched m
+way_apart m (inl is) = is.apart
+way_apart m (inr is) = is.apart
+
+apart : (m : Moment) → Member m (moments batched batch_course) → LeavesOthers batched m
+apart =
+    at_each (LeavesOthers batched) opened batching (moment_of batch_after) (at_new batched refl [] (settled [])).apart (all_less IsOnWay (LeavesOthers batched) batching way_apart on_way)
+    (apart_of batched refl (reply_text ++ second_text) (settled (manager_of both_block 1)) (settled both_versions))
 
 alone : (m : Moment) → Member m (moments batched batch_course) → LeavesAlone live_slot batched m
 alone =
@@ -320,7 +330,7 @@ says = at_each Says opened batching (moment_of batch_after) (unsaid opened refl 
 
 opens : Opens account_program batched batch_course
 opens = record {
-  folder = sound_at_entry;
+  folder = whole_folder account_program batched.old sound_at_entry;
   read = (new_images new_folder (seen_possible new_manager [])).0;
   opened = λ image left. (new_images image left).0;
   some = new_folder;
@@ -361,6 +371,7 @@ explains = record {
   };
   doubted = λ file is. absurd (cc is);
   ended = λ doubt. absurd (no_doubt doubt);
+  unvoted = λ g m none there. apart m there g (λ same. voted_on g same none);
 }
 
 told : AreSettled account_program batched batch_course
@@ -394,6 +405,7 @@ ends = record {
   begun = inr (record { ending = tt; input = refl; short = omega arith });
   done = λ is. record { input = refl; answered = answered };
   syncs = λ calm is. ap (λ (n : ℕ). batched.old.syncs + n) (sym four_syncs);
+  most = (let few : most_syncs_of (core_run account_program batch_course) ≡ 4 = four_most in omega (arith, few));
 }
 
 pub batched_shows : Shows account_program batched batch_course

@@ -1,6 +1,6 @@
 -- The refusal that is written out keeps the promise.
 use Rattle.promise_spec.specs.Logs.{live_slot}
-use Rattle.std.proofs.Common.{◌≡◌, inl, ℕ, [], ◌∷◌, take, Result, refl, ap}
+use Rattle.std.proofs.Common.{◌≡◌, inl, ℕ, [], ◌∷◌, take, Result, refl, ap, arith}
 use Rattle.host_trait.specs.Disk.{settled}
 use Rattle.silo_spec.specs.Silos.{manager}
 use Rattle.silo_spec.specs.Moments.{IsUntouched}
@@ -30,10 +30,10 @@ untouched = record {
 }
 
 pub unopened : IsUnopened refused
-unopened = record { untouched = untouched; unread = refl; refused = reads; failed = λ channel. refl }
+unopened = record { untouched = untouched; unread = refl; syncs = omega arith; refused = reads; failed = λ channel. refl }
 
 pub refused_promises : Promises plain_manner refused
-refused_promises = record { manner = refl; answers = inl unopened; over_sound = λ p checked sound. inl unopened }
+refused_promises = record { manner = refl; answers = inl unopened; over_whole = λ p checked whole. inl unopened }
 
 -- ---- the host's calls
 

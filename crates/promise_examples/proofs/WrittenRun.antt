@@ -56,6 +56,7 @@ is_deposit_run = record {
   );
   logged = sealed_images;
   alone = ((at_new written_run refl [] (settled [])).alone, (at_sealed written_run refl reply_text).alone);
+  apart = ((at_new written_run refl [] (settled [])).apart, (at_sealed written_run refl reply_text).apart);
   some = λ file. (sealed_disk file).seen;
   possible = seen_possible (manager_bytes 1) grain_bytes;
   faults = λ channel. refl;

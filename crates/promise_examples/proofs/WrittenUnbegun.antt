@@ -17,21 +17,22 @@ use Rattle.promise_spec.specs.Programs.{shape_in}
 use Rattle.promise_spec.specs.Records.{Commit, AreRecordsOf}
 use Rattle.promise_spec.specs.Logs.{live_slot, IsLog}
 use Rattle.promise_spec.specs.Outputs.{Grew, reply_lines}
-use Rattle.promise_spec.specs.Causes.{RoseBy, NoneRose}
+use Rattle.promise_spec.specs.Causes.{RoseBy, NoneRose, most_syncs_of}
 use Rattle.promise_spec.specs.Endings.{DiskFault}
-use Rattle.promise_spec.specs.Courses.{moments, core_end}
+use Rattle.promise_spec.specs.Courses.{moments, core_run, core_end}
 use Rattle.promise_spec.specs.Crashes.{LeavesAlone}
 use Rattle.promise_spec.specs.Batches.{EndsABatch}
 use Rattle.promise_spec.specs.Explained.{AreAdded, AreSettled}
 use Rattle.promise_spec.specs.Exits.{HasBlock, DifferAt, HasDoubtfulBlock}
 use Rattle.promise_spec.specs.Journals.{Settlement, Backs}
 use Rattle.promise_spec.specs.Promise.{Keeps, Promises}
+use Rattle.promise_spec.proofs.WholeFolders.{whole_folder}
 use Rattle.promise_spec.proofs.OneLog.{one_log}
 use Rattle.promise_laws.specs.Obligations.{SaysIn, Opens, Journals, ExplainsEvents, LeavesAtExit, EndsRightly, Shows}
 use Rattle.promise_laws.proofs.ShownRuns.{shown}
 use Rattle.promise_laws.proofs.ShownPromise.{promised}
 use Rattle.promise_examples.specs.Examples.{account_program, account_1, first_commit, grain_bytes, block_bytes, manager_bytes, locked_entry, doubt_entry, conflict_entries}
-use Rattle.promise_examples.specs.DepositRuns.{HasNone, IsBetween}
+use Rattle.promise_examples.specs.DepositRuns.{HasNone, LeavesOthers, IsBetween}
 use Rattle.promise_examples.specs.HostCalls.{IsHosted}
 use Rattle.promise_examples.specs.WrittenRun.{new_manager, new_disk, version_pending, block_pending, staged_disk, opened}
 use Rattle.promise_examples.specs.WrittenDoubt.{pair_manner, locked_text, doubt_text, pair_before, one_fault}
@@ -44,7 +45,7 @@ use Rattle.promise_examples.proofs.Between.{at_each, exit_there, all_less}
 use Rattle.promise_examples.proofs.WholeBatches.{no_batch}
 use Rattle.promise_examples.proofs.FirstFamily.{only}
 use Rattle.promise_examples.proofs.DepositRules.{two_unit_rule, two_turn_rule, two_settled}
-use Rattle.promise_examples.proofs.DoubtRun.{locked, doubted, no_votes, one_seal, has_doubt, locked_proper, doubt_proper}
+use Rattle.promise_examples.proofs.DoubtRun.{locked, doubted, no_votes, voted_on, four_most, one_seal, has_doubt, locked_proper, doubt_proper}
 use Rattle.promise_examples.proofs.WrittenRun.{version_wrote, block_wrote}
 use Rattle.promise_examples.proofs.WrittenDoubt.{asks, sound_at_entry, manager_fails}
 
@@ -87,6 +88,11 @@ pub no_records : (m : Moment) (image : Image) → Member m (moments unbegun unbe
 no_records m image there left = (none_has m there image left).0
 
 -- other files and the header are as they were
+apart : (m : Moment) → Member m (moments unbegun unbegun_course) → LeavesOthers unbegun m
+apart =
+    at_each (LeavesOthers unbegun) opened gate_failing (moment_of unbegun_after) (at_new unbegun refl [] (settled [])).apart
+    (all_less HasNoneAt (LeavesOthers unbegun) gate_failing (λ m is. is.apart) on_way) at_exit.apart
+
 alone : (m : Moment) → Member m (moments unbegun unbegun_course) → LeavesAlone live_slot unbegun m
 alone =
     at_each (LeavesAlone live_slot unbegun) opened gate_failing (moment_of unbegun_after) (at_new unbegun refl [] (settled [])).alone
@@ -163,7 +169,7 @@ says = at_each Says opened gate_failing (moment_of unbegun_after) opened_says (a
 -- what the opening read
 opens : Opens account_program unbegun unbegun_course
 opens = record {
-  folder = sound_at_entry;
+  folder = whole_folder account_program unbegun.old sound_at_entry;
   read = (new_images new_folder (seen_possible new_manager [])).0;
   opened = λ image left. (new_images image left).0;
   some = new_folder;
@@ -221,6 +227,7 @@ explains = record {
   };
   doubted = λ file is. (file_is file is, has_doubt);
   ended = λ doubt. tt;
+  unvoted = λ g m none there. apart m there g (λ same. voted_on g same none);
 }
 
 -- the core was told of no more entries than were written
@@ -291,6 +298,7 @@ ends = record {
   begun = inr (record { ending = tt; input = refl; short = omega arith });
   done = λ is. absurd (cc is);
   syncs = λ calm is. absurd (not_calm calm);
+  most = (let few : most_syncs_of (core_run account_program unbegun_course) ≡ 4 = four_most in omega (arith, few));
 }
 
 -- all that has to be shown

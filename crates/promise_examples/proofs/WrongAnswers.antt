@@ -1,5 +1,5 @@
 -- Answers that don't keep the promise, over any folder and to any words.
-use Rattle.std.proofs.Common.{false, ◌≡◌, ◌≢◌, inl, inr, ℕ, ◌-◌, ◌^◌, ◌<◌, ◌≤◌, Bool, List, [], ◌∷◌, ◌++◌, length, Ok, Err, refl, sym, ap, subst, ◌∙◌, arith, true}
+use Rattle.std.proofs.Common.{false, ◌≡◌, ◌≢◌, ◌⊎◌, inl, inr, ℕ, ◌+◌, ◌-◌, ◌^◌, ◌<◌, ◌≤◌, Bool, List, [], ◌∷◌, ◌++◌, length, Ok, Err, refl, sym, ap, subst, ◌∙◌, arith, true}
 use Rattle.std.proofs.lemmas.List.{append-nil, append_cancel_left}
 use Rattle.base_types.specs.declared.calls.GrainId.{GrainId}
 use Rattle.base_types.specs.declared.entries.Entry.{Entry}
@@ -29,6 +29,8 @@ use Rattle.promise_spec.specs.Courses.{Observed, seen_at_entry}
 use Rattle.promise_spec.specs.Refusals.{IsHead, IsNamedIn, IsReadFor, IsRefusedBy, MustBeRead, IsUnopened}
 use Rattle.promise_spec.specs.Reports.{show_text, history_text}
 use Rattle.promise_spec.specs.Promise.{Promises}
+use Rattle.promise_laws.specs.Answered.{HasOpened}
+use Rattle.promise_laws.proofs.OpenedRuns.{anywhere_opened}
 use Rattle.promise_spec.specs.Commands.{MakesAs, MakesSilo, MayCut, IsReported, Reports, Audits}
 use Rattle.promise_spec.specs.Loads.{IsUnmadeBy, from_there, Loads}
 use Rattle.promise_spec.specs.Checks.{Checks}
@@ -48,6 +50,9 @@ not_none reading p log a b = let e : Reads p log ≡ NoSilo = sym a ∙ b in abs
 
 pub not_opened : (r : Observed) → IsUnopened r → r.ending ≡ ending.Done → ⊥
 not_opened r unopened is = subst (IsRefusedBy (seen_at_entry r) (opened_as live_slot (seen_at_entry r))) is unopened.refused
+
+pub two_syncs : (r : Observed) → IsUnopened r → r.old.syncs + 1 < r.new.syncs → ⊥
+two_syncs r unopened more = let most = unopened.syncs in omega (arith, most, more)
 
 pub read_unopened : (r : Observed) → IsUnopened r → r.old.input ≢ [] → r.new.input ≡ [] → ⊥
 read_unopened r unopened some all = some (sym unopened.unread ∙ all)
@@ -76,9 +81,13 @@ said_some shape (x ∷ entries) e there same =
     let inside : Member 10 all = in_append 10 (reply_line shape x) (reply_lines shape entries) (inl feed) in
     absurd (subst (λ (l : List ℕ). Member 10 l) (sym same) (in_append 10 all [] (inl inside)))
 
+-- what a run answers over any folder: it wasn't opened, or it was
+answered : (m : Manner) (r : Observed) → Promises m r → IsUnopened r ⊎ HasOpened live_slot r
+answered m r keeps = elim keeps.answers [ inl unopened ↦ inl unopened | inr kept ↦ inr (anywhere_opened kept.0 r kept.1.0 kept.1.1) ]
+
 module _ (m : Manner) (r : Observed) where
   pub another_place : (f : FileId) (place : ℕ) → Promises m r → r.ending ≡ ending.Damaged f place → opened_as live_slot (seen_at_entry r) ≢ DamagedAt f place → ⊥
-  another_place f place keeps is other = elim keeps.answers [
+  another_place f place keeps is other = elim (answered m r keeps) [
     | inl unopened ↦ other (subst (IsRefusedBy (seen_at_entry r) (opened_as live_slot (seen_at_entry r))) is unopened.refused)
     | inr opened ↦ subst ending.IsCarried is opened.carried
   ]
@@ -88,31 +97,31 @@ module _ (m : Manner) (r : Observed) where
       another_place f place keeps is (not_two (opened_as live_slot (seen_at_entry r)) p sound.log f place (sound_is_read p (seen_at_entry r) checked sound))
 
   pub silo_called_none : Promises m r → IsSilo magic (seen_at_entry r manager) → r.ending ≡ ending.NotASilo → ⊥
-  silo_called_none keeps silo is = elim keeps.answers [
+  silo_called_none keeps silo is = elim (answered m r keeps) [
     | inl unopened ↦ (no_silo_is_read (seen_at_entry r)).0 (subst (IsRefusedBy (seen_at_entry r) (opened_as live_slot (seen_at_entry r))) is unopened.refused) silo
     | inr opened ↦ subst ending.IsCarried is opened.carried
   ]
 
   pub none_opened : Promises m r → (IsSilo magic (seen_at_entry r manager) → ⊥) → r.ending ≡ ending.Done → ⊥
-  none_opened keeps none is = elim keeps.answers [
+  none_opened keeps none is = elim (answered m r keeps) [
     | inl unopened ↦ not_opened r unopened is
     | inr opened ↦ not_none (opened_as live_slot (seen_at_entry r)) opened.openable.program opened.openable.log opened.openable.reads ((no_silo_is_read (seen_at_entry r)).1 none)
   ]
 
   pub damaged_carried : (f : FileId) (place : ℕ) → Promises m r → opened_as live_slot (seen_at_entry r) ≡ DamagedAt f place → r.new.input ≢ r.old.input → ⊥
-  damaged_carried f place keeps damaged pulled = elim keeps.answers [
+  damaged_carried f place keeps damaged pulled = elim (answered m r keeps) [
     | inl unopened ↦ pulled unopened.unread
     | inr opened ↦ not_two (opened_as live_slot (seen_at_entry r)) opened.openable.program opened.openable.log f place opened.openable.reads damaged
   ]
 
   pub no_bad_use : Promises m r → r.ending ≡ ending.BadUse → ⊥
-  no_bad_use keeps is = elim keeps.answers [
+  no_bad_use keeps is = elim (answered m r keeps) [
     | inl unopened ↦ subst (IsRefusedBy (seen_at_entry r) (opened_as live_slot (seen_at_entry r))) is unopened.refused
     | inr opened ↦ subst ending.IsCarried is opened.carried
   ]
 
   pub grain_blamed : (slot : ℕ) (grain : GrainId) → Promises m r → (IsSilo magic (seen_at_entry r manager) → ⊥) → r.ending ≡ ending.DiskFault (file.Grain slot grain) → ⊥
-  grain_blamed slot grain keeps none is = elim keeps.answers [
+  grain_blamed slot grain keeps none is = elim (answered m r keeps) [
     | inl unopened ↦
         let must : MustBeRead (seen_at_entry r) (opened_as live_slot (seen_at_entry r)) (file.Grain slot grain) = subst (IsRefusedBy (seen_at_entry r) (opened_as live_slot (seen_at_entry r))) is unopened.refused in
         let same : file.Grain slot grain ≡ manager = subst (λ (reading : Reading). MustBeRead (seen_at_entry r) reading (file.Grain slot grain)) ((no_silo_is_read (seen_at_entry r)).1 none) must in
@@ -132,7 +141,7 @@ module _ (m : Manner) (r : Observed) where
   named_of_reading image (Reads p log) slot grain must = named_of_file image slot grain must
 
   pub unnamed_blamed : (slot : ℕ) (grain : GrainId) → Promises m r → (IsNamedIn (seen_at_entry r) grain → ⊥) → r.ending ≡ ending.DiskFault (file.Grain slot grain) → ⊥
-  unnamed_blamed slot grain keeps unnamed is = elim keeps.answers [
+  unnamed_blamed slot grain keeps unnamed is = elim (answered m r keeps) [
     | inl unopened ↦
         unnamed (named_of_reading (seen_at_entry r) (opened_as live_slot (seen_at_entry r)) slot grain (subst (IsRefusedBy (seen_at_entry r) (opened_as live_slot (seen_at_entry r))) is unopened.refused))
     | inr opened ↦ not_manager slot grain (opened.file (file.Grain slot grain) is)
@@ -150,7 +159,7 @@ module _ (m : Manner) (r : Observed) where
   ]
 
   pub blamed_behind : (last grain : GrainId) (place slot : ℕ) → Promises m r → opened_as live_slot (seen_at_entry r) ≡ DamagedAt (file.Grain 0 last) place → is_before last grain ≡ true → r.ending ≡ ending.DiskFault (file.Grain slot grain) → ⊥
-  blamed_behind last grain place slot keeps damaged later is = elim keeps.answers [
+  blamed_behind last grain place slot keeps damaged later is = elim (answered m r keeps) [
     | inl unopened ↦
         let must : MustBeRead (seen_at_entry r) (opened_as live_slot (seen_at_entry r)) (file.Grain slot grain) = subst (IsRefusedBy (seen_at_entry r) (opened_as live_slot (seen_at_entry r))) is unopened.refused in
         not_behind last grain place slot later (subst (λ (reading : Reading). MustBeRead (seen_at_entry r) reading (file.Grain slot grain)) damaged must)
@@ -158,13 +167,13 @@ module _ (m : Manner) (r : Observed) where
   ]
 
   pub done_unread : Promises m r → r.ending ≡ ending.Done → r.new.input ≢ [] → ⊥
-  done_unread keeps is some = elim keeps.answers [
+  done_unread keeps is some = elim (answered m r keeps) [
     | inl unopened ↦ not_opened r unopened is
     | inr opened ↦ some (opened.done is).input
   ]
 
   pub done_unanswered : Promises m r → r.ending ≡ ending.Done → 1 ≤ length (lines_of r.old.input) → r.new.output ≡ r.old.output → ⊥
-  done_unanswered keeps is line quiet = elim keeps.answers [
+  done_unanswered keeps is line quiet = elim (answered m r keeps) [
     | inl unopened ↦ not_opened r unopened is
     | inr opened ↦
         let a = opened.done is in
@@ -175,13 +184,13 @@ module _ (m : Manner) (r : Observed) where
   ]
 
   pub grain_fault_opened : (slot : ℕ) (grain : GrainId) → Promises m r → r.new.input ≢ r.old.input → r.ending ≡ ending.DiskFault (file.Grain slot grain) → ⊥
-  grain_fault_opened slot grain keeps pulled is = elim keeps.answers [
+  grain_fault_opened slot grain keeps pulled is = elim (answered m r keeps) [
     | inl unopened ↦ pulled unopened.unread
     | inr opened ↦ not_manager slot grain (opened.file (file.Grain slot grain) is)
   ]
 
   pub said_unbegun : Promises m r → (ending.IsBegun r.ending → ⊥) → r.new.output ≢ r.old.output → ⊥
-  said_unbegun keeps never said = elim keeps.answers [
+  said_unbegun keeps never said = elim (answered m r keeps) [
     | inl unopened ↦ said unopened.untouched.now.quiet
     | inr opened ↦ said (opened.unbegun never)
   ]

@@ -46,8 +46,8 @@ use Rattle.promise_spec.specs.Logs.{live_slot, magic, IsLog, IsPrefix, body_of}
 use Rattle.promise_spec.specs.Moments.{IsImageOf}
 use Rattle.promise_spec.specs.Lines.{ReadsLineAs, IsLineCall}
 use Rattle.promise_spec.specs.Outputs.{reply_lines}
-use Rattle.promise_spec.specs.Cores.{AppliesAt, state_before, core_from}
-use Rattle.promise_spec.specs.Causes.{HasDoubt, IsAlive, NoneRose, syncs_of}
+use Rattle.promise_spec.specs.Cores.{AppliesAt, how_many, state_before, core_from}
+use Rattle.promise_spec.specs.Causes.{HasDoubt, IsAlive, NoneRose, is_vote_of, syncs_of, most_syncs_of}
 use Rattle.promise_spec.specs.Family.{states_after}
 use Rattle.promise_spec.specs.Endings as ending
 use Rattle.promise_spec.specs.Courses.{Observed, Course, order, moments, seen_at_entry, lines, opening_standing, core_run, core_end}
@@ -56,7 +56,8 @@ use Rattle.promise_spec.specs.Crashes.{Acknowledges, IsAside}
 use Rattle.promise_spec.specs.Batches.{kept_by}
 use Rattle.promise_spec.specs.Explained.{AreAdded}
 use Rattle.promise_spec.specs.Exits.{HasBlock}
-use Rattle.promise_spec.specs.Promise.{Keeps, HasReadAll}
+use Rattle.promise_spec.specs.Promise.{Keeps, KeepsAnywhere, HasReadAll}
+use Rattle.promise_spec.specs.Loads.{KeepsLoad}
 use Rattle.promise_spec.proofs.Lists.{head_of, none_is, none_at, some_is, each_of, in_append, either_in, get_seam, member_at}
 use Rattle.promise_spec.proofs.Opened.{in_settled, no_events}
 use Rattle.promise_spec.proofs.CountedSyncs.{long_syncs}
@@ -258,10 +259,10 @@ module _ (p : Program) (r : Observed) (c : Course) where
   settled_too e keeps there =
       keeps.explained.caused.entries e (in_settled p r c e keeps there)
 
-  pub no_refusal : (e : Entry) (by : UnitNo) (grain : GrainId) → Keeps p r c → Member e c.entries → e.what ≡ settled.Lock by grain
+  -- an entry that is caused so, and names a lock, was refused one
+  refused_none : (e : Entry) (by : UnitNo) (grain : GrainId) → IsCaused (core_run p c) e → e.what ≡ settled.Lock by grain
       → ((at : ℕ) (mode : Mode) → AppliesAt (core_run p c) at (event.Refuse e.unit grain mode) → ⊥) → ⊥
-  no_refusal e by grain keeps there is never =
-      let k = settled_too e keeps there in
+  refused_none e by grain k is never =
       let w = run (begins (core_run p c)) k.before in
       let refused : IsRefusedLock w k.event e.unit by grain = subst (λ (x : Settled). HasCause w k.event (step w k.event) e.unit x) is k.cause in
       let front : take (length k.before) c.events ≡ k.before = ap (take (length k.before)) k.split ∙ take-append_seam k.before (k.event ∷ k.later) in
@@ -271,6 +272,33 @@ module _ (p : Program) (r : Observed) (c : Course) where
       ap (λ (x : List CoreEvent). applies (run (begins (core_run p c)) x) (event.Refuse e.unit grain refused.mode)) front
       ∙ ap (λ (x : CoreEvent). applies w x) (sym refused.refused) ∙ k.applied in
       never (length k.before) refused.mode (record { there = there_at; applied = applied })
+
+  pub no_refusal : (e : Entry) (by : UnitNo) (grain : GrainId) → Keeps p r c → Member e c.entries → e.what ≡ settled.Lock by grain
+      → ((at : ℕ) (mode : Mode) → AppliesAt (core_run p c) at (event.Refuse e.unit grain mode) → ⊥) → ⊥
+  no_refusal e by grain keeps there is never = refused_none e by grain (settled_too e keeps there) is never
+
+  -- ---- over any folder that opens
+
+  pub no_refusal_anywhere : (e : Entry) (by : UnitNo) (grain : GrainId) → KeepsAnywhere p r c → Member e c.entries → e.what ≡ settled.Lock by grain
+      → ((at : ℕ) (mode : Mode) → AppliesAt (core_run p c) at (event.Refuse e.unit grain mode) → ⊥) → ⊥
+  no_refusal_anywhere e by grain keeps there is never =
+      refused_none e by grain
+      (keeps.explained.caused.entries e (subst (λ (x : List Entry). Member e x) (sym keeps.settled.entries.1) (in_append e c.entries keeps.settled.entries.0 (inl there)))) is never
+
+  pub twice_anywhere : (front between back : List Entry) (d e : Entry) → KeepsAnywhere p r c → c.entries ≡ front ++ (d ∷ (between ++ (e ∷ back))) → d.line ≡ e.line → ⊥
+  twice_anywhere front between back d e keeps split same = twice front between back d e (subst DifferInLine split keeps.once) same
+
+  pub more_anywhere : KeepsAnywhere p r c → r.old.syncs + most_syncs_of (core_run p c) < r.new.syncs → ⊥
+  more_anywhere keeps more = let most = keeps.ended.most in omega (arith, most, more)
+
+  pub written_unvoted : (g : GrainId) (m : Moment) → KeepsAnywhere p r c → how_many (is_vote_of g) (core_run p c) ≡ 0 → Member m (moments r c) → m.disk (file.Grain live_slot g) ≢ r.old.disk (file.Grain live_slot g) → ⊥
+  written_unvoted g m keeps none there differ = differ (keeps.explained.unvoted g m none there)
+
+  pub too_many_syncs : Keeps p r c → r.old.syncs + most_syncs_of (core_run p c) < r.new.syncs → ⊥
+  too_many_syncs keeps more = let most = keeps.ended.most in omega (arith, most, more)
+
+  pub load_too_many : (n seed : ℕ) → KeepsLoad p n seed r c → r.old.syncs + most_syncs_of (core_run p c) < r.new.syncs → ⊥
+  load_too_many n seed keeps more = let most = keeps.ended.most in omega (arith, most, more)
 
   pub blamed_alive : (e : Entry) (on : UnitNo) → Keeps p r c → Member e c.entries → e.what ≡ settled.Dependency on
       → ((before later : List CoreEvent) (event : CoreEvent) → c.events ≡ before ++ (event ∷ later) → IsAlive (run (begins (core_run p c)) before) event on) → ⊥

@@ -1,7 +1,9 @@
 -- A run whose one line deposits 5.
-use Rattle.std.specs.Prelude.{◌≡◌, ℕ, ◌+◌, ◌≤◌, ◌⊎◌, false, List, [], ◌∷◌, ◌++◌, length}
+use Rattle.std.specs.Prelude.{◌≡◌, ◌≢◌, ℕ, ◌+◌, ◌≤◌, ◌⊎◌, false, List, [], ◌∷◌, ◌++◌, length}
 use Rattle.std.specs.List.{AllByRecursion}
+use Rattle.base_types.specs.declared.calls.GrainId.{GrainId}
 use Rattle.host_trait.specs.declared.channels.Channel.{Channel}
+use Rattle.host_trait.specs.declared.channels.FileId.TheVariants.{Grain}
 use Rattle.host_trait.specs.World.{Moment, Image, IsImage, moment_of}
 use Rattle.silo_spec.specs.Silos.{program_file, HasProgram}
 use Rattle.request_wire.specs.Lines.{lines_of}
@@ -12,7 +14,7 @@ use Rattle.promise_spec.specs.Lines.{IsLineCall}
 use Rattle.promise_spec.specs.Endings.{Done, input_limit}
 use Rattle.promise_spec.specs.Crashes.{LeavesAlone}
 use Rattle.promise_spec.specs.Courses.{Observed, Course, seen_at_entry, lines}
-use Rattle.promise_examples.specs.Examples.{accounts, account_program, first_commit, first_entry, deposit_call, deposit_events}
+use Rattle.promise_examples.specs.Examples.{accounts, account_program, account_1, first_commit, first_entry, deposit_call, deposit_events}
 
 -- the image is one of the program, and has an empty log, or the deposit's record
 abbrev pub HasNone : Image → Type 0
@@ -22,12 +24,17 @@ abbrev pub HasDeposit : Image → Type 0
 HasDeposit image =
     IsLog live_slot (shape_in account_program) image (first_commit ∷ []) × HasProgram account_program.text (image program_file)
 
+-- the files of all grains but `account/1` are as they were
+abbrev pub LeavesOthers : Observed → Moment → Type 0
+LeavesOthers r m = (g : GrainId) → g ≢ account_1 → m.disk (Grain live_slot g) ≡ r.old.disk (Grain live_slot g)
+
 -- a moment between: what is written by then is this, each image is such a one, and other files and the header are as they
 -- were
 pub record IsBetween (r : Observed) (written : List ℕ) (Has : Image → Type 0) (m : Moment) : Type 0 where
   pub output : m.output ≡ written
   pub images : (image : Image) → IsImage m.disk image → Has image
   pub alone : LeavesAlone live_slot r m
+  pub apart : LeavesOthers r m
 
 -- the image has the deposit or not
 abbrev pub MayHaveDeposit : Image → Type 0
@@ -54,6 +61,7 @@ pub record IsDepositRun (r : Observed) (opened : Moment) (sealing : List Moment)
   pub sealed : AllByRecursion (IsBetween r r.old.output MayHaveDeposit) sealing
   pub logged : (image : Image) → IsImage r.new.disk image → HasDeposit image
   pub alone : LeavesAlone live_slot r opened × LeavesAlone live_slot r (moment_of r.new)
+  pub apart : LeavesOthers r opened × LeavesOthers r (moment_of r.new)
   pub some : Image
   pub possible : IsImage r.new.disk some
   pub faults : (channel : Channel) → r.faults_after channel ≡ r.faults_before channel

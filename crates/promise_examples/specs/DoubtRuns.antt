@@ -15,7 +15,7 @@ use Rattle.promise_spec.specs.Crashes.{LeavesAlone}
 use Rattle.promise_spec.specs.Courses.{Observed, Course, seen_at_entry, lines}
 use Rattle.promise_spec.specs.Exits.{HasBlock, DifferAt}
 use Rattle.promise_examples.specs.Examples.{account_program, first_commit, locked_entry, conflict_entries, conflict_events, AskDeposits}
-use Rattle.promise_examples.specs.DepositRuns.{HasNone, HasDeposit, MayHaveDeposit, IsBetween}
+use Rattle.promise_examples.specs.DepositRuns.{HasNone, HasDeposit, MayHaveDeposit, LeavesOthers, IsBetween}
 
 -- what a run has written when the second line is told
 abbrev pub first_told : Observed → List ℕ
@@ -46,6 +46,8 @@ pub record IsDoubtRun (r : Observed) (opened : Moment) (told doubting : List Mom
   pub differ : (one other : Image) → IsImage r.new.disk one → IsImage r.new.disk other →
       DifferAt 15 (one manager) (other manager)
   pub alone : LeavesAlone live_slot r opened × LeavesAlone live_slot r (moment_of r.new)
+  pub apart : LeavesOthers r opened × LeavesOthers r (moment_of r.new)
+  pub syncs : r.new.syncs ≤ r.old.syncs + 4
   pub some : Image
   pub possible : IsImage r.new.disk some
   pub there : HasDeposit some

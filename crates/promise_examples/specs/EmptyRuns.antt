@@ -1,6 +1,8 @@
 -- A run that reads no line.
 use Rattle.std.specs.Prelude.{◌≡◌, ◌+◌, List, [], ◌∷◌, ◌++◌}
+use Rattle.base_types.specs.declared.calls.GrainId.{GrainId}
 use Rattle.host_trait.specs.declared.channels.Channel.{Channel}
+use Rattle.host_trait.specs.declared.channels.FileId.TheVariants.{Grain}
 use Rattle.host_trait.specs.World.{Image, IsImage, moment_of}
 use Rattle.request_wire.specs.Lines.{lines_of}
 use Rattle.promise_spec.specs.Programs.{Program, shape_in}
@@ -27,6 +29,7 @@ pub record IsEmptyRun (p : Program) (r : Observed) (opening : List Commit) : Typ
   pub logs : (image : Image) → IsImage r.new.disk image → IsLog live_slot (shape_in p) image opening
   pub sound : (image : Image) → IsImage r.new.disk image → IsSoundIfSilo live_slot p image
   pub alone : LeavesAlone live_slot r (moment_of r.new)
+  pub unwritten : (g : GrainId) → r.new.disk (Grain live_slot g) ≡ r.old.disk (Grain live_slot g)
   pub some : Image
   pub possible : IsImage r.new.disk some
   pub faults : (channel : Channel) → r.faults_after channel ≡ r.faults_before channel

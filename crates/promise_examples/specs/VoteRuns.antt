@@ -13,7 +13,7 @@ use Rattle.promise_spec.specs.Endings.{Done, input_limit}
 use Rattle.promise_spec.specs.Crashes.{LeavesAlone}
 use Rattle.promise_spec.specs.Courses.{Observed, Course, seen_at_entry, lines}
 use Rattle.promise_examples.specs.Examples.{account_program, account_1, voted_entry, vote_entries, vote_events, AskBoth}
-use Rattle.promise_examples.specs.DepositRuns.{HasNone, IsBetween}
+use Rattle.promise_examples.specs.DepositRuns.{HasNone, LeavesOthers, IsBetween}
 
 -- The files read as an empty log at entry. The run synced it, failed to write the first line's file, and wrote that
 -- this line is aborted for its vote, and the second for what it depends on: each image has an empty log all along, and
@@ -35,6 +35,8 @@ pub record IsVoteRun (r : Observed) (opened : Moment) (failing told : List Momen
   pub first : AllByRecursion (IsBetween r (r.old.output ++ reply_lines (shape_in account_program) (voted_entry ∷ [])) HasNone) told
   pub exit : (image : Image) → IsImage r.new.disk image → HasNone image
   pub alone : LeavesAlone live_slot r opened × LeavesAlone live_slot r (moment_of r.new)
+  pub apart : LeavesOthers r opened × LeavesOthers r (moment_of r.new)
+  pub syncs : r.new.syncs ≤ r.old.syncs + 2
   pub some : Image
   pub possible : IsImage r.new.disk some
   pub rose : r.faults_after (File (Grain 0 account_1)) ≡ r.faults_before (File (Grain 0 account_1)) + 1

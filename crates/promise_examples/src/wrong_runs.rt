@@ -37,8 +37,8 @@ ghost use Rattle.promise_spec.specs.Serial.{played};
 ghost use Rattle.promise_spec.specs.Logs.{live_slot, magic, IsLog, IsPrefix, body_of};
 ghost use Rattle.promise_spec.specs.Moments.{IsImageOf};
 ghost use Rattle.promise_spec.specs.Lines.{IsLineCall};
-ghost use Rattle.promise_spec.specs.Cores.{AppliesAt, state_before};
-ghost use Rattle.promise_spec.specs.Causes.{HasDoubt, IsAlive, NoneRose, syncs_of};
+ghost use Rattle.promise_spec.specs.Cores.{AppliesAt, how_many, state_before};
+ghost use Rattle.promise_spec.specs.Causes.{HasDoubt, IsAlive, NoneRose, is_vote_of, syncs_of, most_syncs_of};
 ghost use Rattle.promise_spec.specs.Family.{states_after};
 ghost use Rattle.promise_spec.specs.Endings as ending;
 ghost use Rattle.promise_spec.specs.Courses.{Observed, Course, order, moments, seen_at_entry, lines, opening_standing, core_run, core_end};
@@ -46,7 +46,7 @@ ghost use Rattle.promise_spec.specs.Replies.{IsEntryOf};
 ghost use Rattle.promise_spec.specs.Crashes.{Acknowledges, IsAside};
 ghost use Rattle.promise_spec.specs.Batches.{kept_by};
 ghost use Rattle.promise_spec.specs.Exits.{HasBlock};
-ghost use Rattle.promise_spec.specs.Promise.{Keeps, Promises};
+ghost use Rattle.promise_spec.specs.Promise.{Keeps, KeepsAnywhere, Promises};
 ghost use Rattle.promise_spec.specs.Commands.{MakesSilo, Reports};
 ghost use Rattle.promise_spec.specs.Calls.{Understands, Serves, GoesOn, AnswersAs};
 ghost use Rattle.promise_spec.specs.Loads.{KeepsLoad, summary_text};
@@ -95,6 +95,27 @@ pub fn calm_runs_sync_once()
         → r.ending ≡ ending.InputTooLong line → r.new.syncs ≢ r.old.syncs + 1 → ⊥ }
     ensures load { (p : Program) (n seed : ℕ) (r : Observed) (c : Course) → KeepsLoad p n seed r c → NoneRose r.faults_before r.faults_after
         → r.ending ≡ ending.Done → r.new.syncs ≢ r.old.syncs + syncs_of (core_run p c) → ⊥ }
+{}
+
+/// Whatever fails, and however it ends: no run or load keeps its promise that asks for more syncs than one at opening, one for each
+/// vote, and two for each batch that was to be on disk, over any folder; nor a call that doesn't open its folder and asks for two.
+pub fn syncs_are_bounded()
+    ensures run { (p : Program) (r : Observed) (c : Course) → Keeps p r c → r.old.syncs + most_syncs_of (core_run p c) < r.new.syncs → ⊥ }
+    ensures anywhere { (p : Program) (r : Observed) (c : Course) → KeepsAnywhere p r c → r.old.syncs + most_syncs_of (core_run p c) < r.new.syncs → ⊥ }
+    ensures load { (p : Program) (r : Observed) (c : Course) (n seed : ℕ) → KeepsLoad p n seed r c → r.old.syncs + most_syncs_of (core_run p c) < r.new.syncs → ⊥ }
+    ensures unopened { (r : Observed) → IsUnopened r → r.old.syncs + 1 < r.new.syncs → ⊥ }
+{}
+
+/// Over any folder that opens, sound or not: no run keeps the promise that writes a grain's file on which no event votes, that
+/// answers a line twice, or that names a lock as the cause of an abort where the core refused the unit no lock.
+pub fn any_folder_is_served_truly()
+    ensures unvoted { (p : Program) (r : Observed) (c : Course) (g : GrainId) (m : Moment) → KeepsAnywhere p r c → how_many (is_vote_of g) (core_run p c) ≡ 0
+        → Member m (moments r c) → m.disk (file.Grain live_slot g) ≢ r.old.disk (file.Grain live_slot g) → ⊥ }
+    ensures twice { (p : Program) (r : Observed) (c : Course) (front between back : List Entry) (d e : Entry) → KeepsAnywhere p r c
+        → c.entries ≡ front ++ (d ∷ (between ++ (e ∷ back))) → d.line ≡ e.line → ⊥ }
+    ensures lock { (p : Program) (r : Observed) (c : Course) (e : Entry) (by : UnitNo) (grain : GrainId) → KeepsAnywhere p r c
+        → Member e c.entries → e.what ≡ settled.Lock by grain
+        → ((at : ℕ) (mode : Mode) → AppliesAt (core_run p c) at (event.Refuse e.unit grain mode) → ⊥) → ⊥ }
 {}
 
 /// No run keeps the promise that changes the program file or a file that isn't of the first slot, or that may leave another

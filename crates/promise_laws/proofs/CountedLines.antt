@@ -25,7 +25,7 @@ use Rattle.promise_spec.specs.Programs.{Program, shape_in}
 use Rattle.promise_spec.specs.Records.{Commit, States, new_silo, log_start, after_writes}
 use Rattle.promise_spec.specs.Serial.{depth_of, IsSerial}
 use Rattle.promise_spec.specs.Logs.{IsPrefix, live_slot}
-use Rattle.promise_spec.specs.Images.{IsSound, AreNumbered}
+use Rattle.promise_spec.specs.Images.{IsWhole, AreNumbered}
 use Rattle.promise_spec.specs.Lines.{IsBadLine}
 use Rattle.promise_spec.specs.Cores.{AppliesAt, state_before}
 use Rattle.promise_spec.specs.Causes.{HasDoubt}
@@ -250,9 +250,9 @@ module _ (p : Program) (n seed : ℕ) (r : Observed) (c : Course) (keeps : Keeps
   opening_numbered : AreNumbered (log_start p.types).next c.opening
   opening_numbered =
       let longest = keeps.ordered.longest in
-      let sound : IsSound live_slot p longest.image = keeps.crashes.sound longest.image longest.left longest.log.silo in
+      let whole : IsWhole live_slot p longest.image = keeps.crashes.whole longest.image longest.left longest.log.silo in
       numbered_front (log_start p.types).next c.opening c.added
-      (subst (AreNumbered (log_start p.types).next) (one_log (shape_in p) longest.image sound.log (order c) sound.is longest.log) sound.numbered)
+      (subst (AreNumbered (log_start p.types).next) (one_log (shape_in p) longest.image whole.log (order c) whole.is longest.log) whole.numbered)
 
   -- no batch is in doubt
   undoubted : (r.ending ≡ ending.Done) ⊎ (r.ending ≡ ending.WriteFault) → HasDoubt (core_run p c) → ⊥

@@ -15,18 +15,18 @@ use Rattle.silo_spec.specs.Moments.{IsAsAtEntry}
 use Rattle.promise_spec.specs.Programs.{Program, IsChecked, shape_in}
 use Rattle.promise_spec.specs.Records.{Commit}
 use Rattle.promise_spec.specs.Logs.{live_slot, IsLog}
-use Rattle.promise_spec.specs.Images.{IsSound}
+use Rattle.promise_spec.specs.Images.{IsWhole, IsWholeFolder}
 use Rattle.promise_spec.specs.Outputs.{IsProper, Grew}
 use Rattle.promise_spec.specs.Courses.{Observed, Course, order, moments, seen_at_entry, core_end}
 use Rattle.promise_spec.specs.Crashes.{IsAside, LeavesAlone}
 use Rattle.promise_spec.specs.Batches.{EndsABatch}
 use Rattle.promise_spec.specs.Exits.{HasLogAtExit, IsNowhere, AreOf, doubtful}
 use Rattle.promise_spec.specs.Journals.{Settlement, KeepsJournal, AllSay, AllLog, CutAt, IsSealing, commits_of, entries_of}
-use Rattle.promise_spec.specs.Promise.{IsSoundFolder, Promises}
+use Rattle.promise_spec.specs.Promise.{Promises}
 use Rattle.promise_spec.specs.Replies.{HasNoRecord}
 use Rattle.promise_spec.proofs.Lists.{each_of, in_append, either_in}
 use Rattle.promise_spec.proofs.OneLog.{one_log}
-use Rattle.promise_spec.proofs.Openings.{silo_reads, sound_is_read, reads_is}
+use Rattle.promise_spec.proofs.Openings.{silo_reads, log_is_read, reads_is}
 use Rattle.promise_spec.proofs.SettledLogs.{settled_logs}
 use Rattle.promise_spec.proofs.Stepping.{entries_of-append, joined_logs, begins_at, now_says, keep_more, say_more, cut_says}
 use Rattle.promise_laws.specs.Closings.{ReadsMayStay, IsBehind, AllEnd, Carries}
@@ -37,11 +37,11 @@ use Rattle.promise_spec.specs.Words.{Manner}
 -- ---- the opening
 
 module _ (p : Program) (r : Observed) (c : Course) (mid : World) (b : IsBehind live_slot p r c mid) where
-  -- a program for which the folder is sound is the one that it reads as
-  same_program : (q : Program) → IsChecked q → IsSoundFolder q r.old → ReadsMayStay r.old → (q ≡ p) × IsLog live_slot (shape_in q) (seen_at_entry r) c.opening
-  same_program q checked sound stay =
-      let s : IsSound live_slot q (seen_at_entry r) = sound.sound (seen_at_entry r) stay (silo_reads (seen_at_entry r) p c.opening b.reads) in
-      let both = reads_is q p s.log c.opening (sym (sound_is_read q (seen_at_entry r) checked s) ∙ b.reads) in
+  -- a program for which the folder is whole is the one that it reads as
+  pub same_program : (q : Program) → IsChecked q → IsWholeFolder q r.old → ReadsMayStay r.old → (q ≡ p) × IsLog live_slot (shape_in q) (seen_at_entry r) c.opening
+  same_program q checked whole stay =
+      let s : IsWhole live_slot q (seen_at_entry r) = whole.whole (seen_at_entry r) stay (silo_reads (seen_at_entry r) p c.opening b.reads) in
+      let both = reads_is q p s.log c.opening (sym (log_is_read (seen_at_entry r) q s.log checked s.program s.is) ∙ b.reads) in
       (both.0, subst (IsLog live_slot (shape_in q) (seen_at_entry r)) both.1 s.is)
 
   -- the early moments are those of the opening
@@ -56,12 +56,12 @@ module _ (p : Program) (r : Observed) (c : Course) (mid : World) (b : IsBehind l
   stays_sound : (image : Image) → IsImage mid.disk image → IsImage r.old.disk image × (image manager ≡ (r.old.disk manager).seen)
   stays_sound image left = (b.untouched.now.images image left, settled_only (seen_at_entry r manager) (image manager) (subst (λ (f : FileState). MayLeave f (image manager)) b.settled (left manager)))
 
-  -- over a folder that is sound for the program that it reads as
-  pub opens : IsSoundFolder p r.old → ReadsMayStay r.old → ReadsMayStay mid → IsLog live_slot (shape_in p) (seen_at_entry r) c.opening → Opens p r c
-  opens sound stay stay_mid read =
-      let all : AllLog p c.opening mid.disk = settled_logs p r.old mid.disk c.opening sound stay stays_sound read in
+  -- over a folder that is whole for the program that it reads as
+  pub opens : IsWholeFolder p r.old → ReadsMayStay r.old → ReadsMayStay mid → IsLog live_slot (shape_in p) (seen_at_entry r) c.opening → Opens p r c
+  opens whole stay stay_mid read =
+      let all : AllLog p c.opening mid.disk = settled_logs p r.old mid.disk c.opening whole stay stays_sound read in
       record {
-        folder = sound;
+        folder = whole;
         read = read;
         opened = subst (λ (m : Moment). AllLog p c.opening m.disk) (sym b.last) all;
         some = λ file. (mid.disk file).seen;
@@ -71,11 +71,11 @@ module _ (p : Program) (r : Observed) (c : Course) (mid : World) (b : IsBehind l
         before = λ image of. (as_entry of.moment of.member).images image of.left;
       }
 
-  -- and over one that is sound for any checked program
-  pub opens_sound : (q : Program) → IsChecked q → IsSoundFolder q r.old → ReadsMayStay r.old → ReadsMayStay mid → Opens p r c
-  opens_sound q checked sound stay stay_mid =
-      let t = same_program q checked sound stay in
-      opens (subst (λ (x : Program). IsSoundFolder x r.old) t.0 sound) stay stay_mid (subst (λ (x : Program). IsLog live_slot (shape_in x) (seen_at_entry r) c.opening) t.0 t.1)
+  -- and over one that is whole for any checked program
+  pub opens_whole : (q : Program) → IsChecked q → IsWholeFolder q r.old → ReadsMayStay r.old → ReadsMayStay mid → Opens p r c
+  opens_whole q checked whole stay stay_mid =
+      let t = same_program q checked whole stay in
+      opens (subst (λ (x : Program). IsWholeFolder x r.old) t.0 whole) stay stay_mid (subst (λ (x : Program). IsLog live_slot (shape_in x) (seen_at_entry r) c.opening) t.0 t.1)
 
   -- each image behind the opening has the opening log
   opened_at : Opens p r c → AllLog p c.opening mid.disk
@@ -84,7 +84,7 @@ module _ (p : Program) (r : Observed) (c : Course) (mid : World) (b : IsBehind l
   -- ---- the moments
 
   -- what holds behind the opening, at each moment since and at the exit holds at each moment that counts
-  gather : (P : Moment → Type 0) → P (moment_of mid) → Passes P mid.past r.new.past → P (moment_of r.new) → (m : Moment) → Member m (moments r c) → P m
+  pub gather : (P : Moment → Type 0) → P (moment_of mid) → Passes P mid.past r.new.past → P (moment_of r.new) → (m : Moment) → Member m (moments r c) → P m
   gather P first passes now m (inl same) = subst P (sym (same ∙ b.last)) first
   gather P first passes now m (inr there) = elim (either_in m c.late (moment_of r.new ∷ []) there) [
     | inl late ↦ each_of P passes.more m passes.each (subst (λ (l : List Moment). Member m l) (sym late_is) late)
@@ -232,7 +232,7 @@ module _ (p : Program) (r : Observed) (c : Course) (mid : World) (b : IsBehind l
 pub carried_promised : (m : Manner) (p : Program) (r : Observed) (c : Course) (mid : World) → ShowsAnywhere p r c → r.manner ≡ m → IsChecked p → IsBehind live_slot p r c mid → ReadsMayStay r.old → ReadsMayStay mid
     → (Opens p r c → Lasts p r c) → Promises m r
 carried_promised m p r c mid answers is checked behind stay stay_mid lasts =
-    answered_promised p r c answers m c.opening is checked behind.reads (λ q checked_too sound. lasts (opens_sound p r c mid behind q checked_too sound stay stay_mid))
+    answered_promised p r c answers m is checked behind.reads (λ q checked_too whole. lasts (opens_whole p r c mid behind q checked_too whole stay stay_mid))
 
 -- ---- batches at the moments of a step
 

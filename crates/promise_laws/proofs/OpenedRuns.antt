@@ -1,4 +1,4 @@
--- A run has opened its folder, sound or not, by what it answers.
+-- What a run answers, over any folder, and what it promises with what lasts.
 use Rattle.promise_spec.specs.Logs.{live_slot}
 use Rattle.std.proofs.Common.{◌≡◌, inl, inr, ℕ, ◌≤◌, List, [], ◌∷◌, ◌++◌, length, refl, sym, ap, subst, ◌∙◌}
 use Rattle.std.proofs.lemmas.List.{append-nil}
@@ -7,35 +7,38 @@ use Rattle.core_model.specs.declared.events.CoreEvent.{CoreEvent}
 use Rattle.core_model.specs.Legal.{ends}
 use Rattle.core_model.specs.CoreState.{Member}
 use Rattle.promise_spec.specs.Programs.{Program, IsChecked, shape_in}
-use Rattle.promise_spec.specs.Records.{Commit}
+use Rattle.promise_spec.specs.Images.{IsWholeFolder}
 use Rattle.promise_spec.specs.Outputs.{Grew, reply_lines}
 use Rattle.promise_spec.specs.Openings.{Reads, opened_as}
 use Rattle.promise_spec.specs.Endings as ending
 use Rattle.promise_spec.specs.Cores.{core_from}
 use Rattle.promise_spec.specs.Courses.{Observed, Course, seen_at_entry, opening_standing, core_end}
-use Rattle.promise_spec.specs.Refusals.{HasAnswered, HasOpened}
 use Rattle.promise_spec.specs.Words.{Manner}
-use Rattle.promise_spec.specs.Promise.{IsSoundFolder, Keeps, Promises}
+use Rattle.promise_spec.specs.Promise.{Keeps, KeepsAnywhere, Promises}
 use Rattle.promise_spec.proofs.Lists.{in_append}
 use Rattle.promise_spec.proofs.Openings.{one_program}
 use Rattle.silo_spec.specs.Silos.{program_file}
+use Rattle.promise_laws.specs.Answered.{HasAnswered, HasOpened}
 use Rattle.promise_laws.specs.Obligations.{ShowsAnywhere, Lasts, Shows}
-use Rattle.promise_laws.proofs.TrueReplies.{replies_within, replies_once}
-use Rattle.promise_laws.proofs.ShownRuns.{explained, at_entry, shown}
+use Rattle.promise_laws.proofs.OneFamily.{explained_family}
+use Rattle.promise_laws.proofs.TrueReplies.{replies_within, replies_once, replies_true, replies_ordered}
+use Rattle.promise_laws.proofs.ShownRuns.{explained, at_entry, ended_anywhere, answers_of, shown}
 
 -- a list without a member is empty
 no_member : {A : Type 0} (xs : List A) → ((x : A) → Member x xs → ⊥) → xs ≡ []
 no_member [] none = refl
 no_member (x ∷ xs) none = absurd (none x (inl refl))
 
-module _ (p : Program) (r : Observed) (c : Course) (a : ShowsAnywhere p r c) where
+-- ---- how it ends, and what it answers
+
+module _ (p : Program) (r : Observed) (c : Course) (k : KeepsAnywhere p r c) where
   -- each entry is one that the core settled
   in_core : (e : Entry) → Member e c.entries → Member e (core_end p c).manager.settled
-  in_core e there = subst (λ (x : List Entry). Member e x) (sym a.settled.entries.1) (in_append e c.entries a.settled.entries.0 (inl there))
+  in_core e there = subst (λ (x : List Entry). Member e x) (sym k.settled.entries.1) (in_append e c.entries k.settled.entries.0 (inl there))
 
   -- a run that ends as none does that has begun has no events
   no_events : (ending.IsBegun r.ending → ⊥) → c.events ≡ []
-  no_events never = elim a.ends.begun [ inl none ↦ none | inr all ↦ absurd (never all.ending) ]
+  no_events never = elim k.ended.begun [ inl none ↦ none | inr all ↦ absurd (never all.ending) ]
 
   -- and no entries
   unbegun_entry : (e : Entry) → (ending.IsBegun r.ending → ⊥) → Member e c.entries → ⊥
@@ -46,68 +49,89 @@ module _ (p : Program) (r : Observed) (c : Course) (a : ShowsAnywhere p r c) whe
   -- one that is done has answered each line
   has_answered : r.ending ≡ ending.Done → HasAnswered p r
   has_answered is =
-      let done = a.ends.done is in
-      let whole : c.rest ≡ [] = a.whole (λ fault. let e : ending.Done ≡ ending.WriteFault = sym is ∙ fault in absurd (cc e)) in
+      let done = k.ended.done is in
+      let whole : c.rest ≡ [] = k.whole (λ fault. let e : ending.Done ≡ ending.WriteFault = sym is ∙ fault in absurd (cc e)) in
       record {
         input = done.input;
         entries = c.entries;
-        output = subst (λ (rest : List ℕ). Grew (shape_in p) r.old.output r.new.output c.entries rest) whole a.output;
-        once = replies_once p r c (explained p r c a.explains) a.settled.entries;
-        within = λ e there. subst (λ (l : List (List ℕ)). (1 ≤ e.line) × (e.line ≤ length l)) a.ends.given (replies_within p r c (explained p r c a.explains) a.settled.entries e there);
-        each = λ n low high. done.answered n low (subst (λ (l : List (List ℕ)). n ≤ length l) (sym a.ends.given) high);
+        output = subst (λ (rest : List ℕ). Grew (shape_in p) r.old.output r.new.output c.entries rest) whole k.output;
+        once = k.once;
+        within = λ e there. subst (λ (l : List (List ℕ)). (1 ≤ e.line) × (e.line ≤ length l)) k.ended.given (k.within e there);
+        each = λ n low high. done.answered n low (subst (λ (l : List (List ℕ)). n ≤ length l) (sym k.ended.given) high);
       }
 
   -- one that hasn't begun has written nothing
   nothing_said : (ending.IsBegun r.ending → ⊥) → r.new.output ≡ r.old.output
   nothing_said never =
       let none : c.entries ≡ [] = no_member c.entries (λ e there. unbegun_entry e never there) in
-      let whole : c.rest ≡ [] = a.whole (λ fault. never (subst ending.IsBegun (sym fault) tt)) in
-      a.output.output
+      let whole : c.rest ≡ [] = k.whole (λ fault. never (subst ending.IsBegun (sym fault) tt)) in
+      k.output.output
       ∙ ap (λ (entries : List Entry). r.old.output ++ (reply_lines (shape_in p) entries ++ c.rest)) none
       ∙ ap (λ (rest : List ℕ). r.old.output ++ rest) whole
       ∙ append-nil r.old.output
 
-  -- so it has opened its folder
-  pub answered_opened : (log : List Commit) → opened_as live_slot (seen_at_entry r) ≡ Reads p log → HasOpened live_slot r
-  answered_opened log reads = record {
-    openable = record { program = p; log = log; reads = reads };
-    carried = a.ends.carried;
-    risen = a.ends.risen;
-    file = λ f is. (a.explains.doubted f is).0;
-    long = a.ends.long;
+  pub anywhere_opened : HasOpened live_slot r
+  anywhere_opened = record {
+    openable = record { program = p; log = c.opening; reads = k.reads };
+    carried = k.ended.carried;
+    risen = k.ended.risen;
+    file = λ f is. (k.explained.doubted f is).0;
+    long = k.ended.long;
     done = has_answered;
     unbegun = nothing_said;
   }
+
+-- ---- what it shows
+
+module _ (p : Program) (r : Observed) (c : Course) (a : ShowsAnywhere p r c) where
+  -- what it shows is what it keeps over any folder
+  pub shown_anywhere : opened_as live_slot (seen_at_entry r) ≡ Reads p c.opening → KeepsAnywhere p r c
+  shown_anywhere reads =
+      let is = explained p r c a.explains in
+      record {
+        reads = reads;
+        output = a.output;
+        whole = a.whole;
+        within = replies_within p r c is a.settled.entries;
+        once = replies_once p r c is a.settled.entries;
+        ordered = replies_ordered p r c is a.settled.entries;
+        settled = a.settled;
+        explained = is;
+        ended = ended_anywhere p r c a;
+        true_each = λ numbered. replies_true p r c is numbered a.settled.entries;
+        family = λ numbered. explained_family p r c is numbered;
+      }
 
   -- with what lasts, it shows what has to be shown
   with_images : Lasts p r c → Shows p r c
   with_images l = record { opens = l.opens; explains = a.explains; settled = a.settled; output = a.output; whole = a.whole; journals = l.journals; leaves = l.leaves; ends = a.ends }
 
-  -- the folder is sound for one checked program alone
-  one_sound : IsChecked p → (q : Program) → IsChecked q → IsSoundFolder q r.old → Lasts p r c → p ≡ q
-  one_sound checked q checked_too sound l =
+  -- the folder is whole for one checked program alone
+  one_whole : IsChecked p → (q : Program) → IsChecked q → IsWholeFolder q r.old → Lasts p r c → p ≡ q
+  one_whole checked q checked_too folder l =
       let o = l.opens in
       let left = at_entry p r c o o.some o.possible in
       let silo = (o.opened o.some o.possible).silo in
-      one_program (o.some program_file) p q checked checked_too (o.folder.sound o.some left silo).program (sound.sound o.some left silo).program
+      one_program (o.some program_file) p q checked checked_too (o.folder.whole o.some left silo).program (folder.whole o.some left silo).program
 
-  -- so it keeps the whole promise
-  pub answered_promised : (m : Manner) (log : List Commit) → r.manner ≡ m → IsChecked p → opened_as live_slot (seen_at_entry r) ≡ Reads p log
-      → ((q : Program) → IsChecked q → IsSoundFolder q r.old → Lasts p r c) → Promises m r
-  answered_promised m log is checked reads lasts = record {
+  -- so it keeps all clauses for such a program
+  pub kept_over : IsChecked p → ((q : Program) → IsChecked q → IsWholeFolder q r.old → Lasts p r c) → (q : Program) → IsChecked q → IsWholeFolder q r.old → Keeps q r c
+  kept_over checked lasts q checked_too folder =
+      let l = lasts q checked_too folder in
+      subst (λ (x : Program). Keeps x r c) (one_whole checked q checked_too folder l) (shown p r c (with_images l))
+
+  -- and the whole promise
+  pub answered_promised : (m : Manner) → r.manner ≡ m → IsChecked p → opened_as live_slot (seen_at_entry r) ≡ Reads p c.opening
+      → ((q : Program) → IsChecked q → IsWholeFolder q r.old → Lasts p r c) → Promises m r
+  answered_promised m is checked reads lasts = record {
     manner = is;
-    answers = inr (answered_opened log reads);
-    over_sound = λ q checked_too sound.
-        (let l = lasts q checked_too sound in
-        inr (c, subst (λ (x : Program). Keeps x r c) (one_sound checked q checked_too sound l) (shown p r c (with_images l))));
+    answers = inr (p, (c, shown_anywhere reads));
+    over_whole = λ q checked_too folder. inr (c, kept_over checked lasts q checked_too folder);
   }
 
 -- what a run shows is both
 pub shows_both : (p : Program) (r : Observed) (c : Course) → Shows p r c → ShowsAnywhere p r c × Lasts p r c
-shows_both p r c s = (
-  record { explains = s.explains; settled = s.settled; output = s.output; whole = s.whole; ends = s.ends },
-  record { opens = s.opens; journals = s.journals; leaves = s.leaves },
-)
+shows_both p r c s = (answers_of p r c s, record { opens = s.opens; journals = s.journals; leaves = s.leaves })
 
 -- and both are what it shows
 pub both_show : (p : Program) (r : Observed) (c : Course) → ShowsAnywhere p r c → Lasts p r c → Shows p r c

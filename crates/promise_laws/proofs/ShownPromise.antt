@@ -6,19 +6,20 @@ use Rattle.promise_spec.specs.Programs.{Program, IsChecked}
 use Rattle.promise_spec.specs.Words.{Manner}
 use Rattle.promise_spec.specs.Openings.{Reads, opened_as}
 use Rattle.promise_spec.specs.Courses.{Observed, Course, seen_at_entry}
-use Rattle.promise_spec.specs.Promise.{IsSoundFolder, Keeps, Promises}
-use Rattle.promise_spec.proofs.Opened.{has_opened}
+use Rattle.promise_spec.specs.Images.{IsWholeFolder}
+use Rattle.promise_spec.specs.Promise.{Keeps, Promises}
+use Rattle.promise_spec.proofs.Opened.{kept_anywhere}
 use Rattle.promise_spec.proofs.Openings.{log_is_read, one_program}
 use Rattle.promise_laws.specs.Obligations.{Shows}
 use Rattle.promise_laws.proofs.ShownRuns.{at_entry, shown}
 
 module _ (p : Program) (r : Observed) (c : Course) (checked : IsChecked p) (s : Shows p r c) where
-  -- the folder is a sound one of no other program: an image at entry has a log, and the program file of both
-  one_sound : (q : Program) → IsChecked q → IsSoundFolder q r.old → p ≡ q
-  one_sound q checked_too sound =
+  -- the folder is a whole one of no other program: an image at entry has a log, and the program file of both
+  one_whole : (q : Program) → IsChecked q → IsWholeFolder q r.old → p ≡ q
+  one_whole q checked_too folder =
       let left = at_entry p r c s.opens s.opens.some s.opens.possible in
       let silo = (s.opens.opened s.opens.some s.opens.possible).silo in
-      one_program (s.opens.some program_file) p q checked checked_too (s.opens.folder.sound s.opens.some left silo).program (sound.sound s.opens.some left silo).program
+      one_program (s.opens.some program_file) p q checked checked_too (s.opens.folder.whole s.opens.some left silo).program (folder.whole s.opens.some left silo).program
 
   -- the files read as the program and the log that it opened
   reads : HasProgram p.text (seen_at_entry r program_file) → opened_as live_slot (seen_at_entry r) ≡ Reads p c.opening
@@ -29,6 +30,6 @@ module _ (p : Program) (r : Observed) (c : Course) (checked : IsChecked p) (s : 
       let keeps : Keeps p r c = shown p r c s in
       record {
         manner = is;
-        answers = inr (has_opened p r c keeps c.opening (reads has));
-        over_sound = λ q checked_too sound. inr (c, subst (λ (x : Program). Keeps x r c) (one_sound q checked_too sound) keeps);
+        answers = inr (p, (c, kept_anywhere p r c keeps (reads has)));
+        over_whole = λ q checked_too folder. inr (c, subst (λ (x : Program). Keeps x r c) (one_whole q checked_too folder) keeps);
       }

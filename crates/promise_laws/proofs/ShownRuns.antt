@@ -12,7 +12,7 @@ use Rattle.promise_spec.specs.Programs.{Program, shape_in}
 use Rattle.promise_spec.specs.Records.{Commit, new_silo}
 use Rattle.promise_spec.specs.Serial.{IsSerial}
 use Rattle.promise_spec.specs.Logs.{live_slot, IsLog}
-use Rattle.promise_spec.specs.Images.{AreNumbered, IsSound}
+use Rattle.promise_spec.specs.Images.{AreNumbered, IsWhole, IsSound, IsSoundFolder}
 use Rattle.promise_spec.specs.Moments.{IsImageOf, IsLongest}
 use Rattle.promise_spec.specs.Causes.{NoneRose, HasDoubt}
 use Rattle.promise_spec.specs.Endings as ending
@@ -20,14 +20,14 @@ use Rattle.promise_spec.specs.Endings.{Ending, HasRisen, IsCarried, IsCalm}
 use Rattle.promise_spec.specs.Courses.{Observed, Course, order, moments, lines, basis, opening_standing, core_run, core_end}
 use Rattle.promise_spec.specs.Orders.{IsOrdered}
 use Rattle.promise_spec.specs.Replies.{AreReplies}
-use Rattle.promise_spec.specs.Crashes.{SurvivesCrashes, HoldsReplies}
+use Rattle.promise_spec.specs.Crashes.{SurvivesCrashes, StaySound, HoldsReplies}
 use Rattle.promise_spec.specs.Explained.{ComeOfEvents, IsExplained}
 use Rattle.promise_spec.specs.Exits.{IsDoubt, IsLeft}
 use Rattle.promise_spec.specs.Journals.{KeepsJournal, commits_of}
 use Rattle.promise_spec.specs.Promise.{HasEnded, Keeps}
 use Rattle.promise_spec.proofs.OneLog.{one_log}
 use Rattle.promise_spec.proofs.Journaled as journaled
-use Rattle.promise_laws.specs.Obligations.{Opens, Journals, ExplainsEvents, Shows}
+use Rattle.promise_laws.specs.Obligations.{Opens, Journals, ExplainsEvents, Shows, ShowsAnywhere}
 use Rattle.promise_laws.proofs.SerialRecords.{above_records, explained_serial}
 use Rattle.promise_laws.proofs.AbortCauses.{explained_aborts}
 use Rattle.promise_laws.proofs.OneFamily.{explained_family}
@@ -50,6 +50,7 @@ explained p r c e = record {
   faults = e.faults;
   doubted = e.doubted;
   ended = e.ended;
+  unvoted = e.unvoted;
 }
 
 -- ---- the opening log
@@ -66,13 +67,19 @@ at_entry p r c o image is = elim (last-in (moment_of r.old) c.early) [
   | inr there ↦ o.before image (record { moment = last_of (moment_of r.old) c.early; member = there; left = is })
 ]
 
--- the opening log is serial from a new silo, and numbered
-opening_sound : (p : Program) (r : Observed) (c : Course) → Opens p r c → IsSerial p.types (new_silo p.types).states c.opening × AreNumbered (new_silo p.types).next c.opening
-opening_sound p r c o =
+-- the opening log's units are numbered
+pub opening_numbered : (p : Program) (r : Observed) (c : Course) → Opens p r c → AreNumbered (new_silo p.types).next c.opening
+opening_numbered p r c o =
     let log : IsLog live_slot (shape_in p) o.some c.opening = o.opened o.some o.possible in
-    let s : IsSound live_slot p o.some = o.folder.sound o.some (at_entry p r c o o.some o.possible) log.silo in
-    let same : s.log ≡ c.opening = one_log (shape_in p) o.some s.log c.opening s.is log in
-    (subst (IsSerial p.types (new_silo p.types).states) same s.serial, subst (AreNumbered (new_silo p.types).next) same s.numbered)
+    let s : IsWhole live_slot p o.some = o.folder.whole o.some (at_entry p r c o o.some o.possible) log.silo in
+    subst (AreNumbered (new_silo p.types).next) (one_log (shape_in p) o.some s.log c.opening s.is log) s.numbered
+
+-- and over a sound folder it is serial from a new silo
+pub opening_serial : (p : Program) (r : Observed) (c : Course) → Opens p r c → IsSoundFolder p r.old → IsSerial p.types (new_silo p.types).states c.opening
+opening_serial p r c o folder =
+    let log : IsLog live_slot (shape_in p) o.some c.opening = o.opened o.some o.possible in
+    let s : IsSound live_slot p o.some = folder.sound o.some (at_entry p r c o o.some o.possible) log.silo in
+    subst (IsSerial p.types (new_silo p.types).states) (one_log (shape_in p) o.some s.log c.opening s.is log) s.serial
 
 -- one image with the program file of another
 with_program : Image → Image → Image
@@ -84,12 +91,54 @@ with_program image other (Grain slot grain) = image (Grain slot grain)
 has_program : (p : Program) (r : Observed) (c : Course) → Opens p r c → Journals p r c → (image : Image) → IsImageOf (moments r c) image → HasProgram p.text (image program_file)
 unfolding with_program
 has_program p r c o j image of =
-    (o.folder.sound (with_program o.some image) mixed (o.opened o.some o.possible).silo).program
+    (o.folder.whole (with_program o.some image) mixed (o.opened o.some o.possible).silo).program
   where
     mixed : IsImage r.old.disk (with_program o.some image)
     mixed (ProgramFile slot) = subst (λ file. MayLeave file (image (ProgramFile slot))) ((j.alone of.moment of.member).aside (ProgramFile slot) tt) (of.left (ProgramFile slot))
     mixed (Manager slot) = at_entry p r c o o.some o.possible (Manager slot)
     mixed (Grain slot grain) = at_entry p r c o o.some o.possible (Grain slot grain)
+
+-- ---- the end
+
+module _ (p : Program) (r : Observed) (c : Course) (a : ShowsAnywhere p r c) where
+  -- where no count rose, no fault ended the run
+  calm : NoneRose r.faults_before r.faults_after → IsCalm r.ending
+  calm none = go r.ending a.ends.carried a.ends.risen
+    where
+      rose : (channel : Channel) → Rose (r.faults_before channel) (r.faults_after channel) → ⊥
+      rose channel more = (let n = none channel in absurd (omega (arith, more, n.0, n.1)))
+
+      go : (e : Ending) → IsCarried e → HasRisen e r.faults_before r.faults_after → IsCalm e
+      go ending.Done carried risen = tt
+      go ending.BadUse carried risen = absurd carried
+      go ending.Memory carried risen = tt
+      go ending.ReadFault carried risen = rose Input risen
+      go ending.WriteFault carried risen = rose Output risen
+      go (ending.DiskFault file) carried risen = rose (File file) risen
+      go ending.NotASilo carried risen = absurd carried
+      go ending.AlreadyASilo carried risen = absurd carried
+      go (ending.Damaged file place) carried risen = absurd carried
+      go (ending.BadProgram fault) carried risen = absurd carried
+      go (ending.InputTooLong line) carried risen = tt
+
+  -- and no line was aborted for one; at width 1 none for a lock
+  pub ended_anywhere : HasEnded p r c
+  ended_anywhere = record {
+    given = a.ends.given;
+    risen = a.ends.risen;
+    carried = a.ends.carried;
+    long = a.ends.long;
+    begun = a.ends.begun;
+    done = a.ends.done;
+    complete = λ none. record { calm = calm none; undisturbed = λ e m. calm_undisturbed p r c (explained p r c a.explains) none e (in_settled p c a.settled.entries e m) };
+    alone = λ unthreaded one childless e m. single_unlocked p r c (explained p r c a.explains) unthreaded one childless e (in_settled p c a.settled.entries e m);
+    syncs = a.ends.syncs;
+    most = a.ends.most;
+  }
+
+-- what a run shows of what it answers
+pub answers_of : (p : Program) (r : Observed) (c : Course) → Shows p r c → ShowsAnywhere p r c
+answers_of p r c s = record { explains = s.explains; settled = s.settled; output = s.output; whole = s.whole; ends = s.ends }
 
 -- ---- clauses
 
@@ -130,9 +179,13 @@ module _ (p : Program) (r : Observed) (c : Course) (s : Shows p r c) where
     whole = s.whole;
     within = replies_within p r c is s.settled.entries;
     once = replies_once p r c is s.settled.entries;
-    true_each = replies_true p r c is (opening_sound p r c o).1 s.settled.entries;
+    true_each = replies_true p r c is (opening_numbered p r c o) s.settled.entries;
     ordered = replies_ordered p r c is s.settled.entries;
   }
+
+  -- the order's units are numbered
+  numbered : AreNumbered 1 (c.opening ++ commits_of j.journal)
+  numbered = subst (AreNumbered 1) (order_is p r c j) (order_numbered p r c is (opening_numbered p r c o))
 
   -- each image of each moment keeps the journal
   crashes : SurvivesCrashes p r c
@@ -141,19 +194,22 @@ module _ (p : Program) (r : Observed) (c : Course) (s : Shows p r c) where
     quiet = o.quiet;
     before = o.before;
     chain = λ one other of_one of_other. journaled.chained p c.opening r.old.output j.journal of_one.moment of_other.moment one other (kept_in p r c j one of_one) (kept_in p r c j other of_other);
-    sound = λ image of.
-        journaled.sound p c.opening r.old.output j.journal of.moment image (kept_in p r c j image of) (has_program p r c o j image of)
-        (subst (IsSerial p.types (new_silo p.types).states) (order_is p r c j) (order_serial p r c is (opening_sound p r c o).0))
-        (subst (AreNumbered 1) (order_is p r c j) (order_numbered p r c is (opening_sound p r c o).1));
+    whole = λ image of. journaled.whole p c.opening r.old.output j.journal of.moment image (kept_in p r c j image of) (has_program p r c o j image of) numbered;
     keeps = λ image of.
         (let k = kept_in p r c j image of in
         record { log = c.opening ++ commits_of (k.said ++ k.unsaid); is = k.log; longer = (commits_of (k.said ++ k.unsaid), refl) });
     alone = j.alone;
   }
 
+  -- and is sound where the folder was
+  sound : IsSoundFolder p r.old → StaySound p r c
+  sound folder image of =
+      journaled.sound p c.opening r.old.output j.journal of.moment image (kept_in p r c j image of) (has_program p r c o j image of)
+      (subst (IsSerial p.types (new_silo p.types).states) (order_is p r c j) (order_serial p r c is (opening_serial p r c o folder))) numbered
+
   -- the records come from the lines, and each image's log ends where a batch does
   records : ComeOfEvents p r c
-  records = record { family = explained_family p r c is (opening_sound p r c o).1; whole = j.batches }
+  records = record { family = explained_family p r c is (opening_numbered p r c o); whole = j.batches }
 
   holds : HoldsReplies p r c
   holds m image there left =
@@ -193,47 +249,13 @@ module _ (p : Program) (r : Observed) (c : Course) (s : Shows p r c) where
     block = s.leaves.block;
   }
 
-  -- where no count rose, no fault ended the run
-  calm : NoneRose r.faults_before r.faults_after → IsCalm r.ending
-  calm none = go r.ending s.ends.carried s.ends.risen
-    where
-      rose : (channel : Channel) → Rose (r.faults_before channel) (r.faults_after channel) → ⊥
-      rose channel more = (let n = none channel in absurd (omega (arith, more, n.0, n.1)))
-
-      go : (e : Ending) → IsCarried e → HasRisen e r.faults_before r.faults_after → IsCalm e
-      go ending.Done carried risen = tt
-      go ending.BadUse carried risen = absurd carried
-      go ending.Memory carried risen = tt
-      go ending.ReadFault carried risen = rose Input risen
-      go ending.WriteFault carried risen = rose Output risen
-      go (ending.DiskFault file) carried risen = rose (File file) risen
-      go ending.NotASilo carried risen = absurd carried
-      go ending.AlreadyASilo carried risen = absurd carried
-      go (ending.Damaged file place) carried risen = absurd carried
-      go (ending.BadProgram fault) carried risen = absurd carried
-      go (ending.InputTooLong line) carried risen = tt
-
-  -- and no line was aborted for one; at width 1 none for a lock
-  ended : HasEnded p r c
-  ended = record {
-    given = s.ends.given;
-    risen = s.ends.risen;
-    carried = s.ends.carried;
-    long = s.ends.long;
-    begun = s.ends.begun;
-    done = s.ends.done;
-    complete = λ none. record { calm = calm none; undisturbed = λ e m. calm_undisturbed p r c is none e (in_settled p c s.settled.entries e m) };
-    alone = λ unthreaded one childless e m. single_unlocked p r c is unthreaded one childless e (in_settled p c s.settled.entries e m);
-    syncs = s.ends.syncs;
-  }
-
   -- all clauses
   pub shown : Keeps p r c
   shown = record {
-    headline = record { ordered = ordered; replies = replies; crashes = crashes; holds = holds };
+    headline = record { ordered = ordered; replies = replies; crashes = crashes; sound = sound; holds = holds };
     records = records;
     settled = s.settled;
     explained = is;
     exit = exit;
-    ended = ended;
+    ended = ended_anywhere p r c (answers_of p r c s);
   }

@@ -2,4 +2,5 @@ pub mod Legality
 pub mod Handed
 pub mod Proper
 pub mod Obligations
+pub mod Answered
 pub mod Closings

@@ -1,5 +1,5 @@
 -- What a run has to show, so that it keeps its promise: the rest follows.
-use Rattle.std.specs.Prelude.{◌≡◌, ◌≢◌, ◌⊎◌, ◌+◌, false, List, [], ◌++◌, length}
+use Rattle.std.specs.Prelude.{◌≡◌, ◌≢◌, ◌⊎◌, ◌+◌, ◌≤◌, false, List, [], ◌++◌, length}
 use Rattle.base_types.specs.declared.entries.Entry.{Entry}
 use Rattle.base_types.specs.declared.entries.Settled.TheVariants.{InDoubt}
 use Rattle.host_trait.specs.declared.channels.FileId.{FileId}
@@ -13,21 +13,22 @@ use Rattle.promise_spec.specs.Moments.{IsImageOf}
 use Rattle.promise_spec.specs.Outputs.{Grew}
 use Rattle.promise_spec.specs.UnitRule.{KeepsUnitRule}
 use Rattle.promise_spec.specs.TurnRule.{KeepsTurnRule}
-use Rattle.promise_spec.specs.Causes.{AreFaults, HasDoubt, NoneRose, syncs_of}
+use Rattle.promise_spec.specs.Images.{IsWholeFolder}
+use Rattle.promise_spec.specs.Causes.{AreFaults, HasDoubt, NoneRose, syncs_of, most_syncs_of}
 use Rattle.promise_spec.specs.Endings.{Done, WriteFault, DiskFault, HasRisen, IsCarried, HasLength, CountsSyncs, MayDoubt}
 use Rattle.promise_spec.specs.Courses.{Observed, Course, order, moments, lines, seen_at_entry, basis, core_run, core_end}
 use Rattle.promise_spec.specs.Crashes.{LeavesAlone}
 use Rattle.promise_spec.specs.Batches.{EndsABatch}
 use Rattle.promise_spec.specs.Replies.{HasNoRecord}
 use Rattle.promise_spec.specs.Exits.{HasLogAtExit, IsNowhere, HasDoubtfulBlock}
-use Rattle.promise_spec.specs.Explained.{AreAdded, AreSettled, IsDoubtful}
+use Rattle.promise_spec.specs.Explained.{AreAdded, AreSettled, IsDoubtful, LeavesUnvoted}
 use Rattle.promise_spec.specs.Journals.{Settlement, commits_of, entries_of, KeepsJournal, AllLog, Backs}
-use Rattle.promise_spec.specs.Promise.{HasReadAll, IsDone, IsSoundFolder}
+use Rattle.promise_spec.specs.Promise.{HasReadAll, IsDone}
 
--- The run opened this log, over a sound folder: the files read as it, and each image at the return of the opening's last
+-- The run opened this log, over a whole folder: the files read as it, and each image at the return of the opening's last
 -- sync has it; there is one. Until then nothing was written, and each image was one of those at entry.
 pub record Opens (p : Program) (r : Observed) (c : Course) : Type 0 where
-  pub folder : IsSoundFolder p r.old
+  pub folder : IsWholeFolder p r.old
   pub read : IsLog live_slot (shape_in p) (seen_at_entry r) c.opening
   pub opened : AllLog p c.opening (last_of (moment_of r.old) c.early).disk
   pub some : Image
@@ -58,7 +59,7 @@ pub record Journals (p : Program) (r : Observed) (c : Course) : Type 0 where
 
 -- The records are those of the core's committed units. The events keep the unit rule, and on one thread the turn rule.
 -- No more faults show than were counted. Of files the manager file alone may end a run, and only with a batch in doubt;
--- and a doubt ends the run.
+-- and a doubt ends the run. A grain's file is written for a vote alone.
 pub record ExplainsEvents (p : Program) (r : Observed) (c : Course) : Type 0 where
   pub records : AreAdded (core_end p c) c.added
   pub units : KeepsUnitRule (basis p r c) (core_run p c)
@@ -66,6 +67,7 @@ pub record ExplainsEvents (p : Program) (r : Observed) (c : Course) : Type 0 whe
   pub faults : AreFaults live_slot (core_run p c) r.faults_before r.faults_after
   pub doubted : (file : FileId) → r.ending ≡ DiskFault file → IsDoubtful live_slot (core_run p c) file
   pub ended : HasDoubt (core_run p c) → MayDoubt r.ending
+  pub unvoted : LeavesUnvoted live_slot p r c
 
 -- The log at the exit: each image has the whole order, or lacks the records of the batch in doubt. A unit that is told to
 -- be in doubt and that no image has is in no record, and the block of a batch in doubt stands behind its gate.
@@ -76,7 +78,7 @@ pub record LeavesAtExit (p : Program) (r : Observed) (c : Course) : Type 0 where
 
 -- How it ended: its lines are the input's, nothing began before the input was read whole, and done means that each line
 -- has its entry; a fault is shown by its count, and an input that is too long by its length. Where nothing failed, so many
--- syncs were asked for.
+-- syncs were asked for, and never more than so many.
 pub record EndsRightly (p : Program) (r : Observed) (c : Course) : Type 0 where
   pub given : lines r ≡ lines_of r.old.input
   pub risen : HasRisen r.ending r.faults_before r.faults_after
@@ -85,6 +87,7 @@ pub record EndsRightly (p : Program) (r : Observed) (c : Course) : Type 0 where
   pub begun : (c.events ≡ []) ⊎ HasReadAll r
   pub done : r.ending ≡ Done → IsDone r c
   pub syncs : NoneRose r.faults_before r.faults_after → CountsSyncs r.ending → r.new.syncs ≡ r.old.syncs + syncs_of (core_run p c)
+  pub most : r.new.syncs ≤ r.old.syncs + most_syncs_of (core_run p c)
 
 -- what a run has to show
 pub record Shows (p : Program) (r : Observed) (c : Course) : Type 0 where
@@ -105,7 +108,7 @@ pub record ShowsAnywhere (p : Program) (r : Observed) (c : Course) : Type 0 wher
   pub whole : r.ending ≢ WriteFault → c.rest ≡ []
   pub ends : EndsRightly p r c
 
--- and what it has to show of the images, over a sound folder
+-- and what it has to show of the images, over a whole folder
 pub record Lasts (p : Program) (r : Observed) (c : Course) : Type 0 where
   pub opens : Opens p r c
   pub journals : Journals p r c

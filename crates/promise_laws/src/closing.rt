@@ -7,14 +7,15 @@ ghost use Rattle.promise_spec.specs.Outputs.{IsProper};
 ghost use Rattle.promise_spec.specs.Courses.{Observed, Course, order, core_end};
 ghost use Rattle.promise_spec.specs.Exits.{AreOf, doubtful};
 ghost use Rattle.promise_spec.specs.Journals.{Settlement, CutAt, commits_of, entries_of};
-ghost use Rattle.promise_spec.specs.Promise.{IsSoundFolder, Promises};
+ghost use Rattle.promise_spec.specs.Images.{IsWholeFolder};
+ghost use Rattle.promise_spec.specs.Promise.{Promises};
 ghost use Rattle.promise_laws.specs.Closings.{ReadsMayStay, IsBehind, Carries};
 ghost use Rattle.promise_laws.specs.Obligations.{ShowsAnywhere, Opens, Lasts};
 ghost use Rattle.promise_spec.specs.Words.{Manner};
 
-/// Over a sound folder, what the opening of a run answers is what has to be shown of it.
+/// Over a whole folder, what the opening of a run answers is what has to be shown of it.
 pub fn read_folders_open()
-    ensures { (p q : Program) (r : Observed) (c : Course) (mid : World) → IsBehind live_slot p r c mid → IsChecked q → IsSoundFolder q r.old
+    ensures { (p q : Program) (r : Observed) (c : Course) (mid : World) → IsBehind live_slot p r c mid → IsChecked q → IsWholeFolder q r.old
         → ReadsMayStay r.old → ReadsMayStay mid → Opens p r c }
 {}
 
@@ -32,7 +33,7 @@ pub fn kept_journals_last()
 {}
 
 /// The whole argument for a run that opened its folder: what it answers, over any folder; how the folder read; and what lasts,
-/// where the folder is sound.
+/// where each of its images is whole.
 pub fn carried_runs_promise()
     ensures { (m : Manner) (p : Program) (r : Observed) (c : Course) (mid : World) → ShowsAnywhere p r c → r.manner ≡ m → IsChecked p → IsBehind live_slot p r c mid
         → ReadsMayStay r.old → ReadsMayStay mid → (Opens p r c → Lasts p r c) → Promises m r }

@@ -9,7 +9,7 @@ use Rattle.promise_spec.specs.Programs.{Program, shape_in}
 use Rattle.promise_spec.specs.Records.{Commit, States, after_writes, new_silo}
 use Rattle.promise_spec.specs.Serial.{IsSerial}
 use Rattle.promise_spec.specs.Logs.{IsLog, IsPrefix, live_slot}
-use Rattle.promise_spec.specs.Images.{AreChained, AreNumbered, IsSoundIfSilo}
+use Rattle.promise_spec.specs.Images.{AreChained, AreNumbered, IsWholeIfSilo, IsSoundIfSilo}
 use Rattle.promise_spec.specs.Moments.{IsImageOf, IsLongest}
 use Rattle.promise_spec.specs.Courses.{Observed, Course}
 use Rattle.promise_spec.specs.Crashes.{Holds}
@@ -99,6 +99,20 @@ serial_front types states (c ∷ a) b serial = (serial.0, serial_front types (af
 pub numbered_front : (first : ℕ) (a b : List Commit) → AreNumbered first (a ++ b) → AreNumbered first a
 numbered_front first [] b numbered = tt
 numbered_front first (c ∷ a) b numbered = (numbered.0, numbered.1, (parts_of _ a b numbered.2).0, numbered_front first a b numbered.3)
+
+-- where the order's units are numbered, each image of each moment is whole
+pub whole : (p : Program) (opening : List Commit) (before : List ℕ) (journal : List Settlement) (m : Moment) (image : Image) → KeepsJournal p opening before journal m image → HasProgram p.text (image program_file)
+    → AreNumbered 1 (opening ++ commits_of journal) → IsWholeIfSilo live_slot p image
+unfolding longer
+whole p opening before journal m image k program numbered silo =
+    let front : List Commit = opening ++ commits_of (k.said ++ k.unsaid) in
+    let all : opening ++ commits_of journal ≡ front ++ commits_of k.later = (longer opening (k.said ++ k.unsaid) journal (k.later, k.split)).1 in
+    record {
+      log = front;
+      is = k.log;
+      program = program;
+      numbered = numbered_front 1 front (commits_of k.later) (subst (λ (l : List Commit). AreNumbered 1 l) all numbered);
+    }
 
 -- where the order is serial, each image of each moment is sound
 pub sound : (p : Program) (opening : List Commit) (before : List ℕ) (journal : List Settlement) (m : Moment) (image : Image) → KeepsJournal p opening before journal m image → HasProgram p.text (image program_file)

@@ -14,6 +14,7 @@ pub mod Stepping
 pub mod Opened
 pub mod CountedSyncs
 pub mod SettledLogs
+pub mod WholeFolders
 pub mod SoundFolders
 pub mod Backing
 pub mod DoubtImages

@@ -1,17 +1,19 @@
 -- A load that follows a run keeps what is promised of a load.
-use Rattle.std.proofs.Common.{◌≡◌, ◌≢◌, ◌⊎◌, inl, inr, ℕ, ◌+◌, List, [], ◌∷◌, ◌++◌, map, refl, sym, ap, subst, ◌∙◌}
+use Rattle.std.proofs.Common.{◌≡◌, ◌≢◌, ◌⊎◌, inl, inr, ℕ, ◌+◌, ◌≤◌, List, [], ◌∷◌, ◌++◌, map, refl, sym, ap, subst, ◌∙◌, arith}
 use Rattle.std.proofs.lemmas.List.{append-nil}
 use Rattle.core_model.specs.CoreState.{Member, CoreState}
-use Rattle.host_trait.specs.World.{Moment, Image, IsImage, moment_of, last_of}
+use Rattle.host_trait.specs.World.{Disk, Moment, Image, IsImage, moment_of, last_of}
 use Rattle.promise_spec.specs.Programs.{Program, shape_in}
 use Rattle.promise_spec.specs.Records.{Commit}
 use Rattle.promise_spec.specs.Logs.{IsLog, live_slot}
-use Rattle.promise_spec.specs.Causes.{syncs_of}
+use Rattle.promise_spec.specs.Causes.{syncs_of, most_syncs_of}
 use Rattle.promise_spec.specs.Moments.{IsImageOf}
 use Rattle.promise_spec.specs.Endings.{Done, WriteFault, CountsSyncs, IsBegun, IsAllWritten, MayDoubt}
 use Rattle.promise_spec.specs.Courses.{Observed, Course, order, moments, lines, core_run, core_end}
+use Rattle.promise_spec.specs.Images.{IsSoundFolder}
 use Rattle.promise_spec.specs.Orders.{IsOrdered}
-use Rattle.promise_spec.specs.Crashes.{SurvivesCrashes}
+use Rattle.host_trait.specs.declared.channels.FileId.TheVariants.{Grain}
+use Rattle.promise_spec.specs.Crashes.{SurvivesCrashes, StaySound}
 use Rattle.promise_spec.specs.Exits.{IsLeft, LacksDoubtful}
 use Rattle.promise_spec.specs.Explained.{ComeOfEvents, IsExplained}
 use Rattle.promise_spec.specs.Promise.{Keeps}
@@ -148,7 +150,7 @@ module _ (p : Program) (r s : Observed) (c : Course) (told : List Moment) (told_
     quiet = k.quiet;
     before = k.before;
     chain = λ one other is_one is_other. k.chain one other (of_run one is_one) (of_run other is_other);
-    sound = λ image is. k.sound image (of_run image is);
+    whole = λ image is. k.whole image (of_run image is);
     keeps = λ image is. let o = k.keeps image (of_run image is) in record { log = o.log; is = o.is; longer = o.longer };
     alone = λ m there.
         let h = to_run m there in
@@ -158,6 +160,9 @@ module _ (p : Program) (r s : Observed) (c : Course) (told : List Moment) (told_
           header = λ image is. o.header image (subst (λ d. IsImage d image) h.disk is);
         };
   }
+
+  sound : (IsSoundFolder p r.old → StaySound p r c) → IsSoundFolder p (alike r s).old → StaySound p (alike r s) (quiet_course r c told)
+  sound k folder image is = k (record { chain = folder.chain; sound = folder.sound }) image (of_run image is)
 
   records : ComeOfEvents p r c → ComeOfEvents p (alike r s) (quiet_course r c told)
   records k = record {
@@ -191,6 +196,7 @@ module _ (p : Program) (r s : Observed) (c : Course) (told : List Moment) (told_
     faults = k.faults;
     doubted = k.doubted;
     ended = k.ended;
+    unvoted = λ g m none there. (let h = to_run m there in ap (λ (d : Disk). d (Grain live_slot g)) h.disk ∙ k.unvoted g h.moment none h.member);
   }
 
   -- where the run is done, each image that it left has the whole order
@@ -231,6 +237,7 @@ module _ (p : Program) (r s : Observed) (c : Course) (told : List Moment) (told_
     complete = λ calm. let o = k.ended.complete calm in record { calm = o.calm; undisturbed = o.undisturbed };
     alone = k.ended.alone;
     syncs = λ calm is. after ∙ k.ended.syncs calm (subst CountsSyncs (sym is) tt) ∙ ap (λ (n : ℕ). n + syncs_of (core_run p c)) (sym before);
+    most = (let m = k.ended.most in omega (arith, m, after, before));
   }
 
   prints : (text : List ℕ) → r.ending ≡ Done → s.new.output ≡ r.old.output ++ text → Prints text (alike r s)
@@ -248,6 +255,7 @@ module _ (p : Program) (r s : Observed) (c : Course) (told : List Moment) (told_
     asked = asked;
     ordered = ordered k.headline.ordered;
     crashes = crashes q.past k.headline.crashes;
+    sound = sound k.headline.sound;
     records = records k.records;
     exit = exit k.exit;
     settled = k.settled.all (inl (subst IsAllWritten (sym done) tt));

@@ -1,4 +1,4 @@
--- Over a sound folder, what has the manager file as it reads has the log that was read.
+-- Over a whole folder, what has the manager file as it reads has the log that was read.
 use Rattle.std.proofs.Common.{◌≡◌, inl, inr, ℕ, ◌+◌, ◌≤◌, List, [], ◌∷◌, ◌++◌, length, map, refl, sym, ap, subst, ◌∙◌, arith, length-append, append-nil}
 use Rattle.std.specs.List.{flat_map, AllByRecursion}
 use Rattle.std.proofs.lemmas.List.{length-map}
@@ -18,9 +18,8 @@ use Rattle.silo_spec.specs.Silos.{manager, IsSilo}
 use Rattle.promise_spec.specs.Programs.{Program, shape_in}
 use Rattle.promise_spec.specs.Records.{Commit}
 use Rattle.promise_spec.specs.Logs.{magic, IsKept, body_of, IsLog, IsPrefix, live_slot}
-use Rattle.promise_spec.specs.Images.{AreChained}
+use Rattle.promise_spec.specs.Images.{AreChained, IsWholeFolder}
 use Rattle.promise_spec.specs.Journals.{AllLog}
-use Rattle.promise_spec.specs.Promise.{IsSoundFolder}
 use Rattle.promise_spec.proofs.Lists.{head_of, tail_of, none_is, parts_of}
 use Rattle.promise_spec.proofs.OneLog.{one_log}
 
@@ -98,8 +97,8 @@ chained_same p one other log chain same is =
     subst (IsLog live_slot (shape_in p) other) (sym (first ∙ all)) b.1
 
 -- The files as they read have this log; each image of the disk is one of the folder's, with the manager file as it reads.
-pub settled_logs : (p : Program) (w : World) (disk : Disk) (log : List Commit) → IsSoundFolder p w → ((file : FileId) → MayLeave (w.disk file) (w.disk file).seen)
+pub settled_logs : (p : Program) (w : World) (disk : Disk) (log : List Commit) → IsWholeFolder p w → ((file : FileId) → MayLeave (w.disk file) (w.disk file).seen)
     → ((image : Image) → IsImage disk image → IsImage w.disk image × (image manager ≡ (w.disk manager).seen)) → IsLog live_slot (shape_in p) (λ file. (w.disk file).seen) log → AllLog p log disk
-settled_logs p w disk log sound seen stays is image left =
+settled_logs p w disk log whole seen stays is image left =
     let t = stays image left in
-    chained_same p (λ file. (w.disk file).seen) image log (sound.chain (λ file. (w.disk file).seen) image seen t.0) (sym t.1) is
+    chained_same p (λ file. (w.disk file).seen) image log (whole.chain (λ file. (w.disk file).seen) image seen t.0) (sym t.1) is

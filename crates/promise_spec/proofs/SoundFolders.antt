@@ -22,16 +22,18 @@ use Rattle.promise_spec.specs.Endings as ending
 use Rattle.promise_spec.specs.Endings.{Ending}
 use Rattle.promise_spec.specs.Words.{Manner, Command, Init, Run, Show, History, Audit, Load, Check}
 use Rattle.promise_spec.specs.Courses.{Observed, Course, moments}
-use Rattle.promise_spec.specs.Crashes.{SurvivesCrashes}
+use Rattle.promise_spec.specs.Crashes.{SurvivesCrashes, StaySound}
 use Rattle.promise_spec.specs.Refusals.{IsUnopened}
 use Rattle.promise_spec.specs.Commands.{IsProgramText, MakesAs, MakesSilo, LeavesAsBefore, IsReported, Reports, Audits}
 use Rattle.promise_spec.specs.Loads.{bank_text, KeepsLoad, IsUnmade, from_there, LoadsFrom, Loads}
 use Rattle.promise_spec.specs.Checks.{Checks}
 use Rattle.promise_spec.specs.Calls.{Obeys, IsBadUse}
-use Rattle.promise_spec.specs.Promise.{IsSoundFolder, Promises}
+use Rattle.promise_spec.specs.Images.{IsSoundFolder}
+use Rattle.promise_spec.specs.Promise.{Promises}
 use Rattle.promise_spec.specs.SoundMoments.{shown_at, IsSoundAt, IsRestarted}
 use Rattle.promise_spec.proofs.Lists.{all_of, in_append, either_in}
 use Rattle.promise_spec.proofs.Openings.{program_checked}
+use Rattle.promise_spec.proofs.WholeFolders.{whole_folder}
 
 -- ---- what changes no image
 
@@ -57,17 +59,17 @@ exit_of : (r : Observed) (c : Course) (image : Image) → IsImage r.new.disk ima
 exit_of r c image left = record { moment = moment_of r.new; member = inr (in_append (moment_of r.new) c.late (moment_of r.new ∷ []) (inr (inl refl))); left = left }
 
 -- what survives crashes leaves a sound folder
-pub survives : (p : Program) (r : Observed) (c : Course) → SurvivesCrashes p r c → IsSoundFolder p r.new
-survives p r c s = record {
+pub survives : (p : Program) (r : Observed) (c : Course) → SurvivesCrashes p r c → StaySound p r c → IsSoundFolder p r.new
+survives p r c s sound = record {
   chain = λ one other left left_too. s.chain one other (exit_of r c one left) (exit_of r c other left_too);
-  sound = λ image left. s.sound image (exit_of r c image left);
+  sound = λ image left. sound image (exit_of r c image left);
 }
 
 -- a run
 pub run_keeps : (m : Manner) (p : Program) (r : Observed) → IsChecked p → Promises m r → IsSoundFolder p r.old → IsSoundFolder p r.new
-run_keeps m p r checked promises sound = elim (promises.over_sound p checked sound) [
+run_keeps m p r checked promises sound = elim (promises.over_whole p checked (whole_folder p r.old sound)) [
   | inl unopened ↦ untouched p r.old r.new unopened.untouched sound
-  | inr kept ↦ survives p r kept.0 kept.1.headline.crashes
+  | inr kept ↦ survives p r kept.0 kept.1.headline.crashes (kept.1.headline.sound sound)
 ]
 
 -- a report that prints
@@ -267,7 +269,7 @@ load_keeps n seed m p bank r checked checked_too text seen loads sound = by load
 
         carried : IsUnopened (from_there r from.made) ⊎ ((c : Course) × KeepsLoad from.program n seed (from_there r from.made) c) → IsSoundFolder from.program r.new
         carried (inl unopened) = untouched from.program from.made r.new unopened.untouched made
-        carried (inr kept) = survives from.program (from_there r from.made) kept.0 kept.1.crashes
+        carried (inr kept) = survives from.program (from_there r from.made) kept.0 kept.1.crashes (kept.1.sound made)
 
 -- ---- any command
 
@@ -296,8 +298,8 @@ untouched_moments : (p : Program) (old new : World) → IsChecked p → IsUntouc
 untouched_moments p old new checked u sound = weaker (IsAsAtEntry old) IsSoundAt (λ m is. entry_moment p old m checked sound is.images) u.moments
 
 -- those of one that survives crashes
-survived_moments : (p : Program) (r : Observed) (c : Course) → IsChecked p → IsSoundFolder p r.old → SurvivesCrashes p r c → Passes IsSoundAt r.old.past r.new.past
-survived_moments p r c checked sound s = record {
+survived_moments : (p : Program) (r : Observed) (c : Course) → IsChecked p → IsSoundFolder p r.old → SurvivesCrashes p r c → StaySound p r c → Passes IsSoundAt r.old.past r.new.past
+survived_moments p r c checked sound s stay = record {
   more = c.early ++ c.late;
   past = s.past;
   each = all_of IsSoundAt (c.early ++ c.late) (λ m there. by m (either_in m c.early c.late there));
@@ -310,14 +312,14 @@ survived_moments p r c checked sound s = record {
     by m (inl early) = entry_moment p r.old m checked sound (λ image left. s.before image (record { moment = m; member = early; left = left }))
     by m (inr late) = sound_at p m checked (record {
       chain = λ one other left left_too. s.chain one other (late_of m late one left) (late_of m late other left_too);
-      sound = λ image left. s.sound image (late_of m late image left);
+      sound = λ image left. stay image (late_of m late image left);
     })
 
 -- those of a run
 run_moments : (m : Manner) (p : Program) (r : Observed) → IsChecked p → Promises m r → IsSoundFolder p r.old → Passes IsSoundAt r.old.past r.new.past
-run_moments m p r checked promises sound = elim (promises.over_sound p checked sound) [
+run_moments m p r checked promises sound = elim (promises.over_whole p checked (whole_folder p r.old sound)) [
   | inl unopened ↦ untouched_moments p r.old r.new checked unopened.untouched sound
-  | inr kept ↦ survived_moments p r kept.0 checked sound kept.1.headline.crashes
+  | inr kept ↦ survived_moments p r kept.0 checked sound kept.1.headline.crashes (kept.1.headline.sound sound)
 ]
 
 -- of a report
@@ -389,7 +391,7 @@ load_moments n seed m p bank r checked checked_too text seen loads sound = by lo
 
         carried : IsUnopened (from_there r from.made) ⊎ ((c : Course) × KeepsLoad from.program n seed (from_there r from.made) c) → Passes IsSoundAt from.made.past r.new.past
         carried (inl unopened) = untouched_moments from.program from.made r.new from.checked unopened.untouched made
-        carried (inr kept) = survived_moments from.program (from_there r from.made) kept.0 from.checked made kept.1.crashes
+        carried (inr kept) = survived_moments from.program (from_there r from.made) kept.0 from.checked made kept.1.crashes (kept.1.sound made)
 
 -- of a check
 check_moments : (n seed : ℕ) (p : Program) (r : Observed) → IsChecked p → Checks n seed r → IsSoundFolder p r.old → Passes IsSoundAt r.old.past r.new.past

@@ -92,7 +92,7 @@ is_not_on_disk NotOnDisk = true
 abbrev pub is_unsealed : CoreEvent → Bool
 is_unsealed e = is_not_on_disk (file_answer e)
 
--- a vote, and a batch that is on disk
+-- a vote
 abbrev pub tells_vote : FileAnswer → Bool
 tells_vote NoAnswer = false
 tells_vote (Voted g kept) = true
@@ -102,6 +102,15 @@ tells_vote NotOnDisk = false
 abbrev pub is_vote : CoreEvent → Bool
 is_vote e = tells_vote (file_answer e)
 
+-- a vote on this grain's file
+abbrev pub tells_vote_of : GrainId → FileAnswer → Bool
+tells_vote_of g (Voted h kept) = same_grain h g
+tells_vote_of g _ = false
+
+abbrev pub is_vote_of : GrainId → CoreEvent → Bool
+is_vote_of g e = tells_vote_of g (file_answer e)
+
+-- a batch that is on disk
 abbrev pub is_on_disk : FileAnswer → Bool
 is_on_disk NoAnswer = false
 is_on_disk (Voted g kept) = false
@@ -114,6 +123,11 @@ is_sealed e = is_on_disk (file_answer e)
 -- how many syncs a run asks for where nothing fails: the opening's, one for each vote, and two for each batch on disk
 abbrev pub syncs_of : Run → ℕ
 syncs_of r = 1 + (how_many is_vote r + 2 * how_many is_sealed r)
+
+-- how many syncs a run asks for at most, whatever fails: the opening's, one for each vote, and two for each batch that was to
+-- be on disk
+abbrev pub most_syncs_of : Run → ℕ
+most_syncs_of r = 1 + (how_many is_vote r + 2 * (how_many is_sealed r + how_many is_unsealed r))
 
 -- No more votes of no came on a grain than its live file's count of faults rose by, and no more batches failed to be
 -- sealed than the live manager file's rose by.

@@ -11,7 +11,7 @@ use Rattle.host_trait.specs.World.{Moment, Image, IsImage}
 use Rattle.promise_spec.specs.Records.{Commit}
 use Rattle.promise_spec.specs.Logs.{live_slot, IsLog, IsPrefix}
 use Rattle.promise_spec.specs.Programs.{Program, shape_in}
-use Rattle.promise_spec.specs.Images.{AreChained, IsSoundIfSilo}
+use Rattle.promise_spec.specs.Images.{AreChained, IsWholeIfSilo, IsSoundIfSilo}
 use Rattle.promise_spec.specs.Moments.{IsImageOf}
 use Rattle.promise_spec.specs.Outputs.{Grew}
 use Rattle.promise_spec.specs.Courses.{Observed, Course, moments, seen_at_entry}
@@ -65,15 +65,19 @@ pub record LeavesAlone (live : ℕ) (r : Observed) (m : Moment) : Type 0 where
 
 -- The moments of the run are the early ones and the late ones. At the early ones nothing is written and each image is
 -- one of those at entry. From the opening's last sync on, inside a call too, the images are a chain, each that is a
--- silo is sound, and each has a log that begins with the opening log; other files and the header stay as they were.
+-- silo is whole, and each has a log that begins with the opening log; other files and the header stay as they were.
 pub record SurvivesCrashes (p : Program) (r : Observed) (c : Course) : Type 0 where
   pub past : r.new.past ≡ r.old.past ++ (c.early ++ c.late)
   pub quiet : (m : Moment) → Member m c.early → m.output ≡ r.old.output
   pub before : (image : Image) → IsImageOf c.early image → IsImage r.old.disk image
   pub chain : (one other : Image) → IsImageOf (moments r c) one → IsImageOf (moments r c) other → AreChained live_slot p one other
-  pub sound : (image : Image) → IsImageOf (moments r c) image → IsSoundIfSilo live_slot p image
+  pub whole : (image : Image) → IsImageOf (moments r c) image → IsWholeIfSilo live_slot p image
   pub keeps : (image : Image) → IsImageOf (moments r c) image → KeepsOpening p c image
   pub alone : (m : Moment) → Member m (moments r c) → LeavesAlone live_slot r m
+
+-- and each image of each moment that is a silo is sound
+abbrev pub StaySound : Program → Observed → Course → Type 0
+StaySound p r c = (image : Image) → IsImageOf (moments r c) image → IsSoundIfSilo live_slot p image
 
 -- and each image of each moment holds what the output by then acknowledges
 abbrev pub HoldsReplies : Program → Observed → Course → Type 0

@@ -1,13 +1,14 @@
 -- The causes clause: a list of core events shows why each line ended as it did.
 use Rattle.std.specs.Prelude.{◌≡◌, ◌⊎◌, ℕ, ◌≤◌, false, List, [], ◌++◌, length, slice_get, Some}
+use Rattle.base_types.specs.declared.calls.GrainId.{GrainId}
 use Rattle.base_types.specs.declared.entries.Entry.{Entry}
 use Rattle.base_types.specs.declared.shapes.Shape.{Shape}
-use Rattle.core_model.specs.CoreState.{CoreState}
+use Rattle.core_model.specs.CoreState.{CoreState, Member}
 use Rattle.core_model.specs.Serial.{committed, chosen}
 use Rattle.core_model.specs.Legal.{Run}
 use Rattle.host_trait.specs.declared.channels.FileId.{FileId}
-use Rattle.host_trait.specs.declared.channels.FileId.TheVariants.{Manager}
-use Rattle.host_trait.specs.World.{Image}
+use Rattle.host_trait.specs.declared.channels.FileId.TheVariants.{Manager, Grain}
+use Rattle.host_trait.specs.World.{Moment, Image}
 use Rattle.promise_spec.specs.Records.{Commit, AreRecordsOf}
 use Rattle.promise_spec.specs.Logs.{live_slot, IsLog, IsPrefix}
 use Rattle.request_wire.specs.Reply.{reply_line}
@@ -15,7 +16,8 @@ use Rattle.promise_spec.specs.Programs.{Program, shape_in}
 use Rattle.promise_spec.specs.Endings.{DiskFault, IsAllWritten, IsDiskFault, MayDoubt}
 use Rattle.promise_spec.specs.UnitRule.{KeepsUnitRule}
 use Rattle.promise_spec.specs.TurnRule.{KeepsTurnRule}
-use Rattle.promise_spec.specs.Causes.{AreCaused, AreFaults, HasDoubt}
+use Rattle.promise_spec.specs.Cores.{how_many}
+use Rattle.promise_spec.specs.Causes.{AreCaused, AreFaults, HasDoubt, is_vote_of}
 use Rattle.promise_spec.specs.Moments.{IsImageOf}
 use Rattle.promise_spec.specs.Family.{IsFamily}
 use Rattle.promise_spec.specs.Batches.{EndsABatch}
@@ -60,9 +62,14 @@ pub record AreSettled (p : Program) (r : Observed) (c : Course) : Type 0 where
 abbrev pub IsDoubtful : ℕ → Run → FileId → Type 0
 IsDoubtful live run file = (file ≡ Manager live) × HasDoubt run
 
+-- where no event votes on a grain's file, it is as it was at entry at each moment
+abbrev pub LeavesUnvoted : ℕ → Program → Observed → Course → Type 0
+LeavesUnvoted live p r c =
+    (g : GrainId) (m : Moment) → how_many (is_vote_of g) (core_run p c) ≡ 0 → Member m (moments r c) → m.disk (Grain live g) ≡ r.old.disk (Grain live g)
+
 -- The records are those of the core's committed units. The events keep the unit rule, and on one thread the turn rule.
 -- Each abort has its cause, and no more faults than were counted. Of files the manager file alone may end a run, and
--- only with a batch in doubt; and a doubt ends the run.
+-- only with a batch in doubt; and a doubt ends the run. A grain's file is written for a vote alone.
 pub record IsExplained (p : Program) (r : Observed) (c : Course) : Type 0 where
   pub records : AreAdded (core_end p c) c.added
   pub units : KeepsUnitRule (basis p r c) (core_run p c)
@@ -71,3 +78,4 @@ pub record IsExplained (p : Program) (r : Observed) (c : Course) : Type 0 where
   pub faults : AreFaults live_slot (core_run p c) r.faults_before r.faults_after
   pub doubted : (file : FileId) → r.ending ≡ DiskFault file → IsDoubtful live_slot (core_run p c) file
   pub ended : HasDoubt (core_run p c) → MayDoubt r.ending
+  pub unvoted : LeavesUnvoted live_slot p r c

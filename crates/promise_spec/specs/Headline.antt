@@ -2,18 +2,20 @@
 use Rattle.std.specs.Prelude.{◌⊎◌}
 use Rattle.silo_spec.specs.Moments.{IsUntouched}
 use Rattle.promise_spec.specs.Programs.{Program}
+use Rattle.promise_spec.specs.Images.{IsSoundFolder}
 use Rattle.promise_spec.specs.Courses.{Observed, Course}
 use Rattle.promise_spec.specs.Orders.{IsOrdered}
 use Rattle.promise_spec.specs.Replies.{AreReplies}
-use Rattle.promise_spec.specs.Crashes.{SurvivesCrashes, HoldsReplies}
+use Rattle.promise_spec.specs.Crashes.{SurvivesCrashes, StaySound, HoldsReplies}
 
 -- The headline of a course: the order is the opening log and what the one-thread store gives from there; the replies that
--- were written are true of it; each image of each moment is sound, and of two one has a first part of the other's log; and
--- each has what was acknowledged by then.
+-- were written are true of it; each image of each moment is whole, and of two one has a first part of the other's log; each
+-- is sound where the folder was; and each has what was acknowledged by then.
 pub record KeepsHeadline (p : Program) (r : Observed) (c : Course) : Type 0 where
   pub ordered : IsOrdered p r c
   pub replies : AreReplies p r c
   pub crashes : SurvivesCrashes p r c
+  pub sound : IsSoundFolder p r.old → StaySound p r c
   pub holds : HoldsReplies p r c
 
 -- the call wrote nothing and left each image one of those at entry, or took a course that keeps the headline

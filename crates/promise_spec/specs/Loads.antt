@@ -20,11 +20,12 @@ use Rattle.promise_spec.specs.Programs.{Program, IsChecked, shape_in}
 use Rattle.promise_spec.specs.Records.{States, standing_of}
 use Rattle.promise_spec.specs.Logs.{magic, IsLog, live_slot}
 use Rattle.promise_spec.specs.Lines.{IsLineCall}
-use Rattle.promise_spec.specs.Causes.{NoneRose, HasDoubt, syncs_of}
+use Rattle.promise_spec.specs.Causes.{NoneRose, HasDoubt, syncs_of, most_syncs_of}
 use Rattle.promise_spec.specs.Endings as ending
 use Rattle.promise_spec.specs.Courses.{Observed, Course, order, moments, lines, core_run, core_end}
+use Rattle.promise_spec.specs.Images.{IsSoundFolder}
 use Rattle.promise_spec.specs.Orders.{IsOrdered}
-use Rattle.promise_spec.specs.Crashes.{SurvivesCrashes}
+use Rattle.promise_spec.specs.Crashes.{SurvivesCrashes, StaySound}
 use Rattle.promise_spec.specs.Exits.{IsLeft}
 use Rattle.promise_spec.specs.Explained.{ComeOfEvents, IsExplained}
 use Rattle.promise_spec.specs.Promise.{IsAnswered, GoesThrough, HasNoChild, IsNoLock}
@@ -148,7 +149,8 @@ summary_text p r c =
 
 -- How a load ends: it reads no input; a fault is shown by its count; it is done, or fails to write its summary, only where
 -- each line has its entry and no batch is in doubt; and where no count rises, and none stands at its last value, it goes
--- through, at width 1 without nested units with no abort, and asks for so many syncs.
+-- through, at width 1 without nested units with no abort, and asks for so many syncs. However it ends it asks for no more than
+-- so many.
 pub record HasLoaded (p : Program) (r : Observed) (c : Course) : Type 0 where
   pub unread : r.new.input ≡ r.old.input
   pub carried : ending.IsBegun r.ending
@@ -158,6 +160,7 @@ pub record HasLoaded (p : Program) (r : Observed) (c : Course) : Type 0 where
   pub complete : NoneRose r.faults_before r.faults_after → GoesThrough r c
   pub alone : r.manner.threaded ≡ false → r.manner.width ≡ 1 → HasNoChild p c → (e : Entry) → Member e c.entries → IsNoLock e.what
   pub syncs : NoneRose r.faults_before r.faults_after → r.ending ≡ ending.Done → r.new.syncs ≡ r.old.syncs + syncs_of (core_run p c)
+  pub most : r.new.syncs ≤ r.old.syncs + most_syncs_of (core_run p c)
 
 -- A load keeps the clauses of a run but those that speak of written replies: it asks for its calls, its entries are
 -- those that the core settles, and it prints the summary alone: nothing unless it is done or the output failed, and
@@ -166,6 +169,7 @@ pub record KeepsLoad (p : Program) (n seed : ℕ) (r : Observed) (c : Course) : 
   pub asked : AskFor p.types (lines r) (load_calls n seed)
   pub ordered : IsOrdered p r c
   pub crashes : SurvivesCrashes p r c
+  pub sound : IsSoundFolder p r.old → StaySound p r c
   pub records : ComeOfEvents p r c
   pub exit : IsLeft p r c
   pub settled : c.entries ≡ (core_end p c).manager.settled

@@ -1,6 +1,6 @@
 -- The whole promise of a run.
 use Rattle.promise_spec.specs.Logs.{live_slot}
-use Rattle.std.specs.Prelude.{◌≡◌, ◌⊎◌, ℕ, ◌+◌, ◌≤◌, false, [], length, ⊤}
+use Rattle.std.specs.Prelude.{◌≡◌, ◌≢◌, ◌⊎◌, ℕ, ◌+◌, ◌≤◌, false, [], length, ⊤}
 use Rattle.base_types.specs.declared.calls.Call.{Call}
 use Rattle.base_types.specs.declared.calls.Origin.TheVariants.{Child}
 use Rattle.base_types.specs.declared.entries.Entry.{Entry}
@@ -8,16 +8,22 @@ use Rattle.base_types.specs.declared.entries.Settled.{Settled}
 use Rattle.base_types.specs.declared.entries.Settled.TheVariants as settled
 use Rattle.core_model.specs.CoreState.{UnitNo, Member}
 use Rattle.core_model.specs.declared.events.CoreEvent.TheVariants.{Begin}
-use Rattle.host_trait.specs.World.{World, Image, IsImage}
+use Rattle.core_model.specs.Lines.{DifferInLine}
 use Rattle.request_wire.specs.Lines.{lines_of}
-use Rattle.promise_spec.specs.Programs.{Program, IsChecked}
-use Rattle.promise_spec.specs.Images.{AreChained, IsSoundIfSilo}
+use Rattle.promise_spec.specs.Programs.{Program, IsChecked, shape_in}
+use Rattle.promise_spec.specs.Records.{log_start}
+pub use Rattle.promise_spec.specs.Images.{IsWholeFolder, IsSoundFolder}
+use Rattle.promise_spec.specs.Images.{AreNumbered}
+use Rattle.promise_spec.specs.Outputs.{Grew}
+use Rattle.promise_spec.specs.Family.{IsFamily}
+use Rattle.promise_spec.specs.Openings.{Reads, opened_as}
 use Rattle.promise_spec.specs.Cores.{AppliesAt}
-use Rattle.promise_spec.specs.Causes.{NoneRose, syncs_of}
-use Rattle.promise_spec.specs.Endings.{Done, HasRisen, IsCarried, IsBegun, IsCalm, HasLength, CountsSyncs, input_limit}
+use Rattle.promise_spec.specs.Causes.{NoneRose, syncs_of, most_syncs_of}
+use Rattle.promise_spec.specs.Endings.{Done, WriteFault, HasRisen, IsCarried, IsBegun, IsCalm, HasLength, CountsSyncs, input_limit}
 use Rattle.promise_spec.specs.Words.{Manner}
-use Rattle.promise_spec.specs.Courses.{Observed, Course, lines, core_run}
-use Rattle.promise_spec.specs.Refusals.{IsUnopened, HasOpened}
+use Rattle.promise_spec.specs.Courses.{Observed, Course, order, lines, seen_at_entry, opening_standing, core_run, core_end}
+use Rattle.promise_spec.specs.Refusals.{IsUnopened}
+use Rattle.promise_spec.specs.Replies.{IsTrueOf, StandInOrder}
 use Rattle.promise_spec.specs.Headline.{KeepsHeadline}
 use Rattle.promise_spec.specs.Exits.{IsLeft}
 use Rattle.promise_spec.specs.Explained.{ComeOfEvents, AreSettled, IsExplained}
@@ -73,7 +79,8 @@ pub record HasReadAll (r : Observed) : Type 0 where
 -- How a run that opened the folder ends: its lines are the input's; a fault is shown by its count, and an input that is
 -- too long by its length; nothing begins before the input is read whole and found within the limit; all is done only
 -- where each line has its entry; and where no count rises, and none stands at its last value, it goes through, at
--- width 1 without nested units with no abort, and asks for so many syncs: also where its input is too long, for one.
+-- width 1 without nested units with no abort, and asks for so many syncs: also where its input is too long, for one. However it
+-- ends, and whatever fails, it asks for no more than so many.
 pub record HasEnded (p : Program) (r : Observed) (c : Course) : Type 0 where
   pub given : lines r ≡ lines_of r.old.input
   pub risen : HasRisen r.ending r.faults_before r.faults_after
@@ -84,6 +91,7 @@ pub record HasEnded (p : Program) (r : Observed) (c : Course) : Type 0 where
   pub complete : NoneRose r.faults_before r.faults_after → GoesThrough r c
   pub alone : r.manner.threaded ≡ false → r.manner.width ≡ 1 → HasNoChild p c → (e : Entry) → Member e c.entries → IsNoLock e.what
   pub syncs : NoneRose r.faults_before r.faults_after → CountsSyncs r.ending → r.new.syncs ≡ r.old.syncs + syncs_of (core_run p c)
+  pub most : r.new.syncs ≤ r.old.syncs + most_syncs_of (core_run p c)
 
 -- ---- the promise
 
@@ -96,14 +104,27 @@ pub record Keeps (p : Program) (r : Observed) (c : Course) : Type 0 where
   pub exit : IsLeft p r c
   pub ended : HasEnded p r c
 
--- the images at entry are a chain, and each that is a silo is sound
-pub record IsSoundFolder (p : Program) (w : World) : Type 0 where
-  pub chain : (one other : Image) → IsImage w.disk one → IsImage w.disk other → AreChained live_slot p one other
-  pub sound : (image : Image) → IsImage w.disk image → IsSoundIfSilo live_slot p image
+-- What holds over any folder that opens, sound or not. The files read as this log. What was written is entries, each of another
+-- line, and a rest that is empty unless writing failed; entries of logged units stand in the order of their records. They are
+-- those that the core's events settle and explain, and the run ends as the third of these says. Where the opening log's units are
+-- numbered, the entries are true and the records a family.
+pub record KeepsAnywhere (p : Program) (r : Observed) (c : Course) : Type 0 where
+  pub reads : opened_as live_slot (seen_at_entry r) ≡ Reads p c.opening
+  pub output : Grew (shape_in p) r.old.output r.new.output c.entries c.rest
+  pub whole : r.ending ≢ WriteFault → c.rest ≡ []
+  pub within : (e : Entry) → Member e c.entries → (1 ≤ e.line) × (e.line ≤ length (lines r))
+  pub once : DifferInLine c.entries
+  pub ordered : StandInOrder c.entries c.added
+  pub settled : AreSettled p r c
+  pub explained : IsExplained p r c
+  pub ended : HasEnded p r c
+  pub true_each : AreNumbered (log_start p.types).next c.opening → (e : Entry) → Member e c.entries → IsTrueOf p r c e e.what
+  pub family : AreNumbered (log_start p.types).next c.opening → IsFamily p.types (lines r) (core_end p c) (opening_standing p c).states (order c) c.added
 
--- What `run` promises, carried in the manner of its words. Over any folder it doesn't open it and leaves all as it was,
--- or it opens it. Over a sound folder it doesn't open it, or takes a course that keeps all six clauses.
+-- What `run` promises, carried in the manner of its words. Over any folder it doesn't open it and leaves all as it was, or it
+-- opens it, and takes a course that keeps this much. Over a folder whose images are whole it doesn't open it, or takes a course
+-- that keeps all six clauses, of which that images stay sound alone asks that they were.
 pub record Promises (m : Manner) (r : Observed) : Type 0 where
   pub manner : r.manner ≡ m
-  pub answers : IsUnopened r ⊎ HasOpened live_slot r
-  pub over_sound : (p : Program) → IsChecked p → IsSoundFolder p r.old → IsUnopened r ⊎ ((c : Course) × Keeps p r c)
+  pub answers : IsUnopened r ⊎ ((p : Program) × ((c : Course) × KeepsAnywhere p r c))
+  pub over_whole : (p : Program) → IsChecked p → IsWholeFolder p r.old → IsUnopened r ⊎ ((c : Course) × Keeps p r c)

@@ -1,23 +1,18 @@
--- What a command answers that doesn't open the folder, and when it may open it.
+-- What a command answers that doesn't open the folder.
 use Rattle.promise_spec.specs.Logs.{live_slot}
-use Rattle.std.specs.Prelude.{◌≡◌, ◌⊎◌, ℕ, ◌≤◌, false, List, [], length, map, Ok, ⊤}
+use Rattle.std.specs.Prelude.{◌≡◌, ◌⊎◌, ◌+◌, ◌≤◌, false, List, map, Ok, ⊤}
 use Rattle.base_types.specs.declared.calls.GrainId.{GrainId}
-use Rattle.base_types.specs.declared.entries.Entry.{Entry}
 use Rattle.host_trait.specs.declared.channels.FileId.{FileId}
 use Rattle.host_trait.specs.declared.channels.FileId.TheVariants.{Program as ProgramFile, Manager, Grain}
 use Rattle.host_trait.specs.World.{Image}
 use Rattle.commit_log.specs.declared.records.CommitRecord.{CommitRecord}
 use Rattle.core_model.specs.CoreState.{Member}
 use Rattle.core_model.specs.Tests.{is_before}
-use Rattle.core_model.specs.Lines.{DifferInLine}
 use Rattle.silo_spec.specs.Silos.{manager, program_file}
 use Rattle.silo_spec.specs.Moments.{IsUntouched}
-use Rattle.request_wire.specs.Lines.{lines_of}
 use Rattle.promise_spec.specs.Programs.{Program, shape_in}
-use Rattle.promise_spec.specs.Records.{Commit}
-use Rattle.promise_spec.specs.Outputs.{Grew}
 use Rattle.promise_spec.specs.Openings.{Reading, NoSilo, DamagedAt, Reads, program_in_file, records_in_file, named_by, opened_as}
-use Rattle.promise_spec.specs.Endings.{Ending, Done, BadUse, Memory, ReadFault, WriteFault, DiskFault, NotASilo, AlreadyASilo, Damaged, BadProgram, InputTooLong, HasRisen, HasFailedAs, HasLength, IsCarried, IsBegun}
+use Rattle.promise_spec.specs.Endings.{Ending, Done, BadUse, Memory, ReadFault, WriteFault, DiskFault, NotASilo, AlreadyASilo, Damaged, BadProgram, InputTooLong, HasFailedAs}
 use Rattle.promise_spec.specs.Courses.{Observed, seen_at_entry}
 
 -- the file is the manager file, or the program's
@@ -64,37 +59,12 @@ IsRefusedBy image reading (Damaged file place) = reading ≡ DamagedAt file plac
 IsRefusedBy image reading (BadProgram fault) = ⊥
 IsRefusedBy image reading (InputTooLong line) = ⊥
 
--- The folder wasn't opened: nothing was written, no input was read, and at each moment each image is one of those at
--- entry. Why is shown by how the folder reads; and where a call failed the run is refused for that call, and for no other.
+-- The folder wasn't opened: nothing was written, no input was read, one sync was asked for at most, and at each moment each
+-- image is one of those at entry. Why is shown by how the folder reads; and where a call failed the run is refused for that
+-- call, and for no other.
 pub record IsUnopened (r : Observed) : Type 0 where
   pub untouched : IsUntouched r.old r.new
   pub unread : r.new.input ≡ r.old.input
+  pub syncs : r.new.syncs ≤ r.old.syncs + 1
   pub refused : IsRefusedBy (seen_at_entry r) (opened_as live_slot (seen_at_entry r)) r.ending
   pub failed : HasFailedAs r.ending r.faults_before r.faults_after
-
--- the folder reads as a silo of this program with this log, where the live files are of this slot
-pub record IsOpenable (live : ℕ) (r : Observed) : Type 0 where
-  pub program : Program
-  pub log : List Commit
-  pub reads : opened_as live (seen_at_entry r) ≡ Reads program log
-
--- the input was read to its end, and what was written is one entry for each line
-pub record HasAnswered (p : Program) (r : Observed) : Type 0 where
-  pub input : r.new.input ≡ []
-  pub entries : List Entry
-  pub output : Grew (shape_in p) r.old.output r.new.output entries []
-  pub once : DifferInLine entries
-  pub within : (e : Entry) → Member e entries → (1 ≤ e.line) × (e.line ≤ length (lines_of r.old.input))
-  pub each : (n : ℕ) → 1 ≤ n → n ≤ length (lines_of r.old.input) → (e : Entry) × Member e entries × (e.line ≡ n)
-
--- A run opened the folder, sound or not: it reads as a silo. A fault is shown by its count, and is one of the input, the
--- output or the manager file; an input that is too long is so by its length; done means that the input was read to its end
--- and each line answered; and nothing is written where no line may have begun.
-pub record HasOpened (live : ℕ) (r : Observed) : Type 0 where
-  pub openable : IsOpenable live r
-  pub carried : IsCarried r.ending
-  pub risen : HasRisen r.ending r.faults_before r.faults_after
-  pub file : (f : FileId) → r.ending ≡ DiskFault f → f ≡ Manager live
-  pub long : HasLength r.ending (length r.old.input)
-  pub done : r.ending ≡ Done → HasAnswered openable.program r
-  pub unbegun : (IsBegun r.ending → ⊥) → r.new.output ≡ r.old.output

@@ -11,7 +11,7 @@ ghost use Rattle.promise_spec.specs.Programs.{Program, IsChecked, text_limit, sh
 ghost use Rattle.promise_spec.specs.Records.{Commit, Standing, new_silo, after_writes, after_records};
 ghost use Rattle.promise_spec.specs.Serial.{IsSerial};
 ghost use Rattle.promise_spec.specs.Logs.{magic, IsLog, IsPrefix, live_slot};
-ghost use Rattle.promise_spec.specs.Images.{AreChained, AreNumbered, IsSound, IsSoundIfSilo};
+ghost use Rattle.promise_spec.specs.Images.{AreChained, AreNumbered, IsSound, IsSoundIfSilo, IsWholeFolder};
 ghost use Rattle.promise_spec.specs.Openings.{NoSilo, Reads, opened_as};
 ghost use Rattle.promise_spec.specs.Words.{GivenOption, Manner, plain_manner, Command, Run, Load, Check, Say};
 ghost use Rattle.promise_spec.specs.Moments.{IsImageOf, IsLongest};
@@ -21,16 +21,16 @@ ghost use Rattle.promise_spec.specs.Endings.{Done, InputTooLong};
 ghost use Rattle.promise_spec.specs.Courses.{Observed, Course, lines, core_run};
 ghost use Rattle.promise_spec.specs.Causes.{NoneRose, syncs_of};
 ghost use Rattle.promise_spec.specs.Headline.{KeepsHeadline, HasHeadline};
-ghost use Rattle.promise_spec.specs.Promise.{Keeps, IsSoundFolder, Promises};
+ghost use Rattle.promise_spec.specs.Promise.{Keeps, Promises};
 ghost use Rattle.promise_spec.specs.Loads.{load_calls, AskFor, summary_text, KeepsLoad, quiet_course, IsQuietRun};
 ghost use Rattle.promise_spec.specs.Crashes.{Holds};
 ghost use Rattle.promise_spec.specs.Journals.{Settlement, KeepsJournal, AllKeep, Backs, commits_of, entries_of};
 
-/// The headline alone, where a reader may stop: what keeps all six clauses keeps it; so does a call of `run` over a sound folder
+/// The headline alone, where a reader may stop: what keeps all six clauses keeps it; so does a call of `run` over a whole folder
 /// that keeps its promise, unless it left all as it was.
 pub fn promises_keep_the_headline()
     ensures course { (p : Program) (r : Observed) (c : Course) → Keeps p r c → KeepsHeadline p r c }
-    ensures call { (m : Manner) (p : Program) (r : Observed) → IsChecked p → Promises m r → IsSoundFolder p r.old → HasHeadline p r }
+    ensures call { (m : Manner) (p : Program) (r : Observed) → IsChecked p → Promises m r → IsWholeFolder p r.old → HasHeadline p r }
 {}
 
 /// An image has at most one log under a program's shape: the records and their states are the bytes'. So where a

@@ -17,7 +17,7 @@ mod folders;
 mod laws;
 mod steps;
 
-pub use folders::{crashes_leave_sound_folders, folders_stay_sound};
+pub use folders::{crashes_leave_sound_folders, folders_stay_sound, sound_folders_are_whole};
 pub use laws::{
     chains_compare, checked_programs_have_plain_names, done_runs_count_syncs, folders_are_read,
     journals_survive, loads_follow_runs, one_entry, one_log, one_output, programs_are_read,

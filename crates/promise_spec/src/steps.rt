@@ -11,7 +11,7 @@ ghost use Rattle.host_trait.specs.World.{World, Moment, Disk, Image, IsImage, Pa
 ghost use Rattle.host_trait.specs.Runs.{OnlyAsked};
 ghost use Rattle.silo_spec.specs.Silos.{manager};
 ghost use Rattle.promise_spec.specs.Logs.{body_of, IsLog, IsPrefix, live_slot};
-ghost use Rattle.promise_spec.specs.Promise.{IsSoundFolder};
+ghost use Rattle.promise_spec.specs.Images.{IsWholeFolder};
 ghost use Rattle.request_wire.specs.Reply.{reply_line};
 ghost use Rattle.promise_spec.specs.Programs.{Program, shape_in};
 ghost use Rattle.promise_spec.specs.Records.{Commit};
@@ -83,10 +83,10 @@ pub fn whole_journals_are_cut()
         → DoubtAt p opening old said unsaid batch now → CutAt p opening old said unsaid (batch ∷ []) [] now }
 {}
 
-/// Over a sound folder whose files read as this log, each image that has the manager file as it reads has this log too: so after
+/// Over a whole folder whose files read as this log, each image that has the manager file as it reads has this log too: so after
 /// a sync of that file every image has it.
 pub fn settled_folders_have_one_log()
-    ensures { (p : Program) (w : World) (disk : Disk) (log : List Commit) → IsSoundFolder p w → ((file : FileId) → MayLeave (w.disk file) (w.disk file).seen)
+    ensures { (p : Program) (w : World) (disk : Disk) (log : List Commit) → IsWholeFolder p w → ((file : FileId) → MayLeave (w.disk file) (w.disk file).seen)
         → ((image : Image) → IsImage disk image → IsImage w.disk image × (image manager ≡ (w.disk manager).seen))
         → IsLog live_slot (shape_in p) (λ file. (w.disk file).seen) log → AllLog p log disk }
 {}

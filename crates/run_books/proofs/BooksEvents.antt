@@ -5,9 +5,11 @@ use Rattle.std.proofs.lemmas.Bool.{and_right}
 use Rattle.base_types.specs.declared.calls.GrainId.{GrainId}
 use Rattle.host_trait.specs.declared.channels.Channel.{Channel}
 use Rattle.host_trait.specs.declared.channels.Channel.TheVariants.{File}
+use Rattle.host_trait.specs.declared.channels.FileId.TheVariants.{Grain}
 use Rattle.host_trait.specs.Faults.{NoneFailed, FailedOn}
 use Rattle.host_trait.specs.Files.{same_grain}
 use Rattle.host_trait.specs.World.{World}
+use Rattle.host_trait.specs.Runs.{RunsOnFile}
 use Rattle.commit_log.specs.declared.gate.Sealing.{Sealing}
 use Rattle.commit_log.specs.declared.gate.Sealing.TheVariants as sealing
 use Rattle.commit_log.specs.declared.records.CommitRecord.{CommitRecord}
@@ -23,7 +25,7 @@ use Rattle.core_model.specs.Serial.{committed, chosen}
 use Rattle.core_model.specs.Settler.{to_commit, versions_to_write}
 use Rattle.core_laws.proofs.Split.{no_doubt}
 use Rattle.promise_spec.specs.Records.{Commit, AreRecordsOf}
-use Rattle.promise_spec.specs.Causes.{AreFaults, is_no, is_unsealed, is_vote, is_sealed}
+use Rattle.promise_spec.specs.Causes.{AreFaults, is_no, is_unsealed, is_vote, is_vote_of, is_sealed}
 use Rattle.promise_spec.specs.Cores.{how_many}
 use Rattle.promise_spec.specs.UnitRule.{KeepsUnitRule}
 use Rattle.promise_spec.specs.Journals.{Settlement, commits_of, entries_of}
@@ -41,7 +43,8 @@ use Rattle.settle_loop.specs.Journaling.{as_settled}
 use Rattle.settle_loop.specs.declared.settler.Settler.{Settler}
 use Rattle.run_books.specs.Beginnings.{Outset, basis_of}
 use Rattle.run_books.specs.Books.{Books, AreInDoubt}
-use Rattle.run_books.specs.Records.{KeepsBooks, CountsEachSync}
+use Rattle.run_books.specs.Records.{KeepsBooks, CountsCalls}
+use Rattle.run_books.proofs.BooksCalls.{file-same, votes-none, calls-same, calls-vote, calls-seal}
 use Rattle.run_books.proofs.BooksCore.{Moves}
 use Rattle.run_books.proofs.BooksCounts.{how-same, how-one}
 use Rattle.run_books.proofs.BooksFaults.{NoneFell, failed-later, calm-later, faults-same, faults-unsealed, faults-no, rose-back, none-failed}
@@ -62,12 +65,6 @@ made-records writer n effects x are = subst (λ (l : List Commit). AreRecordsOf 
 
 module _ {H : Type 0} (tells : Bool) (world : H → World) (faults : H → Channel → ℕ) (o : Outset) (b : Books) (r : Run) (before after : Settler) (old new : H)
     (above : 0 < r.base) (units : KeepsUnitRule (basis_of o) r) (k : KeepsBooks tells o b r before (faults old) (world old)) where
-  -- as many syncs as before, and no event that asks for one
-  syncs-same : (r' : Run) → NoneFell (faults old) (faults new) → how_many is_vote r' ≡ how_many is_vote r → how_many is_sealed r' ≡ how_many is_sealed r
-      → IsTrue tells → (world new).syncs ≡ (world old).syncs → CountsEachSync o r' (faults new) (world new)
-  syncs-same r' later votes seals t same none =
-      same ∙ (k.outside t).syncs (rose-back o.faults (faults old) (faults new) k.later later none) ∙ (λ i. o.world.syncs + (sym votes i + 2 * sym seals i))
-
   module _ (e : CoreEvent) (a : applies (ends r) e ≡ true) (m : Moves (ends r) e (ends (extended r (e ∷ [])))) (quiet : after.quiet ≡ before.quiet) (written : after.written ≡ before.written) where
     abbrev r' : Run
     r' = extended r (e ∷ [])
@@ -76,8 +73,8 @@ module _ {H : Type 0} (tells : Bool) (world : H → World) (faults : H → Chann
     plain-adds : tells_doubt e ≡ false → after.doubted ≡ before.doubted → after.writer.in_doubt ≡ before.writer.in_doubt
         → (batch : List Settlement) (effects : List Effect) → entries_of batch ≡ [] → committed (ends r') ≡ committed (ends r) ++ effects → AreRecordsOf effects (commits_of batch)
         → AreFaults live_slot r' o.faults (faults new) → NoneFell (faults old) (faults new) → (IsTrue tells → (world new).output ≡ (world old).output)
-        → (IsTrue tells → CountsEachSync o r' (faults new) (world new)) → AddsBatch tells o r r' before after (faults old) (faults new) (world old) (world new) batch b.doubted
-    plain-adds sure doubted writer batch effects none commits records counted later output syncs = record {
+        → (IsTrue tells → CountsCalls o r' (faults new) (world new)) → AddsBatch tells o r r' before after (faults old) (faults new) (world old) (world new) batch b.doubted
+    plain-adds sure doubted writer batch effects none commits records counted later output calls = record {
       effects = effects;
       none = none;
       commits = commits;
@@ -90,7 +87,7 @@ module _ {H : Type 0} (tells : Bool) (world : H → World) (faults : H → Chann
       unsure = writer ∙ k.unsure ∙ sym doubted;
       written = written;
       output = output;
-      syncs = syncs;
+      calls = calls;
     }
 
     none-more : is_sealed e ≡ false → committed (ends r') ≡ committed (ends r) ++ []
@@ -104,7 +101,9 @@ module _ {H : Type 0} (tells : Bool) (world : H → World) (faults : H → Chann
         plain-adds sure doubted (ap (λ (w : BatchWriter). w.in_doubt) does.writer) [] [] refl (none-more sealed) tt
         (faults-same live_slot r r' o.faults (faults old) (faults new) k.faults later (λ g. how-same (is_no g) r e (votes g)) (how-same is_unsealed r e unsealed))
         later (λ t. ap (λ (h : H). (world h).output) does.host)
-        (λ t. syncs-same r' later (how-same is_vote r e vote) (how-same is_sealed r e sealed) t (ap (λ (h : H). (world h).syncs) does.host))
+        (λ t. calls-same o r r' (faults old) (faults new) (world old) (world new) (k.outside t).calls (rose-back o.faults (faults old) (faults new) k.later later)
+        (how-same is_vote r e vote) (how-same is_sealed r e sealed) (how-same is_unsealed r e unsealed) (λ g. how-same (is_vote_of g) r e (votes-none g e vote))
+        (ap (λ (h : H). (world h).syncs) does.host) (λ g. file-same (Grain live_slot g) (world old) (world new) (ap world does.host)))
 
   -- a vote
   pub adds-vote : (n : ℕ) (g : GrainId) (said : Bool) → applies (ends r) (event.Vote n g said) ≡ true → Moves (ends r) (event.Vote n g said) (ends (extended r (event.Vote n g said ∷ [])))
@@ -117,12 +116,12 @@ module _ {H : Type 0} (tells : Bool) (world : H → World) (faults : H → Chann
       plain-adds e a m quiet written refl doubted does.same.doubt [] [] refl (none-more e a m quiet written refl) tt
       (faults-same live_slot r (extended r (e ∷ [])) o.faults (faults old) (faults new) k.faults later (λ h. how-same (is_no h) r e (and_right (same_grain g h) false refl)) (how-same is_unsealed r e refl))
       later (λ t. (does.run t).now.output)
-      (λ t none.
+      (λ t. calls-vote o r n g true (faults old) (faults new) (world old) (world new) _ (k.outside t).calls a (does.run t) (λ none.
       (does.there t refl).once
-      ∙ ap (λ (x : ℕ). x + 1) ((k.outside t).syncs (rose-back o.faults (faults old) (faults new) k.later later none))
+      ∙ ap (λ (x : ℕ). x + 1) ((k.outside t).calls.each (rose-back o.faults (faults old) (faults new) k.later later none))
       ∙ (let votes : how_many is_vote (extended r (e ∷ [])) ≡ how_many is_vote r + 1 = how-one is_vote r e refl a in
       let seals : how_many is_sealed (extended r (e ∷ [])) ≡ how_many is_sealed r = how-same is_sealed r e refl in
-      omega (arith, votes, seals)))
+      omega (arith, votes, seals))))
   adds-vote n g false a m quiet written doubted does =
       let e : CoreEvent = event.Vote n g false in
       let later : NoneFell (faults old) (faults new) = failed-later (File (grain_file g)) (faults old) (faults new) does.cause in
@@ -131,7 +130,8 @@ module _ {H : Type 0} (tells : Bool) (world : H → World) (faults : H → Chann
       (λ h apart. how-same (is_no h) r e (ap (λ (x : Bool). x && true) apart)) (λ h same. how-one (is_no h) r e (ap (λ (x : Bool). x && true) same) a)
       (how-same is_unsealed r e refl) does.cause.rose)
       later (λ t. (does.run t).now.output)
-      (λ t none. absurd (none-failed o.faults (faults old) (faults new) (File (grain_file g)) k.later does.cause none))
+      (λ t. calls-vote o r n g false (faults old) (faults new) (world old) (world new) _ (k.outside t).calls a (does.run t)
+      (λ none. absurd (none-failed o.faults (faults old) (faults new) (File (grain_file g)) k.later does.cause none)))
 
   -- ---- seals
 
@@ -184,12 +184,25 @@ module _ {H : Type 0} (tells : Bool) (world : H → World) (faults : H → Chann
       (made-records before.writer n effects does.work.records (records_are (voted_of n before.writer) effects does.work.records does.records))
       (faults-same live_slot r (extended r (e ∷ [])) o.faults (faults old) (faults new) k.faults later (λ g. how-same (is_no g) r e refl) (how-same is_unsealed r e refl))
       later (λ t. (does.run t).now.output)
-      (λ t none.
+      (λ t. calls-seal o r (extended r (e ∷ [])) (faults old) (faults new) (world old) (world new) _ (k.outside t).calls (how-same is_vote r e refl)
+      (let seals : how_many is_sealed (extended r (e ∷ [])) ≡ how_many is_sealed r + 1 = how-one is_sealed r e refl a in
+      let unsealed : how_many is_unsealed (extended r (e ∷ [])) ≡ how_many is_unsealed r = how-same is_unsealed r e refl in
+      omega (arith, seals, unsealed)) (λ g. how-same (is_vote_of g) r e refl) (does.run t) (λ none.
       (let next = sealed-next n does.answer does.event in does.twice t next.0 next.1)
-      ∙ ap (λ (x : ℕ). x + 2) ((k.outside t).syncs (rose-back o.faults (faults old) (faults new) k.later later none))
+      ∙ ap (λ (x : ℕ). x + 2) ((k.outside t).calls.each (rose-back o.faults (faults old) (faults new) k.later later none))
       ∙ (let votes : how_many is_vote (extended r (e ∷ [])) ≡ how_many is_vote r = how-same is_vote r e refl in
       let seals : how_many is_sealed (extended r (e ∷ [])) ≡ how_many is_sealed r + 1 = how-one is_sealed r e refl a in
-      omega (arith, votes, seals)))
+      omega (arith, votes, seals))))
+
+  -- the calls of one that isn't
+  calls-unsealed : (e : CoreEvent) → applies (ends r) e ≡ true → is_vote e ≡ false → is_sealed e ≡ false → is_unsealed e ≡ true → FailedOn (File manager) (faults old) (faults new)
+      → {R : List ℕ → List ℕ → Type 0} → (IsTrue tells → RunsOnFile manager R 2 (world old) (world new)) → IsTrue tells → CountsCalls o (extended r (e ∷ [])) (faults new) (world new)
+  calls-unsealed e a vote sealed unsealed failed {R} run t =
+      calls-seal o r (extended r (e ∷ [])) (faults old) (faults new) (world old) (world new) R (k.outside t).calls (how-same is_vote r e vote)
+      (let seals : how_many is_sealed (extended r (e ∷ [])) ≡ how_many is_sealed r = how-same is_sealed r e sealed in
+      let more : how_many is_unsealed (extended r (e ∷ [])) ≡ how_many is_unsealed r + 1 = how-one is_unsealed r e unsealed a in
+      omega (arith, seals, more)) (λ g. how-same (is_vote_of g) r e (votes-none g e vote)) (run t)
+      (λ none. absurd (none-failed o.faults (faults old) (faults new) (File manager) k.later failed none))
 
   -- one that isn't
   pub adds-unsealed : (n : ℕ) → applies (ends r) (event.NotSealed n) ≡ true → Moves (ends r) (event.NotSealed n) (ends (extended r (event.NotSealed n ∷ [])))
@@ -203,8 +216,7 @@ module _ {H : Type 0} (tells : Bool) (world : H → World) (faults : H → Chann
       plain-adds e a m quiet written refl doubted (unsealed-writer n does.answer does.work.records before.writer after.writer does.event does.after_is)
       [] [] refl (none-more e a m quiet written refl) tt
       (faults-unsealed live_slot r (extended r (e ∷ [])) o.faults (faults old) (faults new) k.faults later (λ g. how-same (is_no g) r e refl) (how-one is_unsealed r e refl a) failed.rose)
-      later (λ t. (does.run t).now.output)
-      (λ t none. absurd (none-failed o.faults (faults old) (faults new) (File manager) k.later failed none))
+      later (λ t. (does.run t).now.output) (calls-unsealed e a refl refl refl failed (λ t. does.run t))
 
   -- ---- a doubt
 
@@ -239,7 +251,7 @@ module _ {H : Type 0} (tells : Bool) (world : H → World) (faults : H → Chann
         unsure = doubt-writer n does.answer does.work.records before.writer after.writer does.event does.after_is ∙ sym doubted;
         written = written;
         output = λ t. (does.run t).now.output;
-        syncs = λ t none. absurd (none-failed o.faults (faults old) (faults new) (File manager) k.later failed none);
+        calls = calls-unsealed e a refl refl refl failed (λ t. does.run t);
       }
 
   -- none is told again, where none stands

@@ -21,7 +21,7 @@ use Rattle.settle_loop.specs.declared.settler.Settler.{Settler}
 use Rattle.log_reading.specs.Steps.{live_slot}
 use Rattle.run_books.specs.Beginnings.{Outset, basis_of}
 use Rattle.run_books.specs.Books.{Books, AreInDoubt, IsPutOut}
-use Rattle.run_books.specs.Records.{KeepsBooks, CountsEachSync}
+use Rattle.run_books.specs.Records.{KeepsBooks, CountsCalls}
 use Rattle.run_books.specs.Settling.{AreEven}
 use Rattle.run_books.proofs.BooksCore.{Moves}
 use Rattle.run_books.proofs.BooksFaults.{NoneFell, fell-both}
@@ -42,7 +42,7 @@ pub record AddsBatch (tells : Bool) (o : Outset) (r r' : Run) (before after : Se
   pub unsure : after.writer.in_doubt ≡ after.doubted
   pub written : after.written ≡ before.written
   pub output : IsTrue tells → now'.output ≡ now.output
-  pub syncs : IsTrue tells → CountsEachSync o r' new now'
+  pub calls : IsTrue tells → CountsCalls o r' new now'
 
 module _ (tells : Bool) (o : Outset) (b : Books) (r : Run) (e : CoreEvent) (before after : Settler) (old new : Channel → ℕ) (now now' : World) (batch d : List Settlement)
     (above : 0 < r.base) (units : KeepsUnitRule (basis_of o) r) (even : AreEven before.quiet b (ends r)) (k : KeepsBooks tells o b r before old now)
@@ -75,6 +75,6 @@ module _ (tells : Bool) (o : Outset) (b : Books) (r : Run) (e : CoreEvent) (befo
     written = adds.written ∙ k.written ∙ sym (m.emitted entry);
     outside = λ t. record {
       output = subst (λ (l : List ℕ). Grew (shape_in o.program) o.world.output l (entries_of b.said) b.rest) (sym (adds.output t)) (k.outside t).output;
-      syncs = adds.syncs t;
+      calls = adds.calls t;
     };
   }

@@ -21,7 +21,7 @@ use Rattle.core_access.specs.Settling.{is_settling, LeavesBatches}
 use Rattle.core_access.proofs.Settling.{others-leave}
 use Rattle.turn_rules.proofs.Lawful.{legal-run}
 use Rattle.promise_spec.specs.Records.{Commit}
-use Rattle.promise_spec.specs.Causes.{NoAnswer, file_answer, is_no, is_no_of, is_unsealed, is_not_on_disk, is_vote, tells_vote, is_sealed, is_on_disk, RoseBy, HasDoubt}
+use Rattle.promise_spec.specs.Causes.{NoAnswer, file_answer, is_no, is_no_of, is_unsealed, is_not_on_disk, is_vote, tells_vote, is_vote_of, tells_vote_of, is_sealed, is_on_disk, RoseBy, HasDoubt}
 use Rattle.promise_spec.specs.Cores.{how_many}
 use Rattle.promise_spec.specs.UnitRule.{KeepsUnitRule}
 use Rattle.promise_spec.specs.Programs.{Program, shape_in}
@@ -42,6 +42,7 @@ use Rattle.run_books.specs.Images.{HasOpenBlock, LastsSo}
 use Rattle.run_books.specs.Records.{KeepsBooks}
 use Rattle.run_books.specs.Settling.{AreEven, BooksGoOn}
 use Rattle.run_books.proofs.BooksStated.{OthersKeep}
+use Rattle.run_books.proofs.BooksCalls.{file-still, calls-same}
 use Rattle.run_books.proofs.BooksCore.{moves-run, unapplied-run}
 use Rattle.run_books.proofs.BooksCounts.{how-same, doubt-ends}
 use Rattle.run_books.proofs.BooksLists.{alone, alone-commits, added-none, take-front}
@@ -183,7 +184,8 @@ module _ (tells : Bool) (o : Outset) (b : Books) (r : Run) (e : CoreEvent) (sett
     written = k.written ∙ sym leaves.emitted;
     outside = λ t. record {
       output = (k.outside t).output;
-      syncs = λ none. (k.outside t).syncs none ∙ (λ i. o.world.syncs + (sym same-vote i + 2 * sym same-sealed i));
+      calls = calls-same o r r' counts counts now now (k.outside t).calls (λ none. none) same-vote same-sealed same-unsealed (λ g. how-same (is_vote_of g) r e (ap (tells_vote_of g) answers)) refl
+          (λ g. file-still (Grain live_slot g) now);
     };
   }
 

@@ -2,9 +2,11 @@
 use Rattle.std.proofs.Common.{◌≡◌, inl, inr, ℕ, zero, suc, ◌+◌, ◌-◌, ◌*◌, ◌^◌, ◌<◌, ◌≤◌, List, [], ◌∷◌, ◌++◌, length, take, Bool, true, false, refl, sym, ap, ◌∙◌, subst, arith, append-nil, append_assoc, Some, is_some, slice_get}
 use Rattle.std.specs.Prelude.{IsTrue}
 use Rattle.std.proofs.lemmas.Bool.{false≢true}
+use Rattle.base_types.specs.declared.calls.GrainId.{GrainId}
 use Rattle.base_types.specs.declared.entries.Entry.{Entry}
 use Rattle.host_trait.specs.declared.channels.Channel.{Channel}
 use Rattle.host_trait.specs.declared.channels.Channel.TheVariants.{Output}
+use Rattle.host_trait.specs.declared.channels.FileId.TheVariants.{Grain}
 use Rattle.host_trait.specs.Faults.{NoneFailed, FailedOn}
 use Rattle.host_trait.specs.World.{World, Emitted as IsAppended, IsEmitted}
 use Rattle.request_wire.specs.Reply.{reply_line}
@@ -19,7 +21,7 @@ use Rattle.turn_rules.proofs.Lawful.{legal-run}
 use Rattle.promise_spec.specs.Programs.{shape_in}
 use Rattle.promise_spec.specs.Records.{AreRecordsOf}
 use Rattle.promise_spec.specs.Outputs.{IsProper, Grew, reply_lines}
-use Rattle.promise_spec.specs.Causes.{is_no, is_unsealed, is_vote, is_sealed}
+use Rattle.promise_spec.specs.Causes.{is_no, is_unsealed, is_vote, is_vote_of, is_sealed}
 use Rattle.promise_spec.specs.UnitRule.{KeepsUnitRule}
 use Rattle.promise_spec.specs.Journals.{commits_of, entries_of}
 use Rattle.promise_spec.proofs.Stepping.{cut-no_feed, cut_is_front}
@@ -31,8 +33,9 @@ use Rattle.settle_loop.specs.Works.{counted_up}
 use Rattle.settle_loop.specs.declared.settler.Settler.{Settler}
 use Rattle.run_books.specs.Beginnings.{Outset, basis_of}
 use Rattle.run_books.specs.Books.{Books, AreBooked, IsPutOut, IsCutOff}
-use Rattle.run_books.specs.Records.{KeepsBooks, ShowsOutside, CountsEachSync}
+use Rattle.run_books.specs.Records.{KeepsBooks, KeepsFile, ShowsOutside, CountsCalls}
 use Rattle.run_books.specs.Settling.{AreEven}
+use Rattle.run_books.proofs.BooksCalls.{file-same, file-emitted, calls-same}
 use Rattle.run_books.proofs.BooksCore.{Moves}
 use Rattle.run_books.proofs.BooksCounts.{how-same}
 use Rattle.run_books.proofs.BooksFaults.{NoneFell, calm-later, failed-later, faults-same, fell-both, rose-back, none-failed}
@@ -78,10 +81,10 @@ module _ {H : Type 0} (tells : Bool) (world : H → World) (faults : H → Chann
       outside = outside;
     }
 
-    syncs : NoneFell (faults old) (faults new) → (t : IsTrue tells) → (world new).syncs ≡ (world old).syncs → CountsEachSync o r' (faults new) (world new)
-    syncs later t same none =
-        same ∙ (k.outside t).syncs (rose-back o.faults (faults old) (faults new) k.later later none)
-        ∙ (λ i. o.world.syncs + (sym (how-same is_vote r Emitted refl) i + 2 * sym (how-same is_sealed r Emitted refl) i))
+    calls : NoneFell (faults old) (faults new) → (t : IsTrue tells) → (world new).syncs ≡ (world old).syncs → ((g : GrainId) → KeepsFile (Grain live_slot g) (world old) (world new)) → CountsCalls o r' (faults new) (world new)
+    calls later t same files =
+        calls-same o r r' (faults old) (faults new) (world old) (world new) (k.outside t).calls (rose-back o.faults (faults old) (faults new) k.later later)
+        (how-same is_vote r Emitted refl) (how-same is_sealed r Emitted refl) (how-same is_unsealed r Emitted refl) (λ g. how-same (is_vote_of g) r Emitted refl) same files
 
     -- a quiet settler puts nothing out
     pub put-quiet : before.quiet ≡ true → new ≡ old → AreEven before.quiet b (ends r) → KeepsBooks tells o b r' after (faults new) (world new) × AreEven after.quiet b (ends r')
@@ -98,7 +101,7 @@ module _ {H : Type 0} (tells : Bool) (world : H → World) (faults : H → Chann
               (subst (λ (q : Bool). IsPutOut q b (ends r')) (sym now_quiet) none) even.rest later
               (λ t. record {
                 output = subst (λ (l : List ℕ). Grew (shape_in o.program) o.world.output l (entries_of b.said) b.rest) (ap (λ (h : H). (world h).output) (sym host)) (k.outside t).output;
-                syncs = syncs later t (ap (λ (h : H). (world h).syncs) host);
+                calls = calls later t (ap (λ (h : H). (world h).syncs) host) (λ g. file-same (Grain live_slot g) (world old) (world new) (ap world host));
               }),
           subst (λ (q : Bool). AreEven q b (ends r')) (sym now_quiet) (record { rest = even.rest; told = tt; single = λ loud. absurd (false≢true (sym loud)) }),
         )
@@ -117,7 +120,7 @@ module _ {H : Type 0} (tells : Bool) (world : H → World) (faults : H → Chann
               (subst (λ (q : Bool). IsPutOut q c (ends r')) (sym now_loud) (inl told)) even.rest later
               (λ t. record {
                 output = next-grew b (ends r) x k.booked next even o (world old) (world new) (k.outside t).output (proper x next range) (line t).output;
-                syncs = syncs later t (line t).syncs;
+                calls = calls later t (line t).syncs (λ g. file-emitted (Grain live_slot g) _ _ (world old) (world new) (line t));
               }),
           subst (λ (q : Bool). AreEven q c (ends r')) (sym now_loud) (record { rest = even.rest; told = told; single = λ q. (parts b (ends r) x k.booked next even).single }),
         )
@@ -135,8 +138,8 @@ module _ {H : Type 0} (tells : Bool) (world : H → World) (faults : H → Chann
   module _ (loud : before.quiet ≡ false) (even : AreEven false b (ends r)) (x : Entry) (range : IsEntryInRange x) (next : slice_get (ends r).manager.settled (ends r).manager.emitted ≡ Some x)
       (failed : FailedOn Output (faults old) (faults new)) where
     stays-by : (c : Books) → AreBooked c (ends r) → IsPutOut before.quiet c (ends r) → IsCutOff (shape_in o.program) c (ends r) → (IsTrue tells → Grew (shape_in o.program) o.world.output (world new).output (entries_of c.said) c.rest)
-        → KeepsBooks tells o c r before (faults new) (world new)
-    stays-by c booked said cut grew =
+        → {m : ℕ} {text : List ℕ} → (IsTrue tells → IsAppended m text (world old) (world new)) → KeepsBooks tells o c r before (faults new) (world new)
+    stays-by c booked said cut grew {m} {text} line =
         let later : NoneFell (faults old) (faults new) = failed-later Output (faults old) (faults new) failed in
         record {
           faults = faults-same live_slot r r o.faults (faults old) (faults new) k.faults later (λ g. refl) refl;
@@ -147,7 +150,11 @@ module _ {H : Type 0} (tells : Bool) (world : H → World) (faults : H → Chann
           doubt = k.doubt;
           unsure = k.unsure;
           written = k.written;
-          outside = λ t. record { output = grew t; syncs = λ none. absurd (none-failed o.faults (faults old) (faults new) Output k.later failed none) };
+          outside = λ t. record {
+            output = grew t;
+            calls = calls-same o r r (faults old) (faults new) (world old) (world new) (k.outside t).calls (rose-back o.faults (faults old) (faults new) k.later later) refl refl refl (λ g. refl)
+                (line t).syncs (λ g. file-emitted (Grain live_slot g) m text (world old) (world new) (line t));
+          };
         }
 
     -- with the whole line put out
@@ -156,7 +163,7 @@ module _ {H : Type 0} (tells : Bool) (world : H → World) (faults : H → Chann
         let c : Books = said_next b (ends r) x k.booked next even in
         stays-by c (next-booked b (ends r) x k.booked next even (ends r) refl refl k.booked.doubted)
         (subst (λ (q : Bool). IsPutOut q c (ends r)) (sym loud) (inr (next-told b (ends r) x k.booked next even, even.rest))) (inl even.rest)
-        (λ t. next-grew b (ends r) x k.booked next even o (world old) (world new) (k.outside t).output (proper x next range) (line t).output)
+        (λ t. next-grew b (ends r) x k.booked next even o (world old) (world new) (k.outside t).output (proper x next range) (line t).output) line
 
     -- the books with a part of the line
     abbrev pub part_said : ℕ → Books
@@ -175,4 +182,4 @@ module _ {H : Type 0} (tells : Bool) (world : H → World) (faults : H → Chann
               ∙ append_assoc o.world.output front (take n text);
           unended = cut-no_feed (shape_in o.program) x n low;
           proper = (k.outside t).output.proper;
-        })
+        }) line

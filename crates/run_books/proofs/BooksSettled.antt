@@ -8,6 +8,7 @@ use Rattle.base_types.specs.declared.entries.Entry.{Entry}
 use Rattle.base_types.specs.declared.shapes.Shape.{Shape}
 use Rattle.host_trait.specs.declared.channels.Channel.{Channel}
 use Rattle.host_trait.specs.declared.channels.Channel.TheVariants.{File, Output}
+use Rattle.host_trait.specs.declared.channels.FileId.TheVariants.{Grain}
 use Rattle.host_trait.specs.Faults.{Rose}
 use Rattle.host_trait.specs.World.{World, Passes, Emitted as IsAppended, IsEmitted}
 use Rattle.host_trait.proofs.Moments.{both, one}
@@ -48,6 +49,7 @@ use Rattle.run_books.specs.Books.{Books, IsPutOut}
 use Rattle.run_books.specs.Images.{LastsSo}
 use Rattle.run_books.specs.Records.{KeepsBooks, HasDoubted}
 use Rattle.run_books.specs.Settling.{AreEven, CanSettle, SaysOfStep, BooksGoOn}
+use Rattle.run_books.proofs.BooksCalls.{file-same, calls-same}
 use Rattle.run_books.proofs.BooksCore.{moves-run}
 use Rattle.run_books.proofs.BooksWritten.{said_next, next-front, next-entries, all-last, member-at}
 use Rattle.run_books.proofs.BooksPut.{put-quiet, put-loud, cut-whole, cut-part, part_said}
@@ -291,7 +293,8 @@ module _ {H : Type 0} (tells : Bool) (world : H → World) (faults : H → Chann
             written = ap (λ (s : Settler). s.written) settler ∙ k.written;
             outside = λ t. record {
               output = subst (λ (w : World). Grew (shape_in o.program) o.world.output w.output (entries_of b.said) b.rest) (sym (lacks.world_is t)) (k.outside t).output;
-              syncs = λ none. ap (λ (w : World). w.syncs) (lacks.world_is t) ∙ (k.outside t).syncs (rose-back o.faults (faults old) (faults new) k.later later none);
+              calls = calls-same o r r (faults old) (faults new) (world old) (world new) (k.outside t).calls (rose-back o.faults (faults old) (faults new) k.later later) refl refl refl (λ h. refl)
+                  (ap (λ (w : World). w.syncs) (lacks.world_is t)) (λ h. file-same (Grain live_slot h) (world old) (world new) (lacks.world_is t));
             };
           };
           lasts = λ t head l. subst (λ (w : World). LastsSo o head b r after.writer w) (sym (lacks.world_is t)) (record {

@@ -4,6 +4,8 @@ pub mod LineCounts
 pub mod BooksStated
 pub mod BooksCore
 pub mod BooksCounts
+pub mod BooksCalls
+pub mod Unvoted
 pub mod BooksLists
 pub mod BooksFaults
 pub mod BooksGrown

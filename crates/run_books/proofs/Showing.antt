@@ -20,7 +20,7 @@ use Rattle.promise_spec.specs.TurnRule.{KeepsTurnRule}
 use Rattle.promise_spec.specs.Causes.{AreFaults, HasDoubt}
 use Rattle.promise_spec.specs.Endings.{DiskFault, MayDoubt, IsAllWritten, IsDiskFault}
 use Rattle.promise_spec.specs.Courses.{Observed, Course, basis, core_run, core_end}
-use Rattle.promise_spec.specs.Explained.{AreAdded, AreSettled, IsDoubtful, EndsWritten, IsCutShort}
+use Rattle.promise_spec.specs.Explained.{AreAdded, AreSettled, IsDoubtful, LeavesUnvoted, EndsWritten, IsCutShort}
 use Rattle.promise_laws.specs.Obligations.{ExplainsEvents}
 use Rattle.settle_loop.specs.declared.settler.Settler.{Settler}
 use Rattle.run_books.specs.declared.faults.RunFault.{RunFault}
@@ -94,8 +94,8 @@ module _ {T : Type 0} (o : Outset) (b : Books) (r : Run) (settler : Settler) (co
 pub explains : {T : Type 0} (tells : Bool) (o : Outset) (b : Books) (r : Run) (settler : Settler) (seen : Observed) (c : Course) (result : Result T RunFault)
     → KeepsRecord tells o b r settler seen.faults_after seen.new → TurnsEndAs o b r settler seen.faults_after result → seen.ending ≡ turns_ending result
     → (seen.manner.threaded ≡ false → KeepsTurnRule o.program.types (length o.asked) o.width o.picks r)
-    → IsCourseOf o b r seen c → ExplainsEvents o.program seen c
-explains {T} tells o b r settler seen c result k e q turns is =
+    → IsCourseOf o b r seen c → LeavesUnvoted live_slot o.program seen c → ExplainsEvents o.program seen c
+explains {T} tells o b r settler seen c result k e q turns is unvoted =
     let run : r ≡ core_run o.program c = sym is.run in
     let same : basis_of o ≡ basis o.program seen c = (λ i. record { types = o.program.types; lines = sym is.asked i; opening = standing_of o.program.types (sym is.opening i) }) in
     record {
@@ -110,6 +110,7 @@ explains {T} tells o b r settler seen c result k e q turns is =
           (subst (λ (x : Run). AreFaults live_slot x o.faults seen.faults_after) run k.books.faults);
       doubted = λ file t. subst (λ (x : Run). IsDoubtful live_slot x file) run (doubted-by o b r settler seen.faults_after result e file (sym q ∙ t));
       ended = λ d. subst MayDoubt (sym q) (ended-by o b r settler seen.faults_after result e (subst HasDoubt is.run d));
+      unvoted = unvoted;
     }
 
 -- ---- what is settled

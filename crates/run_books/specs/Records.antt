@@ -1,16 +1,19 @@
 -- The record of a run: what holds where it begins, and again where it ends, however it ends.
 use Rattle.std.specs.Prelude.{◌≡◌, ◌<◌, ◌≤◌, ◌+◌, ◌*◌, ℕ, Bool, IsTrue, List, [], length, is_some, None, Result, Ok, Err}
+use Rattle.base_types.specs.declared.calls.GrainId.{GrainId}
 use Rattle.host_trait.specs.declared.channels.Channel.{Channel}
 use Rattle.host_trait.specs.declared.channels.Channel.TheVariants.{File, Output}
 use Rattle.host_trait.specs.Faults.{Rose}
-use Rattle.host_trait.specs.World.{World}
+use Rattle.host_trait.specs.declared.channels.FileId.{FileId}
+use Rattle.host_trait.specs.declared.channels.FileId.TheVariants.{Grain}
+use Rattle.host_trait.specs.World.{World, Passes}
 use Rattle.log_reading.specs.Steps.{live_slot, manager}
 use Rattle.core_model.specs.Legal.{Run, ends}
 use Rattle.promise_spec.specs.Programs.{shape_in}
 use Rattle.promise_spec.specs.Outputs.{Grew}
 use Rattle.promise_spec.specs.Cores.{how_many}
 use Rattle.promise_spec.specs.UnitRule.{KeepsUnitRule}
-use Rattle.promise_spec.specs.Causes.{AreFaults, HasDoubt, NoneRose, is_vote, is_sealed}
+use Rattle.promise_spec.specs.Causes.{AreFaults, HasDoubt, NoneRose, is_vote, is_vote_of, is_sealed, is_unsealed}
 use Rattle.promise_spec.specs.Journals.{entries_of}
 use Rattle.turn_rules.specs.Quiet.{HasRun}
 use Rattle.settle_loop.specs.declared.settler.Settler.{Settler}
@@ -20,15 +23,23 @@ use Rattle.run_books.specs.Beginnings.{Outset, basis_of}
 use Rattle.run_books.specs.Books.{Books, AreBooked, IsPutOut, IsCutOff}
 use Rattle.run_books.specs.Images.{LastsSo}
 
--- where nothing failed there was one sync for each vote, and two for each batch on disk
-abbrev pub CountsEachSync : Outset → Run → (Channel → ℕ) → World → Type 0
-CountsEachSync o r faults now = NoneRose o.faults faults → now.syncs ≡ o.world.syncs + (how_many is_vote r + 2 * how_many is_sealed r)
+-- the file is as it was, at each moment and now
+pub record KeepsFile (file : FileId) (old now : World) : Type 0 where
+  pub moments : Passes (λ m. m.disk file ≡ old.disk file) old.past now.past
+  pub now_is : now.disk file ≡ old.disk file
+
+-- Where nothing failed there was one sync for each vote, and two for each batch on disk; and whatever failed no more than one for
+-- each vote, and two for each batch that was to be on disk. A grain's file that no event votes on is as it was.
+pub record CountsCalls (o : Outset) (r : Run) (faults : Channel → ℕ) (now : World) : Type 0 where
+  pub each : NoneRose o.faults faults → now.syncs ≡ o.world.syncs + (how_many is_vote r + 2 * how_many is_sealed r)
+  pub most : now.syncs ≤ o.world.syncs + (how_many is_vote r + 2 * (how_many is_sealed r + how_many is_unsealed r))
+  pub unvoted : (g : GrainId) → how_many (is_vote_of g) r ≡ 0 → KeepsFile (Grain live_slot g) o.world now
 
 -- What a host that tells shows over any folder, sound or not: the output grew by the lines of what is written and a rest of a
--- line, and how many syncs were asked.
+-- line, how many syncs were asked, and which files were written.
 pub record ShowsOutside (o : Outset) (b : Books) (r : Run) (faults : Channel → ℕ) (now : World) : Type 0 where
   pub output : Grew (shape_in o.program) o.world.output now.output (entries_of b.said) b.rest
-  pub syncs : CountsEachSync o r faults now
+  pub calls : CountsCalls o r faults now
 
 -- No more faults show in the events than were counted, and no count fell. The books are those of the core's last state. The
 -- settler knows of a doubt, as its writer does, and how many entries are written.

@@ -29,7 +29,7 @@ use Rattle.silo_top.proofs.OpensWith.{many_types}
 
 -- a core without events, and a settler that has written nothing: lines can be carried, whatever log the outset is told of
 pub start_fresh : (tells : Bool) (m : Manner) (x : Opened) (st : Started) (texts : List (List ℕ)) (lines : List Line) (w0 w1 : World) (f0 f1 : Channel → ℕ)
-    → IsStartOf x st → (IsTrue tells → (w1.output ≡ w0.output) × (w1.syncs ≡ w0.syncs)) → ((c : Channel) → f0 c ≤ f1 c) → 0 < m.width → 0 < x.next_unit.0 → AreReadFrom (program_tree x.checked) 0 texts lines
+    → IsStartOf x st → (IsTrue tells → PulledOnly w0 w1) → ((c : Channel) → f0 c ≤ f1 c) → 0 < m.width → 0 < x.next_unit.0 → AreReadFrom (program_tree x.checked) 0 texts lines
     → StartsRun tells m (record { program = record { text = []; types = program_tree x.checked }; asked = texts; opening = []; width = m.width; picks = m.picks; faults = f0; world = w0 }) no_books (program_tree x.checked)
     (run_of st.core) st.settler lines f1 w1
 start_fresh tells m x st texts lines w0 w1 f0 f1 start still later wide above are =
@@ -52,5 +52,5 @@ pub answered : {T : Type 0} (tells : Bool) (m : Manner) (x : Opened) (st : Start
 answered {T} tells m x st input lines w0 w1 w2 f0 f1 f2 result r' s' start pulled calm wide above are carries beside =
     let o : Outset = record { program = record { text = []; types = program_tree x.checked }; asked = lines_of input; opening = []; width = m.width; picks = m.picks; faults = f0; world = w0 } in
     let goes : CarriedOn {T = T} tells m o no_books (run_of st.core) r' st.settler s' f2 w1 w2 result =
-    carries o no_books (start_fresh tells m x st (lines_of input) lines w0 w1 f0 f1 start (λ told. ((pulled told).output, (pulled told).syncs)) (λ c. let e = calm c in omega (arith, e)) wide above are) in
+    carries o no_books (start_fresh tells m x st (lines_of input) lines w0 w1 f0 f1 start pulled (λ c. let e = calm c in omega (arith, e)) wide above are) in
     turns_answer tells o goes.on.books (run_of st.core) r' st.settler s' f1 f2 w1 w2 result calm goes.on.ended beside

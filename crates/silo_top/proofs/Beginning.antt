@@ -21,6 +21,8 @@ use Rattle.settle_loop.specs.declared.settler.Settler.{Settler}
 use Rattle.run_books.specs.Beginnings.{Outset, CanTurn, IsOutset}
 use Rattle.run_books.specs.Books.{Books, IsPutOut}
 use Rattle.interleaver.specs.Turns.{KeepsTurns, IsFreshRecord}
+use Rattle.silo_top.specs.Reading.{PulledOnly}
+use Rattle.silo_top.proofs.Still.{still_file}
 use Rattle.silo_top.proofs.Read.{AreReadFrom}
 use Rattle.silo_top.proofs.Read.{as_many, go_up, read_as}
 
@@ -44,6 +46,9 @@ rose_none old new later = omega (arith, min-le_left (old + 0) (2 ^ 64 - 1), late
 no_syncs : (n m : ℕ) → n ≡ m → n ≡ m + (0 + 2 * 0)
 no_syncs n m is = omega (arith, is)
 
+few_syncs : (n m : ℕ) → n ≡ m → n ≤ m + (0 + 2 * (0 + 0))
+few_syncs n m is = omega (arith, is)
+
 module _ (base kinds : ℕ) (opening : GrainId → List Value) where
   abbrev r : Run
   r = start_run base kinds opening
@@ -63,7 +68,7 @@ module _ (base kinds : ℕ) (opening : GrainId → List Value) where
   -- the record holds
   pub starts_kept : (tells : Bool) (o : Outset) (s : Settler) (counts : Channel → ℕ) (now : World) → 0 < base → ((c : Channel) → o.faults c ≤ counts c)
       → s.written ≡ 0 → s.doubted ≡ false → s.writer.in_doubt ≡ false
-      → (IsTrue tells → (now.output ≡ o.world.output) × (now.syncs ≡ o.world.syncs)) → KeepsTurns tells o no_books r s counts now
+      → (IsTrue tells → PulledOnly o.world now) → KeepsTurns tells o no_books r s counts now
   starts_kept tells o s counts now above later written sure sealing outside = record {
     above = above;
     units = λ at e a. absurd (none_applies base kinds opening at e a);
@@ -81,8 +86,12 @@ module _ (base kinds : ℕ) (opening : GrainId → List Value) where
       unsure = sealing ∙ sym sure;
       written = written;
       outside = λ told. record {
-        output = record { output = (outside told).0 ∙ sym (append-nil o.world.output); unended = tt; proper = tt };
-        syncs = λ none. no_syncs now.syncs o.world.syncs (outside told).1;
+        output = record { output = (outside told).output ∙ sym (append-nil o.world.output); unended = tt; proper = tt };
+        calls = record {
+          each = λ none. no_syncs now.syncs o.world.syncs (outside told).syncs;
+          most = few_syncs now.syncs o.world.syncs (outside told).syncs;
+          unvoted = λ g none. still_file (Grain live_slot g) o.world now (outside told);
+        };
       };
     };
   }

@@ -16,7 +16,7 @@ use Rattle.promise_spec.specs.Programs.{Program, shape_in}
 use Rattle.promise_spec.specs.Records.{Commit, standing_of}
 use Rattle.promise_spec.specs.Outputs.{Grew}
 use Rattle.promise_spec.specs.Cores.{core_from, how_many}
-use Rattle.promise_spec.specs.Causes.{is_vote, is_sealed, syncs_of}
+use Rattle.promise_spec.specs.Causes.{is_vote, is_vote_of, is_sealed, is_unsealed, syncs_of, most_syncs_of}
 use Rattle.promise_spec.specs.Journals.{commits_of, entries_of}
 use Rattle.promise_spec.specs.Endings.{Ending, Done, BadUse, WriteFault as Unwritten, HasRisen, IsBegun, IsCarried, HasLength, IsAllWritten, input_limit}
 use Rattle.promise_spec.specs.Courses.{Observed, Course, seen_at_entry, core_run}
@@ -34,6 +34,7 @@ use Rattle.run_books.specs.Images.{LastsSo}
 use Rattle.run_books.specs.Records.{TurnsEndAs}
 use Rattle.run_books.proofs.Showing.{explains, settled}
 use Rattle.run_books.proofs.Lasting.{lasts}
+use Rattle.run_books.proofs.Unvoted.{unvoted_behind}
 use Rattle.opening_rules.specs.Behind.{program_of, FollowsOpening}
 use Rattle.opening_rules.proofs.Behind.{behind}
 use Rattle.silo_opening.specs.declared.open.Opened.{Opened}
@@ -112,6 +113,9 @@ told = cc
 pub all_syncs : (new mid old v s : ℕ) → new ≡ mid + (v + 2 * s) → mid ≡ old + 1 → new ≡ old + (1 + (v + 2 * s))
 all_syncs new mid old v s a b = omega (arith, a, b)
 
+pub most_syncs : (new mid old v s u : ℕ) → new ≤ mid + (v + 2 * (s + u)) → mid ≡ old + 1 → new ≤ old + (1 + (v + 2 * (s + u)))
+most_syncs new mid old v s u a b = omega (arith, a, b)
+
 module _ {T : Type 0} (m : Manner) (x : Opened) (old mid now new : World) (before after : Channel → ℕ) (status : Status) (result : Result T RunFault) (is : IsBehindOpening old mid x) (pulled : PulledOnly mid now)
     (stay_mid : ReadsMayStay mid) (stay_new : ReadsMayStay new) (end : now.input ≡ []) (short : length old.input ≤ input_limit) (ends_as : status_ending status ≡ turns_ending result) where
   abbrev pub p : Program
@@ -183,7 +187,8 @@ module _ {T : Type 0} (m : Manner) (x : Opened) (old mid now new : World) (befor
 
     answers : ShowsAnywhere p seen c
     answers = record {
-      explains = explains true out b r' s' seen c result goes.on.record_kept goes.on.ended ends_as goes.turns course;
+      explains = explains true out b r' s' seen c result goes.on.record_kept goes.on.ended ends_as goes.turns course
+          (unvoted_behind p seen c mid stands (λ g none. (goes.on.record_kept.books.outside told).calls.unvoted g (subst (λ (r : Run). how_many (is_vote_of g) r ≡ 0) run_is none)));
       settled = are_settled;
       output = subst (λ (l : List ℕ). Grew (shape_in p) l new.output (entries_of b.said) b.rest) is.run.now.output (goes.on.record_kept.books.outside told).output;
       whole = λ other. rest_by out b r' s' after result goes.on.ended (λ q. other (ends_as ∙ q));
@@ -195,7 +200,9 @@ module _ {T : Type 0} (m : Manner) (x : Opened) (old mid now new : World) (befor
         begun = inr (record { ending = subst IsBegun (sym ends_as) (begun_by result); input = beside.input told ∙ end; short = short });
         done = λ q. is_done result goes.on.ended (sym ends_as ∙ q) (are_settled.all (inl (written q)) ∙ ap (λ (r : Run). (ends r).manager.settled) run_is);
         syncs = λ none counts. subst (λ (r : Run). new.syncs ≡ old.syncs + syncs_of r) (sym run_is)
-            (all_syncs new.syncs mid.syncs old.syncs (how_many is_vote r') (how_many is_sealed r') ((goes.on.record_kept.books.outside told).syncs none) is.count);
+            (all_syncs new.syncs mid.syncs old.syncs (how_many is_vote r') (how_many is_sealed r') ((goes.on.record_kept.books.outside told).calls.each none) is.count);
+        most = subst (λ (r : Run). new.syncs ≤ old.syncs + most_syncs_of r) (sym run_is)
+            (most_syncs new.syncs mid.syncs old.syncs (how_many is_vote r') (how_many is_sealed r') (how_many is_unsealed r') (goes.on.record_kept.books.outside told).calls.most is.count);
       };
     }
       where

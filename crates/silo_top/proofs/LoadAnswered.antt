@@ -26,6 +26,7 @@ use Rattle.silo_top.proofs.Read.{AreReadFrom}
 use Rattle.silo_top.specs.Starting.{IsStartOf}
 use Rattle.silo_top.proofs.Beginning.{no_books}
 use Rattle.silo_top.proofs.Answered.{start_fresh}
+use Rattle.silo_top.proofs.Still.{still_none}
 use Rattle.silo_top.proofs.LoadServed.{load_risen}
 
 -- a load whose turns ended by a fault names it, and nothing of the input or the output failed
@@ -56,7 +57,7 @@ pub turns_faulted : {T : Type 0} (tells : Bool) (m : Manner) (x : Opened) (st : 
 turns_faulted {T} tells m x st texts lines w1 w2 f1 f2 result r' s' start hush wide above are carries beside fault q =
     let o : Outset = record { program = record { text = []; types = program_tree x.checked }; asked = texts; opening = []; width = m.width; picks = m.picks; faults = f1; world = w1 } in
     let goes : CarriedOn {T = T} tells m o no_books (run_of st.core) r' st.settler s' f2 w1 w2 result =
-    carries o no_books (start_fresh tells m x st texts lines w1 w1 f1 f1 start (λ told. (refl, refl)) (λ c. omega arith) wide above are) in
+    carries o no_books (start_fresh tells m x st texts lines w1 w1 f1 f1 start (λ told. still_none w1) (λ c. omega arith) wide above are) in
     let ended : TurnsEndAs o goes.on.books r' s' f2 {T = T} (Err fault) = subst (TurnsEndAs o goes.on.books r' s' f2) q goes.on.ended in
     faulted_answers fault f1 f2 (load_risen T o goes.on.books r' s' f2 fault ended) beside.pulled (beside.calm hush)
 

@@ -11,9 +11,10 @@ use Rattle.promise_spec.specs.Programs.{Program, IsChecked}
 use Rattle.promise_spec.specs.Records.{new_silo, standing_of}
 use Rattle.promise_spec.specs.Logs.{magic, live_slot}
 use Rattle.promise_spec.specs.Openings.{Reads, opened_as}
-use Rattle.promise_spec.specs.Promise.{IsSoundFolder}
+use Rattle.promise_spec.specs.Images.{IsWholeFolder}
 use Rattle.promise_spec.specs.Loads.{bank_text}
 use Rattle.promise_spec.proofs.Openings.{program_checked, log_is_read, reads_is}
+use Rattle.promise_spec.proofs.WholeFolders.{whole_folder}
 use Rattle.promise_spec.proofs.SoundFolders.{new_log, new_folder}
 use Rattle.promise_laws.specs.Closings.{ReadsMayStay}
 use Rattle.opening_rules.specs.Behind.{program_of}
@@ -35,8 +36,8 @@ module _ (types : ProgramTree) (reads : program_in bank_text ≡ Ok types) where
   pub reads_new : (seen : Image) → IsNewSilo magic bank_text seen → opened_as live_slot seen ≡ Reads (bank_of types) []
   reads_new seen new = log_is_read seen (bank_of types) [] bank_checked new.program (new_log (bank_of types) seen new)
 
-  pub bank_sound : (w : World) → IsNewBank w → IsSoundFolder (bank_of types) w
-  bank_sound w new = new_folder (bank_of types) w (λ image left silo. new image left)
+  pub bank_whole : (w : World) → IsNewBank w → IsWholeFolder (bank_of types) w
+  bank_whole w new = whole_folder (bank_of types) w (new_folder (bank_of types) w (λ image left silo. new image left))
 
   -- what was opened is it
   pub opened_same : (x : Opened) (seen : Image) → IsNewSilo magic bank_text seen → (is : IsOpenedFrom seen x) → (program_of is ≡ bank_of types) × (is.log ≡ [])

@@ -137,7 +137,7 @@ starved_carries n seed m asked x old mid before after reads is none = record {
   program = bank_of (program_tree x.checked);
   checked = bank_checked (program_tree x.checked) reads;
   text = refl;
-  carried = inl (record { untouched = asked_untouched old mid is.run; unread = is.run.input; refused = tt; failed = none });
+  carried = inl (record { untouched = asked_untouched old mid is.run; unread = is.run.input; syncs = is.run.syncs; refused = tt; failed = none });
 }
 
 -- what was opened lies in the files as they read behind the opening

@@ -1,15 +1,16 @@
 -- A load from its opening to its end, over a host that tells.
-use Rattle.std.proofs.Common.{◌≡◌, ◌≢◌, ◌⊎◌, inl, inr, ℕ, ◌+◌, ◌*◌, ◌<◌, ◌≤◌, Bool, true, false, IsTrue, List, [], ◌∷◌, ◌++◌, length, Result, Ok, Err, refl, sym, ◌∙◌, ap, subst, arith, append-nil}
+use Rattle.std.proofs.Common.{◌≡◌, ◌≢◌, ◌⊎◌, inl, inr, ℕ, ◌+◌, ◌*◌, ◌<◌, ◌≤◌, Bool, true, false, IsTrue, List, [], ◌∷◌, ◌++◌, length, Result, Ok, Err, refl, sym, ◌∙◌, ap, subst, arith, append-nil, append_assoc}
 use Rattle.std.specs.Prelude.{take}
 use Rattle.std.proofs.lemmas.List.{append_cancel_left}
 use Rattle.base_types.specs.declared.entries.Entry.{Entry}
+use Rattle.base_types.specs.declared.calls.GrainId.{GrainId}
 use Rattle.host_trait.specs.declared.channels.Channel.{Channel}
 use Rattle.host_trait.specs.declared.channels.Channel.TheVariants.{Input, Output, File}
 use Rattle.host_trait.specs.declared.channels.FileId.{FileId}
 use Rattle.host_trait.specs.declared.channels.FileId.TheVariants.{Manager, Grain}
 use Rattle.host_trait.specs.Faults.{NoneFailed, FailedOn, Rose}
 use Rattle.host_trait.specs.Disk.{FileState, MayLeave}
-use Rattle.host_trait.specs.World.{World, Moment, Image, IsImage}
+use Rattle.host_trait.specs.World.{World, Disk, Moment, Image, IsImage}
 use Rattle.host_trait.proofs.Crashes.{settled_only}
 use Rattle.request_wire.specs.declared.requests.Line.{Line}
 use Rattle.script_tree.specs.Programs.{ProgramTree, program_tree}
@@ -24,7 +25,7 @@ use Rattle.promise_spec.specs.Programs.{Program, IsChecked, shape_in}
 use Rattle.promise_spec.specs.Records.{Commit, standing_of}
 use Rattle.promise_spec.specs.Outputs.{reply_lines}
 use Rattle.promise_spec.specs.Cores.{core_from, how_many}
-use Rattle.promise_spec.specs.Causes.{NoneRose, AreFaults, RoseBy, HasDoubt, is_vote, is_no, is_unsealed, is_sealed, syncs_of}
+use Rattle.promise_spec.specs.Causes.{NoneRose, AreFaults, RoseBy, HasDoubt, is_vote, is_vote_of, is_no, is_unsealed, is_sealed, syncs_of, most_syncs_of}
 use Rattle.promise_spec.specs.Commands.{MayCut, Prints}
 use Rattle.promise_spec.specs.Endings as ending
 use Rattle.promise_spec.specs.Endings.{Ending, HasRisen, HasFailedAs, IsBegun, MayDoubt}
@@ -33,10 +34,10 @@ use Rattle.promise_spec.specs.Promise.{IsAnswered}
 use Rattle.promise_spec.specs.Journals.{Settlement, AllLog, commits_of, entries_of}
 use Rattle.promise_spec.specs.Courses.{Observed, Course, order, seen_at_entry, core_run, core_end}
 use Rattle.promise_spec.specs.Loads.{bank_text, load_calls, summary_text, AskFor, KeepsLoad, total_of}
-use Rattle.promise_spec.proofs.Lists.{each_of}
+use Rattle.promise_spec.proofs.Lists.{all_of, each_of}
 use Rattle.promise_laws.specs.Closings.{ReadsMayStay, IsBehind}
 use Rattle.promise_laws.specs.Obligations.{ExplainsEvents, Opens, Lasts}
-use Rattle.promise_laws.proofs.KeptRuns.{opens_sound}
+use Rattle.promise_laws.proofs.KeptRuns.{opens_whole}
 use Rattle.settle_loop.specs.declared.settler.Settler.{Settler}
 use Rattle.batch_disk.specs.Resting.{SomeImage}
 use Rattle.run_books.specs.declared.faults.RunFault.{RunFault}
@@ -46,12 +47,14 @@ use Rattle.run_books.specs.Beside.{IsHushed, TurnsBeside}
 use Rattle.run_books.specs.Books.{Books, booked_journal, IsPutOut}
 use Rattle.run_books.specs.Closing.{IsCourseOf, turns_ending}
 use Rattle.run_books.specs.Images.{LastsSo}
-use Rattle.run_books.specs.Records.{TurnsEndAs, HasCarriedAll}
+use Rattle.run_books.specs.Records.{KeepsFile, TurnsEndAs, HasCarriedAll}
 use Rattle.interleaver.specs.Turns.{KeepsTurns}
 use Rattle.promise_spec.specs.Words.{Manner}
 use Rattle.silo_top.specs.Carrying.{StartsRun, CarriedOn, CarriesOn}
 use Rattle.run_books.proofs.Showing.{explains}
 use Rattle.run_books.proofs.Lasting.{lasts}
+use Rattle.run_books.proofs.BooksCalls.{file-on}
+use Rattle.run_books.proofs.Unvoted.{unvoted_behind}
 use Rattle.opening_rules.specs.Behind.{program_of, FollowsOpening}
 use Rattle.opening_rules.proofs.Behind.{behind}
 use Rattle.silo_opening.specs.declared.open.Opened.{Opened}
@@ -69,11 +72,11 @@ use Rattle.silo_top.proofs.Read.{AreReadFrom}
 use Rattle.silo_top.specs.Starting.{IsStartOf}
 use Rattle.silo_top.specs.Serving.{IsBehindOpening}
 use Rattle.silo_top.specs.Loading.{IsNewBank, CarriesLoad, MaySaySummary, SaysSummary, load_ending}
-use Rattle.silo_top.proofs.Ended.{all_syncs}
+use Rattle.silo_top.proofs.Ended.{all_syncs, most_syncs}
 use Rattle.silo_top.proofs.AtRest.{starts_resting}
 use Rattle.silo_top.proofs.Beginning.{no_books, starts_kept, starts_quiet, starts_fresh, starts_outset}
 use Rattle.silo_top.proofs.LastsAtStart.{starts_lasting}
-use Rattle.silo_top.proofs.LoadBegun.{bank_of, bank_checked, bank_sound, opened_same}
+use Rattle.silo_top.proofs.LoadBegun.{bank_of, bank_checked, bank_whole, opened_same}
 use Rattle.silo_top.proofs.OpensWith.{start_is}
 use Rattle.silo_top.proofs.Still.{still_none}
 use Rattle.silo_top.proofs.Unopened.{asked_untouched}
@@ -194,7 +197,7 @@ module _ {T : Type 0} (n seed : ℕ) (m : Manner) (x : Opened) (st : Started) (o
     base = subst (λ (k : ℕ). 0 < k) is.opened.next above
 
     kept_first : KeepsTurns true out no_books r0 st.settler between mid
-    kept_first = starts_kept r0.base r0.kinds r0.opening true out st.settler between mid base (λ c. let e = none c in omega (arith, e)) start.written start.doubted start.sealing (λ told. (refl, refl))
+    kept_first = starts_kept r0.base r0.kinds r0.opening true out st.settler between mid base (λ c. let e = none c in omega (arith, e)) start.written start.doubted start.sealing (λ told. still_none mid)
 
     first : StartsRun true m out no_books (program_tree x.checked) r0 st.settler lines between mid
     first = record {
@@ -271,7 +274,7 @@ module _ {T : Type 0} (n seed : ℕ) (m : Manner) (x : Opened) (st : Started) (o
     stands = behind x seen c0 mid is.opened follows
 
     opens : Opens p seen c0
-    opens = opens_sound p seen c0 mid stands (bank_of (program_tree x.checked)) (bank_checked (program_tree x.checked) reads) (bank_sound (program_tree x.checked) reads old bank) is.stays stay_mid
+    opens = opens_whole p seen c0 mid stands (bank_of (program_tree x.checked)) (bank_checked (program_tree x.checked) reads) (bank_whole (program_tree x.checked) reads old bank) is.stays stay_mid
 
     -- ---- what lasts
 
@@ -312,8 +315,12 @@ module _ {T : Type 0} (n seed : ℕ) (m : Manner) (x : Opened) (st : Started) (o
             is_some : (y : Settlement) (ys : List Settlement) → y ∷ ys ≡ [] → ⊥
             is_some y ys t = absurd cc
 
+    -- the files that no event votes on
+    unvoted_so : (g : GrainId) → how_many (is_vote_of g) (core_run p c0) ≡ 0 → KeepsFile (Grain live_slot g) mid new
+    unvoted_so g no_vote = (goes.on.record_kept.books.outside told).calls.unvoted g (subst (λ (y : Run). how_many (is_vote_of g) y ≡ 0) run_is no_vote)
+
     pub explains_so : ExplainsEvents p seen c0
-    explains_so = explains true out b r' s' seen c0 result goes.on.record_kept goes.on.ended refl goes.turns course
+    explains_so = explains true out b r' s' seen c0 result goes.on.record_kept goes.on.ended refl goes.turns course (unvoted_behind p seen c0 mid stands unvoted_so)
 
     -- ---- a load that ends so
 
@@ -328,6 +335,29 @@ module _ {T : Type 0} (n seed : ℕ) (m : Manner) (x : Opened) (st : Started) (o
       abbrev pub c : Course
       c = record c0 { late = later.0 ++ behind_turns; entries = (core_end p c0).manager.settled }
 
+      -- it stands behind the opening, and the files are as the turns left them
+      still_behind : IsBehind live_slot p r c mid
+      still_behind = behind x r c mid is.opened (record {
+        opening = refl;
+        run = is.run;
+        settled = is.settled;
+        early = is.run.clock.past;
+        late = last_past ∙ ap (λ (l : List Moment). l ++ behind_turns) later.1 ∙ append_assoc mid.past later.0 behind_turns;
+      })
+
+      said_file : (file : FileId) → KeepsFile file new last
+      said_file file = record {
+        moments = record { more = behind_turns; past = last_past; each = all_of (λ (y : Moment). y.disk file ≡ new.disk file) behind_turns (λ y there. ap (λ (d : Disk). d file) (last_left y there)) };
+        now_is = ap (λ (d : Disk). d file) last_disk;
+      }
+
+      -- so many syncs were asked at most
+      most_so : last.syncs ≡ new.syncs → last.syncs ≤ old.syncs + most_syncs_of (core_run p c0)
+      most_so said =
+          subst (λ (k : ℕ). k ≤ old.syncs + most_syncs_of (core_run p c0)) (sym said)
+          (subst (λ (y : Run). new.syncs ≤ old.syncs + most_syncs_of y) (sym run_is)
+          (most_syncs new.syncs mid.syncs old.syncs (how_many is_vote r') (how_many is_sealed r') (how_many is_unsealed r') (goes.on.record_kept.books.outside told).calls.most is.count))
+
       -- what its events explain
       explains_at : ((file : FileId) → e ≡ ending.DiskFault file → turns_ending result ≡ ending.DiskFault file) → (HasDoubt (core_run p c0) → MayDoubt e) → ExplainsEvents p r c
       explains_at file doubt = record {
@@ -337,6 +367,7 @@ module _ {T : Type 0} (n seed : ℕ) (m : Manner) (x : Opened) (st : Started) (o
         faults = faults_same (core_run p c0) before after final files explains_so.faults;
         doubted = λ f t. explains_so.doubted f (file f t);
         ended = doubt;
+        unvoted = unvoted_behind p r c mid still_behind (λ g no_vote. file-on (Grain live_slot g) mid new last (unvoted_so g no_vote) (said_file (Grain live_slot g)));
       }
 
       asked : AskFor p.types (load_texts n seed) (load_calls n seed)
@@ -345,8 +376,8 @@ module _ {T : Type 0} (n seed : ℕ) (m : Manner) (x : Opened) (st : Started) (o
       -- what it has to show, but how it ended
       shows : ExplainsEvents p r c → ((behind_turns ≡ []) × (last.output ≡ old.output)) ⊎ (HasDoubt (core_run p c) → ⊥) → Prints (summary_text p r c) r → (e ≢ ending.Done → e ≢ ending.WriteFault → last.output ≡ old.output)
           → IsBegun e → HasRisen e before final → ((e ≡ ending.Done) ⊎ (e ≡ ending.WriteFault) → IsAnswered r c) → (e ≡ ending.WriteFault → HasDoubt (core_run p c) → ⊥)
-          → (NoneRose before final → e ≡ ending.Done → last.syncs ≡ old.syncs + syncs_of (core_run p c)) → ShowsLoad p n seed r c new after (turns_ending result) later.0 behind_turns
-      shows explains_r printed output silent begun risen done undoubted syncs = record {
+          → (NoneRose before final → e ≡ ending.Done → last.syncs ≡ old.syncs + syncs_of (core_run p c)) → last.syncs ≡ new.syncs → ShowsLoad p n seed r c new after (turns_ending result) later.0 behind_turns
+      shows explains_r printed output silent begun risen done undoubted syncs said = record {
         asked = asked;
         lasts = lasts_so;
         whole = record { image = has_whole.image; left = has_whole.left; has = has_whole.has };
@@ -366,6 +397,7 @@ module _ {T : Type 0} (n seed : ℕ) (m : Manner) (x : Opened) (st : Started) (o
         done = done;
         undoubted = undoubted;
         syncs = syncs;
+        most = most_so said;
       }
 
       carries : ShowsLoad p n seed r c new after (turns_ending result) later.0 behind_turns → CarriesLoad n seed r
@@ -388,7 +420,7 @@ module _ {T : Type 0} (n seed : ℕ) (m : Manner) (x : Opened) (st : Started) (o
         (subst (λ (y : Ending). HasRisen y before after) (sym ends_as) (load_risen T out b r' s' after fault ended))
         (λ which. elim which [ inl t ↦ absurd (load_undone fault (sym ends_as ∙ t)) | inr t ↦ absurd (load_unwritten fault (sym ends_as ∙ t)) ])
         (λ t d. load_unwritten fault (sym ends_as ∙ t))
-        (λ calm t. absurd (load_undone fault (sym ends_as ∙ t))))
+        (λ calm t. absurd (load_undone fault (sym ends_as ∙ t))) refl)
 
     -- all lines are carried, and the summary was to be printed
     pub summed_carries : AskFor (program_tree x.checked) (load_texts n seed) (load_calls n seed) → (done : T) → result ≡ Ok done → (status : Status) (last : World) (final : Channel → ℕ) (requests : ℕ) → requests ≡ length (load_texts n seed)
@@ -422,8 +454,8 @@ module _ {T : Type 0} (n seed : ℕ) (m : Manner) (x : Opened) (st : Started) (o
         (λ t d. sure d)
         (λ calm t. says.syncs ∙ subst (λ (y : Run). new.syncs ≡ old.syncs + syncs_of y) (sym run_is)
         (all_syncs new.syncs mid.syncs old.syncs (how_many is_vote r') (how_many is_sealed r')
-        ((goes.on.record_kept.books.outside told).syncs (λ ch. (let a = calm ch in let f = (subst (λ (y : Ending). HasFailedAs y after final) t failed) ch in (sym f ∙ a.0, a.1))))
-        is.count)))
+        ((goes.on.record_kept.books.outside told).calls.each (λ ch. (let a = calm ch in let f = (subst (λ (y : Ending). HasFailedAs y after final) t failed) ch in (sym f ∙ a.0, a.1))))
+        is.count)) says.syncs)
       where
         run_is' : r' ≡ core_run p c0
         run_is' = sym run_is

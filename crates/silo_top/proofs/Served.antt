@@ -51,7 +51,7 @@ module _ {T : Type 0} (m : Manner) (x : Opened) (st : Started) (old mid now new 
   -- the record that holds where the turns begin
   kept : 0 < x.next_unit.0 → NoneFailed before between → KeepsTurns true outset no_books first st.settler between now
   kept above calm = starts_kept first.base first.kinds first.opening true outset st.settler between now (subst (λ (n : ℕ). 0 < n) is.opened.next above) (λ c. let e = calm c in omega (arith, e))
-      start.written start.doubted start.sealing (λ told. (pulled.output, pulled.syncs))
+      start.written start.doubted start.sealing (λ told. pulled)
 
   -- what was read is an image still
   seen_left : IsImage now.disk (seen_in old.disk)

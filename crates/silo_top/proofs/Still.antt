@@ -1,9 +1,11 @@
 -- Input that is pulled piece by piece, while nothing else changes.
 use Rattle.std.proofs.Common.{ℕ, List, [], ◌∙◌, refl}
 use Rattle.std.proofs.lemmas.List.{append-nil}
-use Rattle.std.proofs.Common.{sym}
-use Rattle.host_trait.specs.World.{World, Pulled}
-use Rattle.host_trait.proofs.Moments.{both, one, same_moment}
+use Rattle.std.proofs.Common.{◌≡◌, sym, ap}
+use Rattle.host_trait.specs.declared.channels.FileId.{FileId}
+use Rattle.host_trait.specs.World.{World, Disk, Moment, Pulled, moment_of}
+use Rattle.host_trait.proofs.Moments.{both, one, weaker, same_moment}
+use Rattle.run_books.specs.Records.{KeepsFile}
 use Rattle.silo_top.specs.Reading.{PulledOnly}
 
 -- before the first pull
@@ -13,6 +15,13 @@ still_none w = record {
   disk = refl;
   syncs = refl;
   moments = record { more = []; past = sym (append-nil w.past); each = tt };
+}
+
+-- each file was kept
+pub still_file : (file : FileId) (old now : World) → PulledOnly old now → KeepsFile file old now
+still_file file old now is = record {
+  moments = weaker (λ (m : Moment). m ≡ moment_of old) (λ (m : Moment). m.disk file ≡ old.disk file) (λ m same. ap (λ (x : Moment). x.disk file) same) is.moments;
+  now_is = ap (λ (d : Disk). d file) is.disk;
 }
 
 -- it stands still over a pull

@@ -34,6 +34,8 @@ use Rattle.silo_top.specs.Statuses.{status_ending}
 use Rattle.silo_top.specs.Answering.{observed_run}
 use Rattle.silo_top.specs.Reading.{PulledOnly}
 use Rattle.silo_top.specs.Serving.{IsBehindOpening}
+use Rattle.run_books.proofs.Unvoted.{unvoted_behind}
+use Rattle.silo_top.proofs.Still.{still_file}
 use Rattle.silo_top.proofs.Beginning.{none_applies, rose_none}
 use Rattle.silo_top.proofs.Promised.{behind_promised}
 
@@ -53,6 +55,9 @@ not_manager file aside e = (subst (λ (f : FileId). IsAside live_slot f) e aside
 
 one_sync : (n mid old : ℕ) → n ≡ mid → mid ≡ old + 1 → n ≡ old + (1 + (0 + 2 * 0))
 one_sync n mid old a b = omega (arith, a, b)
+
+one_most : (n mid old : ℕ) → n ≡ mid → mid ≡ old + 1 → n ≤ old + (1 + (0 + 2 * (0 + 0)))
+one_most n mid old a b = omega (arith, a, b)
 
 module _ (m : Manner) (o : Opened) (old mid new : World) (before after : Channel → ℕ) (status : Status) (is : IsBehindOpening old mid o) (pulled : PulledOnly mid new) (stay_mid : ReadsMayStay mid)
     (above : 0 < o.next_unit.0) (end : EndsUnbegun (status_ending status) (length old.input) before after) where
@@ -86,6 +91,7 @@ module _ (m : Manner) (o : Opened) (old mid new : World) (before after : Channel
       };
       doubted = λ file q. absurd (end.no_file file q);
       ended = λ d. absurd (no_doubt d);
+      unvoted = unvoted_behind p r c mid stands (λ g none. still_file (Grain live_slot g) mid new pulled);
     };
     settled = record { entries = ([], refl); all = λ which. refl; told = omega arith; cut = inl refl };
     output = record { output = pulled.output ∙ is.run.now.output ∙ sym (append-nil old.output); unended = tt; proper = tt };
@@ -98,6 +104,7 @@ module _ (m : Manner) (o : Opened) (old mid new : World) (before after : Channel
       begun = inl refl;
       done = λ q. absurd (end.undone q);
       syncs = λ none counts. one_sync new.syncs mid.syncs old.syncs pulled.syncs is.count;
+      most = one_most new.syncs mid.syncs old.syncs pulled.syncs is.count;
     };
   }
 

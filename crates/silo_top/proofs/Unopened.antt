@@ -1,5 +1,5 @@
 -- A folder that wasn't opened.
-use Rattle.std.proofs.Common.{◌≡◌, inl, inr, ℕ, List, refl, sym, ap, subst}
+use Rattle.std.proofs.Common.{◌≡◌, ◌≤◌, ◌+◌, inl, inr, ℕ, List, refl, sym, ap, subst, arith}
 use Rattle.host_trait.specs.declared.channels.Channel.{Channel}
 use Rattle.host_trait.specs.declared.channels.FileId.{FileId}
 use Rattle.host_trait.specs.Disk.{FileState, MayLeave}
@@ -58,7 +58,7 @@ asked_untouched old new run = record {
 
 -- a run that didn't open its folder keeps its promise
 pub unopened_promised : (m : Manner) (r : Observed) → r.manner ≡ m → IsUnopened r → Promises m r
-unopened_promised m r is u = record { manner = is; answers = inl u; over_sound = λ p checked sound. inl u }
+unopened_promised m r is u = record { manner = is; answers = inl u; over_whole = λ p checked whole. inl u }
 
 -- so does one whose opening answered a fault
 pub refused_promised : (m : Manner) (old new : World) (before after : Channel → ℕ) (e : OpenFault) (status : Status) → status_ending status ≡ ending_of e → RunsOnFile manager Stays 1 old new
@@ -66,6 +66,7 @@ pub refused_promised : (m : Manner) (old new : World) (before after : Channel �
 refused_promised m old new before after e status is run refused faulted = unopened_promised m (observed_run m old new before after status) refl (record {
   untouched = asked_untouched old new run;
   unread = run.input;
+  syncs = run.syncs;
   refused = subst (λ (x : Ending). IsRefusedBy (seen_in old.disk) (opened_as live_slot (seen_in old.disk)) x) (sym is) refused;
   failed = subst (λ (x : Ending). HasFailedAs x before after) (sym is) (open_failed before after e faulted);
 })
@@ -84,6 +85,7 @@ pub starved_unopened : (m : Manner) (asked : List (List ℕ)) (w : World) (count
 starved_unopened m asked w counts = record {
   untouched = nothing_touched w;
   unread = refl;
+  syncs = omega arith;
   refused = tt;
   failed = λ channel. refl;
 }
@@ -116,6 +118,7 @@ pub refused_unopened : (m : Manner) (asked : List (List ℕ)) (old new : World) 
 refused_unopened m asked old new before after e status is run refused faulted = record {
   untouched = asked_untouched old new run;
   unread = run.input;
+  syncs = run.syncs;
   refused = subst (λ (x : Ending). IsRefusedBy (seen_in old.disk) (opened_as live_slot (seen_in old.disk)) x) (sym is) refused;
   failed = subst (λ (x : Ending). HasFailedAs x before after) (sym is) (open_failed before after e faulted);
 }

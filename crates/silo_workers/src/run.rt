@@ -100,7 +100,9 @@ fn carry_in_turns<H: Host, G: Gate, L: Lines + Copy>(
 /// It answers `Ok` where each line has its entry, all is written and nobody can move. The core comes back, unless there is no
 /// memory to share it: then no event was put, and the host is as before.
 ///
-/// That it returns isn't proved: it waits for turns, and for the ends of the units that a unit waits for.
+/// That it returns isn't proved: it waits for turns, and for the ends of the units that a unit waits for. It has no deadlock: where
+/// nobody can move, all is settled, which is a law of every legal run, whoever put its events (`without_a_mover_all_is_settled` of
+/// `turn_rules`). What isn't proved is that a thread that waits looks again, and that one of those who can move wins the turn.
 ///
 /// # Errors
 ///

@@ -1,9 +1,13 @@
 use Rattle.run_books.proofs.Lasting.{lasts}
 use Rattle.run_books.proofs.Showing.{explains, settled}
+use Rattle.run_books.proofs.Unvoted.{unvoted_behind}
 use Rattle.run_books.proofs.laws.records_show.Goals as goal
 
 pub returns-clause-explains : goal.returns-clause-explains
-returns-clause-explains g c = λ tells o b r settler seen course result k e q turns is. explains tells o b r settler seen course result k e q turns is
+returns-clause-explains g c = λ tells o b r settler seen course result k e q turns is unvoted. explains tells o b r settler seen course result k e q turns is unvoted
+
+pub returns-clause-unvoted : goal.returns-clause-unvoted
+returns-clause-unvoted g c = λ p seen course mid behind kept. unvoted_behind p seen course mid behind kept
 
 pub returns-clause-settled : goal.returns-clause-settled
 returns-clause-settled g c = λ tells o b r settler seen course result loud k e q is. settled tells o b r settler seen course result loud k e q is

@@ -27,7 +27,7 @@ use Rattle.silo_top.proofs.carrying.serve.Goals as goal
 pub returns-in-Err-clause-promises : goal.returns-in-Err-clause-promises
 returns-in-Err-clause-promises g c = λ told old before behind none.
     unopened_promised (carriage_manner c.args.how.now) (observed_run (carriage_manner c.args.how.now) old (g.H.Host.world c.args.host.now) before (g.H.Host.faults c.args.host.now) Status.Memory) refl
-    (record { untouched = asked_untouched old (g.H.Host.world c.args.host.now) behind.run; unread = behind.run.input; refused = tt; failed = none })
+    (record { untouched = asked_untouched old (g.H.Host.world c.args.host.now) behind.run; unread = behind.run.input; syncs = behind.run.syncs; refused = tt; failed = none })
 
 pub returns-in-Err-read_input-clause-promises : goal.returns-in-Err-read_input-clause-promises
 returns-in-Err-read_input-clause-promises g c = λ told old before behind none.
