@@ -45,7 +45,7 @@ pub fn add_streams(rt: &HostRuntime, out: &mut String) -> io::Result<()> {
 }
 
 fn add_over(rt: &HostRuntime, out: &mut String, output: &mut Vec<u8>) -> Result<(), AllocError> {
-    let linux = Linux::new(rt, b"input".as_slice(), output);
+    let linux = Linux::new(rt, b"input".as_slice(), &mut *output);
     let mut host = FolderHost::new(rt.alloc(), linux, "")?;
     add_answers(out, &mut host)
 }

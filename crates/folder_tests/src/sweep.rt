@@ -22,6 +22,10 @@ struct Told {
     is_synced: bool,
 }
 
+fn are_apart(found: &[u8], wanted: &[u8]) -> bool {
+    found != wanted
+}
+
 // One round of a file: it is written, read and synced. An answer is wrong where it isn't true of the machine, and where it isn't
 // counted as a fault just when it fails.
 fn ask(
@@ -37,8 +41,9 @@ fn ask(
     let mut into = [0; 4];
     let is_read = host.read_at(told.file, 0, &mut into).is_ok();
     told.is_synced = host.sync(told.file).is_ok();
-    let is_untrue = told.is_written && stands.as_slice() != told.text;
-    let is_misread = told.is_written && is_read && into.as_slice() != told.text;
+    let text = told.text;
+    let is_untrue = told.is_written && are_apart(&stands, text);
+    let is_misread = told.is_written && is_read && are_apart(&into, text);
     let failed = [told.is_written, is_read, told.is_synced]
         .iter()
         .filter(|is_ok| !**is_ok)
@@ -54,7 +59,7 @@ fn ask(
 // What a crash leaves of a file that was written and synced is its text.
 fn look(machine: &Machine, told: &Told, wrong: &mut Wrong) -> Result<(), AllocError> {
     let left = machine.bytes(told.file)?;
-    if told.is_written && told.is_synced && left.as_slice() != told.text {
+    if told.is_written && told.is_synced && are_apart(&left, told.text) {
         wrong.bytes = wrong.bytes.saturating_add(1);
     }
     Ok(())
