@@ -1,5 +1,5 @@
 // A system in memory, which records the calls that are made, fails where it is told to, and forgets at a crash what doesn't last.
-ghost use Rattle.std.specs.Prelude.{◌+◌, ◌≤◌, length, IfOk, IfSome};
+ghost use Rattle.std.specs.Prelude.{◌≡◌, ◌≤◌, IfOk};
 
 use host_trait::FileId;
 use std::alloc::{AllocError, Global};
@@ -151,9 +151,7 @@ impl Machine {
     /// Takes a file away.
     pub fn lose(&self, file: FileId) {
         if let Ok(mut files) = self.files.try_borrow_mut() {
-            if let Some(place) = place_of(&files, file) {
-                let _ = files.remove(place);
-            }
+            files.retain(|stored| stored.file != file);
         }
     }
 
@@ -313,7 +311,9 @@ impl<'a> Handle for OpenedFile<'a> {
 pub struct OnMachine<'a>(pub &'a Machine);
 
 impl<'a> OnMachine<'a> {
-    fn opened(&self, file: FileId, what: &str, name: &str) -> Result<OpenedFile<'a>, Refused> {
+    fn opened(&self, file: FileId, what: &str, name: &str) -> Result<OpenedFile<'a>, Refused>
+        ensures { IfOk result (λ opened. opened.file ≡ file) }
+    {
         let machine = self.0;
         let number = machine.number();
         let line = format!(in machine.alloc; "{what} {name}").map_err(|_| Refused::Failed)?;
