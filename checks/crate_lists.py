@@ -39,14 +39,27 @@ def sources(crate):
                         yield name, file.read()
 
 
+def plain(text):
+    """A file of code without its comments."""
+    return re.sub(r"//[^\n]*", "", text)
+
+
 def named_in_code(text):
     """The heads of the paths of a file of code, but for its own modules and what a `use` of std brings."""
-    text = re.sub(r"//[^\n]*", "", text)
+    text = plain(text)
     heads = set(re.findall(r"(?<![\w.:])(\w+)\s*::", text))
     heads |= set(re.findall(r"\buse\s+(\w+)\s*(?:;|as\b)", text))
     own = set(re.findall(r"\bmod\s+(\w+)", text))
     brought = set(re.findall(r"\buse\s+std::(?:\w+::)*(\w+);", text))
     return (heads - own - brought) | set(re.findall(r"\bRattle\.(\w+)\.", text))
+
+
+def used_in_code(texts):
+    """The heads of the `use` items of a crate's code, but for its own modules, its own paths and std."""
+    texts = [plain(text) for text in texts]
+    heads = {it for text in texts for it in re.findall(r"(?m)^\s*(?:pub(?:\([^)]*\))?\s+)?use\s+([a-z_0-9]+)::", text)}
+    own = {it for text in texts for it in re.findall(r"\bmod\s+(\w+)", text)}
+    return heads - own - {"crate", "self", "super", "std", "core"}
 
 
 def named_in_proofs(text):
@@ -56,16 +69,20 @@ def named_in_proofs(text):
 
 def names_of(crate, known):
     """The libraries that the files of a crate name, the repository's first, in the order of the list."""
-    named = set()
+    named, code = set(), []
     for name, text in sources(crate):
-        named |= named_in_code(text) if name.endswith(".rt") else named_in_proofs(text)
+        if name.endswith(".rt"):
+            named |= named_in_code(text)
+            code.append(text)
+        else:
+            named |= named_in_proofs(text)
     named -= {crate, "std"}
     own = [it for it in known if it in named]
-    return own + sorted(named & kit_names(known) - set(own))
+    return own + sorted((named & kit_names(known) | used_in_code(code)) - set(known))
 
 
 def kit_names(known):
-    """The kit's libraries that some line lists: no other is looked for, since `io` or `log` may be a module's name."""
+    """The kit's libraries that some line lists. Another one is found where a `use` names it: `io::` or `log::` may be a module's."""
     return {it for listed in known.values() for it in listed} - set(known)
 
 

@@ -1,52 +1,56 @@
 ghost use Rattle.host_trait.specs.Files.{HasSlot};
 
-use crate::recorder::{Calls, Disk, Recording};
+use crate::machine::{Fault, Machine, OnMachine};
 use crate::steps::{Step, add_answer, bytes_of, file_of};
-use crate::streams::{add_bad_streams, add_standard, add_streams};
-use host_files::{DiskFile, FolderHost};
+use crate::streams::{add_machine_streams, add_standard, add_streams};
+use crate::sweep::add_sweep;
+use host_files::FolderHost;
 use host_trait::{Channel, FileId};
 use std::alloc::{AllocError, Global};
-use std::rt::Files;
 use std::{fs, io};
+use system_calls::{Linux, SystemCalls};
 
-type Recorder<'a> = FolderHost<Recording<'a>, io::Empty, io::Sink>;
+type Machined<'a> = FolderHost<OnMachine<'a>>;
 
-type Real<'a> = FolderHost<&'a HostRuntime, io::Empty, io::Sink>;
+type Real<'a> = FolderHost<Linux<'a, io::Empty, io::Sink>>;
 
 // Which host is asked.
 #[derive(Clone, Copy)]
 enum Asked {
-    Recorder,
+    Machine,
     First,
     Second,
 }
 
-/// A host over the recorder, and two over real folders, which are taken by their first calls.
+/// A host over the machine, and two over real folders, which are taken by their first calls.
 #[derive(Drop)]
 pub struct Bench<'a> {
     rt: &'a HostRuntime,
-    calls: &'a Calls,
-    recorder: Recorder<'a>,
+    machine: &'a Machine,
+    machined: Machined<'a>,
     first: Real<'a>,
     second: Real<'a>,
     asked: Asked,
 }
 
-fn recorder_over<'a>(alloc: Global, calls: &'a Calls) -> Result<Recorder<'a>, AllocError> {
-    FolderHost::new(alloc, Recording(calls), io::empty(), io::sink(), "f")
+fn host_over(alloc: Global, machine: &Machine) -> Result<Machined<'_>, AllocError> {
+    FolderHost::new(alloc, OnMachine(machine), "f")
 }
 
 // A host over a real folder, with no input.
 fn real_over<'a>(rt: &'a HostRuntime, folder: &str) -> Result<Real<'a>, AllocError> {
-    FolderHost::new(rt.alloc(), rt, io::empty(), io::sink(), folder)
+    let linux = Linux::new(rt, io::empty(), io::sink());
+    FolderHost::new(rt.alloc(), linux, folder)
 }
 
-fn disk_of(word: &str) -> Disk {
+fn fault_of(word: &str) -> Fault {
     match word {
-        "empty" => Disk::Empty,
-        "locked" => Disk::Locked,
-        "bad" => Disk::Bad,
-        _ => Disk::Usual,
+        "refused" => Fault::Refused,
+        "interrupted" => Fault::Interrupted,
+        "short" => Fault::Short,
+        "read-only" => Fault::ReadOnly,
+        "unreached" => Fault::Unreached,
+        _ => Fault::None,
     }
 }
 
@@ -54,22 +58,22 @@ fn asked_of(word: &str) -> Asked {
     match word {
         "first" => Asked::First,
         "second" => Asked::Second,
-        _ => Asked::Recorder,
+        _ => Asked::Machine,
     }
 }
 
 impl<'a> Bench<'a> {
-    pub fn new(rt: &'a HostRuntime, calls: &'a Calls) -> Result<Bench<'a>, AllocError> {
-        let recorder = recorder_over(rt.alloc(), calls)?;
+    pub fn new(rt: &'a HostRuntime, machine: &'a Machine) -> Result<Bench<'a>, AllocError> {
+        let machined = host_over(rt.alloc(), machine)?;
         let first = real_over(rt, "")?;
         let second = real_over(rt, "")?;
         Ok(Bench {
             rt,
-            calls,
-            recorder,
+            machine,
+            machined,
             first,
             second,
-            asked: Asked::Recorder,
+            asked: Asked::Machine,
         })
     }
 
@@ -85,7 +89,8 @@ impl<'a> Bench<'a> {
             "size" => self.add_size(&mut out, rest)?,
             "streams" => add_streams(self.rt, &mut out)?,
             "standard-streams" => add_standard(self.rt, &mut out)?,
-            "bad-streams" => add_bad_streams(self.rt, self.calls, &mut out)?,
+            "machine-streams" => add_machine_streams(self.rt, self.machine, &mut out)?,
+            "sweep" => add_sweep(self.rt.alloc(), self.machine, fault_of(rest), &mut out)?,
             _ => self.add_case(&mut out, word, rest)?,
         }
         Ok(out)
@@ -95,12 +100,27 @@ impl<'a> Bench<'a> {
     fn lay(&mut self, word: &str, rest: &str) -> io::Result<bool> {
         match word {
             "" | "#" => {}
-            "recorder" => {
-                self.recorder = recorder_over(self.rt.alloc(), self.calls)?;
-                self.calls.restart(rest.parse::<i32>().unwrap_or(0))?;
-                self.asked = Asked::Recorder;
+            "machine" => {
+                self.machined = host_over(self.rt.alloc(), self.machine)?;
+                self.machine.fail(0, Fault::None);
+                self.machine.restart(rest.parse::<i32>().unwrap_or(0));
+                self.asked = Asked::Machine;
             }
-            "disk" => self.calls.turn(disk_of(rest)),
+            "again" => {
+                self.machined = host_over(self.rt.alloc(), self.machine)?;
+                let _ = self.machine.taken();
+            }
+            "crash" => self.machine.crash()?,
+            "fail" => {
+                let (nth, fault) = rest.split_once(' ').unwrap_or((rest, ""));
+                self.machine
+                    .fail(nth.parse::<u64>().unwrap_or(0), fault_of(fault));
+            }
+            "gone" | "pipe" | "there" => self.lay_file(word, rest)?,
+            "rename" => {
+                let (from, to) = rest.split_once(' ').unwrap_or((rest, ""));
+                fs::rename(self.rt, from, to)?;
+            }
             "first" => self.first = real_over(self.rt, rest)?,
             "second" => self.second = real_over(self.rt, rest)?,
             "on" => self.asked = asked_of(rest),
@@ -108,6 +128,19 @@ impl<'a> Bench<'a> {
             _ => return Ok(false),
         }
         Ok(true)
+    }
+
+    // Takes a file of the machine away, or puts one there: a pipe, or one of three bytes.
+    fn lay_file(&self, word: &str, name: &str) -> Result<(), AllocError> {
+        let Some(file) = file_of(name) else {
+            return Ok(());
+        };
+        match word {
+            "gone" => self.machine.lose(file),
+            "pipe" => self.machine.lay(file, &[], true)?,
+            _ => self.machine.lay(file, b"abc", false)?,
+        }
+        Ok(())
     }
 
     fn add_size(&self, out: &mut String, path: &str) -> io::Result<()> {
@@ -140,7 +173,7 @@ impl<'a> Bench<'a> {
         if faults > 0 {
             write!(out, ", {faults} faults")?;
         }
-        out.push_str(self.calls.taken()?.as_str())?;
+        out.push_str(self.machine.taken().as_str())?;
         Ok(())
     }
 
@@ -148,7 +181,7 @@ impl<'a> Bench<'a> {
         requires { HasSlot file }
     {
         match self.asked {
-            Asked::Recorder => ask_host(out, &mut self.recorder, file, step),
+            Asked::Machine => ask_host(out, &mut self.machined, file, step),
             Asked::First => ask_host(out, &mut self.first, file, step),
             Asked::Second => ask_host(out, &mut self.second, file, step),
         }
@@ -156,14 +189,12 @@ impl<'a> Bench<'a> {
 }
 
 // Writes what a host answers, and answers how many of its calls on the file have failed so far.
-fn ask_host<F: Files + Drop>(
+fn ask_host<S: SystemCalls + Drop>(
     out: &mut String,
-    host: &mut FolderHost<F, io::Empty, io::Sink>,
+    host: &mut FolderHost<S>,
     file: FileId,
     step: &Step<'_>,
 ) -> Result<u64, AllocError>
-where
-    F::File: DiskFile,
     requires { HasSlot file }
 {
     add_answer(out, host, file, step)?;

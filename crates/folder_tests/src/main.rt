@@ -1,32 +1,38 @@
-//! Asks a host over a folder of files, and says what it answers: over a file system that records its calls, with those that it
-//! made, and over real folders. `stdin` has the cases, and `stdout` what must come out, worked out by hand.
+//! Asks a host over a folder of files, and says what it answers: over a system in memory that records its calls, fails them and
+//! forgets at a crash what doesn't last, with the calls that were made, and over real folders. `stdin` has the cases, and `stdout`
+//! what must come out, worked out by hand.
 //!
 //! | A line | does |
 //! |---|---|
 //! | `# ..` | says what the cases behind it show |
-//! | `recorder N` | takes a new host over the recorder, whose first handle has this number |
-//! | `disk usual`, `empty`, `locked` or `bad` | says what is so on the recorder's disk from here on |
+//! | `machine N` | empties the system in memory, whose next handle has this number, and takes a new host over it |
+//! | `again` | takes a new host over the system in memory as it stands |
+//! | `crash` | forgets there each file whose entry doesn't last, and the bytes that don't |
+//! | `fail N FAULT` | the nth call there is answered so from here on, and each one where n is 0: `refused`, `interrupted`, `short`, `read-only`, `unreached`, or `well` |
+//! | `gone FILE`, `there FILE`, `pipe FILE` | takes a file of it away; puts one of three bytes there; puts a pipe there |
+//! | `sweep FAULT` | makes a run of writes and syncs again and again, so that each of its calls fails once, and tells how often a host answered wrongly, or a crash left other bytes than were synced |
 //! | `first FOLDER`, `second FOLDER` | takes a new host over a real folder, in place of the one before |
-//! | `on first`, `second` or `recorder` | says which host is asked from here on |
+//! | `on first`, `second` or `machine` | says which host is asked from here on |
 //! | `length FILE`, `read FILE AT LEN`, `write FILE AT BYTES`, `sync FILE` | asks it |
-//! | `folder PATH`, `size PATH` | makes a real folder; tells how long a real file is |
-//! | `streams`, `bad-streams`, `standard-streams` | reads from an input and writes to an output; the same where each read and write fails; tells the faults of a new host over the standard streams |
+//! | `folder PATH`, `rename FROM TO`, `size PATH` | makes a real folder; renames it; tells how long a real file is |
+//! | `streams`, `machine-streams`, `standard-streams` | reads from an input and writes to an output; the same over the system in memory, as it answers; tells the faults of a new host over the standard streams |
 //!
 //! A file is `program`, of slot 0, `manager`, of slot 1, or `grain`. Bytes are in hexadecimal.
 #![tactic(auto)]
 
 mod bench;
-mod recorder;
+mod machine;
 mod steps;
 mod streams;
+mod sweep;
 
 use crate::bench::Bench;
-use crate::recorder::Calls;
+use crate::machine::Machine;
 use std::io;
 
 fn main(rt: HostRuntime) -> io::Result<()> {
-    let calls = Calls::new(rt.alloc());
-    let mut bench = Bench::new(&rt, &calls)?;
+    let machine = Machine::new(rt.alloc());
+    let mut bench = Bench::new(&rt, &machine)?;
     for line in rt.lines(rt.alloc()) {
         let line = line?;
         let told = bench.told(line.as_str())?;

@@ -6,20 +6,26 @@ use base_types::GrainId;
 use host_trait::{FileId, Host};
 use std::alloc::{AllocError, Global};
 
+/// The file `manager`.
+pub const MANAGER: FileId = FileId::Manager { slot: 1 };
+
+/// The file `grain`.
+pub const GRAIN: FileId = FileId::Grain {
+    slot: 0,
+    grain: GrainId {
+        kind: 3,
+        key: 70_000,
+    },
+};
+
 /// The file of a name.
 pub fn file_of(name: &str) -> Option<FileId>
     ensures { IfSome result HasSlot }
 {
     match name {
         "program" => Some(FileId::Program { slot: 0 }),
-        "manager" => Some(FileId::Manager { slot: 1 }),
-        "grain" => Some(FileId::Grain {
-            slot: 0,
-            grain: GrainId {
-                kind: 3,
-                key: 70_000,
-            },
-        }),
+        "manager" => Some(MANAGER),
+        "grain" => Some(GRAIN),
         _ => None,
     }
 }

@@ -1,20 +1,16 @@
 // What the host does with its input and its output.
-use crate::recorder::{Calls, Recording};
-use host_files::{DiskFile, FolderHost};
+use crate::machine::{Machine, OnMachine};
+use host_files::FolderHost;
 use host_trait::{Channel, Host};
 use std::alloc::AllocError;
-use std::io::{Read, Write};
-use std::rt::Files;
-use std::{fs, io};
+use std::io;
+use system_calls::{Linux, SystemCalls};
 
 // Writes what a host answers that pulls twice and emits a line twice, and how many faults of each it counts then.
-fn add_answers<F: Files + Drop, R: Read + Drop, W: Write + Drop>(
+fn add_answers<S: SystemCalls + Drop>(
     out: &mut String,
-    host: &mut FolderHost<F, R, W>,
-) -> Result<(), AllocError>
-where
-    F::File: DiskFile,
-{
+    host: &mut FolderHost<S>,
+) -> Result<(), AllocError> {
     let mut bytes = [0; 8];
     let first = host.pull(&mut bytes);
     let second = host.pull(&mut [0; 8]);
@@ -29,14 +25,15 @@ where
     write!(out, "{of_input} and {of_output} faults")
 }
 
-/// Writes what a host answers whose streams are handles that fail.
-pub fn add_bad_streams(rt: &HostRuntime, calls: &Calls, out: &mut String) -> io::Result<()> {
-    let files = Recording(calls);
-    let input = fs::open(&files, "input")?;
-    let output = fs::open(&files, "output")?;
-    let mut host = FolderHost::new(rt.alloc(), files, input, output, "f")?;
+/// Writes what a host answers over the system in memory, as that answers, and the calls that it made.
+pub fn add_machine_streams(
+    rt: &HostRuntime,
+    machine: &Machine,
+    out: &mut String,
+) -> Result<(), AllocError> {
+    let mut host = FolderHost::new(rt.alloc(), OnMachine(machine), "f")?;
     add_answers(out, &mut host)?;
-    Ok(())
+    out.push_str(machine.taken().as_str())
 }
 
 /// Writes what a host answers that reads a text, and what it wrote.
@@ -48,13 +45,15 @@ pub fn add_streams(rt: &HostRuntime, out: &mut String) -> io::Result<()> {
 }
 
 fn add_over(rt: &HostRuntime, out: &mut String, output: &mut Vec<u8>) -> Result<(), AllocError> {
-    let mut host = FolderHost::new(rt.alloc(), rt, b"input".as_slice(), output, "")?;
+    let linux = Linux::new(rt, b"input".as_slice(), &mut *output);
+    let mut host = FolderHost::new(rt.alloc(), linux, "")?;
     add_answers(out, &mut host)
 }
 
 /// Writes how many faults a new host over the standard streams has.
 pub fn add_standard(rt: &HostRuntime, out: &mut String) -> Result<(), AllocError> {
-    let host = FolderHost::new(rt.alloc(), rt, rt.reader(), io::writer(rt), "nowhere")?;
+    let linux = Linux::new(rt, rt.reader(), io::writer(rt));
+    let host = FolderHost::new(rt.alloc(), linux, "nowhere")?;
     let faults = host.fault_count(Channel::Input);
     write!(out, "{faults} faults")
 }

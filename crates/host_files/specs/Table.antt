@@ -1,4 +1,4 @@
--- The paths of the files that are ready, how often calls on each have failed, and whether a sync of it has.
+-- The names of the files that are ready, how often calls on each have failed, and whether a sync of it has.
 use Rattle.std.specs.Prelude.{◌≡◌, ℕ, nat_le, Bool, true, false, IsTrue, Option, Some, None, List, string_bytes}
 use Rattle.std.specs.declared.cmp.Ordering.{Ordering}
 use Rattle.std.specs.BTreeMap.{BTreeMap, get}
@@ -8,15 +8,15 @@ use Rattle.host_trait.specs.declared.channels.Channel.{Channel}
 use Rattle.host_trait.specs.declared.channels.Channel.TheVariants.{Input, Output, File}
 use Rattle.host_trait.specs.contracts.channels.FileIdOrd.TheImpl as file_ord
 use Rattle.host_files.specs.declared.table.Named.{Named}
-use Rattle.host_files.specs.Names.{path_of}
+use Rattle.host_trait.specs.Files.{name_of}
 
 -- the order of files in the table
 abbrev pub file_cmp : FileId → FileId → Ordering
 file_cmp = (file_ord.ghosts).cmp
 
-abbrev pub path_in_entry : Option Named → Option (List ℕ)
-path_in_entry None = None
-path_in_entry (Some named) = Some (string_bytes named.path)
+abbrev pub name_in_entry : Option Named → Option (List ℕ)
+name_in_entry None = None
+name_in_entry (Some named) = Some (string_bytes named.name)
 
 abbrev pub faults_in_entry : Option Named → ℕ
 faults_in_entry None = 0
@@ -26,17 +26,17 @@ abbrev pub is_lost_entry : Option Named → Bool
 is_lost_entry None = false
 is_lost_entry (Some named) = named.is_lost
 
-abbrev pub is_path : Option (List ℕ) → Bool
-is_path None = false
-is_path (Some path) = true
+abbrev pub is_name : Option (List ℕ) → Bool
+is_name None = false
+is_name (Some name) = true
 
--- the path of a file, none where it isn't ready
-abbrev pub path_in : BTreeMap FileId Named → FileId → Option (List ℕ)
-path_in files file = path_in_entry (get file_cmp files file)
+-- the name of a file, none where it isn't ready
+abbrev pub name_in : BTreeMap FileId Named → FileId → Option (List ℕ)
+name_in files file = name_in_entry (get file_cmp files file)
 
 -- whether a file is ready
 abbrev pub is_named : BTreeMap FileId Named → FileId → Bool
-is_named files file = is_path (path_in files file)
+is_named files file = is_name (name_in files file)
 
 -- how often calls on a file have failed
 abbrev pub faults_in : BTreeMap FileId Named → FileId → ℕ
@@ -46,9 +46,9 @@ faults_in files file = faults_in_entry (get file_cmp files file)
 abbrev pub is_lost : BTreeMap FileId Named → FileId → Bool
 is_lost files file = is_lost_entry (get file_cmp files file)
 
--- each file that is ready has its own path in this folder
-abbrev pub HaveOwnPaths : List ℕ → BTreeMap FileId Named → Type 0
-HaveOwnPaths folder files = (file : FileId) (path : List ℕ) → path_in files file ≡ Some path → path ≡ path_of folder file
+-- each file that is ready has its own name
+abbrev pub HaveOwnNames : BTreeMap FileId Named → Type 0
+HaveOwnNames files = (file : FileId) (name : List ℕ) → name_in files file ≡ Some name → name ≡ name_of file
 
 -- whether a file is ready from the start
 abbrev pub is_always : FileId → Bool
@@ -59,9 +59,9 @@ is_always (Grain slot grain) = false
 abbrev pub AreAlwaysNamed : BTreeMap FileId Named → Type 0
 AreAlwaysNamed files = (file : FileId) → IsTrue (is_always file) → IsTrue (is_named files file)
 
--- no file has another path than before
-abbrev pub SamePaths : BTreeMap FileId Named → BTreeMap FileId Named → Type 0
-SamePaths old new = (file : FileId) → path_in new file ≡ path_in old file
+-- no file has another name than before
+abbrev pub SameNames : BTreeMap FileId Named → BTreeMap FileId Named → Type 0
+SameNames old new = (file : FileId) → name_in new file ≡ name_in old file
 
 -- how often each channel has failed
 abbrev pub counts_of : ℕ → ℕ → BTreeMap FileId Named → Channel → ℕ

@@ -1,8 +1,7 @@
 // A process's hold on a folder.
-use crate::disk_file::DiskFile;
-use std::fs::{self, OpenFile};
-use std::io::{self, ErrorKind};
-use std::rt::Files;
+ghost use Rattle.std.specs.Prelude.{◌≡◌, IsSome, OnErr, IfOk, IsTrue, false, None};
+
+use system_calls::{Refused, SystemCalls};
 
 /// The handle of a folder, which holds its lock, and handles that stand in for closed standard streams.
 ///
@@ -15,46 +14,67 @@ pub struct Claim<T> {
     for_output: Option<T>,
     for_errors: Option<T>,
     folder: Option<T>,
+    is_missing: bool,
 }
 
-impl<T: DiskFile + OpenFile + Drop> Claim<T> {
+impl<T: Drop> Claim<T> {
     /// A hold on nothing yet.
-    pub fn new() -> Claim<T> {
+    pub fn new() -> Claim<T>
+        ensures { result.folder ≡ None }
+    {
         Claim {
             for_input: None,
             for_output: None,
             for_errors: None,
             folder: None,
+            is_missing: false,
         }
     }
 
-    /// Takes the folder at this path, unless it is taken. An error where it isn't there, or another handle has its lock; no
-    /// file of it may be opened then.
-    pub fn take<F: Files<File = T>>(&mut self, files: &F, path: &str) -> io::Result<()> {
+    /// The handle of the folder, where it is taken.
+    pub fn folder(&self) -> Option<&T> {
+        self.folder.as_ref()
+    }
+
+    /// Takes the folder at this path, unless it is taken, and answers whether it is there. Refused where another handle has its
+    /// lock; no file of it may be opened then. A folder that wasn't there once isn't looked for again: what comes to stand at its
+    /// path is another one.
+    pub fn take<S: SystemCalls<Folder = T>>(
+        &mut self,
+        system: &mut S,
+        path: &str,
+    ) -> Result<bool, Refused>
+        ensures taken { IfOk result (λ there. IsTrue there → IsSome self.new.folder) }
+        ensures missing { IfOk result (λ there. there ≡ false → self.new.folder ≡ self.old.folder) }
+        ensures stays { OnErr result (self.new.folder ≡ self.old.folder) }
+        ensures state { IsTrue S.tells → S.state system.new ≡ S.state system.old }
+    {
         if self.folder.is_some() {
-            return Ok(());
+            return Ok(true);
+        }
+        if self.is_missing {
+            return Ok(false);
         }
         for _ in 0..4 {
-            let opened = fs::open(files, path)?;
-            match opened.as_raw_fd() {
+            let opened = match system.open_folder(path) {
+                Ok(opened) => opened,
+                Err(Refused::Missing) => {
+                    self.is_missing = true;
+                    return Ok(false);
+                }
+                Err(error) => return Err(error),
+            };
+            match system.number(&opened) {
                 0 => self.for_input = Some(opened),
                 1 => self.for_output = Some(opened),
                 2 => self.for_errors = Some(opened),
                 _ => {
-                    opened.lock_now()?;
+                    system.lock(&opened)?;
                     self.folder = Some(opened);
-                    return Ok(());
+                    return Ok(true);
                 }
             }
         }
-        Err(ErrorKind::Other.into())
-    }
-
-    /// Syncs the folder's entries. An error where the folder isn't taken.
-    pub fn sync(&self) -> io::Result<()> {
-        match &self.folder {
-            Some(folder) => folder.sync_all(),
-            None => Err(ErrorKind::NotFound.into()),
-        }
+        Err(Refused::Failed)
     }
 }

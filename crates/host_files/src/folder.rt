@@ -1,182 +1,260 @@
-// The system calls on the files of a folder.
-ghost use Rattle.std.specs.Prelude.{◌+◌, ◌^◌, ◌<◌, ◌≤◌, length, IsTrue, IsErr, IfOk, OnOk};
+// The system's calls on the files of a folder.
+ghost use Rattle.std.specs.Prelude.{◌≡◌, ◌+◌, ◌^◌, ◌<◌, ◌≤◌, length, IsTrue, IsErr, IfOk, IfSome, OnOk, OnErr};
+ghost use Rattle.host_trait.specs.Files.{name_of, same_file};
 
 use crate::claim::Claim;
-use crate::disk_file::DiskFile;
+use crate::pieces::{put_out, read_whole, take_input, write_whole};
 use crate::table::Asked;
 use host_trait::FileId;
-use std::fs::{self, OpenFile, OpenOptions};
-use std::io::{self, ErrorKind};
-use std::os::unix::fs::FileExt;
-use std::rt::Files;
+use system_calls::{Handle, Refused, SystemCalls};
 
 const LIMIT: u64 = 1 << 63;
 
 /// A handle that is kept from one call to the next.
 #[derive(Drop)]
-struct Kept<T> {
+pub struct Kept<T: Handle> {
     file: FileId,
     opened: T,
+    ghost serves: { T.file opened ≡ file },
 }
 
 /// Whether the folder's entries last: those of files that were made.
 #[derive(Clone, Copy, PartialEq, Eq)]
-enum Entries {
+pub enum Entries {
     Synced,
     Pending,
     /// A sync of them failed, so that no later one shows that they last.
     Lost,
 }
 
-/// A folder of real files, of which no other process makes calls while this one does.
+/// A folder of real files, of which no other process makes calls while this one does, and the standard streams.
 ///
 /// The handle that last read a file stays open, and that which last wrote or synced one, so that the sync that follows a write
 /// is asked of the handle that wrote. With the folder's own, and those that stand in for closed standard streams, at most six
-/// are open. Files are made by the first write or sync, and never cut or removed.
+/// are open. Files are made by the first write or sync, and never cut or removed. Only regular files are taken.
 #[derive(Drop)]
-pub struct Folder<F: Files> {
-    files: F,
+pub struct Folder<S: SystemCalls> {
+    system: S,
     path: String,
-    claim: Claim<F::File>,
-    reader: Option<Kept<F::File>>,
-    writer: Option<Kept<F::File>>,
+    claim: Claim<S::Folder>,
+    is_reached: bool,
+    reader: Option<Kept<S::File>>,
+    writer: Option<Kept<S::File>>,
     entries: Entries,
 }
 
-// Reads from there on until the slice is full or the file ends.
-fn fill<T: FileExt>(opened: &T, at: u64, into: &mut [u8]) -> io::Result<usize>
-    ensures { IfOk result (λ count. count ≤ length into.old) }
+fn is_same(a: FileId, b: FileId) -> bool
+    ensures { result ≡ same_file a b }
 {
-    let mut count = 0;
-    for _ in 0..u64::MAX {
-        if count >= into.len() {
-            return Ok(count);
+    match (a, b) {
+        (FileId::Program { slot: a }, FileId::Program { slot: b }) => a == b,
+        (FileId::Manager { slot: a }, FileId::Manager { slot: b }) => a == b,
+        (FileId::Grain { slot: a, grain: x }, FileId::Grain { slot: b, grain: y }) => {
+            a == b && x.kind == y.kind && x.key == y.key
         }
-        match opened.read_at(&mut into[count..], at.wrapping_add(count as u64)) {
-            Ok(0) => return Ok(count),
-            Ok(more) => count += more,
-            Err(error) => {
-                if error.kind() != ErrorKind::Interrupted {
-                    return Err(error);
-                }
-            }
-        }
+        _ => false,
     }
-    Err(ErrorKind::Interrupted.into())
+}
+
+// Whether two names are one file's.
+fn is_one(a: FileId, b: FileId) -> bool
+    ensures { IsTrue result → a ≡ b }
+{
+    let same = is_same(a, b);
+    same
 }
 
 // The handle that was kept, where it is this file's. No other is kept then either.
-fn take_kept<T: Drop>(kept: &mut Option<Kept<T>>, file: FileId) -> Option<T> {
+fn take_kept<T: Handle + Drop>(kept: &mut Option<Kept<T>>, file: FileId) -> Option<T>
+    ensures { IfSome result (λ opened. T.file opened ≡ file) }
+{
     match kept.take() {
-        Some(kept) if kept.file == file => Some(kept.opened),
-        _ => None,
+        Some(kept) => {
+            if is_one(kept.file, file) {
+                Some(kept.opened)
+            } else {
+                None
+            }
+        }
+        None => None,
     }
 }
 
-// Opens a file to write, and says whether it was made.
-fn open_to_write<F: Files>(files: &F, path: &str) -> io::Result<(F::File, bool)> {
-    match OpenOptions::new().write(true).open(files, path) {
-        Ok(opened) => Ok((opened, false)),
-        Err(error) => {
-            none_if_missing(error)?;
-            let opened = OpenOptions::new()
-                .write(true)
-                .create(true)
-                .open(files, path)?;
-            Ok((opened, true))
+// Opens a file to read and write it, or to read it alone where no more is allowed. A pipe isn't waited for: opened both ways it
+// needs no other end, and to read alone only regular files are opened.
+fn open_file<S: SystemCalls>(
+    system: &mut S,
+    folder: &S::Folder,
+    asked: Asked<'_>,
+) -> Result<S::File, Refused>
+    requires { asked.name.now ≡ name_of asked.file }
+    ensures { IfOk result (λ opened. S.File.file opened ≡ asked.entry.file) }
+{
+    match system.open(folder, asked.file, asked.name) {
+        Ok(opened) => Ok(opened),
+        Err(Refused::ReadOnly) => {
+            let found = system.look(folder, asked.file, asked.name)?;
+            if !found.is_regular {
+                return Err(Refused::Failed);
+            }
+            let opened = system.open_to_read(folder, asked.file, asked.name)?;
+            Ok(opened)
         }
+        Err(error) => Err(error),
     }
 }
 
 // A file of which a sync has failed is asked nothing more: the system may have dropped what was pending, and a later sync
 // would succeed all the same.
-fn refuse_lost(is_lost: bool) -> io::Result<()>
+fn refuse_lost(is_lost: bool) -> Result<(), Refused>
     ensures { IsTrue is_lost → IsErr result }
 {
     if is_lost {
-        return Err(ErrorKind::Other.into());
+        return Err(Refused::Failed);
     }
     Ok(())
 }
 
-impl<F: Files + Drop> Folder<F>
-where
-    F::File: DiskFile,
+// A file that had bytes is there for good: it is refused where it is missing.
+fn refuse_gone(had_bytes: bool) -> Result<(), Refused>
+    ensures { IsTrue had_bytes → IsErr result }
 {
+    if had_bytes {
+        return Err(Refused::Missing);
+    }
+    Ok(())
+}
+
+impl<S: SystemCalls + Drop> Folder<S> {
     /// The folder at this path. Its own entries count as not yet synced. Nothing is opened.
-    pub fn new(files: F, path: String) -> Folder<F> {
+    pub fn new(system: S, path: String) -> Folder<S>
+        ensures { result.entries ≡ Entries.Pending }
+    {
         Folder {
-            files,
+            system,
             path,
             claim: Claim::new(),
+            is_reached: false,
             reader: None,
             writer: None,
             entries: Entries::Pending,
         }
     }
 
-    // Takes the folder, and answers whether it is there.
-    fn is_there(&mut self) -> io::Result<bool> {
-        match self.claim.take(&self.files, self.path.as_str()) {
-            Ok(()) => Ok(true),
-            Err(error) => {
-                none_if_missing(error)?;
-                Ok(false)
-            }
+    /// Moves the next input bytes into the front of the slice, and answers how many.
+    pub fn pull(&mut self, into: &mut [u8]) -> Result<usize, Refused>
+        ensures bound { IfOk result (λ count. count ≤ length into.old) }
+    {
+        let count = take_input(&mut self.system, into)?;
+        Ok(count)
+    }
+
+    /// Appends all bytes to the output.
+    pub fn emit(&mut self, bytes: &[u8]) -> Result<(), Refused> {
+        put_out(&mut self.system, bytes)?;
+        Ok(())
+    }
+
+    // Opens a file of the folder. None where there is neither file nor folder.
+    fn find(&mut self, asked: Asked<'_>) -> Result<Option<S::File>, Refused>
+        requires { asked.name.now ≡ name_of asked.file }
+        ensures file { IfOk result (λ found. IfSome found (λ opened. S.File.file opened ≡ asked.entry.file)) }
+        ensures entries { self.new.entries ≡ self.old.entries }
+    {
+        if !self.claim.take(&mut self.system, self.path.as_str())? {
+            refuse_gone(asked.had_bytes)?;
+            return Ok(None);
         }
+        let Some(folder) = self.claim.folder() else {
+            return Err(Refused::Failed);
+        };
+        match open_file(&mut self.system, folder, asked) {
+            Ok(opened) => {
+                self.is_reached = true;
+                Ok(Some(opened))
+            }
+            Err(Refused::Missing) => {
+                refuse_gone(asked.had_bytes)?;
+                if !self.is_reached && !self.system.reaches(folder)? {
+                    return Err(Refused::Failed);
+                }
+                self.is_reached = true;
+                Ok(None)
+            }
+            Err(error) => Err(error),
+        }
+    }
+
+    // As `find`, and only a regular file is taken. One that had bytes was seen to be regular.
+    fn find_regular(&mut self, asked: Asked<'_>) -> Result<Option<S::File>, Refused>
+        requires { asked.name.now ≡ name_of asked.file }
+        ensures file { IfOk result (λ found. IfSome found (λ opened. S.File.file opened ≡ asked.entry.file)) }
+        ensures entries { self.new.entries ≡ self.old.entries }
+    {
+        let Some(opened) = self.find(asked)? else {
+            return Ok(None);
+        };
+        if !asked.had_bytes && !self.system.look_at(&opened)?.is_regular {
+            return Err(Refused::Failed);
+        }
+        Ok(Some(opened))
     }
 
     /// How many bytes a file has; 0 where there is none. Anything there but a regular file is refused, and so is a length of
     /// 2 to the 63 or more.
-    pub fn length(&mut self, asked: Asked<'_>) -> io::Result<u64>
+    pub fn length(&mut self, asked: Asked<'_>) -> Result<u64, Refused>
+        requires { asked.name.now ≡ name_of asked.file }
         ensures bound { IfOk result (λ count. count < 2 ^ 63) }
         ensures lost { IsTrue asked.entry.is_lost → IsErr result }
+        ensures entries { self.new.entries ≡ self.old.entries }
     {
         refuse_lost(asked.is_lost)?;
-        if !self.is_there()? {
-            return Ok(0);
-        }
-        let found = match fs::metadata(&self.files, asked.path) {
-            Ok(found) => found,
-            Err(error) => return none_if_missing(error),
+        let opened = match take_kept(&mut self.reader, asked.file) {
+            Some(opened) => opened,
+            None => match self.find(asked)? {
+                Some(opened) => opened,
+                None => return Ok(0),
+            },
         };
-        if !found.is_file() {
-            return Err(ErrorKind::Unsupported.into());
+        let found = self.system.look_at(&opened)?;
+        if !found.is_regular {
+            return Err(Refused::Failed);
         }
-        let count = found.len();
-        if count >= LIMIT {
-            return Err(ErrorKind::FileTooLarge.into());
+        self.reader = Some(Kept {
+            file: asked.file,
+            opened,
+        });
+        if found.length >= LIMIT {
+            return Err(Refused::Failed);
         }
-        Ok(count)
+        Ok(found.length)
     }
 
     // The handle that last read the file, or a new one. None where there is no file.
-    fn take_reader(&mut self, asked: Asked<'_>) -> io::Result<Option<F::File>> {
+    fn take_reader(&mut self, asked: Asked<'_>) -> Result<Option<S::File>, Refused>
+        requires { asked.name.now ≡ name_of asked.file }
+        ensures file { IfOk result (λ found. IfSome found (λ opened. S.File.file opened ≡ asked.entry.file)) }
+        ensures entries { self.new.entries ≡ self.old.entries }
+    {
         if let Some(opened) = take_kept(&mut self.reader, asked.file) {
             return Ok(Some(opened));
         }
-        if !self.is_there()? {
-            return Ok(None);
-        }
-        match fs::open(&self.files, asked.path) {
-            Ok(opened) => Ok(Some(opened)),
-            Err(error) => {
-                none_if_missing(error)?;
-                Ok(None)
-            }
-        }
+        let found = self.find_regular(asked)?;
+        Ok(found)
     }
 
     /// Reads from there on, until the slice is full or the file ends. A file that isn't there has no bytes.
-    pub fn read_at(&mut self, asked: Asked<'_>, at: u64, into: &mut [u8]) -> io::Result<usize>
+    pub fn read_at(&mut self, asked: Asked<'_>, at: u64, into: &mut [u8]) -> Result<usize, Refused>
+        requires { asked.name.now ≡ name_of asked.file }
         ensures bound { IfOk result (λ count. count ≤ length into.old) }
         ensures lost { IsTrue asked.entry.is_lost → IsErr result }
+        ensures entries { self.new.entries ≡ self.old.entries }
     {
         refuse_lost(asked.is_lost)?;
         let Some(opened) = self.take_reader(asked)? else {
             return Ok(0);
         };
-        let answer = fill(&opened, at, into);
+        let answer = read_whole(&mut self.system, &opened, at, into);
         self.reader = Some(Kept {
             file: asked.file,
             opened,
@@ -185,38 +263,53 @@ where
         Ok(count)
     }
 
-    // The handle that last wrote the file, or a new one. The file is made where it isn't there.
-    fn take_writer(&mut self, asked: Asked<'_>) -> io::Result<F::File> {
-        if let Some(opened) = take_kept(&mut self.writer, asked.file) {
-            return Ok(opened);
-        }
-        self.claim.take(&self.files, self.path.as_str())?;
-        let (opened, is_made) = open_to_write(&self.files, asked.path)?;
-        if is_made {
-            self.note_made();
-        }
-        Ok(opened)
-    }
-
-    // A file was made, so the folder's entries don't last until the next sync of them.
-    fn note_made(&mut self) {
+    // Makes a file, whose entry doesn't last until the next sync of the folder's.
+    fn make(&mut self, asked: Asked<'_>) -> Result<S::File, Refused>
+        requires { asked.name.now ≡ name_of asked.file }
+        ensures file { IfOk result (λ opened. S.File.file opened ≡ asked.entry.file) }
+        ensures lost { self.old.entries ≡ Entries.Lost → self.new.entries ≡ Entries.Lost }
+        ensures pending { OnOk result (self.new.entries ≡ Entries.Synced → ⊥) }
+    {
+        let Some(folder) = self.claim.folder() else {
+            return Err(Refused::Missing);
+        };
         if self.entries == Entries::Synced {
             self.entries = Entries::Pending;
         }
+        let opened = self.system.make(folder, asked.file, asked.name)?;
+        Ok(opened)
+    }
+
+    // The handle that last wrote the file, or a new one. The file is made where it isn't there.
+    fn take_writer(&mut self, asked: Asked<'_>) -> Result<S::File, Refused>
+        requires { asked.name.now ≡ name_of asked.file }
+        ensures file { IfOk result (λ opened. S.File.file opened ≡ asked.entry.file) }
+        ensures lost { self.old.entries ≡ Entries.Lost → self.new.entries ≡ Entries.Lost }
+    {
+        if let Some(opened) = take_kept(&mut self.writer, asked.file) {
+            return Ok(opened);
+        }
+        if let Some(opened) = self.find_regular(asked)? {
+            return Ok(opened);
+        }
+        let opened = self.make(asked)?;
+        Ok(opened)
     }
 
     /// Writes from there on, and makes the file where it isn't there. A range that doesn't end below 2 to the 63 is refused.
-    pub fn write_at(&mut self, asked: Asked<'_>, at: u64, bytes: &[u8]) -> io::Result<()>
+    pub fn write_at(&mut self, asked: Asked<'_>, at: u64, bytes: &[u8]) -> Result<(), Refused>
+        requires { asked.name.now ≡ name_of asked.file }
         ensures bound { OnOk result (at + length bytes.now < 2 ^ 63) }
         ensures lost { IsTrue asked.entry.is_lost → IsErr result }
+        ensures entries { self.old.entries ≡ Entries.Lost → self.new.entries ≡ Entries.Lost }
     {
         refuse_lost(asked.is_lost)?;
         let count = bytes.len() as u64;
         if at >= LIMIT || count >= LIMIT - at {
-            return Err(ErrorKind::FileTooLarge.into());
+            return Err(Refused::Failed);
         }
         let opened = self.take_writer(asked)?;
-        let answer = opened.write_all_at(bytes, at);
+        let answer = write_whole(&mut self.system, &opened, at, bytes);
         self.writer = Some(Kept {
             file: asked.file,
             opened,
@@ -226,44 +319,43 @@ where
     }
 
     // Syncs the folder's entries where a file was made since they last were.
-    fn sync_entries(&mut self) -> io::Result<()> {
+    fn sync_entries(&mut self) -> Result<(), Refused>
+        ensures ok { OnOk result (self.new.entries ≡ Entries.Synced) }
+        ensures err { OnErr result (self.new.entries ≡ Entries.Lost) }
+        ensures lost { self.old.entries ≡ Entries.Lost → IsErr result }
+    {
         match self.entries {
             Entries::Synced => Ok(()),
             Entries::Pending => {
                 self.entries = Entries::Lost;
-                self.claim.sync()?;
+                let Some(folder) = self.claim.folder() else {
+                    return Err(Refused::Missing);
+                };
+                self.system.sync_folder(folder)?;
                 self.entries = Entries::Synced;
                 Ok(())
             }
-            Entries::Lost => Err(ErrorKind::Other.into()),
+            Entries::Lost => Err(Refused::Failed),
         }
     }
 
-    /// Syncs a file's bytes and length, and the folder too at the first sync and after a file was made, so that the file's
-    /// entry lasts as well.
-    pub fn sync(&mut self, asked: Asked<'_>) -> io::Result<()>
+    /// Syncs a file's bytes and length, and before that the folder's entries at the first sync and after a file was made: a sync
+    /// of bytes helps only where their file is found.
+    pub fn sync(&mut self, asked: Asked<'_>) -> Result<(), Refused>
+        requires { asked.name.now ≡ name_of asked.file }
         ensures lost { IsTrue asked.entry.is_lost → IsErr result }
+        ensures entered { OnOk result (self.new.entries ≡ Entries.Synced) }
+        ensures believed { self.old.entries ≡ Entries.Lost → IsErr result }
     {
         refuse_lost(asked.is_lost)?;
         let opened = self.take_writer(asked)?;
-        let answer = opened.sync_data();
+        self.sync_entries()?;
+        let answer = self.system.sync_data(&opened);
         self.writer = Some(Kept {
             file: asked.file,
             opened,
         });
         answer?;
-        self.sync_entries()?;
         Ok(())
-    }
-}
-
-// 0 where nothing stands at the path; any other error is passed on.
-fn none_if_missing(error: io::Error) -> io::Result<u64>
-    ensures { IfOk result (λ count. count < 1) }
-{
-    if error.kind() == ErrorKind::NotFound {
-        Ok(0)
-    } else {
-        Err(error)
     }
 }

@@ -5,59 +5,48 @@ ghost use Rattle.host_trait.specs.Files.{MayAsk, StaysReady};
 ghost use Rattle.host_trait.specs.declared.channels.Channel.{Channel};
 ghost use Rattle.host_trait.specs.declared.channels.Channel.TheVariants.{File};
 
-use crate::disk_file::DiskFile;
 use crate::folder::Folder;
 use crate::table::Table;
 use host_trait::{Channel, Failed, FileId, Host};
 use std::alloc::{AllocError, Global};
-use std::io::{Read, Write};
-use std::rt::Files;
+use system_calls::SystemCalls;
 
-/// A host over a reader, a writer and a folder of files, of a runtime `F`.
+/// A host over the calls of a system: the standard streams, and a folder of files.
 ///
 /// It tells nothing of what they hold, and counts the faults of each channel: what the system refuses, a length or the end
-/// of a written range that isn't below 2 to the 63, and anything but a regular file at a file's path, are faults. A file
-/// that isn't there has no bytes. Once a sync of a file has failed, each later call on that file fails, since the system may
-/// have dropped what was pending. The first call on a file takes the folder, which no other process has from then on until
-/// this host is dropped; where another one has it, each call on a file fails.
+/// of a written range that isn't below 2 to the 63, anything but a regular file under a file's name, and a file that was seen to
+/// have bytes and is gone, are faults. A call that was interrupted is made again. A file that isn't there has no bytes. Once a
+/// sync of a file has failed, each later call on that file fails, since the system may have dropped what was pending. The first
+/// call on a file takes the folder, which no other process has from then on until this host is dropped; where another one has
+/// it, each call on a file fails. Files are looked for in the folder that was taken, also where it is renamed, or another one
+/// comes to stand at its path.
 ///
-/// Each file has one path: the folder, a slash and `program-S.otx`, `manager-S.otx` or `grain-S-K-Y.otx`, with slot, type and
-/// key in decimal. The paths of the program and manager files are made by [`new`](FolderHost::new), and that of a grain file
-/// by [`ready`](Host::ready), so that no other call takes memory.
+/// Where no file may be written, they are read all the same, so that a folder on a medium that may only be read can be asked.
+///
+/// Each file has one name: `program-S.otx`, `manager-S.otx` or `grain-S-K-Y.otx`, with slot, type and key in decimal. The names
+/// of the program and manager files are made by [`new`](FolderHost::new), and that of a grain file by [`ready`](Host::ready), so
+/// that no other call takes memory.
 #[derive(Drop)]
-pub struct FolderHost<F: Files, R, W> {
-    reader: R,
-    writer: W,
-    folder: Folder<F>,
+pub struct FolderHost<S: SystemCalls> {
+    folder: Folder<S>,
     table: Table,
     input_faults: u64,
     output_faults: u64,
 }
 
-impl<F: Files + Drop, R: Read + Drop, W: Write + Drop> FolderHost<F, R, W>
-where
-    F::File: DiskFile,
-{
-    /// A host whose input is what the reader gives, whose output goes to the writer, and whose files stand in the folder. The
-    /// empty text is the folder in which the program runs. Nothing is read or made, and no call has failed.
-    pub fn new(
-        alloc: Global,
-        files: F,
-        reader: R,
-        writer: W,
-        folder: &str,
-    ) -> Result<FolderHost<F, R, W>, AllocError>
+impl<S: SystemCalls + Drop> FolderHost<S> {
+    /// A host over this system, whose files stand in the folder at this path. The empty text is the folder in which the program
+    /// runs. Nothing is read or made, and no call has failed.
+    pub fn new(alloc: Global, system: S, folder: &str) -> Result<FolderHost<S>, AllocError>
         ensures { IfOk result (λ host. (channel : Channel)
             → counts_of host.input_faults host.output_faults host.table.files channel ≡ 0) }
     {
         let path = if folder.is_empty() { "." } else { folder };
-        let table = Table::new(alloc, path)?;
+        let table = Table::new(alloc)?;
         // Only a folder can be opened by this path, so that no pipe is waited for.
         let itself = format!(in alloc; "{path}/.")?;
         Ok(FolderHost {
-            reader,
-            writer,
-            folder: Folder::new(files, itself),
+            folder: Folder::new(system, itself),
             table,
             input_faults: 0,
             output_faults: 0,
@@ -76,10 +65,7 @@ where
     }
 }
 
-impl<F: Files + Drop, R: Read, W: Write> Host for FolderHost<F, R, W>
-where
-    F::File: DiskFile,
-{
+impl<S: SystemCalls + Drop> Host for FolderHost<S> {
     ghost use Rattle.std.specs.Prelude.{false};
     ghost use Rattle.host_files.specs.Table.{is_named, counts_of};
     ghost use Rattle.host_trait.specs.World.{empty_world, untold};
@@ -95,7 +81,7 @@ where
     ghost seen_may_stay = { λ host file told. untold told };
 
     fn pull(&mut self, into: &mut [u8]) -> Result<usize, Failed> {
-        match self.reader.read(into) {
+        match self.folder.pull(into) {
             Ok(count) => Ok(count),
             Err(_) => {
                 self.input_faults = self.input_faults.saturating_add(1);
@@ -105,12 +91,13 @@ where
     }
 
     fn emit(&mut self, bytes: &[u8]) -> Result<(), Failed> {
-        let whole = self.writer.write_all(bytes).is_ok() && self.writer.flush().is_ok();
-        if !whole {
-            self.output_faults = self.output_faults.saturating_add(1);
-            return Err(Failed);
+        match self.folder.emit(bytes) {
+            Ok(()) => Ok(()),
+            Err(_) => {
+                self.output_faults = self.output_faults.saturating_add(1);
+                Err(Failed)
+            }
         }
-        Ok(())
     }
 
     fn length(&mut self, file: FileId) -> Result<u64, Failed>
@@ -124,7 +111,8 @@ where
         ensures stay { StayLost self.old.table.files self.new.table.files }
     {
         let answer = self.folder.length(self.table.asked(file));
-        let count = self.table.count(file, answer)?;
+        let has_bytes = answer.unwrap_or(0) > 0;
+        let count = self.table.count(file, answer, has_bytes)?;
         Ok(count)
     }
 
@@ -139,7 +127,8 @@ where
         ensures stay { StayLost self.old.table.files self.new.table.files }
     {
         let answer = self.folder.read_at(self.table.asked(file), at, into);
-        let count = self.table.count(file, answer)?;
+        let has_bytes = answer.unwrap_or(0) > 0;
+        let count = self.table.count(file, answer, has_bytes)?;
         Ok(count)
     }
 
@@ -154,7 +143,7 @@ where
         ensures stay { StayLost self.old.table.files self.new.table.files }
     {
         let answer = self.folder.write_at(self.table.asked(file), at, bytes);
-        self.table.count(file, answer)?;
+        self.table.count(file, answer, !bytes.is_empty())?;
         Ok(())
     }
 

@@ -1,44 +1,40 @@
-// The paths of the files that are ready, how often calls on each have failed, and whether a sync of it has.
-ghost use Rattle.std.specs.Prelude.{◌≡◌, ◌≢◌, ◌≤◌, ℕ, Ok, string_bytes, IsTrue, IsOk, IfOk, OnOk, OnErr};
-ghost use Rattle.host_trait.specs.Files.{HasSlot, MayAsk, StaysReady};
+// The names of the files that are ready, how often calls on each have failed, and whether a sync of it has.
+ghost use Rattle.std.specs.Prelude.{◌≡◌, ◌≢◌, ◌≤◌, ℕ, Ok, IsTrue, IsOk, IfOk, OnOk, OnErr};
+ghost use Rattle.host_trait.specs.Files.{HasSlot, MayAsk, StaysReady, name_of};
 ghost use Rattle.host_trait.specs.Faults.{Rose, Counted};
 ghost use Rattle.host_trait.specs.declared.channels.FileId.{FileId};
 ghost use Rattle.host_trait.specs.declared.channels.Channel.TheVariants.{File};
-ghost use Rattle.host_files.specs.Names.{path_of};
-ghost use Rattle.host_files.specs.Table.{faults_in, is_lost, is_named, counts_of, HaveOwnPaths, AreAlwaysNamed, SamePaths, StayLost};
+ghost use Rattle.host_files.specs.Table.{faults_in, is_lost, is_named, counts_of, HaveOwnNames, AreAlwaysNamed, SameNames, StayLost};
 
-use crate::names::file_path;
-use host_trait::{Failed, FileId};
+use host_trait::{Failed, FileId, file_name};
 use std::alloc::{AllocError, Global};
 use std::collections::BTreeMap;
-use std::io;
+use system_calls::Refused;
 
-/// A file's path, how often calls on it have failed, up to the last value of a `u64`, and whether a sync of it has.
+/// A file's name, how often calls on it have failed, up to the last value of a `u64`, whether a sync of it has, and whether it
+/// was seen to have bytes.
 #[derive(Drop)]
 pub struct Named {
-    pub path: String,
+    pub name: String,
     pub faults: u64,
     pub is_lost: bool,
+    pub had_bytes: bool,
 }
 
 /// What a folder has to know of the file that is asked.
 #[derive(Clone, Copy)]
 pub struct Asked<'a> {
     pub file: FileId,
-    pub path: &'a str,
+    pub name: &'a str,
     pub is_lost: bool,
+    pub had_bytes: bool,
 }
 
-// Gives a file its path, unless it has one. Without memory none is given.
-fn enter(
-    alloc: Global,
-    folder: &str,
-    files: &mut BTreeMap<FileId, Named>,
-    file: FileId,
-) -> Result<(), AllocError>
-    requires { HaveOwnPaths folder.now files.old }
+// Gives a file its name, unless it has one. Without memory none is given.
+fn enter(alloc: Global, files: &mut BTreeMap<FileId, Named>, file: FileId) -> Result<(), AllocError>
+    requires { HaveOwnNames files.old }
     ensures named { OnOk result (IsTrue (is_named files.new file)) }
-    ensures paths { HaveOwnPaths folder.now files.new }
+    ensures names { HaveOwnNames files.new }
     ensures stays { StaysReady (is_named files.old) (is_named files.new) }
     ensures faults { (other : FileId) → faults_in files.new other ≡ faults_in files.old other }
     ensures lost { (other : FileId) → is_lost files.new other ≡ is_lost files.old other }
@@ -46,13 +42,14 @@ fn enter(
     if files.contains_key(&file) {
         return Ok(());
     }
-    let path = file_path(alloc, folder, file)?;
+    let name = file_name(alloc, file)?;
     files.insert(
         file,
         Named {
-            path,
+            name,
             faults: 0,
             is_lost: false,
+            had_bytes: false,
         },
     )?;
     Ok(())
@@ -73,7 +70,7 @@ fn raise(files: &mut BTreeMap<FileId, Named>, file: FileId)
     ensures later { faults_in files.old file ≤ faults_in files.new file }
     ensures others { (other : FileId) → other ≢ file → faults_in files.new other ≡ faults_in files.old other }
     ensures lost { (other : FileId) → is_lost files.new other ≡ is_lost files.old other }
-    ensures paths { SamePaths files.old files.new }
+    ensures names { SameNames files.old files.new }
 {
     if let Some(named) = files.get_mut(&file) {
         named.faults = one_more(named.faults);
@@ -86,24 +83,35 @@ fn lose(files: &mut BTreeMap<FileId, Named>, file: FileId)
     ensures lost { IsTrue (is_lost files.new file) }
     ensures stay { StayLost files.old files.new }
     ensures faults { (other : FileId) → faults_in files.new other ≡ faults_in files.old other }
-    ensures paths { SamePaths files.old files.new }
+    ensures names { SameNames files.old files.new }
 {
     if let Some(named) = files.get_mut(&file) {
         named.is_lost = true;
     }
 }
 
+// Notes that a file has bytes, so that it is there for good.
+fn note_bytes(files: &mut BTreeMap<FileId, Named>, file: FileId)
+    ensures faults { (other : FileId) → faults_in files.new other ≡ faults_in files.old other }
+    ensures lost { (other : FileId) → is_lost files.new other ≡ is_lost files.old other }
+    ensures names { SameNames files.old files.new }
+{
+    if let Some(named) = files.get_mut(&file) {
+        named.had_bytes = true;
+    }
+}
+
 // The program and manager files of both slots.
-fn first_files(alloc: Global, folder: &str) -> Result<BTreeMap<FileId, Named>, AllocError>
-    ensures paths { IfOk result (λ files. HaveOwnPaths folder.now files) }
+fn first_files(alloc: Global) -> Result<BTreeMap<FileId, Named>, AllocError>
+    ensures names { IfOk result HaveOwnNames }
     ensures always { IfOk result AreAlwaysNamed }
     ensures faults { IfOk result (λ files. (file : FileId) → faults_in files file ≡ 0) }
 {
     let mut files = BTreeMap::new(alloc);
-    enter(alloc, folder, &mut files, FileId::Program { slot: 0 })?;
-    enter(alloc, folder, &mut files, FileId::Program { slot: 1 })?;
-    enter(alloc, folder, &mut files, FileId::Manager { slot: 0 })?;
-    enter(alloc, folder, &mut files, FileId::Manager { slot: 1 })?;
+    enter(alloc, &mut files, FileId::Program { slot: 0 })?;
+    enter(alloc, &mut files, FileId::Program { slot: 1 })?;
+    enter(alloc, &mut files, FileId::Manager { slot: 0 })?;
+    enter(alloc, &mut files, FileId::Manager { slot: 1 })?;
     Ok(files)
 }
 
@@ -111,34 +119,27 @@ fn first_files(alloc: Global, folder: &str) -> Result<BTreeMap<FileId, Named>, A
 #[derive(Drop)]
 pub struct Table {
     alloc: Global,
-    folder: String,
     files: BTreeMap<FileId, Named>,
-    ghost paths: { HaveOwnPaths (string_bytes folder) files },
+    ghost names: { HaveOwnNames files },
     ghost always: { AreAlwaysNamed files },
 }
 
 impl Table {
     /// No grain file, and no faults.
-    pub fn new(alloc: Global, folder: &str) -> Result<Table, AllocError>
-        ensures folder { IfOk result (λ table. string_bytes table.folder ≡ folder.now) }
-        ensures faults { IfOk result (λ table. (file : FileId) → faults_in table.files file ≡ 0) }
+    pub fn new(alloc: Global) -> Result<Table, AllocError>
+        ensures { IfOk result (λ table. (file : FileId) → faults_in table.files file ≡ 0) }
     {
-        let folder = String::from_str(alloc, folder)?;
-        let files = first_files(alloc, folder.as_str())?;
-        Ok(Table {
-            alloc,
-            folder,
-            files,
-        })
+        let files = first_files(alloc)?;
+        Ok(Table { alloc, files })
     }
 
-    /// The path of a file that is ready: the folder, a slash and the file's name.
-    pub fn path(&self, file: FileId) -> &str
+    // The name of a file that is ready.
+    fn name(&self, file: FileId) -> &str
         requires { MayAsk (is_named self.now.files) file }
-        ensures { result.now ≡ path_of (string_bytes self.now.folder) file }
+        ensures { result.now ≡ name_of file }
     {
         let named = self.files.get(&file).unwrap();
-        named.path.as_str()
+        named.name.as_str()
     }
 
     // Whether a sync of a file has failed.
@@ -151,17 +152,26 @@ impl Table {
         }
     }
 
+    // Whether a file was seen to have bytes.
+    fn had_bytes(&self, file: FileId) -> bool {
+        match self.files.get(&file) {
+            Some(named) => named.had_bytes,
+            None => false,
+        }
+    }
+
     /// What the folder has to know of a file that is ready.
     pub fn asked(&self, file: FileId) -> Asked<'_>
         requires { MayAsk (is_named self.now.files) file }
         ensures file { result.file ≡ file }
-        ensures path { result.path.now ≡ path_of (string_bytes self.now.folder) file }
+        ensures name { result.name.now ≡ name_of file }
         ensures lost { result.is_lost ≡ is_lost self.now.files file }
     {
         Asked {
             file,
-            path: self.path(file),
+            name: self.name(file),
             is_lost: self.is_lost(file),
+            had_bytes: self.had_bytes(file),
         }
     }
 
@@ -181,24 +191,33 @@ impl Table {
         ensures stays { StaysReady (is_named self.old.files) (is_named self.new.files) }
         ensures faults { (other : FileId) → faults_in self.new.files other ≡ faults_in self.old.files other }
         ensures lost { (other : FileId) → is_lost self.new.files other ≡ is_lost self.old.files other }
-        ensures folder { self.new.folder ≡ self.old.folder }
     {
-        enter(self.alloc, self.folder.as_str(), &mut self.files, file)?;
+        enter(self.alloc, &mut self.files, file)?;
         Ok(())
     }
 
-    /// Passes on what a call on a file answered, and counts it where it failed.
-    pub fn count<T>(&mut self, file: FileId, answer: io::Result<T>) -> Result<T, Failed>
+    /// Passes on what a call on a file answered, and counts it where it failed. Where it showed that the file has bytes, that is
+    /// noted.
+    pub fn count<T>(
+        &mut self,
+        file: FileId,
+        answer: Result<T, Refused>,
+        has_bytes: bool,
+    ) -> Result<T, Failed>
         requires { MayAsk (is_named self.old.files) file }
         ensures ok { IfOk result (λ value. answer ≡ Ok value) }
         ensures faults { (input output : ℕ) → Counted (File file) result
             (counts_of input output self.old.files) (counts_of input output self.new.files) }
         ensures stay { StayLost self.old.files self.new.files }
         ensures stays { StaysReady (is_named self.old.files) (is_named self.new.files) }
-        ensures folder { self.new.folder ≡ self.old.folder }
     {
         match answer {
-            Ok(value) => Ok(value),
+            Ok(value) => {
+                if has_bytes {
+                    note_bytes(&mut self.files, file);
+                }
+                Ok(value)
+            }
             Err(_) => {
                 raise(&mut self.files, file);
                 Err(Failed)
@@ -207,7 +226,7 @@ impl Table {
     }
 
     /// Passes on what a sync of a file answered. Where it failed, that is counted, and the file is lost.
-    pub fn count_sync(&mut self, file: FileId, answer: io::Result<()>) -> Result<(), Failed>
+    pub fn count_sync(&mut self, file: FileId, answer: Result<(), Refused>) -> Result<(), Failed>
         requires { MayAsk (is_named self.old.files) file }
         ensures ok { OnOk result (IsOk answer) }
         ensures faults { (input output : ℕ) → Counted (File file) result
@@ -215,7 +234,6 @@ impl Table {
         ensures lost { OnErr result (IsTrue (is_lost self.new.files file)) }
         ensures stay { StayLost self.old.files self.new.files }
         ensures stays { StaysReady (is_named self.old.files) (is_named self.new.files) }
-        ensures folder { self.new.folder ≡ self.old.folder }
     {
         match answer {
             Ok(()) => Ok(()),

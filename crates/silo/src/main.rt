@@ -1,4 +1,4 @@
-//! The program `silo`: [`run_silo`] over the standard streams and a folder.
+//! The program `silo`: [`run_silo`] over the standard streams and a folder, by Linux's calls.
 //!
 //! The first word is the folder, the others are the command. The program ends with the status's number, and
 //! says the status on standard error unless all was done.
@@ -9,6 +9,7 @@ use silo_top::{Gate, GatePlace, Status, run_silo};
 use std::io::Write;
 use std::process::ExitCode;
 use std::{env, io};
+use system_calls::Linux;
 
 /// A gate that does nothing.
 #[derive(Drop)]
@@ -60,14 +61,8 @@ fn say(rt: &HostRuntime, status: Status) {
 fn main(rt: HostRuntime) -> ExitCode {
     let status = match command_line(&rt) {
         Ok(CommandLine { folder, words }) => {
-            let made = FolderHost::new(
-                rt.alloc(),
-                &rt,
-                rt.reader(),
-                io::writer(&rt),
-                folder.as_str(),
-            );
-            match made {
+            let linux = Linux::new(&rt, rt.reader(), io::writer(&rt));
+            match FolderHost::new(rt.alloc(), linux, folder.as_str()) {
                 Ok(mut host) => run_silo(&rt, rt.alloc(), words.as_slice(), &mut host, &NoGate),
                 Err(_) => Status::Memory,
             }

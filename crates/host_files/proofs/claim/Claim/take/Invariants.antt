@@ -1,0 +1,8 @@
+use Rattle.std.proofs.Common.{◌≡◌, IsTrue}
+use Rattle.host_files.proofs.claim.Claim.take.Given as goal
+
+abbrev pub invariant-loop : goal.invariant-loop
+invariant-loop g l = record {
+  same : l.self.folder ≡ l.fn.self.folder;
+  told : IsTrue g.S.SystemCalls.tells → g.S.SystemCalls.state l.system ≡ g.S.SystemCalls.state l.fn.system;
+}

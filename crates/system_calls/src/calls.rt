@@ -1,0 +1,176 @@
+ghost use Rattle.std.specs.Prelude.{◌≡◌, ◌≢◌, ◌+◌, ◌-◌, ◌^◌, ◌<◌, ◌≤◌, ℕ, Bool, false, IsTrue, length, is_ok, IfOk, IfErr, OnErr, []};
+ghost use Rattle.host_trait.specs.Files.{name_of};
+ghost use Rattle.host_trait.specs.Disk.{MayLeave};
+ghost use Rattle.host_trait.specs.World.{Pulled};
+ghost use Rattle.host_trait.specs.declared.channels.FileId.{FileId};
+ghost use Rattle.system_calls.specs.System.{System, Makes, EntersAll, SyncsData, SameEntries, IsReadPart, PutsOut, WritesPart, FailsPart};
+
+use crate::refused::Refused;
+use host_trait::FileId;
+
+/// A handle of an open file of the folder.
+pub trait Handle {
+    /// The file that it was opened as. It stays that file's, also where its name, or the folder's, is changed.
+    ghost file: { Self → FileId };
+}
+
+/// What stands under a name.
+#[derive(Clone, Copy, Debug, PartialEq, Eq)]
+pub struct Look {
+    /// A regular file, and no folder, pipe, socket or device.
+    pub is_regular: bool,
+    /// How many bytes it has.
+    pub length: u64,
+}
+
+/// The system's calls on one folder, on the files there, and on the standard streams.
+///
+/// A system that tells, says by its state what it holds: what is left of the input, what the output holds, what each file holds
+/// and what a crash may leave of it, and which entries of the folder last. A call that isn't said to change the state leaves it
+/// as it was, and so does each that is interrupted.
+///
+/// A file is named by its name in the folder, and looked for in the folder that the handle is of, wherever that stands by now.
+/// No call waits for another process, but for the input and the output.
+pub trait SystemCalls {
+    /// A handle of the folder.
+    type Folder: Drop;
+
+    /// A handle of an open file.
+    type File: Handle + Drop;
+
+    /// Whether this system tells what it holds.
+    ghost tells: { Bool };
+
+    /// What it holds.
+    ghost state: { Self → System };
+
+    /// Opens the folder at this path, to read its entries. `Missing` says that nothing stands there.
+    fn open_folder(&mut self, path: &str) -> Result<Self::Folder, Refused>
+        ensures told { IsTrue tells → state self.new ≡ state self.old };
+
+    /// The number that the system gave to this handle.
+    fn number(&self, folder: &Self::Folder) -> i32;
+
+    /// Takes the folder's lock, which lasts while the handle is open. Refused where another handle has it.
+    fn lock(&mut self, folder: &Self::Folder) -> Result<(), Refused>
+        ensures told { IsTrue tells → state self.new ≡ state self.old };
+
+    /// Whether names are looked for in this folder at all.
+    fn reaches(&mut self, folder: &Self::Folder) -> Result<bool, Refused>
+        ensures told { IsTrue tells → state self.new ≡ state self.old };
+
+    /// Opens a file to read and write it. `Missing` says that there is none, which then has no bytes.
+    fn open(
+        &mut self,
+        folder: &Self::Folder,
+        file: FileId,
+        name: &str,
+    ) -> Result<Self::File, Refused>
+        requires { name.now ≡ name_of file }
+        ensures told { IsTrue tells → state self.new ≡ state self.old }
+        ensures file { IfOk result (λ opened. Self.File.file opened ≡ file) }
+        ensures missing { IfErr result (λ error. error ≡ Refused.Missing → IsTrue tells → ((state self.old).world.disk file).seen ≡ []) };
+
+    /// Opens a file to read it. A pipe that nobody writes to may wait here.
+    fn open_to_read(
+        &mut self,
+        folder: &Self::Folder,
+        file: FileId,
+        name: &str,
+    ) -> Result<Self::File, Refused>
+        requires { name.now ≡ name_of file }
+        ensures told { IsTrue tells → state self.new ≡ state self.old }
+        ensures file { IfOk result (λ opened. Self.File.file opened ≡ file) }
+        ensures missing { IfErr result (λ error. error ≡ Refused.Missing → IsTrue tells → ((state self.old).world.disk file).seen ≡ []) };
+
+    /// Makes a file that isn't there, and opens it to read and write it. Its entry may be lost in a crash until the folder is
+    /// synced. Refused where something has that name.
+    fn make(
+        &mut self,
+        folder: &Self::Folder,
+        file: FileId,
+        name: &str,
+    ) -> Result<Self::File, Refused>
+        requires { name.now ≡ name_of file }
+        ensures told { IsTrue tells → Makes file (state self.old) (state self.new) }
+        ensures file { IfOk result (λ opened. Self.File.file opened ≡ file) };
+
+    /// What stands under a name.
+    fn look(&mut self, folder: &Self::Folder, file: FileId, name: &str) -> Result<Look, Refused>
+        requires { name.now ≡ name_of file }
+        ensures told { IsTrue tells → state self.new ≡ state self.old };
+
+    /// What an open file is.
+    fn look_at(&mut self, opened: &Self::File) -> Result<Look, Refused>
+        ensures told { IsTrue tells → state self.new ≡ state self.old }
+        ensures length { IfOk result (λ look. IsTrue tells → look.length ≡ length ((state self.old).world.disk (Self.File.file opened.now)).seen) };
+
+    /// Reads some of the bytes from `at` on: those that belong into the slice from its place `from` on, where the ones before have
+    /// been read; and answers how many: none only at the end of the file, or where there is no room.
+    fn read_at(
+        &mut self,
+        opened: &Self::File,
+        at: u64,
+        into: &mut [u8],
+        from: usize,
+    ) -> Result<usize, Refused>
+        requires from { from ≤ length into.old }
+        requires fits { at + from < 2 ^ 64 }
+        ensures told { IsTrue tells → state self.new ≡ state self.old }
+        ensures bound { IfOk result (λ n. n ≤ length into.old - from) }
+        ensures bytes { IfOk result (λ n. IsTrue tells
+            → IsReadPart n from at ((state self.old).world.disk (Self.File.file opened.now)).seen into.old into.new) }
+        ensures interrupted { IfErr result (λ error. error ≡ Refused.Interrupted → IsTrue tells → into.new ≡ into.old) };
+
+    /// Writes some of these bytes, which belong at `at`: those from the place `from` on, of which the ones before have been
+    /// written; and answers how many. Until a sync succeeds, a crash may leave any bytes in the whole write's range.
+    /// Where it is refused, but for an interruption, a read may give any bytes there too, unless the write never began. Nothing is
+    /// said of a write behind the file's end.
+    fn write_at(
+        &mut self,
+        opened: &Self::File,
+        at: u64,
+        bytes: &[u8],
+        from: usize,
+    ) -> Result<usize, Refused>
+        requires from { from ≤ length bytes.now }
+        requires fits { at + length bytes.now < 2 ^ 63 }
+        ensures bound { IfOk result (λ n. n ≤ length bytes.now - from) }
+        ensures ok { IfOk result (λ n. IsTrue tells → at ≤ length ((state self.old).world.disk (Self.File.file opened.now)).seen
+            → WritesPart n from (Self.File.file opened.now) at bytes.now (state self.old) (state self.new)) }
+        ensures err { IfErr result (λ error. error ≢ Refused.Interrupted → IsTrue tells → at ≤ length ((state self.old).world.disk (Self.File.file opened.now)).seen
+            → FailsPart from (Self.File.file opened.now) at (length bytes.now) (state self.old) (state self.new)) }
+        ensures interrupted { IfErr result (λ error. error ≡ Refused.Interrupted → IsTrue tells → state self.new ≡ state self.old) };
+
+    /// Syncs the folder's entries: after Ok each file that is there is found after a crash. Once one was refused, a later Ok
+    /// says nothing.
+    fn sync_folder(&mut self, folder: &Self::Folder) -> Result<(), Refused>
+        ensures told { IsTrue tells → EntersAll (is_ok result) (state self.old) (state self.new) };
+
+    /// Syncs a file's bytes and length. After Ok a crash leaves what a read gives; after a refusal what was pending is pending
+    /// still. Nothing is said of a file whose entry may be lost, nor of one of which a sync was refused before: the system may have
+    /// dropped what was pending then.
+    fn sync_data(&mut self, opened: &Self::File) -> Result<(), Refused>
+        ensures told { IsTrue tells → IsTrue ((state self.old).is_entered (Self.File.file opened.now))
+            → (state self.old).is_doubtful (Self.File.file opened.now) ≡ false
+            → SyncsData (Self.File.file opened.now) (is_ok result) (state self.old) (state self.new) };
+
+    /// Moves the next input bytes into the front of `into` and answers how many. For a slice that isn't empty, 0 means the end.
+    fn read_input(&mut self, into: &mut [u8]) -> Result<usize, Refused>
+        ensures bound { IfOk result (λ n. n ≤ length into.old) }
+        ensures ok { IfOk result (λ n. IsTrue tells → Pulled n into.new (state self.old).world (state self.new).world) }
+        ensures entries { IsTrue tells → SameEntries (state self.old) (state self.new) }
+        ensures err { OnErr result (IsTrue tells → state self.new ≡ state self.old) };
+
+    /// Appends some of these bytes to the output: those from the place `from` on, of which the ones before have been put out;
+    /// and answers how many.
+    fn write_output(&mut self, bytes: &[u8], from: usize) -> Result<usize, Refused>
+        requires { from ≤ length bytes.now }
+        ensures bound { IfOk result (λ n. n ≤ length bytes.now - from) }
+        ensures ok { IfOk result (λ n. IsTrue tells → PutsOut n from bytes.now (state self.old) (state self.new)) }
+        ensures err { OnErr result (IsTrue tells → state self.new ≡ state self.old) };
+
+    /// What a read gives is among what a crash may leave.
+    ghost seen_may_stay: { (system : Self) (file : FileId) → IsTrue tells
+        → MayLeave ((state system).world.disk file) ((state system).world.disk file).seen };
+}
