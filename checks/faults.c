@@ -5,7 +5,8 @@
    SHIM_NOTES  a file: each call is noted there before it is made, as a line of its kind, the last part of the file's path, and what
                is done at it: `fails`, `short`, `moves` or `-`
    SHIM_KINDS  the kinds of calls that count, with commas; all where it isn't given. The kinds are open, look (stat and its like), read,
-               write, sync, size (ftruncate and its like), lock, and memory (malloc and realloc), which counts only where it is given
+               write, sync, size (ftruncate and its like), lock and thread (the start of one), and memory (malloc and realloc), which
+               counts only where it is given
    SHIM_NAMES  the files whose calls count: last parts of paths, with commas, `0`, `1` and `2` for the standard streams, and `.` for a
                folder; all where it isn't given. A name that ends with `*` is each that begins so
    SHIM_AT     which of the calls that count something is done at, from 1 on; at none where it isn't given
@@ -249,6 +250,10 @@ int fallocate(int file, int how, off_t from, off_t size) { FAIL_OR("size", name_
 int fallocate64(int file, int how, off64_t from, off64_t size) { FAIL_OR("size", name_of(file)); return REAL(fallocate64)(file, how, from, size); }
 int posix_fallocate(int file, off_t from, off_t size) { return deed_of("size", name_of(file)) == FAILS ? errno : REAL(posix_fallocate)(file, from, size); }
 int posix_fallocate64(int file, off64_t from, off64_t size) { return deed_of("size", name_of(file)) == FAILS ? errno : REAL(posix_fallocate64)(file, from, size); }
+
+int pthread_create(pthread_t *thread, const pthread_attr_t *how, void *(*begins)(void *), void *with) {
+  return deed_of("thread", "") == FAILS ? errno : REAL(pthread_create)(thread, how, begins, with);
+}
 
 int flock(int file, int how) { FAIL_OR("lock", name_of(file)); return REAL(flock)(file, how); }
 

@@ -8,13 +8,11 @@ import io
 import json
 import os
 import shutil
-import subprocess
 import sys
 import tempfile
-import time
 
 import shim
-from harness import PROGRAM, TOP, Ended, Rows, ask, deposit, reply, run
+from harness import TOP, Ended, Rows, ask, deposit, reply, run
 
 sys.path.insert(0, os.path.join(TOP, "examples", "reader"))
 import read  # noqa: E402
@@ -129,19 +127,11 @@ with tempfile.TemporaryDirectory(dir=MEMORY) as room:
             shown = done(b'{"fields":{"balance":5},"grain":"account/1"}\n{"count":1}\n')
             rows.row(f"{what}: afterwards", run(folder, "show"), shown)
 
-    # All workers start: as many threads as are asked for, beside the one that writes the log.
-    given = b"".join(line(f"probe/{at}.spin", 4900) for at in range(300))
-    for workers in (1, 2, 3, 16):
-        folder = silo()
-        with tempfile.TemporaryFile() as lines:
-            lines.write(given)
-            lines.seek(0)
-            with subprocess.Popen([PROGRAM, folder, "run", "--workers", str(workers)], stdin=lines, stdout=subprocess.DEVNULL) as it:
-                most = 0
-                while it.poll() is None:
-                    with contextlib.suppress(OSError):
-                        most = max(most, len(os.listdir(f"/proc/{it.pid}/task")))
-                    time.sleep(0.001)
-        rows.row(f"threads of {workers} workers", (it.returncode, most), (0, workers + 1))
+        # All workers start: as many threads as are asked for, and the one that writes the log is the process's own.
+        for workers in (1, 2, 3, 16):
+            folder, noted = silo(), os.path.join(room, f"threads{workers}")
+            ended = run(folder, "run", "--workers", str(workers), given=line("probe/0.spin", 9) * 40, shim=shim.words(library, notes=noted))
+            threads = sum(call.kind == "thread" for call in shim.notes(noted))
+            rows.row(f"threads of {workers} workers", (ended.number, ended.output.count(b"\n"), threads), (0, 40, workers))
 
 rows.end()
