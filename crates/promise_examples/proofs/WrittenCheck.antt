@@ -1,5 +1,5 @@
 -- The call of `check` that is written out keeps what is promised of it.
-use Rattle.std.proofs.Common.{◌≡◌, inl, inr, ℕ, Bool, true, List, [], ◌∷◌, refl, sym, ap, subst, absurd, lit<, lit≤}
+use Rattle.std.proofs.Common.{◌≡◌, inl, inr, ℕ, Bool, true, List, [], ◌∷◌, refl, sym, ap, subst, lit<, lit≤}
 use Rattle.std.specs.Fmt.{digits}
 use Rattle.two_silos.specs.Generated.{checked}
 use Rattle.two_silos.specs.Summaries.{summary_of, line_of}
