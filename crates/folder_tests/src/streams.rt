@@ -2,7 +2,7 @@
 use crate::machine::{Machine, OnMachine};
 use host_files::FolderHost;
 use host_trait::{Channel, Host};
-use std::alloc::AllocError;
+use std::alloc::{AllocError, Global};
 use std::io;
 use system_calls::{Linux, SystemCalls};
 
@@ -25,29 +25,33 @@ fn add_answers<S: SystemCalls + Drop>(
     write!(out, "{of_input} and {of_output} faults")
 }
 
+// The same of a new host over this system.
+fn add_over<S: SystemCalls + Drop>(
+    alloc: Global,
+    system: S,
+    out: &mut String,
+) -> Result<(), AllocError> {
+    let mut host = FolderHost::new(alloc, system, "f")?;
+    add_answers(out, &mut host)
+}
+
 /// Writes what a host answers over the system in memory, as that answers, and the calls that it made.
 pub fn add_machine_streams(
     rt: &HostRuntime,
     machine: &Machine,
     out: &mut String,
 ) -> Result<(), AllocError> {
-    let mut host = FolderHost::new(rt.alloc(), OnMachine(machine), "f")?;
-    add_answers(out, &mut host)?;
+    add_over(rt.alloc(), OnMachine(machine), out)?;
     out.push_str(machine.taken().as_str())
 }
 
 /// Writes what a host answers that reads a text, and what it wrote.
 pub fn add_streams(rt: &HostRuntime, out: &mut String) -> io::Result<()> {
     let mut output = Vec::new(rt.alloc());
-    add_over(rt, out, &mut output)?;
+    let linux = Linux::new(rt, b"input".as_slice(), &mut output);
+    add_over(rt.alloc(), linux, out)?;
     write!(out, ": {output:?}")?;
     Ok(())
-}
-
-fn add_over(rt: &HostRuntime, out: &mut String, output: &mut Vec<u8>) -> Result<(), AllocError> {
-    let linux = Linux::new(rt, b"input".as_slice(), &mut *output);
-    let mut host = FolderHost::new(rt.alloc(), linux, "")?;
-    add_answers(out, &mut host)
 }
 
 /// Writes how many faults a new host over the standard streams has.

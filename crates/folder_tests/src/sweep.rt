@@ -1,4 +1,7 @@
 // A run of writes and syncs in which each call fails once.
+ghost use Rattle.std.specs.Prelude.{◌≤◌};
+ghost use Rattle.host_trait.specs.Files.{HasSlot};
+
 use crate::machine::{Fault, Machine, OnMachine};
 use crate::steps::{GRAIN, MANAGER};
 use host_files::FolderHost;
@@ -13,7 +16,7 @@ struct Wrong {
     bytes: u64,
 }
 
-// One file of the run: what is written to it, and whether that and the sync behind it succeeded.
+// A file of the run: what was written to it last, and whether that and the sync behind it succeeded.
 #[derive(Clone, Copy)]
 struct Told {
     file: FileId,
@@ -26,34 +29,45 @@ fn are_apart(found: &[u8], wanted: &[u8]) -> bool {
     found != wanted
 }
 
+// 1 for a call that failed.
+fn one_failed(is_ok: bool) -> u64
+    ensures { result ≤ 1 }
+{
+    if is_ok { 0 } else { 1 }
+}
+
 // One round of a file: it is written, read and synced. An answer is wrong where it isn't true of the machine, and where it isn't
 // counted as a fault just when it fails.
 fn ask(
     host: &mut FolderHost<OnMachine<'_>>,
     machine: &Machine,
-    told: &mut Told,
+    file: FileId,
+    text: &'static [u8],
     wrong: &mut Wrong,
-) -> Result<(), AllocError> {
-    host.ready(told.file)?;
-    let before = host.fault_count(Channel::File(told.file));
-    told.is_written = host.write_at(told.file, 0, told.text).is_ok();
-    let stands = machine.bytes(told.file)?;
+) -> Result<Told, AllocError>
+    requires { HasSlot file }
+{
+    host.ready(file)?;
+    let before = host.fault_count(Channel::File(file));
+    let is_written = host.write_at(file, 0, text).is_ok();
+    let stands = machine.bytes(file)?;
     let mut into = [0; 4];
-    let is_read = host.read_at(told.file, 0, &mut into).is_ok();
-    told.is_synced = host.sync(told.file).is_ok();
-    let text = told.text;
-    let is_untrue = told.is_written && are_apart(&stands, text);
-    let is_misread = told.is_written && is_read && are_apart(&into, text);
-    let failed = [told.is_written, is_read, told.is_synced]
-        .iter()
-        .filter(|is_ok| !**is_ok)
-        .count() as u64;
-    let faults = host.fault_count(Channel::File(told.file));
+    let is_read = host.read_at(file, 0, &mut into).is_ok();
+    let is_synced = host.sync(file).is_ok();
+    let is_untrue = is_written && are_apart(&stands, text);
+    let is_misread = is_written && is_read && are_apart(&into, text);
+    let failed = one_failed(is_written) + one_failed(is_read) + one_failed(is_synced);
+    let faults = host.fault_count(Channel::File(file));
     if is_untrue || is_misread || faults != before.wrapping_add(failed) {
         wrong.answers = wrong.answers.saturating_add(1);
     }
     wrong.failed = wrong.failed.saturating_add(failed);
-    Ok(())
+    Ok(Told {
+        file,
+        text,
+        is_written,
+        is_synced,
+    })
 }
 
 // What a crash leaves of a file that was written and synced is its text.
@@ -63,15 +77,6 @@ fn look(machine: &Machine, told: &Told, wrong: &mut Wrong) -> Result<(), AllocEr
         wrong.bytes = wrong.bytes.saturating_add(1);
     }
     Ok(())
-}
-
-fn told_of(file: FileId) -> Told {
-    Told {
-        file,
-        text: b"",
-        is_written: false,
-        is_synced: false,
-    }
 }
 
 // One run, whose nth call fails, and a crash behind it. It answers whether so many calls were made.
@@ -86,14 +91,10 @@ fn run(
     machine.lay(MANAGER, b"xx", false)?;
     machine.fail(nth, fault);
     let mut host = FolderHost::new(alloc, OnMachine(machine), "f")?;
-    let mut manager = told_of(MANAGER);
-    let mut grain = told_of(GRAIN);
-    for text in [b"abcd".as_slice(), b"efgh".as_slice()] {
-        manager.text = text;
-        grain.text = text;
-        ask(&mut host, machine, &mut manager, wrong)?;
-        ask(&mut host, machine, &mut grain, wrong)?;
-    }
+    ask(&mut host, machine, MANAGER, b"abcd", wrong)?;
+    ask(&mut host, machine, GRAIN, b"abcd", wrong)?;
+    let manager = ask(&mut host, machine, MANAGER, b"efgh", wrong)?;
+    let grain = ask(&mut host, machine, GRAIN, b"efgh", wrong)?;
     let made = machine.calls();
     machine.crash()?;
     look(machine, &manager, wrong)?;
