@@ -14,12 +14,16 @@ Noted = collections.namedtuple("Noted", "kind name done")
 
 
 def build(room):
-    """Builds the library in this folder: its path, or None where there is no C compiler or it can't build one."""
+    """Builds the library in this folder: its path, or None where there is no C compiler, or the library can't be built or loaded."""
     compiler, library = shutil.which("cc"), os.path.join(room, "faults.so")
     if compiler is None:
         return None
     made = subprocess.run([compiler, "-shared", "-fPIC", "-O1", "-o", library, os.path.join(TOP, "checks", "faults.c"), "-ldl", "-lpthread"])
     if made.returncode != 0:
+        return None
+    # A library that can't be loaded is only told of on standard error.
+    tried = subprocess.run(["/bin/sh", "-c", ":"], env={**os.environ, "LD_PRELOAD": library, "LD_BIND_NOW": "1"}, stderr=subprocess.PIPE)
+    if tried.returncode != 0 or tried.stderr:
         return None
     # Another user may have to load it.
     os.chmod(library, 0o755)
