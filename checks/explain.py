@@ -69,6 +69,8 @@ MORE = [
     ("a misspelled local", within("let total = 1; return totel;"), "totel", "nothing that may stand here is called `totel`; is `total` meant?"),
     ("types of parameters", "type a { method m(n: int) create plain { } }", ": int", "there are no types of values: write the name alone"),
     ("a call without its word", within("a/1.m(1);"), "/1.m(1)", "a call begins with `call`: `call a/KEY.METHOD();`"),
+    ("an unknown key", within("let k2 = 1; call a/k.m(1);"), "k.m", "nothing that may stand here is called `k`; is `k2` meant?"),
+    ("an else without a block", within("if n { return 1; else { return 2; }"), "else", "`else` stands behind a block: a `}` is missing before it, or the braces of the `if`"),
     ("a block without braces", within("if (n > 1) return 1;"), "return 1", "a block has braces: `if .. { .. }`"),
     ("= for ==", within("if n = 1 { return 1; }"), "= 1", "`=` gives a value: `==` compares"),
     ("one &", within("return n & 1;"), "& 1", "write `&&`"),
