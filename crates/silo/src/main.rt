@@ -6,7 +6,7 @@
 
 use host_files::FolderHost;
 use silo_top::{Gate, GatePlace, Status, run_silo};
-use std::io::Write;
+use std::io::{ErrorKind, Write};
 use std::process::ExitCode;
 use std::{env, io};
 use system_calls::Linux;
@@ -26,12 +26,18 @@ struct CommandLine {
     words: Vec<String>,
 }
 
-/// The folder, which is the empty text where there is no word, and the words behind it. Words that aren't UTF-8 are
-/// a bad use.
+/// Why the words of the command can't be had: memory is wanting, or one of them isn't UTF-8, which is a bad use.
+fn unread(error: &io::Error) -> Status {
+    if error.kind() == ErrorKind::OutOfMemory {
+        Status::Memory
+    } else {
+        Status::BadUse
+    }
+}
+
+/// The folder, which is the empty text where there is no word, and the words behind it.
 fn command_line(rt: &HostRuntime) -> Result<CommandLine, Status> {
-    let Ok(all) = env::args(rt) else {
-        return Err(Status::BadUse);
-    };
+    let all = env::args(rt).map_err(|error| unread(&error))?;
     let mut folder = String::new(rt.alloc());
     let mut words = Vec::new(rt.alloc());
     for (place, word) in all.skip(1).enumerate() {
