@@ -37,7 +37,7 @@ use Rattle.promise_spec.specs.Gotten.{got_in}
 use Rattle.promise_spec.specs.TurnRule.{OfUnit, can_move}
 use Rattle.core_model.specs.Settler.{Seals, Writes, Takes, Rests, has_step, settler_step, batch_step, last_step, learn_step, undecided_step, first_unvoted}
 use Rattle.core_laws.proofs.Lined.{once-ends}
-use Rattle.promise_spec.specs.Causes.{HasDoubt}
+use Rattle.promise_spec.specs.Causes.{RunHasDoubt}
 use Rattle.promise_spec.specs.TurnRule.{OfSettler, Mover}
 use Rattle.turn_rules.specs.Carried.{movers_of}
 use Rattle.turn_rules.specs.Quiet.{HasRun}
@@ -102,7 +102,7 @@ step-doubts w n a =
     ∙ change-doubts w (Doubt n) (does w (Doubt n)) (decode w (Doubt n) (and_parts (is_allowed w (Doubt n)) (can w (Doubt n)) a).1) refl
 
 -- and whoever had one has it still
-pub doubted-now : (r : Run) → HasDoubt r → is_some (ends r).manager.doubt ≡ true
+pub doubted-now : (r : Run) → RunHasDoubt r → is_some (ends r).manager.doubt ≡ true
 doubted-now r d =
     let front : Run = record r { events = take d.at r.events } in
     let mid : Run = with_event front (Doubt d.number) in

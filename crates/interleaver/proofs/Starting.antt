@@ -24,7 +24,7 @@ use Rattle.core_laws.proofs.Lined.{once-ends}
 use Rattle.script_check.specs.Accepted.{IsAcceptedProgram}
 use Rattle.script_tree.specs.Programs.{ProgramTree}
 use Rattle.promise_spec.specs.Cores.{HasBegun}
-use Rattle.promise_spec.specs.Journals.{Settlement, entries_of}
+use Rattle.promise_laws.specs.Journals.{Settlement, entries_of}
 use Rattle.promise_spec.specs.UnitRule.{KeepsUnitRule}
 use Rattle.promise_spec.specs.TurnRule.{units_from, is_line, is_settled, units_of}
 use Rattle.turn_rules.specs.Carried.{is_flying, is_kept, AreKept}

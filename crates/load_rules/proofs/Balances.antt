@@ -17,7 +17,7 @@ use Rattle.script_tree.specs.Programs.{ProgramTree}
 use Rattle.promise_spec.specs.Programs.{Program, IsChecked}
 use Rattle.promise_spec.specs.Records.{Commit, States, after_writes, new_silo, standing_of, AreRecordsOf}
 use Rattle.promise_spec.specs.UnitRule.{IsPlayOf}
-use Rattle.promise_spec.specs.Causes.{HasDoubt}
+use Rattle.promise_spec.specs.Causes.{RunHasDoubt}
 use Rattle.promise_spec.specs.Courses.{Observed, Course, basis, order, opening_standing, core_run, core_end}
 use Rattle.promise_spec.specs.Explained.{IsExplained}
 use Rattle.promise_spec.specs.Loads.{account, balance_in, total_of, bank_text}
@@ -117,7 +117,7 @@ totals_same : (states : States) (w : CoreState) → ((k : ℕ) → balance_in (s
 totals_same states w each zero = refl
 totals_same states w each (suc n) = λ i. totals_same states w each n i +ℤ each n i
 
-module _ (p : Program) (r : Observed) (c : Course) (is : IsExplained p r c) (checked : IsChecked p) (text : p.text ≡ bank_text) (opening : c.opening ≡ []) (sure : HasDoubt (core_run p c) → ⊥) where
+module _ (p : Program) (r : Observed) (c : Course) (is : IsExplained p r c) (checked : IsChecked p) (text : p.text ≡ bank_text) (opening : c.opening ≡ []) (sure : RunHasDoubt (core_run p c) → ⊥) where
   above : 0 < (core_run p c).base
   above = above_records (new_silo p.types) c.opening (omega arith)
 

@@ -13,17 +13,17 @@ use Rattle.promise_spec.specs.Serial.{IsSerial}
 use Rattle.promise_spec.specs.Logs.{live_slot, IsLog}
 use Rattle.promise_spec.specs.Images.{AreNumbered, IsSoundFolder}
 use Rattle.promise_spec.specs.Moments.{IsImageOf, IsLongest}
-use Rattle.promise_spec.specs.Causes.{HasDoubt}
+use Rattle.promise_spec.specs.Causes.{RunHasDoubt}
 use Rattle.promise_spec.specs.Endings.{Ending}
 use Rattle.promise_spec.specs.Courses.{Observed, Course, order, moments, lines, opening_standing, core_run, core_end}
 use Rattle.promise_spec.specs.Orders.{IsOrdered}
 use Rattle.promise_spec.specs.Crashes.{SurvivesCrashes, StaySound}
 use Rattle.promise_spec.specs.Explained.{ComeOfEvents, IsExplained}
-use Rattle.promise_spec.specs.Exits.{IsDoubt, IsLeft}
-use Rattle.promise_spec.specs.Journals.{KeepsJournal, commits_of}
+use Rattle.promise_spec.specs.Exits.{ImagesMayDiffer, IsExit}
+use Rattle.promise_laws.specs.Journals.{KeepsJournal, commits_of}
 use Rattle.promise_spec.proofs.Lists.{either_in, in_append}
 use Rattle.promise_spec.proofs.OneLog.{one_log}
-use Rattle.promise_spec.proofs.Journaled as journaled
+use Rattle.promise_laws.proofs.Journaled as journaled
 use Rattle.promise_spec.proofs.Doubts.{doubt_left}
 use Rattle.promise_laws.specs.Obligations.{Opens, Journals, LeavesAtExit, ExplainsEvents, Lasts}
 use Rattle.promise_laws.proofs.SerialRecords.{explained_serial}
@@ -216,12 +216,12 @@ module _ (p : Program) (n seed : ℕ) (r : Observed) (c : Course) (mid : World) 
       let x = s.lasts.leaves.logs image (at_exit image left) in
       (x.log, x.is, elim x.which [ inl whole ↦ inl whole | inr lacks ↦ inr (lacks.begins, lacks.doubt) ])
 
-  doubted : (begins : ℕ) → (core_end p c).manager.doubt ≡ Some begins → IsDoubt live_slot r c (core_end p c)
+  doubted : (begins : ℕ) → (core_end p c).manager.doubt ≡ Some begins → ImagesMayDiffer live_slot r c (core_end p c)
   doubted begins d =
-      let left : HasDoubt (core_run p c) = doubt_left (core_run p c) begins d in
+      let left : RunHasDoubt (core_run p c) = doubt_left (core_run p c) begins d in
       record {
         rose = doubt-rose (core_run p c) _ _ left is.faults.seals;
-        ending = is.ended left;
+        ending = is.doubt_ends left;
         told = λ e m doubtful. doubt-told p.types (lines r) (opening_standing p c).states (opening_standing p c).next (core_end p c) (known_of p r c is) e (subst (λ l. Member e l) s.settled m) doubtful;
       }
 
@@ -238,7 +238,7 @@ module _ (p : Program) (n seed : ℕ) (r : Observed) (c : Course) (mid : World) 
         | inr lacks ↦ lacks
       ]
 
-  pub exit : IsLeft p r c
+  pub exit : IsExit p r c
   exit = record {
     logs = λ image left.
         (let x = s.lasts.leaves.logs image (at_exit image left) in
@@ -267,7 +267,7 @@ module _ (p : Program) (n seed : ℕ) (r : Observed) (c : Course) (mid : World) 
   }
 
   -- where no batch is in doubt each image has the whole order
-  pub whole_order : (HasDoubt (core_run p c) → ⊥) → (image : Image) → IsImage mid.disk image → IsLog live_slot (shape_in p) image (order c)
+  pub whole_order : (RunHasDoubt (core_run p c) → ⊥) → (image : Image) → IsImage mid.disk image → IsLog live_slot (shape_in p) image (order c)
   whole_order sure image left =
       let x = logs image (subst (λ (d : Disk). IsImage d image) (sym s.disk) left) in
       elim x.2 [

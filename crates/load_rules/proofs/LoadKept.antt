@@ -8,7 +8,7 @@ use Rattle.host_trait.specs.Faults.{Rose}
 use Rattle.host_trait.specs.World.{World, Disk, Moment, Image, IsImage, moment_of, last_of}
 use Rattle.promise_spec.specs.Programs.{Program, shape_in}
 use Rattle.promise_spec.specs.Logs.{live_slot, IsLog}
-use Rattle.promise_spec.specs.Causes.{NoneRose, HasDoubt}
+use Rattle.promise_spec.specs.Causes.{NoneRose, RunHasDoubt}
 use Rattle.promise_spec.specs.Endings as ending
 use Rattle.promise_spec.specs.Endings.{Ending, HasRisen, IsBegun, IsCalm}
 use Rattle.promise_spec.specs.Courses.{Observed, Course, order, moments, core_run, core_end}
@@ -85,7 +85,7 @@ module _ (p : Program) (n seed : ℕ) (r : Observed) (c : Course) (mid : World) 
     ordered = ordered p n seed r c mid counts turns_end turns told s;
     crashes = crashes p n seed r c mid counts turns_end turns told s;
     sound = sound p n seed r c mid counts turns_end turns told s;
-    records = records p n seed r c mid counts turns_end turns told s;
+    traced = records p n seed r c mid counts turns_end turns told s;
     exit = exit p n seed r c mid counts turns_end turns told s;
     settled = s.settled;
     explained = is p n seed r c mid counts turns_end turns told s;

@@ -5,7 +5,7 @@ use Rattle.host_trait.specs.declared.channels.Channel.{Channel}
 use Rattle.host_trait.specs.World.{World, Moment, Image, IsImage}
 use Rattle.promise_spec.specs.Programs.{Program, shape_in}
 use Rattle.promise_spec.specs.Logs.{IsLog, live_slot}
-use Rattle.promise_spec.specs.Causes.{NoneRose, HasDoubt, syncs_of, most_syncs_of}
+use Rattle.promise_spec.specs.Causes.{NoneRose, RunHasDoubt, syncs_of, most_syncs_of}
 use Rattle.promise_spec.specs.Endings as ending
 use Rattle.promise_spec.specs.Courses.{Observed, Course, order, lines, core_run, core_end}
 use Rattle.promise_spec.specs.Promise.{IsAnswered}
@@ -29,7 +29,7 @@ pub record HasWhole (p : Program) (c : Course) (mid : World) : Type 0 where
 
 -- What was printed behind the turns: nothing, or a first part of the summary, where no batch is in doubt.
 abbrev pub MayPrint : Program → Observed → Course → List Moment → Type 0
-MayPrint p r c told = ((told ≡ []) × (r.new.output ≡ r.old.output)) ⊎ (HasDoubt (core_run p c) → ⊥)
+MayPrint p r c told = ((told ≡ []) × (r.new.output ≡ r.old.output)) ⊎ (RunHasDoubt (core_run p c) → ⊥)
 
 -- The turns ended in the world `mid`, and what they had written by then is nothing; they last as those of a run. Behind them the
 -- files stayed, and the summary was printed or not. Its entries are those that the core settled.
@@ -51,6 +51,6 @@ pub record ShowsLoad (p : Program) (n seed : ℕ) (r : Observed) (c : Course) (m
   pub carried : ending.IsBegun r.ending
   pub risen : ending.HasRisen r.ending r.faults_before r.faults_after
   pub done : (r.ending ≡ ending.Done) ⊎ (r.ending ≡ ending.WriteFault) → IsAnswered r c
-  pub undoubted : r.ending ≡ ending.WriteFault → HasDoubt (core_run p c) → ⊥
+  pub undoubted : r.ending ≡ ending.WriteFault → RunHasDoubt (core_run p c) → ⊥
   pub syncs : NoneRose r.faults_before r.faults_after → r.ending ≡ ending.Done → r.new.syncs ≡ r.old.syncs + syncs_of (core_run p c)
   pub most : r.new.syncs ≤ r.old.syncs + most_syncs_of (core_run p c)

@@ -11,7 +11,7 @@ use Rattle.core_model.specs.CoreState.{same_grain, put, put_grain}
 use Rattle.script_meaning.specs.Play.{unit, next, play_over}
 use Rattle.promise_spec.specs.Records.{AreRecordsOf}
 use Rattle.promise_spec.specs.Cores.{applied_in, how_many}
-use Rattle.promise_spec.specs.Causes.{HasDoubt, is_no, is_vote_of, is_unsealed, syncs_of, most_syncs_of}
+use Rattle.promise_spec.specs.Causes.{RunHasDoubt, is_no, is_vote_of, is_unsealed, syncs_of, most_syncs_of}
 use Rattle.promise_spec.specs.Batches.{EndsABatch, kept_by}
 use Rattle.promise_spec.specs.UnitRule.{KeepsUnitRule}
 use Rattle.promise_spec.specs.TurnRule.{KeepsTurnRule}
@@ -137,7 +137,7 @@ one_ends_none is = not_between (ends core) [] (first_commit ∷ []) 0 is (omega 
 
 -- ---- faults
 
-pub no_doubt : HasDoubt core → ⊥
+pub no_doubt : RunHasDoubt core → ⊥
 no_doubt doubt =
     let P : ℕ → CoreEvent → Type 0 = λ at e. (n : ℕ) → e ≡ event.Doubt n → ⊥ in
     let all : Each P 0 batch_events =

@@ -24,7 +24,7 @@ use Rattle.promise_spec.specs.Moments.{IsImageOf}
 use Rattle.promise_spec.specs.Outputs.{IsProper, Grew, reply_lines}
 use Rattle.promise_spec.specs.Cores.{HasBegun, applied_in, how_many}
 use Rattle.promise_spec.specs.TurnRule.{KeepsTurnRule}
-use Rattle.promise_spec.specs.Causes.{RoseBy, HasDoubt, AreCaused, is_no, is_vote_of, is_unsealed, syncs_of, most_syncs_of}
+use Rattle.promise_spec.specs.Causes.{RoseBy, RunHasDoubt, AreCaused, is_no, is_vote_of, is_unsealed, syncs_of, most_syncs_of}
 use Rattle.promise_spec.specs.Family.{IsUnitOf, IsReached, by_line}
 use Rattle.promise_spec.specs.Endings as ending
 use Rattle.promise_spec.specs.Courses.{Observed, Course, moments, lines, core_end}
@@ -32,16 +32,16 @@ use Rattle.promise_spec.specs.Orders.{IsOrdered}
 use Rattle.promise_spec.specs.Replies.{AreReplies, IsTrueOf, HasNoRecord}
 use Rattle.promise_spec.specs.Crashes.{LeavesAlone, SurvivesCrashes, StaySound, HoldsReplies}
 use Rattle.promise_spec.specs.Batches.{EndsABatch}
-use Rattle.promise_spec.specs.Exits.{IsLeft, IsNowhere}
+use Rattle.promise_spec.specs.Exits.{IsExit, IsNowhere}
 use Rattle.promise_spec.specs.Explained.{ComeOfEvents, AreAdded, AreSettled, IsExplained}
-use Rattle.promise_spec.specs.Journals.{Settlement, KeepsJournal, Backs, commits_of, entries_of}
+use Rattle.promise_laws.specs.Journals.{Settlement, KeepsJournal, Backs, commits_of, entries_of}
 use Rattle.promise_spec.specs.Promise.{IsSoundFolder, IsUndisturbed, IsNoLock, HasEnded, Keeps}
 use Rattle.promise_laws.specs.Obligations.{Shows}
 use Rattle.promise_examples.specs.Examples.{accounts, account_program, account_1, unit_no, first_commit, first_entry, deposit_events, account_run}
 use Rattle.promise_examples.specs.DepositRuns.{MayHaveDeposit, LeavesOthers, IsBetween, IsDepositRun, deposit_course}
 use Rattle.promise_spec.proofs.Lists.{none_is}
 use Rattle.promise_spec.proofs.OneLog.{one_log}
-use Rattle.promise_spec.proofs.Journaled.{chained, longest, holds, whole as all_whole, sound}
+use Rattle.promise_laws.proofs.Journaled.{chained, longest, holds, whole as all_whole, sound}
 use Rattle.promise_examples.proofs.FirstDeposit.{five}
 use Rattle.promise_examples.proofs.Between.{at_each, exit_there, all_less}
 use Rattle.promise_examples.proofs.WholeBatches.{no_batch}
@@ -66,7 +66,7 @@ backs e l s (x ∷ y ∷ front) back split here added is = absurd (none_is y (fr
 abbrev core : Run
 core = account_run deposit_events
 
-no_doubt : HasDoubt core → ⊥
+no_doubt : RunHasDoubt core → ⊥
 no_doubt doubt =
     let P : ℕ → CoreEvent → Type 0 = λ at e. (n : ℕ) → e ≡ event.Doubt n → ⊥ in
     let all : Each P 0 deposit_events =
@@ -198,7 +198,7 @@ module _ (r : Observed) (opened : Moment) (sealing : List Moment) (run : IsDepos
     true_each = λ e there.
         only (λ (d : Entry). IsTrueOf account_program r course d d.what) first_entry e
         (inl (record { commit = first_commit; added = inl refl; of = record { unit = refl; line = refl }; result = refl })) there;
-    ordered = λ i j m n d e a b at other log_at other_log of also before.
+    in_order = λ i j m n d e a b at other log_at other_log of also before.
         let zero_i : i ≡ 0 = only_at first_entry i d at in
         let zero_j : j ≡ 0 = only_at first_entry j e other in
         absurd (omega arith);
@@ -257,7 +257,7 @@ module _ (r : Observed) (opened : Moment) (sealing : List Moment) (run : IsDepos
   replied : HoldsReplies account_program r course
   replied m image there left = let k = (known m there image left).0 in holds account_program r course journal m image backs k.0 k.1
 
-  exit : IsLeft account_program r course
+  exit : IsExit account_program r course
   exit = record {
     logs = λ image left. record { log = first_commit ∷ []; is = (run.logged image left).0; which = inl refl };
     doubt = λ one other a b is_one is_other log_a log_b differ.
@@ -309,7 +309,7 @@ module _ (r : Observed) (opened : Moment) (sealing : List Moment) (run : IsDepos
       seals = subst (λ n. RoseBy n (r.faults_before (File manager)) (r.faults_after (File manager))) (sym no_seals) (no_fault (File manager));
     };
     doubted = λ file is. absurd (let e : ending.Done ≡ ending.DiskFault file = sym run.ending ∙ is in cc e);
-    ended = λ doubt. absurd (no_doubt doubt);
+    doubt_ends = λ doubt. absurd (no_doubt doubt);
     unvoted = λ g m none there. apart m there g (λ same. voted_on g same none);
   }
 
@@ -337,7 +337,7 @@ module _ (r : Observed) (opened : Moment) (sealing : List Moment) (run : IsDepos
   pub kept : Keeps account_program r course
   kept = record {
     headline = record { ordered = ordered; replies = replies; crashes = crashes; sound = λ folder. sound_all; holds = replied };
-    records = of_events;
+    traced = of_events;
     settled = written;
     explained = explained;
     exit = exit;

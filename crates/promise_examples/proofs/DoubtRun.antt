@@ -30,7 +30,7 @@ use Rattle.promise_spec.specs.Moments.{IsImageOf}
 use Rattle.promise_spec.specs.Outputs.{IsProper, reply_lines}
 use Rattle.promise_spec.specs.Cores.{HasBegun, applied_in, how_many}
 use Rattle.promise_spec.specs.TurnRule.{KeepsTurnRule}
-use Rattle.promise_spec.specs.Causes.{IsAbortedFor, NoneRose, RoseBy, HasDoubt, AreCaused, is_no, is_vote_of, is_unsealed, most_syncs_of}
+use Rattle.promise_spec.specs.Causes.{IsAbortedFor, NoneRose, RoseBy, RunHasDoubt, AreCaused, is_no, is_vote_of, is_unsealed, most_syncs_of}
 use Rattle.promise_spec.specs.Family.{IsUnitOf, IsReached, by_line}
 use Rattle.promise_spec.specs.Endings as ending
 use Rattle.promise_spec.specs.Courses.{Observed, Course, moments, lines, core_end}
@@ -38,9 +38,9 @@ use Rattle.promise_spec.specs.Orders.{IsOrdered}
 use Rattle.promise_spec.specs.Replies.{AreReplies, IsTrueOf, HasNoRecord}
 use Rattle.promise_spec.specs.Crashes.{HasOutcome, LeavesAlone, SurvivesCrashes, StaySound, HoldsReplies}
 use Rattle.promise_spec.specs.Batches.{EndsABatch}
-use Rattle.promise_spec.specs.Exits.{IsLeft, IsDoubt, HasLogAtExit, IsNowhere, doubtful}
+use Rattle.promise_spec.specs.Exits.{IsExit, ImagesMayDiffer, HasLogAtExit, IsNowhere, units_in_doubt}
 use Rattle.promise_spec.specs.Explained.{ComeOfEvents, AreAdded, AreSettled, IsExplained}
-use Rattle.promise_spec.specs.Journals.{Settlement, KeepsJournal, Backs, commits_of, entries_of}
+use Rattle.promise_laws.specs.Journals.{Settlement, KeepsJournal, Backs, commits_of, entries_of}
 use Rattle.promise_spec.specs.Promise.{IsSoundFolder, HasEnded, Keeps}
 use Rattle.promise_laws.specs.Obligations.{Shows}
 use Rattle.promise_examples.specs.Examples.{accounts, account_program, account_1, unit_no, first_commit, locked_entry, doubt_entry, conflict_entries, conflict_events, account_run}
@@ -48,7 +48,7 @@ use Rattle.promise_examples.specs.DepositRuns.{HasNone, HasDeposit, MayHaveDepos
 use Rattle.promise_examples.specs.DoubtRuns.{IsDoubtRun, doubt_course, first_told}
 use Rattle.promise_spec.proofs.Lists.{none_at, some_is, in_append, both_parts}
 use Rattle.promise_spec.proofs.OneLog.{one_log}
-use Rattle.promise_spec.proofs.Journaled.{chained, longest, holds, whole as all_whole, sound}
+use Rattle.promise_laws.proofs.Journaled.{chained, longest, holds, whole as all_whole, sound}
 use Rattle.promise_examples.proofs.Between.{at_each, exit_there, all_less}
 use Rattle.promise_examples.proofs.WholeBatches.{no_batch}
 use Rattle.promise_examples.proofs.Showing.{shows}
@@ -134,7 +134,7 @@ four_most = refl
 pub one_seal : how_many is_unsealed core ≡ 1
 one_seal = ap (λ (events : List CoreEvent). count_by is_unsealed events) all_apply
 
-pub has_doubt : HasDoubt core
+pub has_doubt : RunHasDoubt core
 unfolding put put_grain
 has_doubt = record { at = 10; number = 1; doubt = record { there = refl; applied = refl } }
 
@@ -250,7 +250,7 @@ module _ (r : Observed) (opened : Moment) (told doubting : List Moment) (run : I
     true_each = λ e there.
         either_of (λ (d : Entry). IsTrueOf account_program r course d d.what) locked_entry doubt_entry e
         (λ l added same. only (λ (x : Commit). x.logged.unit ≡ unit_no 2 → ⊥) first_commit l (λ is. not_one (sym is)) added same) tt there;
-    ordered = λ i j m n d e a b at other log_at log_other of also before.
+    in_order = λ i j m n d e a b at other log_at log_other of also before.
         let same : d ≡ locked_entry = earlier i j d e at other before in
         let commit : first_commit ≡ a = only_get first_commit m a log_at in
         absurd (not_one (sym (ap (λ (x : Commit). x.logged.unit) commit ∙ of.unit ∙ ap (λ (x : Entry). x.unit) same)));
@@ -305,7 +305,7 @@ module _ (r : Observed) (opened : Moment) (told doubting : List Moment) (run : I
     alone = alone;
   }
 
-  doubtful_is : doubtful (core_end account_program course) ≡ unit_no 1 ∷ []
+  doubtful_is : units_in_doubt (core_end account_program course) ≡ unit_no 1 ∷ []
   unfolding put put_grain
   doubtful_is = refl
 
@@ -320,10 +320,10 @@ module _ (r : Observed) (opened : Moment) (told doubting : List Moment) (run : I
   rose : Rose (r.faults_before (File manager)) (r.faults_after (File manager))
   rose = let one : r.faults_after (File manager) ≡ r.faults_before (File manager) + 1 = run.rose in omega arith
 
-  may_doubt : ending.MayDoubt r.ending
-  may_doubt = subst ending.MayDoubt (sym run.ending) tt
+  may_doubt : ending.EndingMayDoubt r.ending
+  may_doubt = subst ending.EndingMayDoubt (sym run.ending) tt
 
-  is_doubt : IsDoubt live_slot r course (core_end account_program course)
+  is_doubt : ImagesMayDiffer live_slot r course (core_end account_program course)
   is_doubt = record {
     rose = rose;
     ending = may_doubt;
@@ -348,7 +348,7 @@ module _ (r : Observed) (opened : Moment) (told doubting : List Moment) (run : I
   replied : HoldsReplies account_program r course
   replied m image there left = let k = (known m there image left).0 in holds account_program r course journal m image backs k.0 k.1
 
-  exit : IsLeft account_program r course
+  exit : IsExit account_program r course
   exit = record {
     logs = λ image left. ends_with image (run.exit image left);
     doubt = λ one other a b is_one is_other log_a log_b differ. is_doubt;
@@ -411,7 +411,7 @@ module _ (r : Observed) (opened : Moment) (told doubting : List Moment) (run : I
     caused = caused;
     faults = record { votes = votes; seals = seals };
     doubted = λ file is. (file_is file is, has_doubt);
-    ended = λ doubt. may_doubt;
+    doubt_ends = λ doubt. may_doubt;
     unvoted = λ g m none there. apart m there g (λ same. voted_on g same none);
   }
 
@@ -445,7 +445,7 @@ module _ (r : Observed) (opened : Moment) (told doubting : List Moment) (run : I
   pub kept : Keeps account_program r course
   kept = record {
     headline = record { ordered = ordered; replies = replies; crashes = crashes; sound = λ folder. sound_all; holds = replied };
-    records = of_events;
+    traced = of_events;
     settled = written;
     explained = explained;
     exit = exit;

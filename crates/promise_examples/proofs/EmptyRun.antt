@@ -77,7 +77,7 @@ module _ (p : Program) (r : Observed) (opening : List Commit) (run : IsEmptyRun 
         within = λ e none. absurd none;
         once = tt;
         true_each = λ e none. absurd none;
-        ordered = λ i j m n d e a b at other. absurd (none_at i d at);
+        in_order = λ i j m n d e a b at other. absurd (none_at i d at);
       };
       crashes = record {
         past = run.synced;
@@ -102,7 +102,7 @@ module _ (p : Program) (r : Observed) (opening : List Commit) (run : IsEmptyRun 
         has = λ e l none. absurd none;
       };
     };
-    records = record {
+    traced = record {
       family = no_family p.types (lines r) _ _ _;
       whole = λ image log is log_is. subst (EndsABatch (core_end p (empty_course r opening)) opening) (one_log (shape_in p) image opening log (run.logs image (at_exit image is)) log_is) (no_batch (core_end p (empty_course r opening)) opening);
     };
@@ -119,7 +119,7 @@ module _ (p : Program) (r : Observed) (opening : List Commit) (run : IsEmptyRun 
       caused = record { entries = λ x none. absurd none; units = λ u is. absurd (cc is) };
       faults = record { votes = λ g. no_fault _; seals = no_fault _ };
       doubted = λ file is. absurd (let e : Done ≡ DiskFault file = sym run.ending ∙ is in cc e);
-      ended = λ doubt. absurd (none_at doubt.at _ doubt.doubt.there);
+      doubt_ends = λ doubt. absurd (none_at doubt.at _ doubt.doubt.there);
       unvoted = λ g m none there. elim there [
         | inl same ↦ ap (λ (n : Moment). n.disk (Grain live_slot g)) same ∙ run.unwritten g
         | inr more ↦ elim more [ inl same ↦ ap (λ (n : Moment). n.disk (Grain live_slot g)) same ∙ run.unwritten g | inr never ↦ absurd never ]

@@ -8,7 +8,7 @@ use Rattle.host_trait.specs.World.{Moment, Image, IsImage}
 use Rattle.script_meaning.specs.Worked.{at, int, call}
 use Rattle.promise_spec.specs.Programs.{Program, shape_in}
 use Rattle.promise_spec.specs.Logs.{IsLog, live_slot}
-use Rattle.promise_spec.specs.Causes.{HasDoubt, NoneRose, syncs_of}
+use Rattle.promise_spec.specs.Causes.{RunHasDoubt, NoneRose, syncs_of}
 use Rattle.promise_spec.specs.Endings as ending
 use Rattle.promise_spec.specs.Courses.{Observed, Course, order, moments, lines, core_run}
 use Rattle.promise_examples.specs.Examples.{account_program}
@@ -32,10 +32,10 @@ module _ (p : Program) (n seed : ℕ) (r : Observed) (c : Course) where
   told_early keeps is differ =
       differ (keeps.silent (λ done. let e : ending.Memory ≡ ending.Done = sym is ∙ done in absurd (cc e)) (λ fault. let e : ending.Memory ≡ ending.WriteFault = sym is ∙ fault in absurd (cc e)))
 
-  pub done_in_doubt : KeepsLoad p n seed r c → HasDoubt (core_run p c) → r.ending ≡ ending.Done → ⊥
-  done_in_doubt keeps doubt is = subst ending.MayDoubt is (keeps.explained.ended doubt)
+  pub done_in_doubt : KeepsLoad p n seed r c → RunHasDoubt (core_run p c) → r.ending ≡ ending.Done → ⊥
+  done_in_doubt keeps doubt is = subst ending.EndingMayDoubt is (keeps.explained.doubt_ends doubt)
 
-  pub fault_in_doubt : KeepsLoad p n seed r c → HasDoubt (core_run p c) → r.ending ≡ ending.WriteFault → ⊥
+  pub fault_in_doubt : KeepsLoad p n seed r c → RunHasDoubt (core_run p c) → r.ending ≡ ending.WriteFault → ⊥
   fault_in_doubt keeps doubt is = keeps.ended.undoubted is doubt
 
   pub told_too_soon : (m : Moment) (image : Image) → KeepsLoad p n seed r c → Member m (moments r c) → IsImage m.disk image → (IsLog live_slot (shape_in p) image (order c) → ⊥) → m.output ≢ r.old.output → ⊥

@@ -4,7 +4,7 @@ use Rattle.core_model.specs.CoreState.{Member}
 use Rattle.host_trait.specs.World.{Moment, Image, IsImage, moment_of, last_of}
 use Rattle.promise_spec.specs.Programs.{Program}
 use Rattle.promise_spec.specs.Courses.{Observed, Course, moments}
-use Rattle.promise_spec.specs.Journals.{Settlement, Backs, commits_of}
+use Rattle.promise_laws.specs.Journals.{Settlement, Backs, commits_of}
 use Rattle.promise_spec.specs.Images.{IsSoundFolder}
 use Rattle.promise_spec.specs.Promise.{Keeps}
 use Rattle.promise_spec.proofs.WholeFolders.{whole_folder}
@@ -31,7 +31,7 @@ module _ (p : Program) (r : Observed) (c : Course) (keeps : Keeps p r c) where
     commits = commits;
     backs = backs;
     kept = kept;
-    batches = keeps.records.whole;
+    batches = keeps.traced.whole;
     last = keeps.headline.ordered.longest.image;
     left = keeps.headline.ordered.longest.left;
     longest = keeps.headline.ordered.longest.log;
@@ -45,7 +45,7 @@ module _ (p : Program) (r : Observed) (c : Course) (keeps : Keeps p r c) where
     turns = keeps.explained.turns;
     faults = keeps.explained.faults;
     doubted = keeps.explained.doubted;
-    ended = keeps.explained.ended;
+    ended = keeps.explained.doubt_ends;
     unvoted = keeps.explained.unvoted;
   }
 

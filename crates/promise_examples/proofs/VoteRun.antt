@@ -28,16 +28,16 @@ use Rattle.promise_spec.specs.Moments.{IsImageOf}
 use Rattle.promise_spec.specs.Outputs.{IsProper, Grew, reply_lines}
 use Rattle.promise_spec.specs.Cores.{applied_in, how_many}
 use Rattle.promise_spec.specs.TurnRule.{KeepsTurnRule}
-use Rattle.promise_spec.specs.Causes.{IsAbortedFor, NoneRose, RoseBy, HasDoubt, AreCaused, is_no, is_vote_of, is_unsealed, most_syncs_of}
+use Rattle.promise_spec.specs.Causes.{IsAbortedFor, NoneRose, RoseBy, RunHasDoubt, AreCaused, is_no, is_vote_of, is_unsealed, most_syncs_of}
 use Rattle.promise_spec.specs.Endings as ending
 use Rattle.promise_spec.specs.Courses.{Observed, Course, moments, lines, core_end}
 use Rattle.promise_spec.specs.Orders.{IsOrdered}
 use Rattle.promise_spec.specs.Replies.{AreReplies, IsTrueOf}
 use Rattle.promise_spec.specs.Crashes.{LeavesAlone, SurvivesCrashes, StaySound, HoldsReplies}
 use Rattle.promise_spec.specs.Batches.{EndsABatch}
-use Rattle.promise_spec.specs.Exits.{IsLeft}
+use Rattle.promise_spec.specs.Exits.{IsExit}
 use Rattle.promise_spec.specs.Explained.{ComeOfEvents, AreSettled, IsExplained}
-use Rattle.promise_spec.specs.Journals.{Settlement, KeepsJournal, Backs, commits_of, entries_of}
+use Rattle.promise_laws.specs.Journals.{Settlement, KeepsJournal, Backs, commits_of, entries_of}
 use Rattle.promise_spec.specs.Promise.{IsSoundFolder, HasEnded, Keeps}
 use Rattle.promise_laws.specs.Obligations.{Shows}
 use Rattle.promise_examples.specs.Examples.{accounts, account_program, account_1, unit_no, voted_entry, dependent_entry, vote_entries, vote_events, account_run}
@@ -45,7 +45,7 @@ use Rattle.promise_examples.specs.DepositRuns.{HasNone, LeavesOthers, IsBetween}
 use Rattle.promise_examples.specs.VoteRuns.{IsVoteRun, vote_course}
 use Rattle.promise_spec.proofs.Lists.{none_at, both_parts}
 use Rattle.promise_spec.proofs.OneLog.{one_log}
-use Rattle.promise_spec.proofs.Journaled.{chained, longest, holds, whole as all_whole, sound}
+use Rattle.promise_laws.proofs.Journaled.{chained, longest, holds, whole as all_whole, sound}
 use Rattle.promise_examples.proofs.Between.{at_each, exit_there, all_less}
 use Rattle.promise_examples.proofs.WholeBatches.{no_batch}
 use Rattle.promise_examples.proofs.Showing.{shows}
@@ -100,7 +100,7 @@ caused : AreCaused core
 unfolding put put_grain
 caused = record { entries = entry_caused; units = λ u is. aborted_by u (u.0 == 1) (u.0 == 2) refl refl is }
 
-no_doubt : HasDoubt core → ⊥
+no_doubt : RunHasDoubt core → ⊥
 no_doubt doubt =
     let P : ℕ → CoreEvent → Type 0 = λ at e. (n : ℕ) → e ≡ event.Doubt n → ⊥ in
     let all : Each P 0 vote_events =
@@ -237,7 +237,7 @@ module _ (r : Observed) (opened : Moment) (failing told : List Moment) (run : Is
     once = ((λ y there same. only (λ (d : Entry). 1 ≡ d.line → ⊥) dependent_entry y (λ is. omega (arith, is)) there same), ((λ y none. absurd none), tt));
     true_each = λ e there.
         either_of (λ (d : Entry). IsTrueOf account_program r course d d.what) voted_entry dependent_entry e (λ l none same. absurd none) (λ l none same. absurd none) there;
-    ordered = λ i j m n d e a b at other log_at. absurd (none_at m a log_at);
+    in_order = λ i j m n d e a b at other log_at. absurd (none_at m a log_at);
   }
 
   -- at each moment other files and the header are as they were
@@ -289,7 +289,7 @@ module _ (r : Observed) (opened : Moment) (failing told : List Moment) (run : Is
   replied : HoldsReplies account_program r course
   replied m image there left = let k = (known m there image left).0 in holds account_program r course journal m image backs k.0 k.1
 
-  exit : IsLeft account_program r course
+  exit : IsExit account_program r course
   exit = record {
     logs = λ image left. record { log = []; is = (run.exit image left).0; which = inl refl };
     doubt = λ one other a b is_one is_other log_a log_b differ.
@@ -343,7 +343,7 @@ module _ (r : Observed) (opened : Moment) (failing told : List Moment) (run : Is
     caused = caused;
     faults = record { votes = λ g. votes g (same_grain account_1 g) refl; seals = seals };
     doubted = λ file is. absurd (let e : ending.Done ≡ ending.DiskFault file = sym run.ending ∙ is in cc e);
-    ended = λ doubt. absurd (no_doubt doubt);
+    doubt_ends = λ doubt. absurd (no_doubt doubt);
     unvoted = λ g m none there. apart m there g (λ same. voted_on g same none);
   }
 
@@ -377,7 +377,7 @@ module _ (r : Observed) (opened : Moment) (failing told : List Moment) (run : Is
   pub kept : Keeps account_program r course
   kept = record {
     headline = record { ordered = ordered; replies = replies; crashes = crashes; sound = λ folder. sound_all; holds = replied };
-    records = of_events;
+    traced = of_events;
     settled = written;
     explained = explained;
     exit = exit;

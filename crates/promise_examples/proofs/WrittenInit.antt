@@ -199,7 +199,7 @@ init_makes = record {
     };
     now = made_at;
   }));
-  ended = (account_is_text made refl refl, none_before, made_images);
+  ends_as = (account_is_text made refl refl, none_before, made_images);
   risen = tt;
 }
 
@@ -340,7 +340,7 @@ again_makes = record {
   beside = record { more = moment [] made_disk ∷ []; past = refl; each = (again_beside, tt) };
   beside_now = again_beside;
   makes = inl again_untouched;
-  ended = (account_is_text made_again refl refl, record { long = lit≤ tt; gate = refl; named = refl }, again_untouched, again_lasts);
+  ends_as = (account_is_text made_again refl refl, record { long = lit≤ tt; gate = refl; named = refl }, again_untouched, again_lasts);
   risen = tt;
 }
 
@@ -367,7 +367,7 @@ unmade_makes = record {
   beside = record { more = []; past = refl; each = tt };
   beside_now = record { output = refl; others = λ f no_log no_program. refl };
   makes = inl cut_untouched;
-  ended = ((refl, lit≤ tt, cut_is_no_program), cut_untouched);
+  ends_as = ((refl, lit≤ tt, cut_is_no_program), cut_untouched);
   risen = tt;
 }
 
@@ -391,7 +391,7 @@ halted_makes = record {
     };
     now = opening_at;
   }));
-  ended = (account_is_text halted refl refl, inl refl, λ silo. absurd (none_before silo));
+  ends_as = (account_is_text halted refl refl, inl refl, λ silo. absurd (none_before silo));
   risen = manager_fails.rose;
 }
 

@@ -23,8 +23,8 @@ use Rattle.promise_spec.specs.Courses.{moments, core_run, core_end}
 use Rattle.promise_spec.specs.Crashes.{LeavesAlone}
 use Rattle.promise_spec.specs.Batches.{EndsABatch}
 use Rattle.promise_spec.specs.Explained.{AreAdded, AreSettled}
-use Rattle.promise_spec.specs.Exits.{HasBlock, DifferAt, HasDoubtfulBlock}
-use Rattle.promise_spec.specs.Journals.{Settlement, Backs}
+use Rattle.promise_spec.specs.Exits.{HasBlock, DifferAt, BlockInDoubt}
+use Rattle.promise_laws.specs.Journals.{Settlement, Backs}
 use Rattle.promise_spec.specs.Promise.{Keeps, Promises}
 use Rattle.promise_spec.proofs.WholeFolders.{whole_folder}
 use Rattle.promise_spec.proofs.OneLog.{one_log}
@@ -264,7 +264,7 @@ one_file one other is_one is_other =
     record { long = ap (λ (f : List ℕ). length f) same; same = λ i elsewhere. ap (λ (f : List ℕ). slice_index f i) same }
 
 -- the block of the batch in doubt
-doubtful_block : HasDoubtfulBlock live_slot unbegun unbegun_course (core_end account_program unbegun_course)
+doubtful_block : BlockInDoubt live_slot unbegun unbegun_course (core_end account_program unbegun_course)
 doubtful_block = record {
   gate = 15;
   batch = first_commit ∷ [];

@@ -228,7 +228,7 @@ one_fault text a b is_a is_b = cc (sym is_a ∙ is_b)
 
 module _ (r : Observed) (makes : MakesSilo r) where
   ended_as : (e : ending.Ending) → r.ending ≡ e → MakesAs e r
-  ended_as e is = subst (λ (f : ending.Ending). MakesAs f r) is makes.ended
+  ended_as e is = subst (λ (f : ending.Ending). MakesAs f r) is makes.ends_as
 
   pub another_program : (image : Image) → r.ending ≡ ending.Done → IsImage r.new.disk image → (HasProgram r.old.input (image program_file) → ⊥) → ⊥
   another_program image done left other = other ((ended_as ending.Done done).2 image left).program
@@ -274,7 +274,7 @@ unaudited r (inr audited) is = reported_bad _ r audited.report is
 
 unloaded : (n seed : ℕ) (m : Manner) (r : Observed) → Loads n seed m r → r.ending ≡ ending.BadUse → ⊥
 unloaded n seed m r loads is = elim loads.answers [
-  | inl unmade ↦ subst (λ (e : ending.Ending). IsUnmadeBy e r) is unmade.ended
+  | inl unmade ↦ subst (λ (e : ending.Ending). IsUnmadeBy e r) is unmade.ends_as
   | inr from ↦ elim from.carried [
     | inl unopened ↦ unopened_bad (from_there r from.made) unopened is
     | inr course ↦ subst ending.IsBegun is course.1.ended.carried
@@ -292,7 +292,7 @@ unchecked n seed r checks is = elim checks.ending [
 
 -- no command that is obeyed answers bad use
 never_bad_use : (c : Command) (r : Observed) → Obeys c r → r.ending ≡ ending.BadUse → ⊥
-never_bad_use Init r makes is = subst (λ (e : ending.Ending). MakesAs e r) is makes.ended
+never_bad_use Init r makes is = subst (λ (e : ending.Ending). MakesAs e r) is makes.ends_as
 never_bad_use (Run m) r keeps is = no_bad_use m r keeps is
 never_bad_use Show r reports is = unreported show_text r reports is
 never_bad_use History r reports is = unreported history_text r reports is

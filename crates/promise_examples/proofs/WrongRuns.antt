@@ -47,7 +47,8 @@ use Rattle.promise_spec.specs.Moments.{IsImageOf}
 use Rattle.promise_spec.specs.Lines.{ReadsLineAs, IsLineCall}
 use Rattle.promise_spec.specs.Outputs.{reply_lines}
 use Rattle.promise_spec.specs.Cores.{AppliesAt, how_many, state_before, core_from}
-use Rattle.promise_spec.specs.Causes.{HasDoubt, IsAlive, NoneRose, is_vote_of, syncs_of, most_syncs_of}
+use Rattle.promise_spec.specs.Causes.{RunHasDoubt, NoneRose, is_vote_of, syncs_of, most_syncs_of}
+use Rattle.promise_examples.specs.Alive.{IsAlive}
 use Rattle.promise_spec.specs.Family.{states_after}
 use Rattle.promise_spec.specs.Endings as ending
 use Rattle.promise_spec.specs.Courses.{Observed, Course, order, moments, seen_at_entry, lines, opening_standing, core_run, core_end}
@@ -135,7 +136,7 @@ module _ (p : Program) (r : Observed) (c : Course) where
   pub part_of_batch : (image : Image) (more : List Commit) (n : ℕ) → Keeps p r c → IsImageOf (moments r c) image → IsLog live_slot (shape_in p) image (c.opening ++ more)
       → length (kept_by (core_end p c) n) < length more → length more < length (kept_by (core_end p c) (n + 1)) → ⊥
   part_of_batch image more n keeps left is above below =
-      not_between (core_end p c) c.opening more n (keeps.records.whole image (c.opening ++ more) left is) above below
+      not_between (core_end p c) c.opening more n (keeps.traced.whole image (c.opening ++ more) left is) above below
 
   pub one_of_two : (image : Image) (l : Commit) → Keeps p r c → IsImageOf (moments r c) image → IsLog live_slot (shape_in p) image (c.opening ++ (l ∷ [])) → 2 ≤ length (kept_by (core_end p c) 1) → ⊥
   one_of_two image l keeps left is two =
@@ -207,7 +208,7 @@ module _ (p : Program) (r : Observed) (c : Course) where
       let none : HasNoRecord c e.unit = subst (λ (w : Settled). IsTrueOf p r c e w) is (keeps.headline.replies.true_each e there) in
       elim (either_in l c.opening c.added (in_order image log l keeps left log_is in_log)) [ inl old ↦ not_old old | inr added ↦ none l added same ]
 
-  pub another_block : (image : Image) → Keeps p r c → HasDoubt (core_run p c) → IsImage r.new.disk image
+  pub another_block : (image : Image) → Keeps p r c → RunHasDoubt (core_run p c) → IsImage r.new.disk image
       → ((gate : ℕ) (batch : List Commit) (batches : List (List Commit)) → AreRecordsOf (chosen (core_end p c)) batch → HasBlocks (map body_of batches) gate (image manager) → HasBlock live_slot gate batch image → ⊥) → ⊥
   another_block image keeps doubt left none =
       let b = keeps.exit.block doubt in
@@ -215,7 +216,7 @@ module _ (p : Program) (r : Observed) (c : Course) where
 
   pub no_such_line : (l : Commit) (n : ℕ) → Keeps p r c → Member l c.added → l.logged.origin ≡ Line n → length (lines r) < n → ⊥
   no_such_line l n keeps added is beyond =
-      let x = keeps.records.family.line l n added is in
+      let x = keeps.traced.family.line l n added is in
       let within : x.index < length (lines r) = slice_get_within (lines r) x.index x.text x.there in
       let number : n ≡ x.index + 1 = x.number in
       omega arith
@@ -223,7 +224,7 @@ module _ (p : Program) (r : Observed) (c : Course) where
   pub not_asked : (l parent : Commit) (index depth : ℕ) → Keeps p r c → Member l c.added → Member parent c.added → l.logged.origin ≡ Child parent.logged.unit index depth
       → ((states : States) → (played p.types states parent.logged).asked ≡ []) → ⊥
   not_asked l parent index depth keeps added also is asks_none =
-      let a = keeps.records.family.asked l parent index depth added also is in
+      let a = keeps.traced.family.asked l parent index depth added also is in
       let none = asks_none (states_after (opening_standing p c).states a.front) in
       none_at index _ (sym (ap (λ asked. slice_get asked index) none) ∙ a.asks)
 
@@ -237,10 +238,10 @@ module _ (p : Program) (r : Observed) (c : Course) where
       let replays = serial_at p.types (opening_standing p c).states front l back (subst (λ (x : List Commit). IsSerial p.types (opening_standing p c).states x) split keeps.headline.ordered.serial) in
       elim (subst (λ (w : Settled). IsTrueOf p r c e w) is (keeps.headline.replies.true_each e there)) [
         | inl reply ↦
-            let same : reply.commit ≡ l = keeps.records.family.one_each reply.commit l e.line reply.added added reply.of.line of.line in
+            let same : reply.commit ≡ l = keeps.traced.family.one_each reply.commit l e.line reply.added added reply.of.line of.line in
             differ (replays ∙ ap (λ (x : Commit). x.logged.result) (sym same) ∙ reply.result)
         | inr plain ↦
-            let same : l.logged.call ≡ plain.call = same_call p.types (lines r) e.line l.logged.call plain.call (keeps.records.family.line l e.line added of.line) plain.line in
+            let same : l.logged.call ≡ plain.call = same_call p.types (lines r) e.line l.logged.call plain.call (keeps.traced.family.line l e.line added of.line) plain.line in
             plain.plain (subst (IsTransaction p.types) same transaction)
       ]
 
@@ -335,5 +336,5 @@ module _ (p : Program) (r : Observed) (c : Course) where
   pub grain_fault : (slot : ℕ) (grain : GrainId) → Keeps p r c → r.ending ≡ ending.DiskFault (file.Grain slot grain) → ⊥
   grain_fault slot grain keeps is = let same : file.Grain slot grain ≡ manager = (keeps.explained.doubted (file.Grain slot grain) is).0 in absurd (cc same)
 
-  pub done_in_doubt : Keeps p r c → HasDoubt (core_run p c) → r.ending ≡ ending.Done → ⊥
-  done_in_doubt keeps doubt is = subst ending.MayDoubt is (keeps.explained.ended doubt)
+  pub done_in_doubt : Keeps p r c → RunHasDoubt (core_run p c) → r.ending ≡ ending.Done → ⊥
+  done_in_doubt keeps doubt is = subst ending.EndingMayDoubt is (keeps.explained.doubt_ends doubt)

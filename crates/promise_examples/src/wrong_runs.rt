@@ -38,7 +38,8 @@ ghost use Rattle.promise_spec.specs.Logs.{live_slot, magic, IsLog, IsPrefix, bod
 ghost use Rattle.promise_spec.specs.Moments.{IsImageOf};
 ghost use Rattle.promise_spec.specs.Lines.{IsLineCall};
 ghost use Rattle.promise_spec.specs.Cores.{AppliesAt, how_many, state_before};
-ghost use Rattle.promise_spec.specs.Causes.{HasDoubt, IsAlive, NoneRose, is_vote_of, syncs_of, most_syncs_of};
+ghost use Rattle.promise_spec.specs.Causes.{RunHasDoubt, NoneRose, is_vote_of, syncs_of, most_syncs_of};
+ghost use Rattle.promise_examples.specs.Alive.{IsAlive};
 ghost use Rattle.promise_spec.specs.Family.{states_after};
 ghost use Rattle.promise_spec.specs.Endings as ending;
 ghost use Rattle.promise_spec.specs.Courses.{Observed, Course, order, moments, seen_at_entry, lines, opening_standing, core_run, core_end};
@@ -167,7 +168,7 @@ pub fn aborted_units_have_no_record()
 /// No run keeps the promise that is left with a batch in doubt, and has no block of the records of its units behind the blocks
 /// of the log, as where other records stand there, or the block stands elsewhere.
 pub fn the_block_in_doubt_is_the_batchs()
-    ensures { (p : Program) (r : Observed) (c : Course) (image : Image) → Keeps p r c → HasDoubt (core_run p c) → IsImage r.new.disk image
+    ensures { (p : Program) (r : Observed) (c : Course) (image : Image) → Keeps p r c → RunHasDoubt (core_run p c) → IsImage r.new.disk image
         → ((gate : ℕ) (batch : List Commit) (batches : List (List Commit)) → AreRecordsOf (chosen (core_end p c)) batch
         → HasBlocks (map body_of batches) gate (image manager) → HasBlock live_slot gate batch image → ⊥) → ⊥ }
 {}
@@ -210,7 +211,7 @@ pub fn aborts_have_causes()
 /// grain file's fault a refusal would.
 pub fn endings_are_true()
     ensures grain { (p : Program) (r : Observed) (c : Course) (slot : ℕ) (grain : GrainId) → Keeps p r c → r.ending ≡ ending.DiskFault (file.Grain slot grain) → ⊥ }
-    ensures doubt { (p : Program) (r : Observed) (c : Course) → Keeps p r c → HasDoubt (core_run p c) → r.ending ≡ ending.Done → ⊥ }
+    ensures doubt { (p : Program) (r : Observed) (c : Course) → Keeps p r c → RunHasDoubt (core_run p c) → r.ending ≡ ending.Done → ⊥ }
     ensures unopened { (r : Observed) → IsUnopened r → r.ending ≡ ending.Done → ⊥ }
     ensures read { (r : Observed) → IsUnopened r → r.old.input ≢ [] → r.new.input ≡ [] → ⊥ }
 {}
@@ -331,9 +332,9 @@ pub fn loads_tell_their_summary()
         → r.new.output ≢ r.old.output ++ summary_text p r c → ⊥ }
     ensures early { (p : Program) (n seed : ℕ) (r : Observed) (c : Course) → KeepsLoad p n seed r c → r.ending ≡ ending.Memory
         → r.new.output ≢ r.old.output → ⊥ }
-    ensures doubt { (p : Program) (n seed : ℕ) (r : Observed) (c : Course) → KeepsLoad p n seed r c → HasDoubt (core_run p c)
+    ensures doubt { (p : Program) (n seed : ℕ) (r : Observed) (c : Course) → KeepsLoad p n seed r c → RunHasDoubt (core_run p c)
         → r.ending ≡ ending.Done → ⊥ }
-    ensures fault { (p : Program) (n seed : ℕ) (r : Observed) (c : Course) → KeepsLoad p n seed r c → HasDoubt (core_run p c)
+    ensures fault { (p : Program) (n seed : ℕ) (r : Observed) (c : Course) → KeepsLoad p n seed r c → RunHasDoubt (core_run p c)
         → r.ending ≡ ending.WriteFault → ⊥ }
     ensures soon { (p : Program) (n seed : ℕ) (r : Observed) (c : Course) (m : Moment) (image : Image) → KeepsLoad p n seed r c
         → Member m (moments r c) → IsImage m.disk image → (IsLog live_slot (shape_in p) image (order c) → ⊥) → m.output ≢ r.old.output → ⊥ }

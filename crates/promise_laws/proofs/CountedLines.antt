@@ -25,10 +25,10 @@ use Rattle.promise_spec.specs.Programs.{Program, shape_in}
 use Rattle.promise_spec.specs.Records.{Commit, States, new_silo, log_start, after_writes}
 use Rattle.promise_spec.specs.Serial.{depth_of, IsSerial}
 use Rattle.promise_spec.specs.Logs.{IsPrefix, live_slot}
-use Rattle.promise_spec.specs.Images.{IsWhole, AreNumbered}
+use Rattle.promise_spec.specs.Images.{IsWholeSilo, AreNumbered}
 use Rattle.promise_spec.specs.Lines.{IsBadLine}
 use Rattle.promise_spec.specs.Cores.{AppliesAt, state_before}
-use Rattle.promise_spec.specs.Causes.{HasDoubt}
+use Rattle.promise_spec.specs.Causes.{RunHasDoubt}
 use Rattle.promise_spec.specs.Endings as ending
 use Rattle.promise_spec.specs.Courses.{Observed, Course, order, lines, opening_standing, core_run, core_end}
 use Rattle.promise_spec.specs.Explained.{IsExplained}
@@ -37,7 +37,7 @@ use Rattle.promise_spec.specs.Replies.{IsTrueOf}
 use Rattle.promise_spec.specs.Loads.{load_calls, AskFor, line_valued, is_faulted, line_aborted, how_many_lines, KeepsLoad}
 use Rattle.promise_spec.proofs.Lists.{get_seam}
 use Rattle.promise_spec.proofs.OneLog.{one_log}
-use Rattle.promise_spec.proofs.Journaled.{numbered_front}
+use Rattle.promise_laws.proofs.Journaled.{numbered_front}
 use Rattle.promise_laws.proofs.Doubted.{not-both}
 use Rattle.promise_laws.proofs.TrueReplies.{replies_within, replies_once, replies_true}
 
@@ -183,7 +183,7 @@ no_abort types states (c ∷ log) l serial (inl same) is =
 no_abort types states (c ∷ log) l serial (inr later) is = no_abort types (after_writes states c) log l serial.1 later is
 
 module _ (p : Program) (r : Observed) (c : Course) (is : IsExplained p r c) (numbered : AreNumbered (log_start p.types).next c.opening) (serial : IsSerial p.types (opening_standing p c).states c.added)
-    (all : c.entries ≡ (core_end p c).manager.settled) (answered : IsAnswered r c) (sure : HasDoubt (core_run p c) → ⊥) (calls : (n : ℕ) (why : BadRequest) → IsBadLine p.types (lines r) n why → ⊥) where
+    (all : c.entries ≡ (core_end p c).manager.settled) (answered : IsAnswered r c) (sure : RunHasDoubt (core_run p c) → ⊥) (calls : (n : ℕ) (why : BadRequest) → IsBadLine p.types (lines r) n why → ⊥) where
   front : IsPrefix c.entries (core_end p c).manager.settled
   front = ([], sym all ∙ sym (append-nil c.entries))
 
@@ -250,13 +250,13 @@ module _ (p : Program) (n seed : ℕ) (r : Observed) (c : Course) (keeps : Keeps
   opening_numbered : AreNumbered (log_start p.types).next c.opening
   opening_numbered =
       let longest = keeps.ordered.longest in
-      let whole : IsWhole live_slot p longest.image = keeps.crashes.whole longest.image longest.left longest.log.silo in
+      let whole : IsWholeSilo live_slot p longest.image = keeps.crashes.whole longest.image longest.left longest.log.silo in
       numbered_front (log_start p.types).next c.opening c.added
       (subst (AreNumbered (log_start p.types).next) (one_log (shape_in p) longest.image whole.log (order c) whole.is longest.log) whole.numbered)
 
   -- no batch is in doubt
-  undoubted : (r.ending ≡ ending.Done) ⊎ (r.ending ≡ ending.WriteFault) → HasDoubt (core_run p c) → ⊥
-  undoubted (inl done) doubt = subst ending.MayDoubt done (keeps.explained.ended doubt)
+  undoubted : (r.ending ≡ ending.Done) ⊎ (r.ending ≡ ending.WriteFault) → RunHasDoubt (core_run p c) → ⊥
+  undoubted (inl done) doubt = subst ending.EndingMayDoubt done (keeps.explained.doubt_ends doubt)
   undoubted (inr fault) doubt = keeps.ended.undoubted fault doubt
 
   -- a load that told its summary, or failed while it did, counts each line once

@@ -22,8 +22,8 @@ use Rattle.request_wire.specs.Names.{names_in}
 use Rattle.request_wire.specs.Request.{call_of}
 use Rattle.promise_spec.specs.Lines.{IsLineCall, IsBadLine}
 use Rattle.promise_spec.specs.Cores.{how_many}
-use Rattle.promise_spec.specs.Causes.{RoseBy, HasDoubt, is_unsealed}
-use Rattle.promise_spec.specs.Exits.{doubtful}
+use Rattle.promise_spec.specs.Causes.{RoseBy, RunHasDoubt, is_unsealed}
+use Rattle.promise_spec.specs.Exits.{units_in_doubt}
 use Rattle.promise_spec.proofs.Lists.{some_is}
 use Rattle.promise_laws.proofs.Applied.{none-applies}
 use Rattle.promise_laws.proofs.Tellings.{Tells}
@@ -33,7 +33,7 @@ use Rattle.promise_laws.proofs.TrueReplies.{Known}
 rose-by : (n old new : ℕ) → (n ≡ 0 → ⊥) → RoseBy n old new → Rose old new
 rose-by n old new some rose = omega (arith, some, rose)
 
-pub doubt-rose : (r : Run) (old new : ℕ) → HasDoubt r → RoseBy (how_many is_unsealed r) old new → Rose old new
+pub doubt-rose : (r : Run) (old new : ℕ) → RunHasDoubt r → RoseBy (how_many is_unsealed r) old new → Rose old new
 doubt-rose r old new d rose = rose-by (how_many is_unsealed r) old new (λ none. none-applies is_unsealed r none d.at (Doubt d.number) d.doubt refl) rose
 
 -- ---- what a unit in doubt was told
@@ -53,7 +53,7 @@ unit-in w (x ∷ us) u (inl same) = inl same
 unit-in w (x ∷ us) u (inr m) = inr (unit-in w us u m)
 
 -- it has finished, behind where the batch begins, and is to commit
-doubtful-is : (opening : GrainId → List Value) (w : CoreState) → Kept opening w → (u : UnitNo) → Member u (doubtful w)
+doubtful-is : (opening : GrainId → List Value) (w : CoreState) → Kept opening w → (u : UnitNo) → Member u (units_in_doubt w)
     → (w.units.phase u ≡ Finished) × (begin_of w < w.manager.place u) × (is_good (w.manager.verdict u) ≡ true)
 doubtful-is opening w k u m =
     let good = filter-member (λ x. is_good (w.manager.verdict x)) (drop (begin_of w) w.manager.order) u (unit-in w (filter (λ x. is_good (w.manager.verdict x)) (drop (begin_of w) w.manager.order)) u m) in
@@ -62,7 +62,7 @@ doubtful-is opening w k u m =
 
 -- so it was told no more than the doubt
 pub doubt-told : (types : ProgramTree) (lines : List (List ℕ)) (opening : GrainId → List Value) (base : ℕ) (w : CoreState) → Known types lines opening base w
-    → (e : Entry) → Member e w.manager.settled → Member e.unit (doubtful w) → e.what ≡ settled.InDoubt
+    → (e : Entry) → Member e w.manager.settled → Member e.unit (units_in_doubt w) → e.what ≡ settled.InDoubt
 doubt-told types lines opening base w known e m in_doubt = go e.what refl (known.tells e m)
   where
     finished : w.units.phase e.unit ≡ Finished

@@ -15,20 +15,20 @@ use Rattle.silo_spec.specs.Moments.{IsAsAtEntry}
 use Rattle.promise_spec.specs.Programs.{Program, IsChecked, shape_in}
 use Rattle.promise_spec.specs.Records.{Commit}
 use Rattle.promise_spec.specs.Logs.{live_slot, IsLog}
-use Rattle.promise_spec.specs.Images.{IsWhole, IsWholeFolder}
+use Rattle.promise_spec.specs.Images.{IsWholeSilo, IsWholeFolder}
 use Rattle.promise_spec.specs.Outputs.{IsProper, Grew}
 use Rattle.promise_spec.specs.Courses.{Observed, Course, order, moments, seen_at_entry, core_end}
 use Rattle.promise_spec.specs.Crashes.{IsAside, LeavesAlone}
 use Rattle.promise_spec.specs.Batches.{EndsABatch}
-use Rattle.promise_spec.specs.Exits.{HasLogAtExit, IsNowhere, AreOf, doubtful}
-use Rattle.promise_spec.specs.Journals.{Settlement, KeepsJournal, AllSay, AllLog, CutAt, IsSealing, commits_of, entries_of}
+use Rattle.promise_spec.specs.Exits.{HasLogAtExit, IsNowhere, AreOf, units_in_doubt}
+use Rattle.promise_laws.specs.Journals.{Settlement, KeepsJournal, AllSay, AllLog, CutAt, IsSealing, commits_of, entries_of}
 use Rattle.promise_spec.specs.Promise.{Promises}
 use Rattle.promise_spec.specs.Replies.{HasNoRecord}
 use Rattle.promise_spec.proofs.Lists.{each_of, in_append, either_in}
 use Rattle.promise_spec.proofs.OneLog.{one_log}
 use Rattle.promise_spec.proofs.Openings.{silo_reads, log_is_read, reads_is}
-use Rattle.promise_spec.proofs.SettledLogs.{settled_logs}
-use Rattle.promise_spec.proofs.Stepping.{entries_of-append, joined_logs, begins_at, now_says, keep_more, say_more, cut_says}
+use Rattle.promise_laws.proofs.SettledLogs.{settled_logs}
+use Rattle.promise_laws.proofs.Stepping.{entries_of-append, joined_logs, begins_at, now_says, keep_more, say_more, cut_says}
 use Rattle.promise_laws.specs.Closings.{ReadsMayStay, IsBehind, AllEnd, Carries}
 use Rattle.promise_laws.specs.Obligations.{ShowsAnywhere, Opens, SaysIn, Journals, Lasts}
 use Rattle.promise_laws.proofs.OpenedRuns.{answered_promised}
@@ -40,7 +40,7 @@ module _ (p : Program) (r : Observed) (c : Course) (mid : World) (b : IsBehind l
   -- a program for which the folder is whole is the one that it reads as
   pub same_program : (q : Program) → IsChecked q → IsWholeFolder q r.old → ReadsMayStay r.old → (q ≡ p) × IsLog live_slot (shape_in q) (seen_at_entry r) c.opening
   same_program q checked whole stay =
-      let s : IsWhole live_slot q (seen_at_entry r) = whole.whole (seen_at_entry r) stay (silo_reads (seen_at_entry r) p c.opening b.reads) in
+      let s : IsWholeSilo live_slot q (seen_at_entry r) = whole.whole (seen_at_entry r) stay (silo_reads (seen_at_entry r) p c.opening b.reads) in
       let both = reads_is q p s.log c.opening (sym (log_is_read (seen_at_entry r) q s.log checked s.program s.is) ∙ b.reads) in
       (both.0, subst (IsLog live_slot (shape_in q) (seen_at_entry r)) both.1 s.is)
 
@@ -211,7 +211,7 @@ module _ (p : Program) (r : Observed) (c : Course) (mid : World) (b : IsBehind l
   -- a batch is in doubt, and an image has it
   pub doubt_lasts : (said unsaid : List Settlement) (batch : Settlement) (last : Image) (begins : ℕ) → Opens p r c → CutAt p c.opening mid said unsaid (batch ∷ []) c.rest r.new → c.entries ≡ entries_of said
       → AllByRecursion (IsProper (shape_in p)) (entries_of said) → Carries p r c mid ((said ++ unsaid) ++ batch ∷ []) → IsImage r.new.disk last → IsLog live_slot (shape_in p) last (order c)
-      → (core_end p c).manager.doubt ≡ Some begins → AreOf (doubtful (core_end p c)) (commits_of (batch ∷ [])) → Lasts p r c
+      → (core_end p c).manager.doubt ≡ Some begins → AreOf (units_in_doubt (core_end p c)) (commits_of (batch ∷ [])) → Lasts p r c
   doubt_lasts said unsaid batch last begins o cut entries proper carries left has doubt units =
       lasts o said unsaid (batch ∷ []) cut entries proper carries last left has
       (λ image is. record {

@@ -1,3 +1,10 @@
+pub mod Journaled
+pub mod Stepping
+pub mod SettledLogs
+pub mod Backing
+pub mod DoubtImages
+pub mod Quiet
+pub mod SoundFolders
 pub mod Legal
 pub mod SerialRecords
 pub mod SerialCauses

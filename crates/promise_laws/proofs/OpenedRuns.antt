@@ -94,7 +94,7 @@ module _ (p : Program) (r : Observed) (c : Course) (a : ShowsAnywhere p r c) whe
         whole = a.whole;
         within = replies_within p r c is a.settled.entries;
         once = replies_once p r c is a.settled.entries;
-        ordered = replies_ordered p r c is a.settled.entries;
+        in_order = replies_ordered p r c is a.settled.entries;
         settled = a.settled;
         explained = is;
         ended = ended_anywhere p r c a;

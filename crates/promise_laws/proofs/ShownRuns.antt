@@ -12,9 +12,9 @@ use Rattle.promise_spec.specs.Programs.{Program, shape_in}
 use Rattle.promise_spec.specs.Records.{Commit, new_silo}
 use Rattle.promise_spec.specs.Serial.{IsSerial}
 use Rattle.promise_spec.specs.Logs.{live_slot, IsLog}
-use Rattle.promise_spec.specs.Images.{AreNumbered, IsWhole, IsSound, IsSoundFolder}
+use Rattle.promise_spec.specs.Images.{AreNumbered, IsWholeSilo, IsSound, IsSoundFolder}
 use Rattle.promise_spec.specs.Moments.{IsImageOf, IsLongest}
-use Rattle.promise_spec.specs.Causes.{NoneRose, HasDoubt}
+use Rattle.promise_spec.specs.Causes.{NoneRose, RunHasDoubt}
 use Rattle.promise_spec.specs.Endings as ending
 use Rattle.promise_spec.specs.Endings.{Ending, HasRisen, IsCarried, IsCalm}
 use Rattle.promise_spec.specs.Courses.{Observed, Course, order, moments, lines, basis, opening_standing, core_run, core_end}
@@ -22,11 +22,11 @@ use Rattle.promise_spec.specs.Orders.{IsOrdered}
 use Rattle.promise_spec.specs.Replies.{AreReplies}
 use Rattle.promise_spec.specs.Crashes.{SurvivesCrashes, StaySound, HoldsReplies}
 use Rattle.promise_spec.specs.Explained.{ComeOfEvents, IsExplained}
-use Rattle.promise_spec.specs.Exits.{IsDoubt, IsLeft}
-use Rattle.promise_spec.specs.Journals.{KeepsJournal, commits_of}
+use Rattle.promise_spec.specs.Exits.{ImagesMayDiffer, IsExit}
+use Rattle.promise_laws.specs.Journals.{KeepsJournal, commits_of}
 use Rattle.promise_spec.specs.Promise.{HasEnded, Keeps}
 use Rattle.promise_spec.proofs.OneLog.{one_log}
-use Rattle.promise_spec.proofs.Journaled as journaled
+use Rattle.promise_laws.proofs.Journaled as journaled
 use Rattle.promise_laws.specs.Obligations.{Opens, Journals, ExplainsEvents, Shows, ShowsAnywhere}
 use Rattle.promise_laws.proofs.SerialRecords.{above_records, explained_serial}
 use Rattle.promise_laws.proofs.AbortCauses.{explained_aborts}
@@ -49,7 +49,7 @@ explained p r c e = record {
   caused = explained_aborts (basis p r c) (core_run p c) (above_records (new_silo p.types) c.opening (omega arith)) e.units;
   faults = e.faults;
   doubted = e.doubted;
-  ended = e.ended;
+  doubt_ends = e.ended;
   unvoted = e.unvoted;
 }
 
@@ -71,7 +71,7 @@ at_entry p r c o image is = elim (last-in (moment_of r.old) c.early) [
 pub opening_numbered : (p : Program) (r : Observed) (c : Course) → Opens p r c → AreNumbered (new_silo p.types).next c.opening
 opening_numbered p r c o =
     let log : IsLog live_slot (shape_in p) o.some c.opening = o.opened o.some o.possible in
-    let s : IsWhole live_slot p o.some = o.folder.whole o.some (at_entry p r c o o.some o.possible) log.silo in
+    let s : IsWholeSilo live_slot p o.some = o.folder.whole o.some (at_entry p r c o o.some o.possible) log.silo in
     subst (AreNumbered (new_silo p.types).next) (one_log (shape_in p) o.some s.log c.opening s.is log) s.numbered
 
 -- and over a sound folder it is serial from a new silo
@@ -180,7 +180,7 @@ module _ (p : Program) (r : Observed) (c : Course) (s : Shows p r c) where
     within = replies_within p r c is s.settled.entries;
     once = replies_once p r c is s.settled.entries;
     true_each = replies_true p r c is (opening_numbered p r c o) s.settled.entries;
-    ordered = replies_ordered p r c is s.settled.entries;
+    in_order = replies_ordered p r c is s.settled.entries;
   }
 
   -- the order's units are numbered
@@ -231,17 +231,17 @@ module _ (p : Program) (r : Observed) (c : Course) (s : Shows p r c) where
       ]
 
   -- so the manager file failed, and who is in the batch was told of the doubt
-  doubted : (begins : ℕ) → (core_end p c).manager.doubt ≡ Some begins → IsDoubt live_slot r c (core_end p c)
+  doubted : (begins : ℕ) → (core_end p c).manager.doubt ≡ Some begins → ImagesMayDiffer live_slot r c (core_end p c)
   doubted begins d =
-      let left : HasDoubt (core_run p c) = doubt_left (core_run p c) begins d in
+      let left : RunHasDoubt (core_run p c) = doubt_left (core_run p c) begins d in
       record {
         rose = doubt-rose (core_run p c) _ _ left is.faults.seals;
-        ending = is.ended left;
+        ending = is.doubt_ends left;
         told = λ e m doubtful. doubt-told p.types (lines r) (opening_standing p c).states (opening_standing p c).next (core_end p c) (known_of p r c is) e (in_settled p c s.settled.entries e m) doubtful;
       }
 
   -- so different logs show a doubt
-  exit : IsLeft p r c
+  exit : IsExit p r c
   exit = record {
     logs = s.leaves.logs;
     doubt = λ one other a b left left_too is_a is_b differ. (let d = doubtful_batch one other a b left left_too is_a is_b differ in doubted d.0 d.1);
@@ -253,7 +253,7 @@ module _ (p : Program) (r : Observed) (c : Course) (s : Shows p r c) where
   pub shown : Keeps p r c
   shown = record {
     headline = record { ordered = ordered; replies = replies; crashes = crashes; sound = sound; holds = holds };
-    records = records;
+    traced = records;
     settled = s.settled;
     explained = is;
     exit = exit;

@@ -36,7 +36,7 @@ use Rattle.promise_spec.specs.Records.{new_silo}
 use Rattle.promise_spec.specs.Cores.{AppliesAt, how_many, state_before}
 use Rattle.promise_spec.specs.Gotten.{got_from}
 use Rattle.promise_spec.specs.UnitRule.{IsDue}
-use Rattle.promise_spec.specs.Causes.{NoneRose, RoseBy, is_no, is_unsealed, HasDoubt}
+use Rattle.promise_spec.specs.Causes.{NoneRose, RoseBy, is_no, is_unsealed, RunHasDoubt}
 use Rattle.promise_spec.specs.Courses.{Observed, Course, basis, core_run, core_end}
 use Rattle.promise_spec.specs.Explained.{IsExplained}
 use Rattle.promise_spec.specs.Promise.{IsUndisturbed}
@@ -339,5 +339,5 @@ calm_undisturbed p r c is none =
       },
     )).2.undisturbed
 
-pub calm_no_doubt : (p : Program) (r : Observed) (c : Course) → IsExplained p r c → NoneRose r.faults_before r.faults_after → HasDoubt (core_run p c) → ⊥
+pub calm_no_doubt : (p : Program) (r : Observed) (c : Course) → IsExplained p r c → NoneRose r.faults_before r.faults_after → RunHasDoubt (core_run p c) → ⊥
 calm_no_doubt p r c is none d = quiet-events p r c is none d.at (Doubt d.number) d.doubt.there d.doubt.applied

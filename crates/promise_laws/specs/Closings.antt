@@ -11,12 +11,12 @@ use Rattle.promise_spec.specs.Programs.{Program, shape_in}
 use Rattle.promise_spec.specs.Records.{Commit}
 use Rattle.promise_spec.specs.Logs.{live_slot, IsLog}
 use Rattle.promise_spec.specs.Openings.{Reads, opened_as}
-use Rattle.promise_spec.specs.Causes.{HasDoubt}
+use Rattle.promise_spec.specs.Causes.{RunHasDoubt}
 use Rattle.promise_spec.specs.Courses.{Observed, Course, seen_at_entry, core_run, core_end}
 use Rattle.promise_spec.specs.Crashes.{LeavesAlone}
 use Rattle.promise_spec.specs.Batches.{EndsABatch}
-use Rattle.promise_spec.specs.Exits.{HasDoubtfulBlock}
-use Rattle.promise_spec.specs.Journals.{Settlement, commits_of, Backs}
+use Rattle.promise_spec.specs.Exits.{BlockInDoubt}
+use Rattle.promise_laws.specs.Journals.{Settlement, commits_of, Backs}
 
 -- what a read gives is among what a crash may leave, file by file
 abbrev pub ReadsMayStay : host.World → Type 0
@@ -46,4 +46,4 @@ pub record Carries (p : Program) (r : Observed) (c : Course) (mid : host.World) 
   pub batches_now : AllEnd p (core_end p c) c.opening (moment_of r.new)
   pub alone : Passes (LeavesAlone live_slot r) mid.past r.new.past
   pub alone_now : LeavesAlone live_slot r (moment_of r.new)
-  pub block : HasDoubt (core_run p c) → HasDoubtfulBlock live_slot r c (core_end p c)
+  pub block : RunHasDoubt (core_run p c) → BlockInDoubt live_slot r c (core_end p c)

@@ -1,3 +1,6 @@
+pub mod Journals
+pub mod QuietRuns
+pub mod SoundMoments
 pub mod Legality
 pub mod Handed
 pub mod Proper

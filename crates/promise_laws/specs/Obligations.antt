@@ -14,15 +14,15 @@ use Rattle.promise_spec.specs.Outputs.{Grew}
 use Rattle.promise_spec.specs.UnitRule.{KeepsUnitRule}
 use Rattle.promise_spec.specs.TurnRule.{KeepsTurnRule}
 use Rattle.promise_spec.specs.Images.{IsWholeFolder}
-use Rattle.promise_spec.specs.Causes.{AreFaults, HasDoubt, NoneRose, syncs_of, most_syncs_of}
-use Rattle.promise_spec.specs.Endings.{Done, WriteFault, DiskFault, HasRisen, IsCarried, HasLength, CountsSyncs, MayDoubt}
+use Rattle.promise_spec.specs.Causes.{AreFaults, RunHasDoubt, NoneRose, syncs_of, most_syncs_of}
+use Rattle.promise_spec.specs.Endings.{Done, WriteFault, DiskFault, HasRisen, IsCarried, HasLength, CountsSyncs, EndingMayDoubt}
 use Rattle.promise_spec.specs.Courses.{Observed, Course, order, moments, lines, seen_at_entry, basis, core_run, core_end}
 use Rattle.promise_spec.specs.Crashes.{LeavesAlone}
 use Rattle.promise_spec.specs.Batches.{EndsABatch}
 use Rattle.promise_spec.specs.Replies.{HasNoRecord}
-use Rattle.promise_spec.specs.Exits.{HasLogAtExit, IsNowhere, HasDoubtfulBlock}
-use Rattle.promise_spec.specs.Explained.{AreAdded, AreSettled, IsDoubtful, LeavesUnvoted}
-use Rattle.promise_spec.specs.Journals.{Settlement, commits_of, entries_of, KeepsJournal, AllLog, Backs}
+use Rattle.promise_spec.specs.Exits.{HasLogAtExit, IsNowhere, BlockInDoubt}
+use Rattle.promise_spec.specs.Explained.{AreAdded, AreSettled, FileMayEndInDoubt, LeavesUnvoted}
+use Rattle.promise_laws.specs.Journals.{Settlement, commits_of, entries_of, KeepsJournal, AllLog, Backs}
 use Rattle.promise_spec.specs.Promise.{HasReadAll, IsDone}
 
 -- The run opened this log, over a whole folder: the files read as it, and each image at the return of the opening's last
@@ -65,8 +65,8 @@ pub record ExplainsEvents (p : Program) (r : Observed) (c : Course) : Type 0 whe
   pub units : KeepsUnitRule (basis p r c) (core_run p c)
   pub turns : r.manner.threaded ≡ false → KeepsTurnRule p.types (length (lines r)) r.manner.width r.manner.picks (core_run p c)
   pub faults : AreFaults live_slot (core_run p c) r.faults_before r.faults_after
-  pub doubted : (file : FileId) → r.ending ≡ DiskFault file → IsDoubtful live_slot (core_run p c) file
-  pub ended : HasDoubt (core_run p c) → MayDoubt r.ending
+  pub doubted : (file : FileId) → r.ending ≡ DiskFault file → FileMayEndInDoubt live_slot (core_run p c) file
+  pub ended : RunHasDoubt (core_run p c) → EndingMayDoubt r.ending
   pub unvoted : LeavesUnvoted live_slot p r c
 
 -- The log at the exit: each image has the whole order, or lacks the records of the batch in doubt. A unit that is told to
@@ -74,7 +74,7 @@ pub record ExplainsEvents (p : Program) (r : Observed) (c : Course) : Type 0 whe
 pub record LeavesAtExit (p : Program) (r : Observed) (c : Course) : Type 0 where
   pub logs : (image : Image) → IsImage r.new.disk image → HasLogAtExit p c (core_end p c) image
   pub nowhere : (e : Entry) → Member e c.entries → e.what ≡ InDoubt → IsNowhere p r e.unit → HasNoRecord c e.unit
-  pub block : HasDoubt (core_run p c) → HasDoubtfulBlock live_slot r c (core_end p c)
+  pub block : RunHasDoubt (core_run p c) → BlockInDoubt live_slot r c (core_end p c)
 
 -- How it ended: its lines are the input's, nothing began before the input was read whole, and done means that each line
 -- has its entry; a fault is shown by its count, and an input that is too long by its length. Where nothing failed, so many

@@ -2,7 +2,7 @@ ghost use Rattle.std.specs.Prelude.{◌≡◌, false};
 ghost use Rattle.base_types.specs.declared.entries.Entry.{Entry};
 ghost use Rattle.core_model.specs.CoreState.{Member};
 ghost use Rattle.promise_spec.specs.Programs.{Program};
-ghost use Rattle.promise_spec.specs.Causes.{NoneRose, HasDoubt};
+ghost use Rattle.promise_spec.specs.Causes.{NoneRose, RunHasDoubt};
 ghost use Rattle.promise_spec.specs.Courses.{Observed, Course, core_run, core_end};
 ghost use Rattle.promise_spec.specs.Explained.{IsExplained};
 ghost use Rattle.promise_spec.specs.Promise.{IsUndisturbed, HasNoChild, IsNoLock};
@@ -14,7 +14,7 @@ pub fn calm_runs_are_undisturbed()
     ensures undisturbed { (p : Program) (r : Observed) (c : Course) → IsExplained p r c → NoneRose r.faults_before r.faults_after
         → (e : Entry) → Member e (core_end p c).manager.settled → IsUndisturbed e.what }
     ensures no_doubt { (p : Program) (r : Observed) (c : Course) → IsExplained p r c → NoneRose r.faults_before r.faults_after
-        → HasDoubt (core_run p c) → ⊥ }
+        → RunHasDoubt (core_run p c) → ⊥ }
 {}
 
 /// On one thread, where one line at a time is in flight and no unit asks for another, no line is aborted for a lock: a

@@ -5,8 +5,8 @@ ghost use Rattle.promise_spec.specs.Programs.{Program, IsChecked, shape_in};
 ghost use Rattle.promise_spec.specs.Logs.{IsLog, live_slot};
 ghost use Rattle.promise_spec.specs.Outputs.{IsProper};
 ghost use Rattle.promise_spec.specs.Courses.{Observed, Course, order, core_end};
-ghost use Rattle.promise_spec.specs.Exits.{AreOf, doubtful};
-ghost use Rattle.promise_spec.specs.Journals.{Settlement, CutAt, commits_of, entries_of};
+ghost use Rattle.promise_spec.specs.Exits.{AreOf, units_in_doubt};
+ghost use Rattle.promise_laws.specs.Journals.{Settlement, CutAt, commits_of, entries_of};
 ghost use Rattle.promise_spec.specs.Images.{IsWholeFolder};
 ghost use Rattle.promise_spec.specs.Promise.{Promises};
 ghost use Rattle.promise_laws.specs.Closings.{ReadsMayStay, IsBehind, Carries};
@@ -29,7 +29,7 @@ pub fn kept_journals_last()
         → IsBehind live_slot p r c mid → Opens p r c → CutAt p c.opening mid said unsaid (batch ∷ []) c.rest r.new → c.entries ≡ entries_of said
         → AllByRecursion (IsProper (shape_in p)) (entries_of said) → Carries p r c mid ((said ++ unsaid) ++ batch ∷ [])
         → IsImage r.new.disk last → IsLog live_slot (shape_in p) last (order c) → (core_end p c).manager.doubt ≡ Some begins
-        → AreOf (doubtful (core_end p c)) (commits_of (batch ∷ [])) → Lasts p r c }
+        → AreOf (units_in_doubt (core_end p c)) (commits_of (batch ∷ [])) → Lasts p r c }
 {}
 
 /// The whole argument for a run that opened its folder: what it answers, over any folder; how the folder read; and what lasts,

@@ -9,7 +9,7 @@ use Rattle.core_model.specs.Changes.{swept, swept_by}
 use Rattle.core_model.specs.Legal.{Run, begins, ends}
 use Rattle.core_model.specs.CoreState.{CoreState}
 use Rattle.core_laws.proofs.Decoded.{Change, bad, begin, lock, raise, refuse, finish, end_plain, end_snapshot, release, take_batch, vote, decide_some, decide_none, seal_batch, spoil_batch, doubt_batch, learn, emit, halt_run, want, load, decode}
-use Rattle.promise_spec.specs.Causes.{HasDoubt}
+use Rattle.promise_spec.specs.Causes.{RunHasDoubt}
 
 -- the event is one of doubt
 abbrev IsOfDoubt : CoreEvent → Type 0
@@ -71,7 +71,7 @@ left_by w (e ∷ events) begins is = elim (left_by (step w e) events begins is) 
 ]
 
 -- a run with a batch in doubt at its end has an event that left it so
-pub doubt_left : (r : Run) (begins : ℕ) → (ends r).manager.doubt ≡ Some begins → HasDoubt r
+pub doubt_left : (r : Run) (begins : ℕ) → (ends r).manager.doubt ≡ Some begins → RunHasDoubt r
 doubt_left r at is = elim (left_by (begins r) r.events at is) [
   | inl before ↦ absurd (let wrong : None ≡ Some at = before in cc wrong)
   | inr left ↦ record { at = left.at; number = left.number; doubt = record { there = left.there; applied = left.applied } }

@@ -36,10 +36,10 @@ module _ (p : Program) (r : Observed) (c : Course) where
     whole = keeps.headline.replies.whole;
     within = keeps.headline.replies.within;
     once = keeps.headline.replies.once;
-    ordered = keeps.headline.replies.ordered;
+    in_order = keeps.headline.replies.in_order;
     settled = keeps.settled;
     explained = keeps.explained;
     ended = keeps.ended;
     true_each = λ numbered. keeps.headline.replies.true_each;
-    family = λ numbered. keeps.records.family;
+    family = λ numbered. keeps.traced.family;
   }

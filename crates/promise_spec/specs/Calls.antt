@@ -40,13 +40,9 @@ pub record Serves (built : Command → Bool) (takes : GivenOption → Bool) (wor
 
 -- a command may go on behind a file's fault and end so: one that carries lines, whose votes and seals may fail
 abbrev pub GoesOn : Command → Ending → Type 0
-GoesOn Init e = ⊥
 GoesOn (Run m) e = IsBegun e
-GoesOn Show e = ⊥
-GoesOn History e = ⊥
-GoesOn Audit e = ⊥
 GoesOn (Load n seed m) e = IsBegun e
-GoesOn (Check n seed) e = ⊥
+GoesOn _ e = ⊥
 
 -- What holds over any host, one that tells nothing of what it holds too: the words alone say what is bad use, but for want of
 -- memory, and a fault is shown by its count. No failed call is passed over, by want of memory neither: one on the input or the

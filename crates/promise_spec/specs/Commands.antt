@@ -11,7 +11,7 @@ use Rattle.promise_spec.specs.Records.{Commit, log_start}
 use Rattle.promise_spec.specs.Serial.{IsSerial, Replays}
 use Rattle.promise_spec.specs.Logs.{magic, IsPrefix, live_slot}
 use Rattle.promise_spec.specs.Openings.{Reads, opened_as}
-use Rattle.promise_spec.specs.Endings.{Ending, Done, BadUse, Memory, ReadFault, WriteFault, DiskFault, NotASilo, AlreadyASilo, Damaged, BadProgram, InputTooLong, HasRisen}
+use Rattle.promise_spec.specs.Endings.{Ending, Done, Memory, ReadFault, WriteFault, DiskFault, AlreadyASilo, BadProgram, InputTooLong, HasRisen}
 use Rattle.promise_spec.specs.Family.{states_after}
 use Rattle.promise_spec.specs.Courses.{Observed, seen_at_entry}
 use Rattle.promise_spec.specs.Refusals.{IsHead, IsUnopened}
@@ -46,16 +46,13 @@ ManagerLasts r = (image : Image) → IsImage r.new.disk image → image manager 
 -- comes before the folder.
 abbrev pub MakesAs : Ending → Observed → Type 0
 MakesAs Done r = IsProgramText r × (WasSilo r → ⊥) × ((image : Image) → IsImage r.new.disk image → IsNewSilo magic r.old.input image)
-MakesAs BadUse r = ⊥
 MakesAs Memory r = IsUntouched r.old r.new
 MakesAs ReadFault r = IsUntouched r.old r.new
-MakesAs WriteFault r = ⊥
 MakesAs (DiskFault file) r = IsProgramText r × IsHead file × StaysSilo r file
-MakesAs NotASilo r = ⊥
 MakesAs AlreadyASilo r = IsProgramText r × WasSilo r × IsUntouched r.old r.new × ManagerLasts r
-MakesAs (Damaged file place) r = ⊥
 MakesAs (BadProgram fault) r = HasFault r fault × IsUntouched r.old r.new
 MakesAs (InputTooLong line) r = (line ≡ 0) × (text_limit < length r.old.input) × IsUntouched r.old r.new
+MakesAs _ r = ⊥
 
 -- What `init` promises. It emits nothing, and no file but the program's and the manager file changes. Either nothing was
 -- written; or no sync of the manager file has succeeded yet, and each image is one of those at entry but for the header
@@ -64,24 +61,17 @@ pub record MakesSilo (r : Observed) : Type 0 where
   pub beside : Passes (IsBeside r.old) r.old.past r.new.past
   pub beside_now : IsBeside r.old (moment_of r.new)
   pub makes : CameThisFar magic r.old.input r.old r.new
-  pub ended : MakesAs r.ending r
+  pub ends_as : MakesAs r.ending r
   pub risen : HasRisen r.ending r.faults_before r.faults_after
 
 -- ---- reports
 
 -- a command that prints may end so with a part of its text
 abbrev pub MayCut : Ending → Type 0
-MayCut Done = ⊥
-MayCut BadUse = ⊥
 MayCut Memory = ⊤
-MayCut ReadFault = ⊥
 MayCut WriteFault = ⊤
 MayCut (DiskFault file) = ⊤
-MayCut NotASilo = ⊥
-MayCut AlreadyASilo = ⊥
-MayCut (Damaged file place) = ⊥
-MayCut (BadProgram fault) = ⊥
-MayCut (InputTooLong line) = ⊥
+MayCut _ = ⊥
 
 -- What a command that prints adds to the output is a first part of its text: all of it where it is done, and nothing
 -- unless it is done or ended so.

@@ -3,7 +3,7 @@ use Rattle.std.specs.Prelude.{◌≡◌, ◌≢◌, ◌⊎◌, ℕ, List, ◌++�
 use Rattle.base_types.specs.declared.calls.Origin.TheVariants.{Child}
 use Rattle.base_types.specs.declared.entries.Entry.{Entry}
 use Rattle.base_types.specs.declared.entries.Settled.{Settled}
-use Rattle.base_types.specs.declared.entries.Settled.TheVariants.{Done, Lock, Vote, Dependency, Disk, InDoubt, Bad}
+use Rattle.base_types.specs.declared.entries.Settled.TheVariants.{Done}
 use Rattle.core_model.specs.CoreState.{Member}
 use Rattle.host_trait.specs.declared.channels.FileId.{FileId}
 use Rattle.host_trait.specs.declared.channels.FileId.TheVariants.{Program as ProgramFile, Manager, Grain}
@@ -20,12 +20,7 @@ use Rattle.promise_spec.specs.Replies.{IsEntryOf}
 -- an entry with an outcome
 abbrev pub HasOutcome : Settled → Type 0
 HasOutcome (Done outcome) = ⊤
-HasOutcome (Lock by grain) = ⊥
-HasOutcome (Vote grain) = ⊥
-HasOutcome (Dependency on) = ⊥
-HasOutcome Disk = ⊥
-HasOutcome InDoubt = ⊥
-HasOutcome (Bad why) = ⊥
+HasOutcome _ = ⊥
 
 -- the record is that of a child of the entry's unit
 abbrev pub IsChildOf : Entry → Commit → Type 0

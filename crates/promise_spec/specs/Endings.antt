@@ -58,16 +58,12 @@ unopened = record {
 -- the table of endings
 abbrev pub says : Ending → Says
 says Done = record unopened { size = Within; opened = true; begun = true; written = true; counted = true; calm = true }
-says BadUse = unopened
 says Memory = record unopened { opened = true; begun = true; doubt = true; calm = true }
 says ReadFault = record unopened { failed = Some Input; opened = true; written = true }
 says WriteFault = record unopened { failed = Some Output; size = Within; opened = true; begun = true; doubt = true }
 says (DiskFault file) = record unopened { failed = Some (File file); size = Within; opened = true; begun = true; doubt = true }
-says NotASilo = unopened
-says AlreadyASilo = unopened
-says (Damaged file place) = unopened
-says (BadProgram fault) = unopened
 says (InputTooLong line) = record unopened { size = TooLong line; opened = true; written = true; counted = true; calm = true }
+says _ = unopened
 
 -- ---- the columns as facts
 
@@ -89,8 +85,8 @@ abbrev pub IsAllWritten : Ending → Type 0
 IsAllWritten ending = IsMarked (says ending).written
 
 -- a run may end so with a batch in doubt
-abbrev pub MayDoubt : Ending → Type 0
-MayDoubt ending = IsMarked (says ending).doubt
+abbrev pub EndingMayDoubt : Ending → Type 0
+EndingMayDoubt ending = IsMarked (says ending).doubt
 
 -- where nothing failed, a run that ends so has asked for as many syncs as its events need
 abbrev pub CountsSyncs : Ending → Type 0
@@ -122,10 +118,8 @@ HasFailedAs ending old new = HasFailedOn (says ending).failed old new
 
 -- the channel is a file's
 abbrev pub IsOfFile : Option Channel → Type 0
-IsOfFile None = ⊥
-IsOfFile (Some Input) = ⊥
-IsOfFile (Some Output) = ⊥
 IsOfFile (Some (File file)) = ⊤
+IsOfFile _ = ⊥
 
 -- a file failed
 abbrev pub IsDiskFault : Ending → Type 0

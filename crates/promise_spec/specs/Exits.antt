@@ -14,39 +14,39 @@ use Rattle.host_trait.specs.World.{Image, IsImage}
 use Rattle.promise_spec.specs.Records.{Commit, AreRecordsOf}
 use Rattle.promise_spec.specs.Logs.{live_slot, IsLog, body_of}
 use Rattle.promise_spec.specs.Programs.{Program, shape_in}
-use Rattle.promise_spec.specs.Endings.{MayDoubt}
+use Rattle.promise_spec.specs.Endings.{EndingMayDoubt}
 use Rattle.promise_spec.specs.Courses.{Observed, Course, order, core_run, core_end}
-use Rattle.promise_spec.specs.Causes.{HasDoubt}
+use Rattle.promise_spec.specs.Causes.{RunHasDoubt}
 use Rattle.promise_spec.specs.Replies.{HasNoRecord}
 
 -- the units to commit of the batch in doubt, in their order
-abbrev pub doubtful : CoreState → List UnitNo
-doubtful w = map (λ e. e.unit) (chosen w)
+abbrev pub units_in_doubt : CoreState → List UnitNo
+units_in_doubt w = map (λ e. e.unit) (chosen w)
 
 -- the records are those of these units, one for each
 abbrev pub AreOf : List UnitNo → List Commit → Type 0
 AreOf units log = map (λ l. l.logged.unit) log ≡ units
 
 -- the log lacks the records of the batch in doubt, which stand last in the order
-pub record LacksDoubtful (c : Course) (w : CoreState) (log : List Commit) : Type 0 where
+pub record LogLacksDoubt (c : Course) (w : CoreState) (log : List Commit) : Type 0 where
   pub begins : ℕ
   pub doubt : w.manager.doubt ≡ Some begins
   pub last : List Commit
   pub split : order c ≡ log ++ last
-  pub units : AreOf (doubtful w) last
+  pub units : AreOf (units_in_doubt w) last
 
 -- the image has the whole order as its log, or the order without the records of the batch in doubt
 pub record HasLogAtExit (p : Program) (c : Course) (w : CoreState) (image : Image) : Type 0 where
   pub log : List Commit
   pub is : IsLog live_slot (shape_in p) image log
-  pub which : (log ≡ order c) ⊎ LacksDoubtful c w log
+  pub which : (log ≡ order c) ⊎ LogLacksDoubt c w log
 
 -- Where images have different logs the live manager file's count of faults rose, the ending is one of three, and each
 -- unit of the batch is told to be in doubt or has no entry.
-pub record IsDoubt (live : ℕ) (r : Observed) (c : Course) (w : CoreState) : Type 0 where
+pub record ImagesMayDiffer (live : ℕ) (r : Observed) (c : Course) (w : CoreState) : Type 0 where
   pub rose : Rose (r.faults_before (File (Manager live))) (r.faults_after (File (Manager live)))
-  pub ending : MayDoubt r.ending
-  pub told : (e : Entry) → Member e c.entries → Member e.unit (doubtful w) → e.what ≡ InDoubt
+  pub ending : EndingMayDoubt r.ending
+  pub told : (e : Entry) → Member e c.entries → Member e.unit (units_in_doubt w) → e.what ≡ InDoubt
 
 -- no image at the exit has a record of the unit
 abbrev pub IsNowhere : Program → Observed → UnitNo → Type 0
@@ -67,7 +67,7 @@ pub record DifferAt (gate : ℕ) (one other : List ℕ) : Type 0 where
 -- The batch has the records of the units to commit of the batch in doubt, and the order is that of the batches before
 -- it, or has it last. In every image at the exit those before it end at the gate, its whole block stands behind that,
 -- and the images differ at most in the gate.
-pub record HasDoubtfulBlock (live : ℕ) (r : Observed) (c : Course) (w : CoreState) : Type 0 where
+pub record BlockInDoubt (live : ℕ) (r : Observed) (c : Course) (w : CoreState) : Type 0 where
   pub gate : ℕ
   pub batch : List Commit
   pub batches : List (List Commit)
@@ -79,9 +79,9 @@ pub record HasDoubtfulBlock (live : ℕ) (r : Observed) (c : Course) (w : CoreSt
       DifferAt gate (one (Manager live)) (other (Manager live))
 
 -- The log at the exit, where lines are in doubt too.
-pub record IsLeft (p : Program) (r : Observed) (c : Course) : Type 0 where
+pub record IsExit (p : Program) (r : Observed) (c : Course) : Type 0 where
   pub logs : (image : Image) → IsImage r.new.disk image → HasLogAtExit p c (core_end p c) image
   pub doubt : (one other : Image) (a b : List Commit) → IsImage r.new.disk one → IsImage r.new.disk other →
-      IsLog live_slot (shape_in p) one a → IsLog live_slot (shape_in p) other b → a ≢ b → IsDoubt live_slot r c (core_end p c)
+      IsLog live_slot (shape_in p) one a → IsLog live_slot (shape_in p) other b → a ≢ b → ImagesMayDiffer live_slot r c (core_end p c)
   pub nowhere : (e : Entry) → Member e c.entries → e.what ≡ InDoubt → IsNowhere p r e.unit → HasNoRecord c e.unit
-  pub block : HasDoubt (core_run p c) → HasDoubtfulBlock live_slot r c (core_end p c)
+  pub block : RunHasDoubt (core_run p c) → BlockInDoubt live_slot r c (core_end p c)

@@ -13,18 +13,18 @@ use Rattle.promise_spec.specs.Records.{Commit, AreRecordsOf}
 use Rattle.promise_spec.specs.Logs.{live_slot, IsLog, IsPrefix}
 use Rattle.request_wire.specs.Reply.{reply_line}
 use Rattle.promise_spec.specs.Programs.{Program, shape_in}
-use Rattle.promise_spec.specs.Endings.{DiskFault, IsAllWritten, IsDiskFault, MayDoubt}
+use Rattle.promise_spec.specs.Endings.{DiskFault, IsAllWritten, IsDiskFault, EndingMayDoubt}
 use Rattle.promise_spec.specs.UnitRule.{KeepsUnitRule}
 use Rattle.promise_spec.specs.TurnRule.{KeepsTurnRule}
 use Rattle.promise_spec.specs.Cores.{how_many}
-use Rattle.promise_spec.specs.Causes.{AreCaused, AreFaults, HasDoubt, is_vote_of}
+use Rattle.promise_spec.specs.Causes.{AreCaused, AreFaults, RunHasDoubt, is_vote_of}
 use Rattle.promise_spec.specs.Moments.{IsImageOf}
 use Rattle.promise_spec.specs.Family.{IsFamily}
 use Rattle.promise_spec.specs.Batches.{EndsABatch}
 use Rattle.promise_spec.specs.Courses.{Observed, Course, order, moments, lines, basis, opening_standing, core_run, core_end}
 
 -- the records of the batch in doubt follow those of the committed units
-pub record FollowInDoubt (w : CoreState) (added : List Commit) : Type 0 where
+pub record RecordsInDoubt (w : CoreState) (added : List Commit) : Type 0 where
   pub begins : ℕ
   pub doubt : w.manager.doubt ≡ Some begins
   pub records : AreRecordsOf (committed w ++ chosen w) added
@@ -32,7 +32,7 @@ pub record FollowInDoubt (w : CoreState) (added : List Commit) : Type 0 where
 -- what the run added to the order is the records of the committed units, and, where an image has it, of the batch in
 -- doubt
 abbrev pub AreAdded : CoreState → List Commit → Type 0
-AreAdded w added = AreRecordsOf (committed w) added ⊎ FollowInDoubt w added
+AreAdded w added = AreRecordsOf (committed w) added ⊎ RecordsInDoubt w added
 
 -- The records of the order come from the core's events: those that the run added come from the lines, call by call, and
 -- each image's log is the opening log and whole batches behind it.
@@ -43,7 +43,7 @@ pub record ComeOfEvents (p : Program) (r : Observed) (c : Course) : Type 0 where
 
 -- all that is settled has been written, or the run ended with a batch in doubt
 abbrev pub EndsWritten : Program → Observed → Course → Type 0
-EndsWritten p r c = IsAllWritten r.ending ⊎ (IsDiskFault r.ending × HasDoubt (core_run p c))
+EndsWritten p r c = IsAllWritten r.ending ⊎ (IsDiskFault r.ending × RunHasDoubt (core_run p c))
 
 -- where the output was cut within a line, it is that of the next entry that the core settled
 abbrev pub IsCutShort : Shape → List Entry → Course → Type 0
@@ -59,8 +59,8 @@ pub record AreSettled (p : Program) (r : Observed) (c : Course) : Type 0 where
   pub cut : IsCutShort (shape_in p) (core_end p c).manager.settled c
 
 -- a file whose fault may end a run: the live manager file, with a batch in doubt
-abbrev pub IsDoubtful : ℕ → Run → FileId → Type 0
-IsDoubtful live run file = (file ≡ Manager live) × HasDoubt run
+abbrev pub FileMayEndInDoubt : ℕ → Run → FileId → Type 0
+FileMayEndInDoubt live run file = (file ≡ Manager live) × RunHasDoubt run
 
 -- where no event votes on a grain's file, it is as it was at entry at each moment
 abbrev pub LeavesUnvoted : ℕ → Program → Observed → Course → Type 0
@@ -76,6 +76,6 @@ pub record IsExplained (p : Program) (r : Observed) (c : Course) : Type 0 where
   pub turns : r.manner.threaded ≡ false → KeepsTurnRule p.types (length (lines r)) r.manner.width r.manner.picks (core_run p c)
   pub caused : AreCaused (core_run p c)
   pub faults : AreFaults live_slot (core_run p c) r.faults_before r.faults_after
-  pub doubted : (file : FileId) → r.ending ≡ DiskFault file → IsDoubtful live_slot (core_run p c) file
-  pub ended : HasDoubt (core_run p c) → MayDoubt r.ending
+  pub doubted : (file : FileId) → r.ending ≡ DiskFault file → FileMayEndInDoubt live_slot (core_run p c) file
+  pub doubt_ends : RunHasDoubt (core_run p c) → EndingMayDoubt r.ending
   pub unvoted : LeavesUnvoted live_slot p r c

@@ -1,17 +1,17 @@
 -- What a unit got from the core, in order, and what its script asks for next.
 use Rattle.std.specs.Prelude.{ℕ, List, [], ◌∷◌, ◌++◌, if◌then◌else◌, Option, Some, None, option_map, option_and_then}
-use Rattle.base_types.specs.declared.calls.Origin.TheVariants.{Line, Child}
+use Rattle.base_types.specs.declared.calls.Origin.TheVariants.{Child}
 use Rattle.base_types.specs.declared.calls.Mode.TheVariants.{Update}
 use Rattle.cell_model.specs.Locks.{holds_lock}
 use Rattle.core_model.specs.CoreState.{UnitNo, GrainId, same_unit, top, Mode, Value, Call, CoreState}
 use Rattle.core_model.specs.Tests.{outcome_of}
 use Rattle.core_model.specs.Changes.{new_unit, cleaned}
 use Rattle.core_model.specs.declared.events.CoreEvent.{CoreEvent}
-use Rattle.core_model.specs.declared.events.CoreEvent.TheVariants.{Bad, Begin, Grant, Refuse, Finish, EndPlain, EndSnapshot, Release, Take, Vote, Decide, Sealed, NotSealed, Doubt, Learn, Emitted, Halt, Want as WantGrain, Load}
+use Rattle.core_model.specs.declared.events.CoreEvent.TheVariants.{Begin, Grant}
 use Rattle.core_model.specs.Events.{applies, step}
 use Rattle.core_model.specs.Legal.{Run, begins}
 use Rattle.script_tree.specs.Programs.{ProgramTree}
-use Rattle.script_meaning.specs.Play.{Want, WantLock, WantRaise, WantUnit, Over, next}
+use Rattle.script_meaning.specs.Play.{Want, WantLock, WantRaise, next}
 use Rattle.script_meaning.specs.Trails.{Given, GivenLock, GivenRaise, GivenOutcome, locks_of, answers_of}
 use Rattle.promise_spec.specs.Serial.{depth_of}
 
@@ -34,27 +34,10 @@ got_lock w u g mode = if holds_lock u (w.cells.holds g) then GotRaise g else Got
 
 -- what an event that applies gives a unit
 abbrev pub got_by : CoreState → UnitNo → CoreEvent → List Got
-got_by w u (Bad n why) = []
-got_by w u (Begin (Line n) call plain) = []
 got_by w u (Begin (Child parent index depth) call plain) =
     if same_unit parent u then GotChild call depth (new_unit w) ∷ [] else []
 got_by w u (Grant v g mode) = if same_unit v u then got_lock w u g mode ∷ [] else []
-got_by w u (Refuse v g mode) = []
-got_by w u (Finish v e) = []
-got_by w u (EndPlain v e) = []
-got_by w u (EndSnapshot v at outcome) = []
-got_by w u (Release v g) = []
-got_by w u Take = []
-got_by w u (Vote n g kept) = []
-got_by w u (Decide n) = []
-got_by w u (Sealed n) = []
-got_by w u (NotSealed n) = []
-got_by w u (Doubt n) = []
-got_by w u (Learn v g) = []
-got_by w u Emitted = []
-got_by w u Halt = []
-got_by w u (WantGrain v g) = []
-got_by w u (Load g v state) = []
+got_by w u _ = []
 
 -- what a unit got from these events, from this state on
 abbrev pub got_from : CoreState → List CoreEvent → UnitNo → List Got
@@ -84,8 +67,6 @@ wanted_by types w u got =
 
 -- the lock that is asked for: a first one, or an exclusive one in place of a shared one
 abbrev pub wanted_lock : Option Want → Option (GrainId × Mode)
-wanted_lock None = None
 wanted_lock (Some (WantLock g mode)) = Some (g, mode)
 wanted_lock (Some (WantRaise g)) = Some (g, Update)
-wanted_lock (Some (WantUnit call depth)) = None
-wanted_lock (Some (Over outcome)) = None
+wanted_lock _ = None

@@ -24,7 +24,7 @@ AreNumbered first (c ∷ later) =
     × AllByRecursion (λ d. d.logged.unit ≢ c.logged.unit) later × AreNumbered first later
 
 -- The image is a silo of this program. All that it names is in the format and whole, and its records' units are numbered.
-pub record IsWhole (live : ℕ) (p : Program) (image : Image) : Type 0 where
+pub record IsWholeSilo (live : ℕ) (p : Program) (image : Image) : Type 0 where
   pub log : List Commit
   pub is : IsLog live (shape_in p) image log
   pub program : HasProgram p.text (image (ProgramFile live))
@@ -40,7 +40,7 @@ pub record IsSound (live : ℕ) (p : Program) (image : Image) : Type 0 where
 
 -- an image that is a silo is whole
 abbrev pub IsWholeIfSilo : ℕ → Program → Image → Type 0
-IsWholeIfSilo live p image = IsSilo magic (image (Manager live)) → IsWhole live p image
+IsWholeIfSilo live p image = IsSilo magic (image (Manager live)) → IsWholeSilo live p image
 
 -- an image that is a silo is sound
 abbrev pub IsSoundIfSilo : ℕ → Program → Image → Type 0

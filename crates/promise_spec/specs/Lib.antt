@@ -6,6 +6,7 @@ pub mod Images
 pub mod Moments
 pub mod Lines
 pub mod Outputs
+pub mod Kinds
 pub mod Cores
 pub mod Gotten
 pub mod UnitRule
@@ -25,10 +26,8 @@ pub mod Batches
 pub mod Explained
 pub mod Exits
 pub mod Promise
-pub mod Journals
 pub mod Reports
 pub mod Commands
 pub mod Loads
 pub mod Checks
 pub mod Calls
-pub mod SoundMoments

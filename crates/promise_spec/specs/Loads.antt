@@ -1,13 +1,11 @@
 -- What `load` promises: to make a silo of the bank program, and to carry generated lines in it.
-use Rattle.std.specs.Prelude.{◌≡◌, ◌≢◌, ℕ, zero, suc, ◌+◌, ◌*◌, ◌/◌, ◌%◌, ◌^◌, ◌≤◌, Bool, true, false, List, [], ◌∷◌, ◌++◌, length, map, slice_get, count_by, codes, ℤ, pos, ◌+ℤ◌, Some, ◌⊎◌}
+use Rattle.std.specs.Prelude.{◌≡◌, ◌≢◌, ℕ, zero, suc, ◌+◌, ◌*◌, ◌/◌, ◌%◌, ◌^◌, ◌≤◌, Bool, false, List, [], ◌∷◌, ◌++◌, length, map, slice_get, count_by, codes, ℤ, pos, ◌+ℤ◌, Some, ◌⊎◌}
 use Rattle.base_types.specs.declared.calls.Call.{Call}
 use Rattle.base_types.specs.declared.calls.GrainId.{GrainId}
-use Rattle.base_types.specs.declared.calls.Outcome.TheVariants as outcome
 use Rattle.base_types.specs.declared.calls.Value.{Value}
-use Rattle.base_types.specs.declared.calls.Value.TheVariants.{Int, Text}
+use Rattle.base_types.specs.declared.calls.Value.TheVariants.{Int}
 use Rattle.base_types.specs.declared.entries.Entry.{Entry}
 use Rattle.base_types.specs.declared.entries.Settled.{Settled}
-use Rattle.base_types.specs.declared.entries.Settled.TheVariants.{Done, Lock, Vote, Dependency, Disk, InDoubt, Bad}
 use Rattle.core_model.specs.CoreState.{Member}
 use Rattle.host_trait.specs.World.{World, Moment, Image, IsImage}
 use Rattle.request_wire.specs.Reply.{value_data, counted}
@@ -20,13 +18,14 @@ use Rattle.promise_spec.specs.Programs.{Program, IsChecked, shape_in}
 use Rattle.promise_spec.specs.Records.{States, standing_of}
 use Rattle.promise_spec.specs.Logs.{magic, IsLog, live_slot}
 use Rattle.promise_spec.specs.Lines.{IsLineCall}
-use Rattle.promise_spec.specs.Causes.{NoneRose, HasDoubt, syncs_of, most_syncs_of}
+use Rattle.promise_spec.specs.Kinds.{kind_of}
+use Rattle.promise_spec.specs.Causes.{NoneRose, RunHasDoubt, syncs_of, most_syncs_of}
 use Rattle.promise_spec.specs.Endings as ending
 use Rattle.promise_spec.specs.Courses.{Observed, Course, order, moments, lines, core_run, core_end}
 use Rattle.promise_spec.specs.Images.{IsSoundFolder}
 use Rattle.promise_spec.specs.Orders.{IsOrdered}
 use Rattle.promise_spec.specs.Crashes.{SurvivesCrashes, StaySound}
-use Rattle.promise_spec.specs.Exits.{IsLeft}
+use Rattle.promise_spec.specs.Exits.{IsExit}
 use Rattle.promise_spec.specs.Explained.{ComeOfEvents, IsExplained}
 use Rattle.promise_spec.specs.Promise.{IsAnswered, GoesThrough, HasNoChild, IsNoLock}
 use Rattle.promise_spec.specs.Reports.{line_of}
@@ -86,39 +85,15 @@ pub record AskFor (types : ProgramTree) (lines : List (List ℕ)) (calls : List 
 
 -- the line ended with a value
 abbrev pub line_valued : Settled → Bool
-line_valued (Done (outcome.Value value)) = true
-line_valued (Done (outcome.Fault text)) = false
-line_valued (Done outcome.Aborted) = false
-line_valued (Lock by grain) = false
-line_valued (Vote grain) = false
-line_valued (Dependency on) = false
-line_valued Disk = false
-line_valued InDoubt = false
-line_valued (Bad why) = false
+line_valued what = (kind_of what).valued
 
 -- the line ended with a fault
 abbrev pub is_faulted : Settled → Bool
-is_faulted (Done (outcome.Value value)) = false
-is_faulted (Done (outcome.Fault text)) = true
-is_faulted (Done outcome.Aborted) = false
-is_faulted (Lock by grain) = false
-is_faulted (Vote grain) = false
-is_faulted (Dependency on) = false
-is_faulted Disk = false
-is_faulted InDoubt = false
-is_faulted (Bad why) = false
+is_faulted what = (kind_of what).faulted
 
 -- the line was aborted
 abbrev pub line_aborted : Settled → Bool
-line_aborted (Done (outcome.Value value)) = false
-line_aborted (Done (outcome.Fault text)) = false
-line_aborted (Done outcome.Aborted) = false
-line_aborted (Lock by grain) = true
-line_aborted (Vote grain) = true
-line_aborted (Dependency on) = true
-line_aborted Disk = true
-line_aborted InDoubt = false
-line_aborted (Bad why) = false
+line_aborted what = (kind_of what).aborted
 
 -- how many lines ended so
 abbrev pub how_many_lines : (Settled → Bool) → List Entry → ℕ
@@ -126,9 +101,8 @@ how_many_lines is entries = count_by (λ e. is e.what) entries
 
 -- an account's balance
 abbrev pub balance_in : List Value → ℤ
-balance_in [] = pos 0
 balance_in (Int n ∷ values) = n
-balance_in (Text text ∷ values) = pos 0
+balance_in _ = pos 0
 
 -- the balances of so many accounts, from account 0 on
 abbrev pub total_of : States → ℕ → ℤ
@@ -156,7 +130,7 @@ pub record HasLoaded (p : Program) (r : Observed) (c : Course) : Type 0 where
   pub carried : ending.IsBegun r.ending
   pub risen : ending.HasRisen r.ending r.faults_before r.faults_after
   pub done : (r.ending ≡ ending.Done) ⊎ (r.ending ≡ ending.WriteFault) → IsAnswered r c
-  pub undoubted : r.ending ≡ ending.WriteFault → HasDoubt (core_run p c) → ⊥
+  pub undoubted : r.ending ≡ ending.WriteFault → RunHasDoubt (core_run p c) → ⊥
   pub complete : NoneRose r.faults_before r.faults_after → GoesThrough r c
   pub alone : r.manner.threaded ≡ false → r.manner.width ≡ 1 → HasNoChild p c → (e : Entry) → Member e c.entries → IsNoLock e.what
   pub syncs : NoneRose r.faults_before r.faults_after → r.ending ≡ ending.Done → r.new.syncs ≡ r.old.syncs + syncs_of (core_run p c)
@@ -170,8 +144,8 @@ pub record KeepsLoad (p : Program) (n seed : ℕ) (r : Observed) (c : Course) : 
   pub ordered : IsOrdered p r c
   pub crashes : SurvivesCrashes p r c
   pub sound : IsSoundFolder p r.old → StaySound p r c
-  pub records : ComeOfEvents p r c
-  pub exit : IsLeft p r c
+  pub traced : ComeOfEvents p r c
+  pub exit : IsExit p r c
   pub settled : c.entries ≡ (core_end p c).manager.settled
   pub explained : IsExplained p r c
   pub output : Prints (summary_text p r c) r
@@ -189,24 +163,17 @@ bank_text = codes "type account {\n  field balance = 0;\n  method deposit(n) cre
 -- A load may end so without having made a silo: where there was no memory or the folder is a silo, which is then
 -- untouched; or where a call on one of the two files failed.
 abbrev pub IsUnmadeBy : ending.Ending → Observed → Type 0
-IsUnmadeBy ending.Done r = ⊥
-IsUnmadeBy ending.BadUse r = ⊥
 IsUnmadeBy ending.Memory r = IsUntouched r.old r.new
-IsUnmadeBy ending.ReadFault r = ⊥
-IsUnmadeBy ending.WriteFault r = ⊥
 IsUnmadeBy (ending.DiskFault file) r = IsHead file × StaysSilo r file
-IsUnmadeBy ending.NotASilo r = ⊥
 IsUnmadeBy ending.AlreadyASilo r = WasSilo r × IsUntouched r.old r.new × ManagerLasts r
-IsUnmadeBy (ending.Damaged file place) r = ⊥
-IsUnmadeBy (ending.BadProgram fault) r = ⊥
-IsUnmadeBy (ending.InputTooLong line) r = ⊥
+IsUnmadeBy _ r = ⊥
 
 -- The load made no silo: it read no input and emitted nothing, and how far it came is said as of `init`. Where a call failed it
 -- ended for that call, and for no other.
 pub record IsUnmade (r : Observed) : Type 0 where
   pub beside : StaysBeside r.old r.new
   pub makes : CameThisFar magic bank_text r.old r.new
-  pub ended : IsUnmadeBy r.ending r
+  pub ends_as : IsUnmadeBy r.ending r
   pub failed : ending.HasFailedAs r.ending r.faults_before r.faults_after
 
 -- The load made a silo of the bank program with an empty log, where there was none: the host was then so. Making one asks for
@@ -235,31 +202,3 @@ pub record LoadsFrom (n seed : ℕ) (r : Observed) : Type 0 where
 pub record Loads (n seed : ℕ) (m : Manner) (r : Observed) : Type 0 where
   pub manner : r.manner ≡ m
   pub answers : IsUnmade r ⊎ LoadsFrom n seed r
-
--- ---- a load that does what a run does
-
--- a moment at which nothing more than this was written
-abbrev pub quieted : List ℕ → Moment → Moment
-quieted output m = record m { output = output }
-
--- the course of a run that writes no replies, and at these moments a summary
-abbrev pub quiet_course : Observed → Course → List Moment → Course
-quiet_course r c told = record c { late = map (quieted r.old.output) c.late ++ told }
-
--- A load that shows what this run shows, but that it reads no input, and writes this text at its end in place of replies,
--- at moments that leave the files as the run left them.
-pub record IsQuietRun (r : Observed) (c : Course) (text : List ℕ) (told : List Moment) (s : Observed) : Type 0 where
-  pub manner : s.manner ≡ r.manner
-  pub asked : lines s ≡ lines r
-  pub disk_before : s.old.disk ≡ r.old.disk
-  pub output_before : s.old.output ≡ r.old.output
-  pub disk_after : s.new.disk ≡ r.new.disk
-  pub output : s.new.output ≡ s.old.output ++ text
-  pub unread : s.new.input ≡ s.old.input
-  pub past : s.new.past ≡ s.old.past ++ (c.early ++ (map (quieted r.old.output) c.late ++ told))
-  pub left : (m : Moment) → Member m told → m.disk ≡ r.new.disk
-  pub syncs_before : s.old.syncs ≡ r.old.syncs
-  pub syncs_after : s.new.syncs ≡ r.new.syncs
-  pub faults_before : s.faults_before ≡ r.faults_before
-  pub faults_after : s.faults_after ≡ r.faults_after
-  pub ending : s.ending ≡ r.ending

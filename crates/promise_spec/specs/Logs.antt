@@ -32,10 +32,9 @@ pub record WriteStands (live : ℕ) (shape : Shape) (image : Image) (unit : Unit
 -- each write of a unit has its state, and the version stands
 abbrev pub WritesStand : ℕ → Shape → Image → UnitNo → List Written → List (List Value) → Type 0
 WritesStand live shape image unit [] [] = ⊤
-WritesStand live shape image unit [] (state ∷ states) = ⊥
-WritesStand live shape image unit (w ∷ ws) [] = ⊥
 WritesStand live shape image unit (w ∷ ws) (state ∷ states) =
     WriteStands live shape image unit w state × WritesStand live shape image unit ws states
+WritesStand live shape image unit _ _ = ⊥
 
 -- The record is within the format's limits, its unit's number is above 0 and its own and its parent's are below 2 to the
 -- 63, its call and its grains are the program's, and its versions stand.

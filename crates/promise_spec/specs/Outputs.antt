@@ -5,7 +5,7 @@ use Rattle.base_types.specs.declared.calls.GrainId.{GrainId}
 use Rattle.base_types.specs.declared.calls.UnitNo.{UnitNo}
 use Rattle.base_types.specs.declared.entries.Entry.{Entry}
 use Rattle.base_types.specs.declared.entries.Settled.{Settled}
-use Rattle.base_types.specs.declared.entries.Settled.TheVariants.{Done, Lock, Vote, Dependency, Disk, InDoubt, Bad}
+use Rattle.base_types.specs.declared.entries.Settled.TheVariants.{Done, Lock, Vote, Dependency, Bad}
 use Rattle.base_types.specs.declared.shapes.Shape.{Shape}
 use Rattle.base_types.specs.declared.shapes.TypeShape.{TypeShape}
 use Rattle.cell_model.specs.Units.{nobody}
@@ -14,13 +14,8 @@ use Rattle.request_wire.specs.Reply.{reply_line}
 
 -- a bad line has nobody's unit, every other one a unit's number
 abbrev pub HasUnit : UnitNo → Settled → Type 0
-HasUnit unit (Done outcome) = (0 < unit.0) × (unit.0 < 2 ^ 64)
-HasUnit unit (Lock by grain) = (0 < unit.0) × (unit.0 < 2 ^ 64)
-HasUnit unit (Vote grain) = (0 < unit.0) × (unit.0 < 2 ^ 64)
-HasUnit unit (Dependency on) = (0 < unit.0) × (unit.0 < 2 ^ 64)
-HasUnit unit Disk = (0 < unit.0) × (unit.0 < 2 ^ 64)
-HasUnit unit InDoubt = (0 < unit.0) × (unit.0 < 2 ^ 64)
 HasUnit unit (Bad why) = unit ≡ nobody
+HasUnit unit _ = (0 < unit.0) × (unit.0 < 2 ^ 64)
 
 -- a grain of one of the program's types
 abbrev pub IsGrainIn : Shape → GrainId → Type 0
@@ -32,9 +27,7 @@ MaySay shape (Done outcome) = ResultFits outcome
 MaySay shape (Lock by grain) = (by.0 < 2 ^ 64) × IsGrainIn shape grain
 MaySay shape (Vote grain) = IsGrainIn shape grain
 MaySay shape (Dependency on) = on.0 < 2 ^ 64
-MaySay shape Disk = ⊤
-MaySay shape InDoubt = ⊤
-MaySay shape (Bad why) = ⊤
+MaySay shape _ = ⊤
 
 -- an entry of those that a core settles
 pub record IsProper (shape : Shape) (e : Entry) : Type 0 where

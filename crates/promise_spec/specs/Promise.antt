@@ -1,11 +1,10 @@
 -- The whole promise of a run.
 use Rattle.promise_spec.specs.Logs.{live_slot}
-use Rattle.std.specs.Prelude.{◌≡◌, ◌≢◌, ◌⊎◌, ℕ, ◌+◌, ◌≤◌, false, [], length, ⊤}
+use Rattle.std.specs.Prelude.{◌≡◌, ◌≢◌, ◌⊎◌, ℕ, ◌+◌, ◌≤◌, not, false, [], length}
 use Rattle.base_types.specs.declared.calls.Call.{Call}
 use Rattle.base_types.specs.declared.calls.Origin.TheVariants.{Child}
 use Rattle.base_types.specs.declared.entries.Entry.{Entry}
 use Rattle.base_types.specs.declared.entries.Settled.{Settled}
-use Rattle.base_types.specs.declared.entries.Settled.TheVariants as settled
 use Rattle.core_model.specs.CoreState.{UnitNo, Member}
 use Rattle.core_model.specs.declared.events.CoreEvent.TheVariants.{Begin}
 use Rattle.core_model.specs.Lines.{DifferInLine}
@@ -15,17 +14,18 @@ use Rattle.promise_spec.specs.Records.{log_start}
 pub use Rattle.promise_spec.specs.Images.{IsWholeFolder, IsSoundFolder}
 use Rattle.promise_spec.specs.Images.{AreNumbered}
 use Rattle.promise_spec.specs.Outputs.{Grew}
+use Rattle.promise_spec.specs.Kinds.{kind_of}
 use Rattle.promise_spec.specs.Family.{IsFamily}
 use Rattle.promise_spec.specs.Openings.{Reads, opened_as}
 use Rattle.promise_spec.specs.Cores.{AppliesAt}
 use Rattle.promise_spec.specs.Causes.{NoneRose, syncs_of, most_syncs_of}
-use Rattle.promise_spec.specs.Endings.{Done, WriteFault, HasRisen, IsCarried, IsBegun, IsCalm, HasLength, CountsSyncs, input_limit}
+use Rattle.promise_spec.specs.Endings.{Done, WriteFault, IsMarked, HasRisen, IsCarried, IsBegun, IsCalm, HasLength, CountsSyncs, input_limit}
 use Rattle.promise_spec.specs.Words.{Manner}
 use Rattle.promise_spec.specs.Courses.{Observed, Course, order, lines, seen_at_entry, opening_standing, core_run, core_end}
 use Rattle.promise_spec.specs.Refusals.{IsUnopened}
 use Rattle.promise_spec.specs.Replies.{IsTrueOf, StandInOrder}
 use Rattle.promise_spec.specs.Headline.{KeepsHeadline}
-use Rattle.promise_spec.specs.Exits.{IsLeft}
+use Rattle.promise_spec.specs.Exits.{IsExit}
 use Rattle.promise_spec.specs.Explained.{ComeOfEvents, AreSettled, IsExplained}
 
 -- ---- statuses
@@ -41,13 +41,7 @@ pub record IsDone (r : Observed) (c : Course) : Type 0 where
 
 -- no fault of a file has a part in it
 abbrev pub IsUndisturbed : Settled → Type 0
-IsUndisturbed (settled.Done outcome) = ⊤
-IsUndisturbed (settled.Lock by grain) = ⊤
-IsUndisturbed (settled.Vote grain) = ⊥
-IsUndisturbed (settled.Dependency on) = ⊥
-IsUndisturbed settled.Disk = ⊥
-IsUndisturbed settled.InDoubt = ⊥
-IsUndisturbed (settled.Bad why) = ⊤
+IsUndisturbed what = IsMarked (not (kind_of what).disturbed)
 
 -- the run went through, and no line was aborted for a fault
 pub record GoesThrough (r : Observed) (c : Course) : Type 0 where
@@ -62,13 +56,7 @@ HasNoChild p c =
 
 -- no line waited for another, or was aborted for one
 abbrev pub IsNoLock : Settled → Type 0
-IsNoLock (settled.Done outcome) = ⊤
-IsNoLock (settled.Lock by grain) = ⊥
-IsNoLock (settled.Vote grain) = ⊤
-IsNoLock (settled.Dependency on) = ⊤
-IsNoLock settled.Disk = ⊤
-IsNoLock settled.InDoubt = ⊤
-IsNoLock (settled.Bad why) = ⊤
+IsNoLock what = IsMarked (not (kind_of what).locked)
 
 -- the whole input was read, and is within the limit, and a run that has begun may end so
 pub record HasReadAll (r : Observed) : Type 0 where
@@ -98,10 +86,10 @@ pub record HasEnded (p : Program) (r : Observed) (c : Course) : Type 0 where
 -- All six clauses of one course: the headline (order, replies, crashes), causes, exit and status.
 pub record Keeps (p : Program) (r : Observed) (c : Course) : Type 0 where
   pub headline : KeepsHeadline p r c
-  pub records : ComeOfEvents p r c
+  pub traced : ComeOfEvents p r c
   pub settled : AreSettled p r c
   pub explained : IsExplained p r c
-  pub exit : IsLeft p r c
+  pub exit : IsExit p r c
   pub ended : HasEnded p r c
 
 -- What holds over any folder that opens, sound or not. The files read as this log. What was written is entries, each of another
@@ -114,7 +102,7 @@ pub record KeepsAnywhere (p : Program) (r : Observed) (c : Course) : Type 0 wher
   pub whole : r.ending ≢ WriteFault → c.rest ≡ []
   pub within : (e : Entry) → Member e c.entries → (1 ≤ e.line) × (e.line ≤ length (lines r))
   pub once : DifferInLine c.entries
-  pub ordered : StandInOrder c.entries c.added
+  pub in_order : StandInOrder c.entries c.added
   pub settled : AreSettled p r c
   pub explained : IsExplained p r c
   pub ended : HasEnded p r c

@@ -70,6 +70,5 @@ pub record IsRecordOf (e : Effect) (l : Commit) : Type 0 where
 -- the records are those of the units with these effects, one for each, in this order
 abbrev pub AreRecordsOf : List Effect → List Commit → Type 0
 AreRecordsOf [] [] = ⊤
-AreRecordsOf [] (l ∷ log) = ⊥
-AreRecordsOf (e ∷ effects) [] = ⊥
 AreRecordsOf (e ∷ effects) (l ∷ log) = IsRecordOf e l × AreRecordsOf effects log
+AreRecordsOf _ _ = ⊥

@@ -3,7 +3,7 @@ use Rattle.promise_spec.specs.Logs.{live_slot}
 use Rattle.std.specs.Prelude.{◌≡◌, ◌⊎◌, ◌+◌, ◌≤◌, false, List, map, Ok, ⊤}
 use Rattle.base_types.specs.declared.calls.GrainId.{GrainId}
 use Rattle.host_trait.specs.declared.channels.FileId.{FileId}
-use Rattle.host_trait.specs.declared.channels.FileId.TheVariants.{Program as ProgramFile, Manager, Grain}
+use Rattle.host_trait.specs.declared.channels.FileId.TheVariants.{Grain}
 use Rattle.host_trait.specs.World.{Image}
 use Rattle.commit_log.specs.declared.records.CommitRecord.{CommitRecord}
 use Rattle.core_model.specs.CoreState.{Member}
@@ -12,7 +12,7 @@ use Rattle.silo_spec.specs.Silos.{manager, program_file}
 use Rattle.silo_spec.specs.Moments.{IsUntouched}
 use Rattle.promise_spec.specs.Programs.{Program, shape_in}
 use Rattle.promise_spec.specs.Openings.{Reading, NoSilo, DamagedAt, Reads, program_in_file, records_in_file, named_by, opened_as}
-use Rattle.promise_spec.specs.Endings.{Ending, Done, BadUse, Memory, ReadFault, WriteFault, DiskFault, NotASilo, AlreadyASilo, Damaged, BadProgram, InputTooLong, HasFailedAs}
+use Rattle.promise_spec.specs.Endings.{Ending, Memory, DiskFault, NotASilo, Damaged, HasFailedAs}
 use Rattle.promise_spec.specs.Courses.{Observed, seen_at_entry}
 
 -- the file is the manager file, or the program's
@@ -33,10 +33,9 @@ IsReadFor image file = IsHead file ⊎ ((grain : GrainId) × (file ≡ Grain liv
 
 -- such files have to be read where the first damage is in this one: of the grains' files those of grains that aren't behind
 abbrev pub IsReadBefore : Image → FileId → FileId → Type 0
-IsReadBefore image (ProgramFile slot) file = IsHead file
-IsReadBefore image (Manager slot) file = IsHead file
 IsReadBefore image (Grain slot last) file =
     IsHead file ⊎ ((grain : GrainId) × (file ≡ Grain live_slot grain) × IsNamedIn image grain × (is_before last grain ≡ false))
+IsReadBefore image _ file = IsHead file
 
 -- the file has to be read to see that the folder reads so
 abbrev pub MustBeRead : Image → Reading → FileId → Type 0
@@ -47,17 +46,11 @@ MustBeRead image (Reads p log) file = IsReadFor image file
 -- A folder that reads so may be refused so: for want of memory always, for a fault of a file that has to be read, as no
 -- silo exactly where it reads as none, and as damaged exactly where and at the place at which it first is.
 abbrev pub IsRefusedBy : Image → Reading → Ending → Type 0
-IsRefusedBy image reading Done = ⊥
-IsRefusedBy image reading BadUse = ⊥
 IsRefusedBy image reading Memory = ⊤
-IsRefusedBy image reading ReadFault = ⊥
-IsRefusedBy image reading WriteFault = ⊥
 IsRefusedBy image reading (DiskFault file) = MustBeRead image reading file
 IsRefusedBy image reading NotASilo = reading ≡ NoSilo
-IsRefusedBy image reading AlreadyASilo = ⊥
 IsRefusedBy image reading (Damaged file place) = reading ≡ DamagedAt file place
-IsRefusedBy image reading (BadProgram fault) = ⊥
-IsRefusedBy image reading (InputTooLong line) = ⊥
+IsRefusedBy image reading _ = ⊥
 
 -- The folder wasn't opened: nothing was written, no input was read, one sync was asked for at most, and at each moment each
 -- image is one of those at entry. Why is shown by how the folder reads; and where a call failed the run is refused for that

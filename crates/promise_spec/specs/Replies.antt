@@ -5,7 +5,7 @@ use Rattle.base_types.specs.declared.calls.Origin.TheVariants.{Line}
 use Rattle.base_types.specs.declared.calls.Outcome.{Outcome}
 use Rattle.base_types.specs.declared.entries.Entry.{Entry}
 use Rattle.base_types.specs.declared.entries.Settled.{Settled}
-use Rattle.base_types.specs.declared.entries.Settled.TheVariants.{Done, Lock, Vote, Dependency, Disk, InDoubt, Bad}
+use Rattle.base_types.specs.declared.entries.Settled.TheVariants.{Done, InDoubt, Bad}
 use Rattle.core_model.specs.CoreState.{UnitNo, Member}
 use Rattle.core_model.specs.Lines.{DifferInLine}
 use Rattle.script_meaning.specs.Play.{play_over, IsTransaction}
@@ -48,12 +48,9 @@ HasNoRecord c u = (l : Commit) → Member l c.added → l.logged.unit ≢ u
 -- and a bad line fails the test that is named. Of units in doubt the exit clause speaks.
 abbrev pub IsTrueOf : Program → Observed → Course → Entry → Settled → Type 0
 IsTrueOf p r c e (Done outcome) = IsLoggedReply c e outcome ⊎ IsPlainReply p r c e outcome
-IsTrueOf p r c e (Lock by grain) = HasNoRecord c e.unit
-IsTrueOf p r c e (Vote grain) = HasNoRecord c e.unit
-IsTrueOf p r c e (Dependency on) = HasNoRecord c e.unit
-IsTrueOf p r c e Disk = HasNoRecord c e.unit
 IsTrueOf p r c e InDoubt = ⊤
 IsTrueOf p r c e (Bad why) = IsBadLine p.types (lines r) e.line why
+IsTrueOf p r c e _ = HasNoRecord c e.unit
 
 -- the entries of logged units stand in the order of their records
 abbrev pub StandInOrder : List Entry → List Commit → Type 0
@@ -69,4 +66,4 @@ pub record AreReplies (p : Program) (r : Observed) (c : Course) : Type 0 where
   pub within : (e : Entry) → Member e c.entries → (1 ≤ e.line) × (e.line ≤ length (lines r))
   pub once : DifferInLine c.entries
   pub true_each : (e : Entry) → Member e c.entries → IsTrueOf p r c e e.what
-  pub ordered : StandInOrder c.entries c.added
+  pub in_order : StandInOrder c.entries c.added

@@ -10,7 +10,7 @@ use Rattle.core_model.specs.CoreState.{UnitNo, same_unit, CoreState}
 use Rattle.core_model.specs.Tests.{is_running, is_over, is_free, ask_answer}
 pub use Rattle.core_model.specs.Settler.{MakesEvent, batch_step, has_step, later_step, settler_step}
 use Rattle.core_model.specs.declared.events.CoreEvent.{CoreEvent}
-use Rattle.core_model.specs.declared.events.CoreEvent.TheVariants.{Bad, Begin, Grant, Refuse, Finish, EndPlain, EndSnapshot, Release, Take, Vote, Decide, Sealed, NotSealed, Doubt, Learn, Emitted, Halt, Want, Load}
+use Rattle.core_model.specs.declared.events.CoreEvent.TheVariants.{Bad, Begin, Grant, Refuse, Finish, EndPlain, EndSnapshot, Release}
 use Rattle.core_model.specs.Legal.{Run, begins}
 use Rattle.script_tree.specs.Programs.{ProgramTree}
 use Rattle.script_meaning.specs.Play as script
@@ -36,21 +36,15 @@ units_of r w = units_from (w.units.next - r.base) r.base
 
 -- the unit must wait for younger holders of a lock
 abbrev pub is_wait : AskAnswer → Bool
-is_wait answer.NotActive = false
-is_wait (answer.Doomed source) = false
-is_wait answer.Held = false
-is_wait (answer.MustDie holder) = false
 is_wait (answer.MustWait holder) = true
-is_wait answer.Absent = false
-is_wait answer.Free = false
+is_wait _ = false
 
 -- a unit that asks so can move now
 abbrev pub is_unhindered : CoreState → UnitNo → Option script.Want → Bool
 is_unhindered w u None = false
 is_unhindered w u (Some (script.WantLock g mode)) = not (is_wait (ask_answer w u g mode))
 is_unhindered w u (Some (script.WantRaise g)) = not (is_wait (ask_answer w u g Update))
-is_unhindered w u (Some (script.WantUnit call depth)) = true
-is_unhindered w u (Some (script.Over outcome)) = true
+is_unhindered w u _ = true
 
 -- A unit can move while it runs, unless it waits for a lock or a child, and afterwards while it has a lock.
 abbrev pub can_move : ProgramTree → CoreState → (UnitNo → List Got) → UnitNo → Bool
@@ -95,23 +89,12 @@ mover_of (Finish u e) = OfUnit u
 mover_of (EndPlain u e) = OfUnit u
 mover_of (EndSnapshot u at outcome) = OfUnit u
 mover_of (Release u g) = OfUnit u
-mover_of Take = OfSettler
-mover_of (Vote n g kept) = OfSettler
-mover_of (Decide n) = OfSettler
-mover_of (Sealed n) = OfSettler
-mover_of (NotSealed n) = OfSettler
-mover_of (Doubt n) = OfSettler
-mover_of (Learn u g) = OfSettler
-mover_of Emitted = OfSettler
-mover_of Halt = OfSettler
-mover_of (Want u g) = OfSettler
-mover_of (Load g u state) = OfSettler
+mover_of _ = OfSettler
 
 -- a mover's move uses up a pick; a line's doesn't
 abbrev pub takes_pick : Mover → Bool
 takes_pick OfLine = false
-takes_pick (OfUnit u) = true
-takes_pick OfSettler = true
+takes_pick _ = true
 
 -- how many picks were used before
 abbrev pub picks_used : Run → ℕ → ℕ

@@ -6,7 +6,7 @@ use Rattle.core_model.specs.declared.effects.Effect.{Effect}
 use Rattle.core_model.specs.CoreState.{UnitNo, GrainId, CoreState}
 use Rattle.core_model.specs.Tests.{is_before}
 use Rattle.core_model.specs.declared.events.CoreEvent.{CoreEvent}
-use Rattle.core_model.specs.declared.events.CoreEvent.TheVariants.{Bad, Begin, Grant, Refuse, Finish, EndPlain, EndSnapshot, Release, Take, Vote, Decide, Sealed, NotSealed, Doubt, Learn, Emitted, Halt, Want, Load}
+use Rattle.core_model.specs.declared.events.CoreEvent.TheVariants.{Bad, Begin, Grant, Refuse, Finish, EndPlain, EndSnapshot, Release, Want, Load}
 use Rattle.core_model.specs.Legal.{Run, begins}
 use Rattle.script_tree.specs.Programs.{ProgramTree}
 use Rattle.script_meaning.specs.Play.{Played, WantUnit, Over, play_over, IsTransaction}
@@ -53,19 +53,11 @@ IsDue s w got (Grant u g mode) = wanted_lock (wanted_by s.types w u (got u)) ≡
 IsDue s w got (Refuse u g mode) = wanted_lock (wanted_by s.types w u (got u)) ≡ Some (g, mode)
 IsDue s w got (Finish u e) = (wanted_by s.types w u (got u) ≡ Some (Over e.result)) × IsPlayOf s.types e
 IsDue s w got (EndPlain u e) = (wanted_by s.types w u (got u) ≡ Some (Over e.result)) × IsPlayOf s.types e
-IsDue s w got (EndSnapshot u at outcome) = ⊥
 IsDue s w got (Release u g) = IsLowestHeld w u g
-IsDue s w got Take = ⊤
-IsDue s w got (Vote n g kept) = ⊤
-IsDue s w got (Decide n) = ⊤
-IsDue s w got (Sealed n) = ⊤
-IsDue s w got (NotSealed n) = ⊤
-IsDue s w got (Doubt n) = ⊤
-IsDue s w got (Learn u g) = ⊤
-IsDue s w got Emitted = ⊤
-IsDue s w got Halt = ⊤
+IsDue s w got (EndSnapshot u at outcome) = ⊥
 IsDue s w got (Want u g) = ⊥
 IsDue s w got (Load g u state) = ⊥
+IsDue s w got _ = ⊤
 
 -- each event of the run that applies is due in the state before it
 abbrev pub KeepsUnitRule : Basis → Run → Type 0

@@ -84,9 +84,8 @@ manner_of [] = plain_manner
 manner_of (g ∷ options) = with_choice g.what (manner_of options)
 
 abbrev pub is_workers : Choice → Bool
-is_workers (Width n) = false
-is_workers (Turns picks) = false
 is_workers (Workers n) = true
+is_workers _ = false
 
 -- Options that may stand together: each is one that is taken, with a value that it takes, at most once, and workers
 -- stand beside no other.
@@ -107,9 +106,8 @@ pub record SpellsRun (takes : GivenOption → Bool) (words : List (List ℕ)) (m
 
 -- no picks are given
 abbrev pub IsNoTurns : Choice → Type 0
-IsNoTurns (Width n) = ⊤
 IsNoTurns (Turns picks) = ⊥
-IsNoTurns (Workers n) = ⊤
+IsNoTurns _ = ⊤
 
 -- the words are those of `load` for so many transfers drawn from this seed; its options may stand before, between and
 -- behind the two numbers

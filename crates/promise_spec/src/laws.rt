@@ -1,30 +1,24 @@
 ghost use Rattle.std.specs.Prelude.{◌≡◌, ◌⊎◌, ◌↔◌, ◌++◌, ◌+◌, ◌≤◌, max, fold, ℕ, Bool, true, false, List, [], ◌∷◌, length, codes, Ok};
 ghost use Rattle.base_types.specs.declared.shapes.Shape.{Shape};
 ghost use Rattle.base_types.specs.declared.entries.Entry.{Entry};
-ghost use Rattle.core_model.specs.CoreState.{Member};
-ghost use Rattle.host_trait.specs.World.{Image, IsImage, Moment};
+ghost use Rattle.host_trait.specs.World.{Image};
 ghost use Rattle.host_trait.specs.declared.channels.FileId.{FileId};
 ghost use Rattle.field_codec.specs.Reading.{AreBytes};
 ghost use Rattle.script_tree.specs.Programs.{ProgramTree};
 ghost use Rattle.silo_spec.specs.Silos.{manager, program_file, IsSilo, HasProgram};
 ghost use Rattle.promise_spec.specs.Programs.{Program, IsChecked, text_limit, shape_in, program_in};
-ghost use Rattle.promise_spec.specs.Records.{Commit, Standing, new_silo, after_writes, after_records};
-ghost use Rattle.promise_spec.specs.Serial.{IsSerial};
+ghost use Rattle.promise_spec.specs.Records.{Commit, Standing, after_writes, after_records};
 ghost use Rattle.promise_spec.specs.Logs.{magic, IsLog, IsPrefix, live_slot};
-ghost use Rattle.promise_spec.specs.Images.{AreChained, AreNumbered, IsSound, IsSoundIfSilo, IsWholeFolder};
+ghost use Rattle.promise_spec.specs.Images.{AreChained, IsSound, IsWholeFolder};
 ghost use Rattle.promise_spec.specs.Openings.{NoSilo, Reads, opened_as};
 ghost use Rattle.promise_spec.specs.Words.{GivenOption, Manner, plain_manner, Command, Run, Load, Check, Say};
-ghost use Rattle.promise_spec.specs.Moments.{IsImageOf, IsLongest};
 ghost use Rattle.request_wire.specs.Reply.{reply_line};
 ghost use Rattle.promise_spec.specs.Outputs.{HavePlainNames, IsProper, Grew};
 ghost use Rattle.promise_spec.specs.Endings.{Done, InputTooLong};
-ghost use Rattle.promise_spec.specs.Courses.{Observed, Course, lines, core_run};
+ghost use Rattle.promise_spec.specs.Courses.{Observed, Course, core_run};
 ghost use Rattle.promise_spec.specs.Causes.{NoneRose, syncs_of};
 ghost use Rattle.promise_spec.specs.Headline.{KeepsHeadline, HasHeadline};
 ghost use Rattle.promise_spec.specs.Promise.{Keeps, Promises};
-ghost use Rattle.promise_spec.specs.Loads.{load_calls, AskFor, summary_text, KeepsLoad, quiet_course, IsQuietRun};
-ghost use Rattle.promise_spec.specs.Crashes.{Holds};
-ghost use Rattle.promise_spec.specs.Journals.{Settlement, KeepsJournal, AllKeep, Backs, commits_of, entries_of};
 
 /// The headline alone, where a reader may stop: what keeps all six clauses keeps it; so does a call of `run` over a whole folder
 /// that keeps its promise, unless it left all as it was.
@@ -80,21 +74,6 @@ pub fn done_runs_count_syncs()
         → r.new.syncs ≡ r.old.syncs + syncs_of (core_run p c) }
     ensures long { (p : Program) (r : Observed) (c : Course) (line : ℕ) → Keeps p r c → NoneRose r.faults_before r.faults_after
         → r.ending ≡ InputTooLong line → r.new.syncs ≡ r.old.syncs + 1 }
-{}
-
-/// From a journal that each image keeps: the images of any moments are a chain, the order is the opening log with the
-/// journal's records, each image is sound where the order is serial, and each holds what was acknowledged by then.
-pub fn journals_survive()
-    ensures chained { (p : Program) (opening : List Commit) (before : List ℕ) (journal : List Settlement) (m n : Moment) (a b : Image)
-        → KeepsJournal p opening before journal m a → KeepsJournal p opening before journal n b → AreChained live_slot p a b }
-    ensures longest { (p : Program) (opening : List Commit) (before : List ℕ) (journal : List Settlement) (moments : List Moment) (image : Image)
-        → IsImageOf moments image → IsLog live_slot (shape_in p) image (opening ++ commits_of journal)
-        → ((m : Moment) → Member m moments → AllKeep p opening before journal m) → IsLongest p moments (opening ++ commits_of journal) }
-    ensures sound { (p : Program) (opening : List Commit) (before : List ℕ) (journal : List Settlement) (m : Moment) (image : Image)
-        → KeepsJournal p opening before journal m image → HasProgram p.text (image program_file)
-        → IsSerial p.types (new_silo p.types).states (opening ++ commits_of journal) → AreNumbered 1 (opening ++ commits_of journal) → IsSoundIfSilo live_slot p image }
-    ensures holds { (p : Program) (r : Observed) (c : Course) (journal : List Settlement) (m : Moment) (image : Image) → Backs journal c.added
-        → (k : KeepsJournal p c.opening r.old.output journal m image) → IsPrefix (entries_of k.said) c.entries → Holds p r c m image }
 {}
 
 /// A text is read as types exactly where it is a checked program with these types.
@@ -164,11 +143,4 @@ pub fn words_are_read()
     ensures check_option { (takes : GivenOption → Bool) (c : Command)
         → Say takes (codes "check" ∷ codes "4" ∷ codes "7" ∷ codes "--width=2" ∷ []) c → ⊥ }
     ensures no_words { (takes : GivenOption → Bool) (c : Command) → Say takes [] c → ⊥ }
-{}
-
-/// A load can be kept wherever a run can: one that carries its lines as a run that is done, and writes the summary in place of
-/// the replies, keeps what is promised of a load.
-pub fn loads_follow_runs()
-    ensures { (p : Program) (n seed : ℕ) (r s : Observed) (c : Course) (told : List Moment) → Keeps p r c → r.ending ≡ Done
-        → AskFor p.types (lines r) (load_calls n seed) → IsQuietRun r c (summary_text p r c) told s → KeepsLoad p n seed s (quiet_course r c told) }
 {}

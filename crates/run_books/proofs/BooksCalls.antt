@@ -11,12 +11,13 @@ use Rattle.host_trait.specs.Runs.{ChangesFile, RunsOnFile}
 use Rattle.host_trait.proofs.Moments.{started, one, both, weaker}
 use Rattle.host_trait.proofs.Names.{same_grain-is, same_grain-refl}
 use Rattle.core_model.specs.declared.events.CoreEvent.{CoreEvent}
+use Rattle.core_model.specs.declared.events.CoreEvent.TheVariants as event
 use Rattle.core_model.specs.declared.events.CoreEvent.TheVariants.{Vote}
 use Rattle.core_model.specs.Events.{applies}
 use Rattle.core_model.specs.Laws.{extended}
 use Rattle.core_model.specs.Legal.{Run, ends}
 use Rattle.log_reading.specs.Steps.{live_slot}
-use Rattle.promise_spec.specs.Causes.{NoneRose, FileAnswer, NoAnswer, Voted, OnDisk, NotOnDisk, file_answer, tells_vote, tells_vote_of, is_vote, is_vote_of, is_sealed, is_unsealed}
+use Rattle.promise_spec.specs.Causes.{NoneRose, is_no, is_vote, is_vote_of, is_sealed, is_unsealed}
 use Rattle.promise_spec.specs.Cores.{how_many}
 use Rattle.run_books.specs.Beginnings.{Outset}
 use Rattle.run_books.specs.Records.{KeepsFile, CountsCalls}
@@ -55,13 +56,33 @@ file-emitted file n bytes old now is = record {
 
 -- an event that votes on no file votes on none of them
 pub votes-none : (g : GrainId) (e : CoreEvent) → is_vote e ≡ false → is_vote_of g e ≡ false
-votes-none g e none = by (file_answer e) none
-  where
-    by : (x : FileAnswer) → tells_vote x ≡ false → tells_vote_of g x ≡ false
-    by NoAnswer q = refl
-    by (Voted h kept) q = absurd (cc q)
-    by OnDisk q = refl
-    by NotOnDisk q = refl
+votes-none g (event.Bad n why) none = refl
+votes-none g (event.Begin origin call plain) none = refl
+votes-none g (event.Grant u h mode) none = refl
+votes-none g (event.Refuse u h mode) none = refl
+votes-none g (event.Finish u effect) none = refl
+votes-none g (event.EndPlain u effect) none = refl
+votes-none g (event.EndSnapshot u at outcome) none = refl
+votes-none g (event.Release u h) none = refl
+votes-none g event.Take none = refl
+votes-none g (event.Vote n h kept) none = absurd (cc none)
+votes-none g (event.Decide n) none = refl
+votes-none g (event.Sealed n) none = refl
+votes-none g (event.NotSealed n) none = refl
+votes-none g (event.Doubt n) none = refl
+votes-none g (event.Learn u h) none = refl
+votes-none g event.Emitted none = refl
+votes-none g event.Halt none = refl
+votes-none g (event.Want u h) none = refl
+votes-none g (event.Load h u state) none = refl
+
+-- what an event tells of files, where it tells nothing
+pub record TellsNoFile (e : CoreEvent) : Type 0 where
+  pub no : (g : GrainId) → is_no g e ≡ false
+  pub unsealed : is_unsealed e ≡ false
+  pub vote : is_vote e ≡ false
+  pub sealed : is_sealed e ≡ false
+  pub vote_of : (g : GrainId) → is_vote_of g e ≡ false
 
 grain-is : (x y : GrainId) → Grain live_slot x ≡ Grain live_slot y → x ≡ y
 grain-is x y q = cc

@@ -7,7 +7,7 @@ use Rattle.core_model.specs.Events.{applies}
 use Rattle.core_model.specs.Legal.{Run, begins, ends}
 use Rattle.core_model.specs.Laws.{extended}
 use Rattle.promise_spec.specs.Cores.{how_many, applied_from}
-use Rattle.promise_spec.specs.Causes.{HasDoubt}
+use Rattle.promise_spec.specs.Causes.{RunHasDoubt}
 use Rattle.turn_rules.proofs.Growth.{applied-more}
 use Rattle.turn_rules.proofs.Listed.{count-more, count-one, count-none}
 use Rattle.settler_rules.proofs.Commits.{doubt-stays}
@@ -43,7 +43,7 @@ parts-at {A} (y ∷ ys) zero x q = let same : y ≡ x = cc in (ys, ap (λ (z : A
 parts-at {A} (y ∷ ys) (suc n) x q = let rest = parts-at ys n x q in (rest.0, ap (λ (l : List A). y ∷ l) rest.1)
 
 -- stands to the end
-pub doubt-ends : (r : Run) → HasDoubt r → (at : ℕ) × ((ends r).manager.doubt ≡ Some at)
+pub doubt-ends : (r : Run) → RunHasDoubt r → (at : ℕ) × ((ends r).manager.doubt ≡ Some at)
 doubt-ends r d =
     let front : Run = record r { events = take d.at r.events } in
     let parts = parts-at r.events d.at (Doubt d.number) d.doubt.there in

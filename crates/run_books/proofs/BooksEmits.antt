@@ -12,11 +12,11 @@ use Rattle.log_reading.specs.Steps.{live_slot}
 use Rattle.promise_spec.specs.Programs.{shape_in}
 use Rattle.promise_spec.specs.Logs.{IsLog}
 use Rattle.promise_spec.specs.Outputs.{IsProper}
-use Rattle.promise_spec.specs.Causes.{HasDoubt}
+use Rattle.promise_spec.specs.Causes.{RunHasDoubt}
 use Rattle.promise_spec.specs.UnitRule.{KeepsUnitRule}
-use Rattle.promise_spec.specs.Journals.{Settlement, CutAt, Backs, commits_of, entries_of}
+use Rattle.promise_laws.specs.Journals.{Settlement, CutAt, Backs, commits_of, entries_of}
 use Rattle.promise_spec.proofs.Doubts.{doubt_left}
-use Rattle.promise_spec.proofs.Stepping.{emits_on, cuts_on, doubt_emits_on, doubt_cuts_on, whole_cut, doubt_cut}
+use Rattle.promise_laws.proofs.Stepping.{emits_on, cuts_on, doubt_emits_on, doubt_cuts_on, whole_cut, doubt_cut}
 use Rattle.promise_laws.specs.Closings.{AllEnd}
 use Rattle.promise_laws.proofs.BatchEnds.{moments-stay, batch-stays-run}
 use Rattle.settler_rules.proofs.Commits.{doubt-stays}
@@ -53,7 +53,7 @@ module _ (o : Outset) (head : List ℕ) (b c : Books) (r : Run) (more : List Cor
     header = λ image left. l.alone_now.header image (subst (λ (d : Disk). IsImage d image) disk left);
   }
 
-  block-on : HasDoubt r' → HasOpenBlock (o.opening ++ commits_of (booked_journal c)) (ends r') now'.disk
+  block-on : RunHasDoubt r' → HasOpenBlock (o.opening ++ commits_of (booked_journal c)) (ends r') now'.disk
   block-on d =
       let there = doubt-ends r' d in
       let before : (ends r).manager.doubt ≡ Some there.0 = sym doubt ∙ there.1 in

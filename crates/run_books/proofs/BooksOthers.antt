@@ -21,16 +21,16 @@ use Rattle.core_access.specs.Settling.{is_settling, LeavesBatches}
 use Rattle.core_access.proofs.Settling.{others-leave}
 use Rattle.turn_rules.proofs.Lawful.{legal-run}
 use Rattle.promise_spec.specs.Records.{Commit}
-use Rattle.promise_spec.specs.Causes.{NoAnswer, file_answer, is_no, is_no_of, is_unsealed, is_not_on_disk, is_vote, tells_vote, is_vote_of, tells_vote_of, is_sealed, is_on_disk, RoseBy, HasDoubt}
+use Rattle.promise_spec.specs.Causes.{is_no, is_unsealed, is_vote, is_vote_of, is_sealed, RoseBy, RunHasDoubt}
 use Rattle.promise_spec.specs.Cores.{how_many}
 use Rattle.promise_spec.specs.UnitRule.{KeepsUnitRule}
 use Rattle.promise_spec.specs.Programs.{Program, shape_in}
 use Rattle.promise_spec.specs.Outputs.{reply_lines}
 use Rattle.promise_spec.specs.Logs.{IsLog}
-use Rattle.promise_spec.specs.Journals.{Settlement, AllSay, JournalAt, CutAt, Backs, commits_of, entries_of}
+use Rattle.promise_laws.specs.Journals.{Settlement, AllSay, JournalAt, CutAt, Backs, commits_of, entries_of}
 use Rattle.promise_spec.proofs.Doubts.{doubt_left}
-use Rattle.promise_spec.proofs.Journaled.{commits_of-append}
-use Rattle.promise_spec.proofs.Stepping.{settles_on, whole_cut}
+use Rattle.promise_laws.proofs.Journaled.{commits_of-append}
+use Rattle.promise_laws.proofs.Stepping.{settles_on, whole_cut}
 use Rattle.promise_laws.proofs.BatchEnds.{moments-stay, batch-stays-run}
 use Rattle.settler_rules.proofs.Commits.{doubt-stays, others-leave as committed-stays}
 use Rattle.batch_disk.specs.Resting.{SomeImage}
@@ -42,7 +42,7 @@ use Rattle.run_books.specs.Images.{HasOpenBlock, LastsSo}
 use Rattle.run_books.specs.Records.{KeepsBooks}
 use Rattle.run_books.specs.Settling.{AreEven, BooksGoOn}
 use Rattle.run_books.proofs.BooksStated.{OthersKeep}
-use Rattle.run_books.proofs.BooksCalls.{file-still, calls-same}
+use Rattle.run_books.proofs.BooksCalls.{TellsNoFile, file-still, calls-same}
 use Rattle.run_books.proofs.BooksCore.{moves-run, unapplied-run}
 use Rattle.run_books.proofs.BooksCounts.{how-same, doubt-ends}
 use Rattle.run_books.proofs.BooksLists.{alone, alone-commits, added-none, take-front}
@@ -50,15 +50,15 @@ use Rattle.run_books.proofs.BooksGrown.{grown, grown-front, grown-commits, grown
 use Rattle.run_books.proofs.BooksImages.{backs-alone, doubt-kept, block-kept, vote-kept}
 
 -- no file answers it
-answers-none : (e : CoreEvent) → is_settling e ≡ false → file_answer e ≡ NoAnswer
-answers-none (Bad n why) other = refl
-answers-none (Begin origin call plain) other = refl
-answers-none (Grant u g mode) other = refl
-answers-none (Refuse u g mode) other = refl
-answers-none (Finish u effect) other = refl
-answers-none (EndPlain u effect) other = refl
-answers-none (EndSnapshot u at outcome) other = refl
-answers-none (Release u g) other = refl
+answers-none : (e : CoreEvent) → is_settling e ≡ false → TellsNoFile e
+answers-none (Bad n why) other = record { no = λ h. refl; unsealed = refl; vote = refl; sealed = refl; vote_of = λ h. refl }
+answers-none (Begin origin call plain) other = record { no = λ h. refl; unsealed = refl; vote = refl; sealed = refl; vote_of = λ h. refl }
+answers-none (Grant u g mode) other = record { no = λ h. refl; unsealed = refl; vote = refl; sealed = refl; vote_of = λ h. refl }
+answers-none (Refuse u g mode) other = record { no = λ h. refl; unsealed = refl; vote = refl; sealed = refl; vote_of = λ h. refl }
+answers-none (Finish u effect) other = record { no = λ h. refl; unsealed = refl; vote = refl; sealed = refl; vote_of = λ h. refl }
+answers-none (EndPlain u effect) other = record { no = λ h. refl; unsealed = refl; vote = refl; sealed = refl; vote_of = λ h. refl }
+answers-none (EndSnapshot u at outcome) other = record { no = λ h. refl; unsealed = refl; vote = refl; sealed = refl; vote_of = λ h. refl }
+answers-none (Release u g) other = record { no = λ h. refl; unsealed = refl; vote = refl; sealed = refl; vote_of = λ h. refl }
 answers-none Take other = absurd (true≢false other)
 answers-none (Vote n g kept) other = absurd (true≢false other)
 answers-none (Decide n) other = absurd (true≢false other)
@@ -67,9 +67,9 @@ answers-none (NotSealed n) other = absurd (true≢false other)
 answers-none (Doubt n) other = absurd (true≢false other)
 answers-none (Learn u g) other = absurd (true≢false other)
 answers-none Emitted other = absurd (true≢false other)
-answers-none Halt other = refl
-answers-none (Want u g) other = refl
-answers-none (Load g u state) other = refl
+answers-none Halt other = record { no = λ h. refl; unsealed = refl; vote = refl; sealed = refl; vote_of = λ h. refl }
+answers-none (Want u g) other = record { no = λ h. refl; unsealed = refl; vote = refl; sealed = refl; vote_of = λ h. refl }
+answers-none (Load g u state) other = record { no = λ h. refl; unsealed = refl; vote = refl; sealed = refl; vote_of = λ h. refl }
 
 -- ---- what was put out, and what is cut off
 
@@ -132,7 +132,7 @@ cut-more p opening old said unsaid more rest now none c =
 
 module _ (tells : Bool) (o : Outset) (b : Books) (r : Run) (e : CoreEvent) (settler : Settler) (counts : Channel → ℕ) (now : World)
     (above : 0 < r.base) (units : KeepsUnitRule (basis_of o) r) (after : KeepsUnitRule (basis_of o) (extended r (e ∷ [])))
-    (leaves : LeavesBatches (ends r) (ends (extended r (e ∷ [])))) (answers : file_answer e ≡ NoAnswer) (k : KeepsBooks tells o b r settler counts now) where
+    (leaves : LeavesBatches (ends r) (ends (extended r (e ∷ [])))) (answers : TellsNoFile e) (k : KeepsBooks tells o b r settler counts now) where
   abbrev r' : Run
   r' = extended r (e ∷ [])
 
@@ -151,16 +151,16 @@ module _ (tells : Bool) (o : Outset) (b : Books) (r : Run) (e : CoreEvent) (sett
   told = (once-ends (λ (x : Effect). true) r (legal-run (basis_of o) r above units)).written
 
   same-no : (g : GrainId) → how_many (is_no g) r' ≡ how_many (is_no g) r
-  same-no g = how-same (is_no g) r e (ap (is_no_of g) answers)
+  same-no g = how-same (is_no g) r e (answers.no g)
 
   same-unsealed : how_many is_unsealed r' ≡ how_many is_unsealed r
-  same-unsealed = how-same is_unsealed r e (ap is_not_on_disk answers)
+  same-unsealed = how-same is_unsealed r e answers.unsealed
 
   same-vote : how_many is_vote r' ≡ how_many is_vote r
-  same-vote = how-same is_vote r e (ap tells_vote answers)
+  same-vote = how-same is_vote r e answers.vote
 
   same-sealed : how_many is_sealed r' ≡ how_many is_sealed r
-  same-sealed = how-same is_sealed r e (ap is_on_disk answers)
+  same-sealed = how-same is_sealed r e answers.sealed
 
   abbrev books : Books
   books = grown b more [] b.doubted
@@ -176,7 +176,7 @@ module _ (tells : Bool) (o : Outset) (b : Books) (r : Run) (e : CoreEvent) (sett
     };
     later = k.later;
     booked = grown-booked b more [] b.doubted (ends r) (ends r') added.1 refl [] k.booked
-        (committed-stays (basis_of o) r above units e (ap is_on_disk answers) ∙ sym (append-nil (committed (ends r)))) tt (doubt-kept r (e ∷ []) b.doubted k.booked.doubted);
+        (committed-stays (basis_of o) r above units e answers.sealed ∙ sym (append-nil (committed (ends r)))) tt (doubt-kept r (e ∷ []) b.doubted k.booked.doubted);
     said = put-still b (ends r) (ends r') more added.1 leaves.emitted told settler.quiet k.said;
     cut = cut-still b (ends r) (ends r') more added.1 (shape_in o.program) k.cut;
     doubt = k.doubt ∙ ap is_some (sym leaves.doubt);
@@ -184,7 +184,7 @@ module _ (tells : Bool) (o : Outset) (b : Books) (r : Run) (e : CoreEvent) (sett
     written = k.written ∙ sym leaves.emitted;
     outside = λ t. record {
       output = (k.outside t).output;
-      calls = calls-same o r r' counts counts now now (k.outside t).calls (λ none. none) same-vote same-sealed same-unsealed (λ g. how-same (is_vote_of g) r e (ap (tells_vote_of g) answers)) refl
+      calls = calls-same o r r' counts counts now now (k.outside t).calls (λ none. none) same-vote same-sealed same-unsealed (λ g. how-same (is_vote_of g) r e (answers.vote_of g)) refl
           (λ g. file-still (Grain live_slot g) now);
     };
   }
@@ -223,7 +223,7 @@ module _ (tells : Bool) (o : Outset) (b : Books) (r : Run) (e : CoreEvent) (sett
   cut-by (batch ∷ []) is c = subst (λ (l : List Settlement). CutAt o.program o.opening o.world b.said l (batch ∷ []) b.rest now) (sym (unsaid-is (none-more batch is))) c
   cut-by (batch ∷ (another ∷ rest)) is c = absurd is
 
-  block-on : (HasDoubt r → HasOpenBlock (o.opening ++ commits_of (booked_journal b)) (ends r) now.disk) → HasDoubt r' → HasOpenBlock (o.opening ++ commits_of (booked_journal books)) (ends r') now.disk
+  block-on : (RunHasDoubt r → HasOpenBlock (o.opening ++ commits_of (booked_journal b)) (ends r) now.disk) → RunHasDoubt r' → HasOpenBlock (o.opening ++ commits_of (booked_journal books)) (ends r') now.disk
   block-on has d =
       let there = doubt-ends r' d in
       let before : (ends r).manager.doubt ≡ Some there.0 = sym leaves.doubt ∙ there.1 in
@@ -270,7 +270,7 @@ others-keep tells o b r e settler counts now above units after other even k = (
 
 -- one that no file answers, and that doesn't apply, keeps them too
 pub unapplied-keeps : (tells : Bool) (o : Outset) (b : Books) (r : Run) (e : CoreEvent) (settler : Settler) (counts : Channel → ℕ) (now : World)
-    → 0 < r.base → KeepsUnitRule (basis_of o) r → KeepsUnitRule (basis_of o) (extended r (e ∷ [])) → applies (ends r) e ≡ false → file_answer e ≡ NoAnswer
+    → 0 < r.base → KeepsUnitRule (basis_of o) r → KeepsUnitRule (basis_of o) (extended r (e ∷ [])) → applies (ends r) e ≡ false → TellsNoFile e
     → AreEven settler.quiet b (ends r) → KeepsBooks tells o b r settler counts now
     → (g : BooksGoOn tells o b r (extended r (e ∷ [])) settler settler counts now now) × AreEven settler.quiet g.books (ends (extended r (e ∷ [])))
 unapplied-keeps tells o b r e settler counts now above units after unapplied answers even k =

@@ -13,11 +13,11 @@ use Rattle.promise_spec.specs.Records.{Commit}
 use Rattle.promise_spec.specs.Crashes.{Acknowledges}
 use Rattle.promise_spec.specs.Outputs.{IsProper}
 use Rattle.promise_spec.specs.Batches.{EndsABatch}
-use Rattle.promise_spec.specs.Causes.{HasDoubt}
+use Rattle.promise_spec.specs.Causes.{RunHasDoubt}
 use Rattle.promise_spec.specs.UnitRule.{KeepsUnitRule}
-use Rattle.promise_spec.specs.Journals.{Settlement, IsSealing, Seals, JournalAt, CutAt, Backs, commits_of, entries_of}
-use Rattle.promise_spec.proofs.Stepping.{seals_on, settles_on, whole_cut}
-use Rattle.promise_spec.proofs.Backing.{backs_on}
+use Rattle.promise_laws.specs.Journals.{Settlement, IsSealing, Seals, JournalAt, CutAt, Backs, commits_of, entries_of}
+use Rattle.promise_laws.proofs.Stepping.{seals_on, settles_on, whole_cut}
+use Rattle.promise_laws.proofs.Backing.{backs_on}
 use Rattle.promise_spec.proofs.Lists.{in_append, in_flat}
 use Rattle.promise_laws.specs.Closings.{AllEnd}
 use Rattle.promise_laws.proofs.BatchEnds.{moments-stay, batch-stays-run, records-end}
@@ -101,7 +101,7 @@ module _ (o : Outset) (head : List ℕ) (b : Books) (r : Run) (e : CoreEvent) (w
   alone-moments = both (LeavesAside head o.world) l.alone (weaker (LeavesRest head now) (LeavesAside head o.world) (λ m k. aside-later head o.world now m l.alone_now k) rest)
 
   -- with what stands of a doubt's block, and of the folder
-  pub seals-last : (HasDoubt r' → HasOpenBlock (o.opening ++ commits_of (booked_journal books)) (ends r') now'.disk) → (writer'.in_doubt ≡ false → KeepsFolder o head books r' writer' now'.disk)
+  pub seals-last : (RunHasDoubt r' → HasOpenBlock (o.opening ++ commits_of (booked_journal books)) (ends r') now'.disk) → (writer'.in_doubt ≡ false → KeepsFolder o head books r' writer' now'.disk)
       → LastsSo o head books r' writer' now'
   seals-last block folder = record {
     journal = journal;

@@ -32,7 +32,6 @@ use Rattle.core_access.proofs.Sights.{run-told, looks-before, looks-none}
 use Rattle.turn_rules.proofs.Lawful.{legal-run}
 use Rattle.worker_rules.specs.Work.{is_work}
 use Rattle.worker_rules.proofs.Workers.{work-settles}
-use Rattle.promise_spec.specs.Causes.{file_answer, NoAnswer}
 use Rattle.promise_spec.specs.Programs.{shape_in}
 use Rattle.promise_spec.specs.UnitRule.{KeepsUnitRule}
 use Rattle.settle_loop.specs.Works.{tells_entry, tells_doubt, has_applied, counted_up}
@@ -48,6 +47,7 @@ use Rattle.run_books.specs.Records.{KeepsBooks}
 use Rattle.run_books.specs.Settling.{AreEven, CanSettle, BooksGoOn}
 use Rattle.run_books.specs.Sharing.{MayRely, SeesOn, CanShare, StepKeeps, OthersKeepBooks, SharedStepsKeep}
 use Rattle.run_books.proofs.LineCounts.{at-most}
+use Rattle.run_books.proofs.BooksCalls.{TellsNoFile}
 use Rattle.run_books.proofs.BooksOthers.{others-keep, unapplied-keeps}
 use Rattle.run_books.proofs.BooksSettled.{is_of_batch, done, WentOn, went, lacks-at, cut-by, in-doubt}
 use Rattle.run_books.proofs.Fronts.{after-base, after-kinds, after-units}
@@ -112,7 +112,7 @@ module _ {H : Type 0} (tells : Bool) (world : H → World) (faults : H → Chann
 
   -- no host call was made, and no file answers the event
   abbrev pub IsIdleEvent : CoreEvent → Type 0
-  IsIdleEvent e = MakesNoCall tells world faults before.writer after.writer old new × (file_answer e ≡ NoAnswer)
+  IsIdleEvent e = MakesNoCall tells world faults before.writer after.writer old new × TellsNoFile e
 
   -- a step of the open batch applies
   batch-applies : (s : Step) (e : CoreEvent) → settler_step (ends r) ≡ s → MakesEvent s e → applies (ends r) e ≡ true
@@ -128,11 +128,11 @@ module _ {H : Type 0} (tells : Bool) (world : H → World) (faults : H → Chann
   idle-event (SealStep n) e q (inl m) none = absurd (spares e (batch-applies (SealStep n) e (q refl) (inl m)) (ap has_room m) none)
   idle-event (SealStep n) e q (inr (inl m)) none = absurd (spares e (batch-applies (SealStep n) e (q refl) (inr (inl m))) (ap has_room m) none)
   idle-event (SealStep n) e q (inr (inr m)) none = absurd (spares e (batch-applies (SealStep n) e (q refl) (inr (inr m))) (ap has_room m) none)
-  idle-event (Learns u g) e q m none = subst (λ (x : CoreEvent). Does x → IsIdleEvent x) (sym m) (λ does. (does, refl))
+  idle-event (Learns u g) e q m none = subst (λ (x : CoreEvent). Does x → IsIdleEvent x) (sym m) (λ does. (does, record { no = λ h. refl; unsealed = refl; vote = refl; sealed = refl; vote_of = λ h. refl }))
   idle-event Writes e q m none =
       subst (λ (x : CoreEvent). is_spared r x ≡ false → Does x → IsIdleEvent x) (sym m)
       (λ lacks does. absurd (spares event.Emitted (entry-applies (ends r) does.entry does.next) refl lacks)) none
-  idle-event Takes e q m none = subst (λ (x : CoreEvent). Does x → IsIdleEvent x) (sym m) (λ does. (does, refl))
+  idle-event Takes e q m none = subst (λ (x : CoreEvent). Does x → IsIdleEvent x) (sym m) (λ does. (does, record { no = λ h. refl; unsealed = refl; vote = refl; sealed = refl; vote_of = λ h. refl }))
   idle-event Rests e q m none = absurd m
 
   -- the books after whichever event was put, applied or not

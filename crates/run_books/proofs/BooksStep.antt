@@ -19,7 +19,7 @@ use Rattle.promise_spec.specs.Programs.{shape_in}
 use Rattle.promise_spec.specs.Records.{Commit}
 use Rattle.promise_spec.specs.Crashes.{Acknowledges}
 use Rattle.promise_spec.specs.UnitRule.{KeepsUnitRule}
-use Rattle.promise_spec.specs.Journals.{Settlement, Seals, commits_of}
+use Rattle.promise_laws.specs.Journals.{Settlement, Seals, commits_of}
 use Rattle.batch_disk.specs.Resting.{Voted, log_of}
 use Rattle.batch_disk.specs.Moments.{LeavesRest, KeepsLog}
 use Rattle.batch_disk.specs.Records.{commits_by}

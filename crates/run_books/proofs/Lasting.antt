@@ -16,9 +16,9 @@ use Rattle.promise_spec.specs.Logs.{IsLog}
 use Rattle.promise_spec.specs.Programs.{shape_in}
 use Rattle.promise_spec.specs.Outputs.{IsProper}
 use Rattle.promise_spec.specs.Crashes.{IsAside, LeavesAlone}
-use Rattle.promise_spec.specs.Causes.{HasDoubt}
-use Rattle.promise_spec.specs.Exits.{AreOf, doubtful, HasDoubtfulBlock}
-use Rattle.promise_spec.specs.Journals.{Settlement, CutAt, Backs, commits_of, entries_of}
+use Rattle.promise_spec.specs.Causes.{RunHasDoubt}
+use Rattle.promise_spec.specs.Exits.{AreOf, units_in_doubt, BlockInDoubt}
+use Rattle.promise_laws.specs.Journals.{Settlement, CutAt, Backs, commits_of, entries_of}
 use Rattle.promise_spec.specs.Courses.{Observed, Course, order, core_end, seen_at_entry}
 use Rattle.promise_laws.specs.Closings.{IsBehind, ReadsMayStay, AllEnd, Carries}
 use Rattle.promise_laws.specs.Obligations.{Opens, Lasts}
@@ -65,7 +65,7 @@ module _ (o : Outset) (head : List ℕ) (b : Books) (r : Run) (writer : BatchWri
   end-at : (m : Moment) → AllEnd o.program (ends r) o.opening m → AllEnd o.program (core_end o.program c) c.opening m
   end-at m a = subst (λ (log : List Commit). AllEnd o.program (core_end o.program c) log m) (sym is.opening) (subst (λ (w : CoreState). AllEnd o.program w o.opening m) end a)
 
-  block-of : HasOpenBlock (o.opening ++ commits_of (booked_journal b)) (ends r) seen.new.disk → HasDoubtfulBlock live_slot seen c (core_end o.program c)
+  block-of : HasOpenBlock (o.opening ++ commits_of (booked_journal b)) (ends r) seen.new.disk → BlockInDoubt live_slot seen c (core_end o.program c)
   block-of h = record {
     gate = h.gate;
     batch = h.batch;
@@ -85,7 +85,7 @@ module _ (o : Outset) (head : List ℕ) (b : Books) (r : Run) (writer : BatchWri
     batches_now = end-at (moment_of seen.new) l.batches_now;
     alone = weaker (LeavesAside head o.world) (LeavesAlone live_slot seen) alone-at l.alone;
     alone_now = alone-at (moment_of seen.new) l.alone_now;
-    block = λ d. block-of (l.block (subst HasDoubt is.run d));
+    block = λ d. block-of (l.block (subst RunHasDoubt is.run d));
   }
 
   cut-of : (doubted : List Settlement) → b.doubted ≡ doubted → CutAt o.program c.opening o.world b.said b.unsaid doubted c.rest seen.new
@@ -105,7 +105,7 @@ module _ (o : Outset) (head : List ℕ) (b : Books) (r : Run) (writer : BatchWri
         (carries ((b.said ++ b.unsaid) ++ batch ∷ []) (ap (λ (x : List Settlement). (b.said ++ b.unsaid) ++ x) q))
         some.left (subst (IsLog live_slot (shape_in o.program) some.image) order-is some.holds)
         (ap (λ (w : CoreState). w.manager.doubt) (sym end) ∙ d.1)
-        (subst (λ (w : CoreState). AreOf (doubtful w) (commits_of (batch ∷ []))) end
+        (subst (λ (w : CoreState). AreOf (units_in_doubt w) (commits_of (batch ∷ []))) end
         (ap (map (λ (x : Commit). x.logged.unit)) (append-nil batch.commits) ∙ units-named (chosen (ends r)) batch.commits d.2))
       where
         is-some : (x : Settlement) → x ∷ [] ≡ [] → ⊥

@@ -14,13 +14,13 @@ use Rattle.log_reading.specs.Steps.{live_slot, manager}
 use Rattle.promise_spec.specs.Records.{Commit, AreRecordsOf, standing_of}
 use Rattle.promise_spec.specs.Logs.{IsPrefix}
 use Rattle.promise_spec.specs.Programs.{shape_in}
-use Rattle.promise_spec.specs.Journals.{Settlement, commits_of, entries_of}
+use Rattle.promise_laws.specs.Journals.{Settlement, commits_of, entries_of}
 use Rattle.promise_spec.specs.UnitRule.{Basis, KeepsUnitRule}
 use Rattle.promise_spec.specs.TurnRule.{KeepsTurnRule}
-use Rattle.promise_spec.specs.Causes.{AreFaults, HasDoubt}
-use Rattle.promise_spec.specs.Endings.{DiskFault, MayDoubt, IsAllWritten, IsDiskFault}
+use Rattle.promise_spec.specs.Causes.{AreFaults, RunHasDoubt}
+use Rattle.promise_spec.specs.Endings.{DiskFault, EndingMayDoubt, IsAllWritten, IsDiskFault}
 use Rattle.promise_spec.specs.Courses.{Observed, Course, basis, core_run, core_end}
-use Rattle.promise_spec.specs.Explained.{AreAdded, AreSettled, IsDoubtful, LeavesUnvoted, EndsWritten, IsCutShort}
+use Rattle.promise_spec.specs.Explained.{AreAdded, AreSettled, FileMayEndInDoubt, LeavesUnvoted, EndsWritten, IsCutShort}
 use Rattle.promise_laws.specs.Obligations.{ExplainsEvents}
 use Rattle.settle_loop.specs.declared.settler.Settler.{Settler}
 use Rattle.run_books.specs.declared.faults.RunFault.{RunFault}
@@ -62,7 +62,7 @@ added-by w front (batch ∷ (other ∷ more)) are d = absurd d
 
 module _ {T : Type 0} (o : Outset) (b : Books) (r : Run) (settler : Settler) (counts : Channel → ℕ) where
   -- a file's fault ends it only with a batch in doubt
-  doubted-by : (result : Result T RunFault) → TurnsEndAs o b r settler counts result → (file : FileId) → turns_ending result ≡ DiskFault file → IsDoubtful live_slot r file
+  doubted-by : (result : Result T RunFault) → TurnsEndAs o b r settler counts result → (file : FileId) → turns_ending result ≡ DiskFault file → FileMayEndInDoubt live_slot r file
   doubted-by (Ok done) e file q = absurd cc
   doubted-by (Err InDoubt) e file q = (is_file manager file q, e.0.doubt)
     where
@@ -72,14 +72,14 @@ module _ {T : Type 0} (o : Outset) (b : Books) (r : Run) (settler : Settler) (co
   doubted-by (Err Memory) e file q = absurd cc
 
   -- and a doubt ends it
-  ended-by : (result : Result T RunFault) → TurnsEndAs o b r settler counts result → HasDoubt r → MayDoubt (turns_ending result)
+  ended-by : (result : Result T RunFault) → TurnsEndAs o b r settler counts result → RunHasDoubt r → EndingMayDoubt (turns_ending result)
   ended-by (Ok done) e d = absurd (e.0.never d)
   ended-by (Err InDoubt) e d = tt
   ended-by (Err WriteFault) e d = tt
   ended-by (Err Memory) e d = tt
 
   -- all that is settled is written, where it ends so
-  written-by : (result : Result T RunFault) → TurnsEndAs o b r settler counts result → IsAllWritten (turns_ending result) ⊎ (IsDiskFault (turns_ending result) × HasDoubt r)
+  written-by : (result : Result T RunFault) → TurnsEndAs o b r settler counts result → IsAllWritten (turns_ending result) ⊎ (IsDiskFault (turns_ending result) × RunHasDoubt r)
       → length (ends r).manager.settled ≤ (ends r).manager.emitted
   written-by (Ok done) e which = e.0.run.quiet.written
   written-by (Err InDoubt) e which = e.0.written
@@ -108,8 +108,8 @@ explains {T} tells o b r settler seen c result k e q turns is unvoted =
           (subst (KeepsTurnRule o.program.types (length o.asked) o.width o.picks) run (turns one))));
       faults = subst (λ (f : Channel → ℕ). AreFaults live_slot (core_run o.program c) f seen.faults_after) (sym is.before)
           (subst (λ (x : Run). AreFaults live_slot x o.faults seen.faults_after) run k.books.faults);
-      doubted = λ file t. subst (λ (x : Run). IsDoubtful live_slot x file) run (doubted-by o b r settler seen.faults_after result e file (sym q ∙ t));
-      ended = λ d. subst MayDoubt (sym q) (ended-by o b r settler seen.faults_after result e (subst HasDoubt is.run d));
+      doubted = λ file t. subst (λ (x : Run). FileMayEndInDoubt live_slot x file) run (doubted-by o b r settler seen.faults_after result e file (sym q ∙ t));
+      ended = λ d. subst EndingMayDoubt (sym q) (ended-by o b r settler seen.faults_after result e (subst RunHasDoubt is.run d));
       unvoted = unvoted;
     }
 
@@ -167,9 +167,9 @@ settled {T} tells o b r settler seen c result loud k e q is =
       cut = cut-by k.books.cut;
     }
   where
-    which-by : EndsWritten o.program seen c → IsAllWritten (turns_ending result) ⊎ (IsDiskFault (turns_ending result) × HasDoubt r)
+    which-by : EndsWritten o.program seen c → IsAllWritten (turns_ending result) ⊎ (IsDiskFault (turns_ending result) × RunHasDoubt r)
     which-by (inl x) = inl (subst IsAllWritten q x)
-    which-by (inr x) = inr (subst IsDiskFault q x.0, subst HasDoubt is.run x.1)
+    which-by (inr x) = inr (subst IsDiskFault q x.0, subst RunHasDoubt is.run x.1)
 
     cut-by : (b.rest ≡ []) ⊎ ((entry : Entry) × (slice_get (ends r).manager.settled (length (entries_of b.said)) ≡ Some entry) × IsPrefix b.rest (reply_line (shape_in o.program) entry))
         → IsCutShort (shape_in o.program) (core_end o.program c).manager.settled c

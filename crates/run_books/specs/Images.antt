@@ -11,9 +11,9 @@ use Rattle.promise_spec.specs.Programs.{shape_in}
 use Rattle.promise_spec.specs.Records.{Commit, AreRecordsOf}
 use Rattle.promise_spec.specs.Logs.{IsLog, body_of}
 use Rattle.promise_spec.specs.Crashes.{IsAside}
-use Rattle.promise_spec.specs.Causes.{HasDoubt}
+use Rattle.promise_spec.specs.Causes.{RunHasDoubt}
 use Rattle.promise_spec.specs.Exits.{HasBlock, DifferAt}
-use Rattle.promise_spec.specs.Journals.{CutAt, Backs, commits_of}
+use Rattle.promise_laws.specs.Journals.{CutAt, Backs, commits_of}
 use Rattle.promise_laws.specs.Closings.{AllEnd}
 use Rattle.batch_disk.specs.Resting.{Voted, log_of, EachImage, SomeImage}
 use Rattle.batch_disk.specs.Writers.{kept_of, KeepsDisk}
@@ -62,5 +62,5 @@ pub record LastsSo (o : Outset) (head : List ℕ) (b : Books) (r : Run) (writer 
   pub alone : Passes (LeavesAside head o.world) o.world.past now.past
   pub alone_now : LeavesAside head o.world (moment_of now)
   pub some : SomeHas o b now.disk
-  pub block : HasDoubt r → HasOpenBlock (o.opening ++ commits_of (booked_journal b)) (ends r) now.disk
+  pub block : RunHasDoubt r → HasOpenBlock (o.opening ++ commits_of (booked_journal b)) (ends r) now.disk
   pub folder : writer.in_doubt ≡ false → KeepsFolder o head b r writer now.disk

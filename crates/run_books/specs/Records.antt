@@ -13,8 +13,8 @@ use Rattle.promise_spec.specs.Programs.{shape_in}
 use Rattle.promise_spec.specs.Outputs.{Grew}
 use Rattle.promise_spec.specs.Cores.{how_many}
 use Rattle.promise_spec.specs.UnitRule.{KeepsUnitRule}
-use Rattle.promise_spec.specs.Causes.{AreFaults, HasDoubt, NoneRose, is_vote, is_vote_of, is_sealed, is_unsealed}
-use Rattle.promise_spec.specs.Journals.{entries_of}
+use Rattle.promise_spec.specs.Causes.{AreFaults, RunHasDoubt, NoneRose, is_vote, is_vote_of, is_sealed, is_unsealed}
+use Rattle.promise_laws.specs.Journals.{entries_of}
 use Rattle.turn_rules.specs.Quiet.{HasRun}
 use Rattle.settle_loop.specs.declared.settler.Settler.{Settler}
 use Rattle.run_books.specs.declared.faults.RunFault.{RunFault}
@@ -64,12 +64,12 @@ pub record KeepsRecord (tells : Bool) (o : Outset) (b : Books) (r : Run) (settle
 pub record HasCarriedAll (o : Outset) (r : Run) (settler : Settler) : Type 0 where
   pub run : HasRun (length o.asked) (ends r)
   pub none : (ends r).manager.doubt ≡ None
-  pub never : HasDoubt r → ⊥
+  pub never : RunHasDoubt r → ⊥
   pub written : settler.written ≡ (ends r).units.lines
 
 -- A batch is in doubt, all that is settled is written, and the manager file's count of faults rose.
 pub record HasDoubted (o : Outset) (r : Run) (faults : Channel → ℕ) : Type 0 where
-  pub doubt : HasDoubt r
+  pub doubt : RunHasDoubt r
   pub written : length (ends r).manager.settled ≤ (ends r).manager.emitted
   pub rose : Rose (o.faults (File manager)) (faults (File manager))
 

@@ -62,7 +62,7 @@ module _ (A : Type 0) (manner : Manner) (asked : List (List ℕ)) (old mid : Wor
     beside = beside_so_far old mid disk output still;
     beside_now = beside_here old mid disk output still;
     makes = inl (untouched_so_far old mid disk output still);
-    ended = ended;
+    ends_as = ended;
     risen = risen;
   }
 
@@ -100,7 +100,7 @@ module _ (A : Type 0) (manner : Manner) (asked : List (List ℕ)) (old mid : Wor
       beside = beside_all old mid disk output still new beside;
       beside_now = beside_last old mid disk output still new beside;
       makes = makes_from old mid disk output still magic old.input new kept_here makes;
-      ended = ended;
+      ends_as = ended;
       risen = risen;
     }
 

@@ -15,7 +15,7 @@ use Rattle.promise_spec.specs.Images.{IsWholeFolder}
 use Rattle.promise_spec.specs.Loads.{bank_text}
 use Rattle.promise_spec.proofs.Openings.{program_checked, log_is_read, reads_is}
 use Rattle.promise_spec.proofs.WholeFolders.{whole_folder}
-use Rattle.promise_spec.proofs.SoundFolders.{new_log, new_folder}
+use Rattle.promise_laws.proofs.SoundFolders.{new_log, new_folder}
 use Rattle.promise_laws.specs.Closings.{ReadsMayStay}
 use Rattle.opening_rules.specs.Behind.{program_of}
 use Rattle.script_tree.specs.declared.programs.Program.{Program as Tree}

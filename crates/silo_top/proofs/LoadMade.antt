@@ -63,13 +63,13 @@ module _ (m : Manner) (asked : List (List ℕ)) (old new : World) (before after 
       by CreateFault.AlreadyASilo f a s = record {
         beside = beside;
         makes = makes;
-        ended = ((a refl).0, kept (a refl).0, λ image is_image. settled_only (old.disk manager).seen (image manager) (subst (λ (y : FileState). MayLeave y (image manager)) (a refl).1 (is_image manager)));
+        ends_as = ((a refl).0, kept (a refl).0, λ image is_image. settled_only (old.disk manager).seen (image manager) (subst (λ (y : FileState). MayLeave y (image manager)) (a refl).1 (is_image manager)));
         failed = f;
       }
       by (CreateFault.DiskFault file) f a s = record {
         beside = beside;
         makes = makes;
-        ended = (f.0, λ was. (elim (s was) [ inl other ↦ absurd cc | inr at ↦ (let same : file ≡ manager = cc in same) ], kept was));
+        ends_as = (f.0, λ was. (elim (s was) [ inl other ↦ absurd cc | inr at ↦ (let same : file ≡ manager = cc in same) ], kept was));
         failed = f.1;
       }
 

@@ -25,13 +25,13 @@ use Rattle.promise_spec.specs.Programs.{Program, IsChecked, shape_in}
 use Rattle.promise_spec.specs.Records.{Commit, standing_of}
 use Rattle.promise_spec.specs.Outputs.{reply_lines}
 use Rattle.promise_spec.specs.Cores.{core_from, how_many}
-use Rattle.promise_spec.specs.Causes.{NoneRose, AreFaults, RoseBy, HasDoubt, is_vote, is_vote_of, is_no, is_unsealed, is_sealed, syncs_of, most_syncs_of}
+use Rattle.promise_spec.specs.Causes.{NoneRose, AreFaults, RoseBy, RunHasDoubt, is_vote, is_vote_of, is_no, is_unsealed, is_sealed, syncs_of, most_syncs_of}
 use Rattle.promise_spec.specs.Commands.{MayCut, Prints}
 use Rattle.promise_spec.specs.Endings as ending
-use Rattle.promise_spec.specs.Endings.{Ending, HasRisen, HasFailedAs, IsBegun, MayDoubt}
-use Rattle.promise_spec.specs.Explained.{IsDoubtful, IsExplained}
+use Rattle.promise_spec.specs.Endings.{Ending, HasRisen, HasFailedAs, IsBegun, EndingMayDoubt}
+use Rattle.promise_spec.specs.Explained.{FileMayEndInDoubt, IsExplained}
 use Rattle.promise_spec.specs.Promise.{IsAnswered}
-use Rattle.promise_spec.specs.Journals.{Settlement, AllLog, commits_of, entries_of}
+use Rattle.promise_laws.specs.Journals.{Settlement, AllLog, commits_of, entries_of}
 use Rattle.promise_spec.specs.Courses.{Observed, Course, order, seen_at_entry, core_run, core_end}
 use Rattle.promise_spec.specs.Loads.{bank_text, load_calls, summary_text, AskFor, KeepsLoad, total_of}
 use Rattle.promise_spec.proofs.Lists.{all_of, each_of}
@@ -133,7 +133,7 @@ load_begun InDoubt = tt
 load_begun WriteFault = tt
 load_begun Memory = tt
 
-load_doubt : (fault : RunFault) → MayDoubt (load_ending fault)
+load_doubt : (fault : RunFault) → EndingMayDoubt (load_ending fault)
 load_doubt InDoubt = tt
 load_doubt WriteFault = tt
 load_doubt Memory = tt
@@ -359,7 +359,7 @@ module _ {T : Type 0} (n seed : ℕ) (m : Manner) (x : Opened) (st : Started) (o
           (most_syncs new.syncs mid.syncs old.syncs (how_many is_vote r') (how_many is_sealed r') (how_many is_unsealed r') (goes.on.record_kept.books.outside told).calls.most is.count))
 
       -- what its events explain
-      explains_at : ((file : FileId) → e ≡ ending.DiskFault file → turns_ending result ≡ ending.DiskFault file) → (HasDoubt (core_run p c0) → MayDoubt e) → ExplainsEvents p r c
+      explains_at : ((file : FileId) → e ≡ ending.DiskFault file → turns_ending result ≡ ending.DiskFault file) → (RunHasDoubt (core_run p c0) → EndingMayDoubt e) → ExplainsEvents p r c
       explains_at file doubt = record {
         records = explains_so.records;
         units = explains_so.units;
@@ -374,8 +374,8 @@ module _ {T : Type 0} (n seed : ℕ) (m : Manner) (x : Opened) (st : Started) (o
       asked = asks
 
       -- what it has to show, but how it ended
-      shows : ExplainsEvents p r c → ((behind_turns ≡ []) × (last.output ≡ old.output)) ⊎ (HasDoubt (core_run p c) → ⊥) → Prints (summary_text p r c) r → (e ≢ ending.Done → e ≢ ending.WriteFault → last.output ≡ old.output)
-          → IsBegun e → HasRisen e before final → ((e ≡ ending.Done) ⊎ (e ≡ ending.WriteFault) → IsAnswered r c) → (e ≡ ending.WriteFault → HasDoubt (core_run p c) → ⊥)
+      shows : ExplainsEvents p r c → ((behind_turns ≡ []) × (last.output ≡ old.output)) ⊎ (RunHasDoubt (core_run p c) → ⊥) → Prints (summary_text p r c) r → (e ≢ ending.Done → e ≢ ending.WriteFault → last.output ≡ old.output)
+          → IsBegun e → HasRisen e before final → ((e ≡ ending.Done) ⊎ (e ≡ ending.WriteFault) → IsAnswered r c) → (e ≡ ending.WriteFault → RunHasDoubt (core_run p c) → ⊥)
           → (NoneRose before final → e ≡ ending.Done → last.syncs ≡ old.syncs + syncs_of (core_run p c)) → last.syncs ≡ new.syncs → ShowsLoad p n seed r c new after (turns_ending result) later.0 behind_turns
       shows explains_r printed output silent begun risen done undoubted syncs said = record {
         asked = asked;
@@ -412,7 +412,7 @@ module _ {T : Type 0} (n seed : ℕ) (m : Manner) (x : Opened) (st : Started) (o
         carries asks new after status [] past refl (λ m there. absurd there) refl (λ file. refl)
         (shows asks new after status [] past refl (λ m there. absurd there) refl (λ file. refl)
         (explains_at asks new after status [] past refl (λ m there. absurd there) refl (λ file. refl)
-        (λ file t. ap turns_ending q ∙ load_file fault file (sym ends_as ∙ t)) (λ d. subst MayDoubt (sym ends_as) (load_doubt fault)))
+        (λ file t. ap turns_ending q ∙ load_file fault file (sym ends_as ∙ t)) (λ d. subst EndingMayDoubt (sym ends_as) (load_doubt fault)))
         (inl (refl, same_output))
         (record { added = []; output = same_output ∙ sym (append-nil old.output); front = (_, refl); whole = λ t. absurd (load_undone fault (sym ends_as ∙ t)); none = inl refl })
         (λ one other. same_output)
@@ -429,7 +429,7 @@ module _ {T : Type 0} (n seed : ℕ) (m : Manner) (x : Opened) (st : Started) (o
     summed_carries asks done q status last final requests many says failed may =
         let ended : HasCarriedAll out r' s' = (subst (TurnsEndAs out b r' s' after) q goes.on.ended).0 in
         let same_files : (file : FileId) → final (File file) ≡ after (File file) = files_same (status_ending status) after final may failed in
-        let sure : HasDoubt (core_run p c0) → ⊥ = λ d. ended.never (subst HasDoubt run_is d) in
+        let sure : RunHasDoubt (core_run p c0) → ⊥ = λ d. ended.never (subst RunHasDoubt run_is d) in
         let explains_r = explains_at asks last final status says.told says.past says.disk says.left says.input same_files (λ file t. absurd (summary_no_file (status_ending status) may file t)) (λ d. absurd (sure d)) in
         let rr : Observed = observed_call (m) (load_texts n seed) old last before final status in
         let cc0 : Course = record c0 { late = later.0 ++ says.told; entries = (core_end p c0).manager.settled } in

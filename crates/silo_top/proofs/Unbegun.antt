@@ -15,13 +15,13 @@ use Rattle.promise_spec.specs.Programs.{Program, shape_in}
 use Rattle.promise_spec.specs.Records.{Commit}
 use Rattle.promise_spec.specs.Words.{Manner}
 use Rattle.promise_spec.specs.Endings.{Ending, Done, DiskFault, HasRisen, IsCarried, HasLength}
-use Rattle.promise_spec.specs.Causes.{HasDoubt}
+use Rattle.promise_spec.specs.Causes.{RunHasDoubt}
 use Rattle.promise_spec.specs.Courses.{Observed, Course, seen_at_entry, basis, core_run, core_end}
 use Rattle.promise_spec.specs.Crashes.{LeavesAlone, IsAside}
 use Rattle.promise_spec.specs.Batches.{EndsABatch}
-use Rattle.promise_spec.specs.Journals.{AllLog, Seals, IsSealing, CutAt}
+use Rattle.promise_laws.specs.Journals.{AllLog, Seals, IsSealing, CutAt}
 use Rattle.promise_spec.specs.Promise.{Promises}
-use Rattle.promise_spec.proofs.Stepping.{begins_at, stays_on, whole_cut}
+use Rattle.promise_laws.proofs.Stepping.{begins_at, stays_on, whole_cut}
 use Rattle.promise_laws.specs.Closings.{ReadsMayStay, IsBehind, AllEnd, Carries}
 use Rattle.promise_laws.specs.Obligations.{ShowsAnywhere, Opens, Lasts}
 use Rattle.promise_laws.proofs.BatchEnds.{records-end}
@@ -76,7 +76,7 @@ module _ (m : Manner) (o : Opened) (old mid new : World) (before after : Channel
   stands : IsBehind live_slot p r c mid
   stands = behind o r c mid is.opened follows
 
-  no_doubt : HasDoubt (core_run p c) → ⊥
+  no_doubt : RunHasDoubt (core_run p c) → ⊥
   no_doubt d = none_applies (core_run p c).base (core_run p c).kinds (core_run p c).opening d.at _ d.doubt
 
   answers : ShowsAnywhere p r c

@@ -98,7 +98,7 @@ starved_made m asked w counts = record {
   beside = started (IsBeside w) w.past;
   beside_now = record { output = refl; others = λ file one two. refl };
   makes = inl (nothing_touched w);
-  ended = nothing_touched w;
+  ends_as = nothing_touched w;
   risen = tt;
 }
 
@@ -106,7 +106,7 @@ pub starved_unmade : (m : Manner) (asked : List (List ℕ)) (w : World) (counts 
 starved_unmade m asked w counts = record {
   beside = record { input = refl; moments = started (IsBeside w) w.past; now = record { output = refl; others = λ file one two. refl } };
   makes = inl (nothing_touched w);
-  ended = nothing_touched w;
+  ends_as = nothing_touched w;
   failed = λ channel. refl;
 }
 

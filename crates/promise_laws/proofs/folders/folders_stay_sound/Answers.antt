@@ -1,0 +1,29 @@
+use Rattle.promise_laws.proofs.SoundFolders.{run_keeps, reports_keep, audits_keep, bad_use_keeps, init_keeps, init_makes, load_keeps, checks_keep, obeying_keeps}
+use Rattle.promise_laws.proofs.folders.folders_stay_sound.Goals as goal
+
+pub returns-clause-run : goal.returns-clause-run
+returns-clause-run c = run_keeps
+
+pub returns-clause-reports : goal.returns-clause-reports
+returns-clause-reports c = reports_keep
+
+pub returns-clause-audits : goal.returns-clause-audits
+returns-clause-audits c = audits_keep
+
+pub returns-clause-bad_use : goal.returns-clause-bad_use
+returns-clause-bad_use c = bad_use_keeps
+
+pub returns-clause-init : goal.returns-clause-init
+returns-clause-init c = init_keeps
+
+pub returns-clause-makes : goal.returns-clause-makes
+returns-clause-makes c = init_makes
+
+pub returns-clause-load : goal.returns-clause-load
+returns-clause-load c = load_keeps
+
+pub returns-clause-check : goal.returns-clause-check
+returns-clause-check c = checks_keep
+
+pub returns-clause-any : goal.returns-clause-any
+returns-clause-any c = obeying_keeps

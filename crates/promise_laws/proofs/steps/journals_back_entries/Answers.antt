@@ -1,0 +1,5 @@
+use Rattle.promise_laws.proofs.Backing.{backs_on}
+use Rattle.promise_laws.proofs.steps.journals_back_entries.Goals as goal
+
+pub returns : goal.returns
+returns c = backs_on

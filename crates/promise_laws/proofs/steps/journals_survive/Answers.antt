@@ -1,0 +1,14 @@
+use Rattle.promise_laws.proofs.Journaled.{chained, longest, sound, holds}
+use Rattle.promise_laws.proofs.steps.journals_survive.Goals as goal
+
+pub returns-clause-chained : goal.returns-clause-chained
+returns-clause-chained c = chained
+
+pub returns-clause-longest : goal.returns-clause-longest
+returns-clause-longest c = longest
+
+pub returns-clause-sound : goal.returns-clause-sound
+returns-clause-sound c = sound
+
+pub returns-clause-holds : goal.returns-clause-holds
+returns-clause-holds c = holds
