@@ -1,3 +1,4 @@
+pub mod Observing
 pub mod Still
 pub mod Making
 pub mod Reported

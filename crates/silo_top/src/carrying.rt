@@ -5,8 +5,9 @@ ghost use Rattle.host_trait.specs.World.{World};
 ghost use Rattle.host_trait.specs.declared.channels.Channel.{Channel as AChannel};
 ghost use Rattle.log_reading.specs.Sums.{AreNear};
 ghost use Rattle.run_books.specs.Closing.{turns_ending};
+ghost use Rattle.promise_spec.specs.Words as command;
 ghost use Rattle.promise_spec.specs.Promise.{Promises};
-ghost use Rattle.silo_top.specs.Answering.{AnswersRun, observed_run};
+ghost use Rattle.silo_top.specs.Answering.{AnswersRun, shown};
 ghost use Rattle.silo_top.specs.Asking.{carriage_manner, IsCarriage};
 ghost use Rattle.silo_top.specs.Reading.{input_ending};
 ghost use Rattle.silo_top.specs.Serving.{IsBehindOpening, ending_by_turns};
@@ -81,7 +82,7 @@ pub(crate) fn serve<R: Threads + Wait + Sync, H: Host, G: Gate + Sync>(
     // Behind the opening it keeps the whole promise of a run.
     ensures promises { IsTrue H.tells → (old : World) (before : AChannel → ℕ) → IsBehindOpening old (H.world host.old) opened
         → NoneFailed before (H.faults host.old)
-        → Promises (carriage_manner how.now) (observed_run (carriage_manner how.now) old (H.world host.new) before (H.faults host.new) result) }
+        → Promises (carriage_manner how.now) (shown old (H.world host.new) before (H.faults host.new) result (command.Run (carriage_manner how.now))) }
     ensures answers { AnswersRun (status_ending result) (H.faults host.old) (H.faults host.new) }
     ensures ready { StaysReady (H.is_ready host.old) (H.is_ready host.new) }
 {

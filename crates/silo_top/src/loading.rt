@@ -6,15 +6,15 @@ ghost use Rattle.host_trait.specs.declared.channels.Channel.{Channel as AChannel
 ghost use Rattle.core_model.specs.Legal.{ends};
 ghost use Rattle.history_core.specs.Cores.{run_of};
 ghost use Rattle.log_reading.specs.Sums.{AreNear};
+ghost use Rattle.promise_spec.specs.Words as command;
 ghost use Rattle.promise_spec.specs.Endings.{HasFailedAs};
 ghost use Rattle.program_file.specs.Programs.{program_in};
 ghost use Rattle.script_tree.specs.Programs.{program_tree};
 ghost use Rattle.promise_spec.specs.Loads.{bank_text, Loads};
-ghost use Rattle.bank_load.specs.Requests.{load_texts};
 ghost use Rattle.bank_load.specs.Summaries.{summary_line, total_kept};
 ghost use Rattle.log_reading.specs.Steps.{seen_in};
 ghost use Rattle.silo_opening.specs.Opened.{ending_of};
-ghost use Rattle.silo_top.specs.Answering.{AnswersRun, observed_call};
+ghost use Rattle.silo_top.specs.Answering.{AnswersRun, shown};
 ghost use Rattle.silo_top.specs.Asking.{carriage_manner, IsCarriage};
 ghost use Rattle.silo_top.specs.Loading.{IsNewBank, CarriesLoad, LiesWithin, creation_ending, load_ending, SaysSummary, MaySaySummary};
 ghost use Rattle.silo_top.specs.Serving.{IsBehindOpening};
@@ -90,7 +90,7 @@ fn carry_load<R: Threads + Wait + Sync, H: Host, G: Gate + Sync>(
     // Behind the opening of a silo that was made for it, it keeps what is promised of a load.
     ensures carries { IsTrue H.tells → (old : World) (before : AChannel → ℕ) → IsBehindOpening old (H.world host.old) opened → IsNewBank old
         → NoneFailed before (H.faults host.old)
-        → CarriesLoad transfers seed (observed_call (carriage_manner how.now) (load_texts transfers seed) old (H.world host.new) before (H.faults host.new) result) }
+        → CarriesLoad transfers seed (shown old (H.world host.new) before (H.faults host.new) result (command.Load transfers seed (carriage_manner how.now))) }
     ensures answers { AnswersRun (status_ending result) (H.faults host.old) (H.faults host.new) }
     ensures ready { StaysReady (H.is_ready host.old) (H.is_ready host.new) }
 {
@@ -162,7 +162,7 @@ fn load_made<R: Threads + Wait + Sync, H: Host, G: Gate + Sync>(
     requires many { transfers ≤ 100000 }
     requires bank { program_in bank_text ≡ Ok (program_tree bank) }
     ensures carries { IsTrue H.tells → IsNewBank (H.world host.old)
-        → CarriesLoad transfers seed (observed_call (carriage_manner how.now) (load_texts transfers seed) (H.world host.old) (H.world host.new) (H.faults host.old) (H.faults host.new) result) }
+        → CarriesLoad transfers seed (shown (H.world host.old) (H.world host.new) (H.faults host.old) (H.faults host.new) result (command.Load transfers seed (carriage_manner how.now))) }
     ensures answers { AnswersRun (status_ending result) (H.faults host.old) (H.faults host.new) }
     ensures ready { StaysReady (H.is_ready host.old) (H.is_ready host.new) }
 {
@@ -195,7 +195,7 @@ pub(crate) fn load<R: Threads + Wait + Sync, H: Host, G: Gate + Sync>(
     requires how { IsCarriage how.now }
     requires many { transfers ≤ 100000 }
     ensures loads { IsTrue H.tells → Loads transfers seed (carriage_manner how.now)
-        (observed_call (carriage_manner how.now) (load_texts transfers seed) (H.world host.old) (H.world host.new) (H.faults host.old) (H.faults host.new) result) }
+        (shown (H.world host.old) (H.world host.new) (H.faults host.old) (H.faults host.new) result (command.Load transfers seed (carriage_manner how.now))) }
     ensures answers { AnswersRun (status_ending result) (H.faults host.old) (H.faults host.new) }
     ensures ready { StaysReady (H.is_ready host.old) (H.is_ready host.new) }
 {

@@ -1,12 +1,12 @@
-ghost use Rattle.std.specs.Prelude.{◌≡◌, ◌<◌, ℕ, List as AList, IsTrue};
+ghost use Rattle.std.specs.Prelude.{◌≡◌, IsTrue};
 ghost use Rattle.host_trait.specs.Files.{StaysReady};
-ghost use Rattle.promise_spec.specs.Words.{Manner};
+ghost use Rattle.promise_spec.specs.Words as command;
 ghost use Rattle.promise_spec.specs.Commands.{MakesSilo};
 ghost use Rattle.promise_spec.specs.Endings.{HasFailedAs, BadUse};
 ghost use Rattle.promise_spec.specs.Promise.{Promises};
 ghost use Rattle.promise_spec.specs.Calls.{Serves, AnswersAs};
 ghost use Rattle.command_words.specs.CutParts.{texts_of};
-ghost use Rattle.silo_top.specs.Answering.{AnswersRun, is_built, is_taken, IsAsked, observed_call, observed_run};
+ghost use Rattle.silo_top.specs.Answering.{AnswersRun, shown};
 ghost use Rattle.silo_top.specs.Asking.{carriage_manner, IsCarriage};
 ghost use Rattle.silo_top.specs.Statuses.{status_ending};
 
@@ -26,7 +26,7 @@ use std::thread::Threads;
 
 /// Makes a silo of the program that is the input.
 fn make<H: Host>(alloc: Global, host: &mut H) -> Status
-    ensures makes { IsTrue H.tells → (m : Manner) (asked : AList (AList ℕ)) → MakesSilo (observed_call m asked (H.world host.old) (H.world host.new) (H.faults host.old) (H.faults host.new) result) }
+    ensures makes { IsTrue H.tells → MakesSilo (shown (H.world host.old) (H.world host.new) (H.faults host.old) (H.faults host.new) result command.Init) }
     ensures exact { HasFailedAs (status_ending result) (H.faults host.old) (H.faults host.new) }
     ensures good { status_ending result ≡ BadUse → ⊥ }
     ensures ready { StaysReady (H.is_ready host.old) (H.is_ready host.new) }
@@ -52,7 +52,7 @@ fn run<R: Threads + Wait + Sync, H: Host, G: Gate + Sync>(
 ) -> Status
     requires how { IsCarriage how.now }
     ensures promises { IsTrue H.tells → Promises (carriage_manner how.now)
-        (observed_run (carriage_manner how.now) (H.world host.old) (H.world host.new) (H.faults host.old) (H.faults host.new) result) }
+        (shown (H.world host.old) (H.world host.new) (H.faults host.old) (H.faults host.new) result (command.Run (carriage_manner how.now))) }
     ensures answers { AnswersRun (status_ending result) (H.faults host.old) (H.faults host.new) }
     ensures ready { StaysReady (H.is_ready host.old) (H.is_ready host.new) }
 {
@@ -98,11 +98,10 @@ pub fn run_silo<Rt: Threads + Wait + Sync, H: Host, G: Gate + Sync>(
     gate: &G,
 ) -> Status
     // What the command promises that the words say, and that all other words are bad use.
-    ensures serves { IsTrue H.tells → (m : Manner) (asked : AList (AList ℕ)) → IsAsked (texts_of words.now) (H.world host.old) m asked → Serves is_built is_taken (texts_of words.now)
-        (observed_call m asked (H.world host.old) (H.world host.new) (H.faults host.old) (H.faults host.new) result) }
+    ensures serves { IsTrue H.tells → Serves (texts_of words.now) (shown (H.world host.old) (H.world host.new) (H.faults host.old) (H.faults host.new) result) }
 
     // What the counts of faults say of the answer, over every host.
-    ensures answers { AnswersAs is_built is_taken (texts_of words.now) (status_ending result) (H.faults host.old) (H.faults host.new) }
+    ensures answers { AnswersAs (texts_of words.now) (status_ending result) (H.faults host.old) (H.faults host.new) }
     ensures ready { StaysReady (H.is_ready host.old) (H.is_ready host.new) }
 {
     match read_asked(alloc, words) {

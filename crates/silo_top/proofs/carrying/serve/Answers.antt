@@ -8,11 +8,12 @@ use Rattle.request_wire.specs.declared.requests.Line.{Line}
 use Rattle.run_lines.specs.Reading.{input_lines}
 use Rattle.history_core.specs.Cores.{run_of}
 use Rattle.promise_spec.specs.Endings.{Ending, input_limit}
-use Rattle.silo_top.specs.Answering.{observed_run, AnswersRun}
+use Rattle.silo_top.specs.Answering.{AnswersRun}
 use Rattle.silo_top.specs.Asking.{carriage_manner}
 use Rattle.silo_top.specs.Carrying.{CarriedLines}
 use Rattle.silo_top.specs.Reading.{input_ending}
 use Rattle.silo_top.specs.declared.status.Status.{Status}
+use Rattle.silo_top.proofs.Observing.{observed_run}
 use Rattle.silo_top.proofs.Answered.{answered}
 use Rattle.silo_top.proofs.Carried.{carriage_wide}
 use Rattle.silo_top.proofs.OpensWith.{fits_at}
