@@ -25,3 +25,5 @@ pub mod LoadMade
 pub mod LoadSaid
 pub mod LoadAnswered
 pub mod Carried
+pub mod GoneOn
+pub mod LoadGoneOn
