@@ -1,5 +1,5 @@
 -- What was started can be carried, and what carrying it left is told of the program that was opened.
-use Rattle.std.proofs.Common.{◌≡◌, ℕ, ◌<◌, Bool, true, IsTrue, List, length, None, Result, refl, sym, ap, subst}
+use Rattle.std.proofs.Common.{ℕ, ◌<◌, Bool, true, IsTrue, List, length, Result, sym, ap, subst}
 use Rattle.host_trait.specs.declared.channels.Channel.{Channel}
 use Rattle.host_trait.specs.World.{World}
 use Rattle.cell_table.specs.Table.{opening_state}
@@ -21,7 +21,7 @@ use Rattle.silo_top.specs.Carrying.{CarriedLines}
 use Rattle.silo_top.specs.GoingOn.{CanCarry, WentOn}
 use Rattle.silo_top.specs.Starting.{IsStartOf}
 use Rattle.silo_top.specs.declared.starting.Started.{Started}
-use Rattle.silo_top.proofs.Beginning.{start_run, starts_legal, starts_unloaded}
+use Rattle.silo_top.proofs.Beginning.{starts_legal, starts_unloaded}
 
 -- a core without events can be gone on with
 pub can_carry : (tells : Bool) (x : Opened) (s : Started) (now : World) → IsStartOf x s → 0 < x.next_unit.0 → IsInBounds s.settler.writer → (IsTrue tells → FitsDisk s.settler.writer now.disk) → CanCarry tells s now

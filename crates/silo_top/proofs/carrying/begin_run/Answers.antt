@@ -1,4 +1,4 @@
-use Rattle.std.proofs.Common.{◌≡◌, ℕ, ◌<◌, ◌≤◌, Bool, true, List, length, refl, sym, ◌∙◌, ap, subst, arith}
+use Rattle.std.proofs.Common.{◌≡◌, ℕ, ◌<◌, ◌≤◌, List, length, refl, sym, ◌∙◌, ap, subst}
 use Rattle.host_trait.specs.World.{Disk}
 use Rattle.log_reading.specs.Steps.{seen_in}
 use Rattle.script_tree.specs.Programs.{ProgramTree, program_tree}
@@ -7,7 +7,6 @@ use Rattle.run_lines.specs.Reading.{input_lines}
 use Rattle.history_core.specs.Cores.{run_of}
 use Rattle.promise_spec.specs.Endings.{Ending, input_limit}
 use Rattle.run_books.specs.Closing.{turns_ending}
-use Rattle.silo_top.specs.Answering.{AnswersRun}
 use Rattle.silo_top.specs.Reading.{input_ending}
 use Rattle.silo_top.specs.Serving.{IsBehindOpening}
 use Rattle.silo_top.specs.declared.status.Status.{Status}

@@ -1,12 +1,10 @@
-use denote.Param.Send.{sendable}
-use Rattle.std.proofs.Common.{◌≡◌, ℕ, ◌<◌, List, length, sym, ◌∙◌, ap, subst, arith}
+use Rattle.std.proofs.Common.{List, length, sym, ◌∙◌, ap, subst, arith}
 use Rattle.history_core.specs.Cores.{run_of}
 use Rattle.promise_spec.specs.Endings.{Ending}
 use Rattle.request_wire.specs.declared.requests.Line.{Line}
-use Rattle.run_lines.proofs.Shared.{lines_sync}
 use Rattle.run_lines.specs.Reading.{input_lines}
 use Rattle.script_tree.specs.Programs.{program_tree}
-use Rattle.silo_top.specs.Answering.{turns_manner, workers_manner, AnswersRun}
+use Rattle.silo_top.specs.Answering.{turns_manner, AnswersRun}
 use Rattle.silo_top.specs.Carrying.{CarriedLines}
 use Rattle.silo_top.proofs.carrying.run_in_turns.Goals as goal
 

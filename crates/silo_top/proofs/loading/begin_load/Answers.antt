@@ -1,8 +1,5 @@
-use Rattle.std.proofs.Common.{◌≡◌, ℕ, ◌<◌, List, length, Ok, inl, refl, sym, ◌∙◌, ap, subst}
-use Rattle.host_trait.specs.World.{World}
-use Rattle.log_reading.specs.Steps.{seen_in}
+use Rattle.std.proofs.Common.{◌≡◌, ℕ, List, length, Ok, inl, refl, sym, ◌∙◌, ap, subst}
 use Rattle.program_file.specs.Programs.{program_in}
-use Rattle.request_wire.specs.declared.requests.Line.{Line}
 use Rattle.script_tree.specs.Programs.{ProgramTree, program_tree}
 use Rattle.history_core.specs.Cores.{run_of}
 use Rattle.silo_spec.specs.Silos.{IsNewSilo}

@@ -1,9 +1,8 @@
-use denote.Param.Send.{sendable}
-use Rattle.std.proofs.Common.{◌<◌, List, subst, arith}
+use Rattle.std.proofs.Common.{List, subst}
 use Rattle.history_core.specs.Cores.{run_of}
 use Rattle.request_wire.specs.declared.requests.Line.{Line}
 use Rattle.script_tree.specs.Programs.{program_tree}
-use Rattle.silo_top.specs.Answering.{turns_manner, workers_manner}
+use Rattle.silo_top.specs.Answering.{turns_manner}
 use Rattle.silo_top.specs.Carrying.{CarriedLines}
 use Rattle.silo_top.proofs.loading.load_in_turns.Goals as goal
 

@@ -1,5 +1,5 @@
-use Rattle.std.proofs.Common.{◌≡◌, ◌<◌, ◌≤◌, ◌∙◌, ℕ, List, Result, Err, ap, subst}
-use Rattle.promise_spec.specs.Words.{Command, Init, Run, Show, History, Audit, Load, Check}
+use Rattle.std.proofs.Common.{◌≡◌, ◌∙◌, ℕ, List, Result, Err, ap, subst}
+use Rattle.promise_spec.specs.Words.{Init, Run, Show, History, Audit, Load, Check}
 use Rattle.promise_spec.specs.Calls.{Understands}
 use Rattle.command_words.specs.CutParts.{texts_of}
 use Rattle.command_words.specs.declared.faults.WordsFault.{WordsFault}

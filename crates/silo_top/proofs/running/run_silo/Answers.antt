@@ -1,6 +1,4 @@
-use Rattle.std.proofs.Common.{◌≡◌, ℕ, List, ap, sym, subst}
-use Rattle.host_trait.specs.World.{World}
-use Rattle.host_trait.specs.declared.channels.Channel.{Channel}
+use Rattle.std.proofs.Common.{◌≡◌, ℕ, List, subst}
 use Rattle.promise_spec.specs.Words.{Run, Load}
 use Rattle.promise_spec.specs.Calls.{Understands}
 use Rattle.promise_spec.specs.Loads.{Loads}
