@@ -1,9 +1,9 @@
 -- The call of `check` that is written out keeps what is promised of it.
-use Rattle.std.proofs.Common.{◌≡◌, inl, inr, ℕ, Bool, true, List, [], ◌∷◌, refl, sym, ap, subst, lit<, lit≤}
+use Rattle.std.proofs.Common.{◌≡◌, inl, inr, ℕ, true, List, [], ◌∷◌, refl, sym, ap, subst, lit<, lit≤}
 use Rattle.std.specs.Fmt.{digits}
 use Rattle.two_silos.specs.Generated.{checked}
 use Rattle.two_silos.specs.Summaries.{summary_of, line_of}
-use Rattle.promise_spec.specs.Words.{GivenOption, Command, Check, Say}
+use Rattle.promise_spec.specs.Words.{Command, Check, Say}
 use Rattle.promise_spec.specs.Checks.{Checks}
 use Rattle.promise_spec.specs.Calls.{Obeys, Serves}
 use Rattle.promise_spec.proofs.Words.{one_command}
@@ -42,8 +42,8 @@ check_keeps = record {
   failed = λ channel. refl;
 }
 
-pub check_served : Serves (λ c. true) (λ g. true) check_words check_call
+pub check_served : Serves check_words (λ c. check_call)
 check_served = record {
-  obeys = λ c says. subst (λ (d : Command). Obeys d check_call) (one_command (λ g. true) check_words (Check 0 1) c check_says says.0) check_keeps;
-  refuses = λ none. absurd (none (Check 0 1) (check_says, refl));
+  obeys = λ c says. subst (λ (d : Command). Obeys d check_call) (one_command (λ g. true) check_words (Check 0 1) c check_says says) check_keeps;
+  refuses = λ none. absurd (none (Check 0 1) check_says);
 }

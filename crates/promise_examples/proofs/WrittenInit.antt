@@ -312,10 +312,10 @@ is_hosted =
 -- ---- the word
 
 -- the word says this command alone
-pub serves_init : (r : Observed) → MakesSilo r → Serves (λ c. true) (λ g. true) init_words r
+pub serves_init : (r : Observed) → MakesSilo r → Serves init_words (λ c. r)
 serves_init r makes = record {
-  obeys = λ c says. subst (λ (d : Command). Obeys d r) (one_command (λ g. true) init_words Init c refl says.0) makes;
-  refuses = λ none. absurd (none Init (refl, refl));
+  obeys = λ c says. subst (λ (d : Command). Obeys d r) (one_command (λ g. true) init_words Init c refl says) makes;
+  refuses = λ none. absurd (none Init refl);
 }
 
 -- ---- over the folder that this left
@@ -444,11 +444,11 @@ other_say Audit says = absurd (cc says)
 other_say (Load n seed m) says = let letter : ◌≡◌ {A = ℕ} 105 108 = ap (λ (l : List (List ℕ)). get_or (get_or l 0 []) 0 0) says.words_are in absurd (omega (arith, letter))
 other_say (Check n seed) says = let letter : ◌≡◌ {A = ℕ} 105 99 = ap (λ (l : List (List ℕ)). get_or (get_or l 0 []) 0 0) says.words_are in absurd (omega (arith, letter))
 
-pub serves_none : (words : List (List ℕ)) → ((c : Command) → Say (λ g. true) words c → ⊥) → Serves (λ c. true) (λ g. true) words unused
+pub serves_none : (words : List (List ℕ)) → ((c : Command) → Say (λ g. true) words c → ⊥) → Serves words (λ c. unused)
 serves_none words none = record {
-  obeys = λ c says. absurd (none c says.0);
-  refuses = λ never. record { ending = inl refl; unused = refl; calm = λ channel. refl };
+  obeys = λ c says. absurd (none c says);
+  refuses = λ never c. record { ending = inl refl; unused = refl; calm = λ channel. refl };
 }
 
-pub serves_other : Serves (λ c. true) (λ g. true) other_words unused
+pub serves_other : Serves other_words (λ c. unused)
 serves_other = serves_none other_words other_say

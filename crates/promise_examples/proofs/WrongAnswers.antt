@@ -1,5 +1,5 @@
 -- Answers that don't keep the promise, over any folder and to any words.
-use Rattle.std.proofs.Common.{false, ◌≡◌, ◌≢◌, ◌⊎◌, inl, inr, ℕ, ◌+◌, ◌-◌, ◌^◌, ◌<◌, ◌≤◌, Bool, List, [], ◌∷◌, ◌++◌, length, Ok, Err, refl, sym, ap, subst, ◌∙◌, arith, true}
+use Rattle.std.proofs.Common.{false, ◌≡◌, ◌≢◌, ◌⊎◌, inl, inr, ℕ, ◌+◌, ◌-◌, ◌^◌, ◌<◌, ◌≤◌, List, [], ◌∷◌, ◌++◌, length, Ok, Err, refl, sym, ap, subst, ◌∙◌, arith, true}
 use Rattle.std.proofs.lemmas.List.{append-nil, append_cancel_left}
 use Rattle.base_types.specs.declared.calls.GrainId.{GrainId}
 use Rattle.base_types.specs.declared.entries.Entry.{Entry}
@@ -23,7 +23,7 @@ use Rattle.promise_spec.specs.Logs.{magic, IsLog, live_slot}
 use Rattle.promise_spec.specs.Images.{IsSound}
 use Rattle.promise_spec.specs.Openings.{Reading, NoSilo, DamagedAt, Reads, opened_as}
 use Rattle.promise_spec.specs.Outputs.{reply_lines}
-use Rattle.promise_spec.specs.Words.{GivenOption, Command, Init, Run, Show, History, Audit, Load, Check, Manner}
+use Rattle.promise_spec.specs.Words.{Command, Init, Run, Show, History, Audit, Load, Check, Manner}
 use Rattle.promise_spec.specs.Endings as ending
 use Rattle.promise_spec.specs.Courses.{Observed, seen_at_entry}
 use Rattle.promise_spec.specs.Refusals.{IsHead, IsNamedIn, IsReadFor, IsRefusedBy, MustBeRead, IsUnopened}
@@ -300,44 +300,44 @@ never_bad_use Audit r audits is = unaudited r audits is
 never_bad_use (Load n seed m) r loads is = unloaded n seed m r loads is
 never_bad_use (Check n seed) r checks is = unchecked n seed r checks is
 
-module _ (built : Command → Bool) (takes : GivenOption → Bool) (words : List (List ℕ)) (r : Observed) (serves : Serves built takes words r) where
-  pub other_answer : ((c : Command) → Understands built takes words c → ⊥) → r.ending ≢ ending.BadUse → r.ending ≢ ending.Memory → ⊥
-  other_answer none other some = elim (serves.refuses none).ending [ inl bad ↦ other bad | inr want ↦ some want ]
+module _ (words : List (List ℕ)) (shown : Command → Observed) (c : Command) (serves : Serves words shown) where
+  pub other_answer : ((d : Command) → Understands words d → ⊥) → (shown c).ending ≢ ending.BadUse → (shown c).ending ≢ ending.Memory → ⊥
+  other_answer none other some = elim (serves.refuses none c).ending [ inl bad ↦ other bad | inr want ↦ some want ]
 
-  pub changed_by_none : ((c : Command) → Understands built takes words c → ⊥) → r.new ≢ r.old → ⊥
-  changed_by_none none changed = changed (serves.refuses none).unused
+  pub changed_by_none : ((d : Command) → Understands words d → ⊥) → (shown c).new ≢ (shown c).old → ⊥
+  changed_by_none none changed = changed (serves.refuses none c).unused
 
-  pub said_bad : (c : Command) → Understands built takes words c → r.ending ≡ ending.BadUse → ⊥
-  said_bad c says is = never_bad_use c r (serves.obeys c says) is
+  pub said_bad : Understands words c → (shown c).ending ≡ ending.BadUse → ⊥
+  said_bad says is = never_bad_use c (shown c) (serves.obeys c says) is
 
 -- ---- over any host
 
-module _ (built : Command → Bool) (takes : GivenOption → Bool) (words : List (List ℕ)) (e : ending.Ending) (old new : Channel → ℕ) where
-  pub understood_bad : (c : Command) → AnswersAs built takes words e old new → Understands built takes words c → e ≡ ending.BadUse → ⊥
+module _ (words : List (List ℕ)) (e : ending.Ending) (old new : Channel → ℕ) where
+  pub understood_bad : (c : Command) → AnswersAs words e old new → Understands words c → e ≡ ending.BadUse → ⊥
   understood_bad c answers says is = answers.said c says is
 
-  pub answered_otherwise : AnswersAs built takes words e old new → ((c : Command) → Understands built takes words c → ⊥) → e ≢ ending.BadUse → e ≢ ending.Memory → ⊥
+  pub answered_otherwise : AnswersAs words e old new → ((c : Command) → Understands words c → ⊥) → e ≢ ending.BadUse → e ≢ ending.Memory → ⊥
   answered_otherwise answers none differ some = elim (answers.other none).0 [ inl bad ↦ differ bad | inr want ↦ some want ]
 
-  pub risen_for_none : (channel : Channel) → AnswersAs built takes words e old new → ((c : Command) → Understands built takes words c → ⊥) → new channel ≢ old channel → ⊥
+  pub risen_for_none : (channel : Channel) → AnswersAs words e old new → ((c : Command) → Understands words c → ⊥) → new channel ≢ old channel → ⊥
   risen_for_none channel answers none rose = rose ((answers.other none).1 channel)
 
-  pub fault_uncounted : (f : FileId) → AnswersAs built takes words e old new → e ≡ ending.DiskFault f → old (File f) < 2 ^ 64 - 1 → new (File f) ≡ old (File f) → ⊥
+  pub fault_uncounted : (f : FileId) → AnswersAs words e old new → e ≡ ending.DiskFault f → old (File f) < 2 ^ 64 - 1 → new (File f) ≡ old (File f) → ⊥
   fault_uncounted f answers is low same =
       let rose : Rose (old (File f)) (new (File f)) = subst (λ (x : ending.Ending). ending.HasRisen x old new) is answers.risen in
       omega (arith, rose, low, same)
 
-  pub input_passed : AnswersAs built takes words e old new → e ≢ ending.ReadFault → new Input ≢ old Input → ⊥
+  pub input_passed : AnswersAs words e old new → e ≢ ending.ReadFault → new Input ≢ old Input → ⊥
   input_passed answers other rose = other (answers.input rose)
 
-  pub output_passed : AnswersAs built takes words e old new → e ≢ ending.WriteFault → new Output ≢ old Output → ⊥
+  pub output_passed : AnswersAs words e old new → e ≢ ending.WriteFault → new Output ≢ old Output → ⊥
   output_passed answers other rose = other (answers.output rose)
 
-  pub made_though : (c : Command) (channel : Channel) → AnswersAs built takes words e old new → Understands built takes words c → ((f : ending.Ending) → GoesOn c f → ⊥)
+  pub made_though : (c : Command) (channel : Channel) → AnswersAs words e old new → Understands words c → ((f : ending.Ending) → GoesOn c f → ⊥)
       → e ≡ ending.Done → new channel ≢ old channel → ⊥
   made_though c channel answers says never is rose = rose (subst (λ (x : ending.Ending). ending.HasFailedAs x old new) is (answers.exact c says (never e)) channel)
 
-  pub other_named : (c : Command) (f : FileId) (channel : Channel) → AnswersAs built takes words e old new → Understands built takes words c → ((g : ending.Ending) → GoesOn c g → ⊥)
+  pub other_named : (c : Command) (f : FileId) (channel : Channel) → AnswersAs words e old new → Understands words c → ((g : ending.Ending) → GoesOn c g → ⊥)
       → e ≡ ending.DiskFault f → channel ≢ File f → new channel ≢ old channel → ⊥
   other_named c f channel answers says never is other rose =
       rose ((subst (λ (x : ending.Ending). ending.HasFailedAs x old new) is (answers.exact c says (never e))).counts.others channel other)

@@ -310,7 +310,7 @@ pub fn an_init_is_written_out()
     ensures made { MakesSilo made }
     ensures sound { IsSoundFolder account_program made.new }
     ensures follows { (file : FileId) → made.new.disk file ≡ written_run.old.disk file }
-    ensures served { Serves (λ c. true) (λ g. true) init_words made }
+    ensures served { Serves init_words (λ c. made) }
 {}
 
 /// And so is a second call over the folder that this left, which is called a silo already and stays as it was.
@@ -318,7 +318,7 @@ pub fn a_second_init_is_written_out()
     ensures follows { made_again.old.disk ≡ made.new.disk }
     ensures hosted { IsHosted made_again again_steps }
     ensures made { MakesSilo made_again }
-    ensures served { Serves (λ c. true) (λ g. true) init_words made_again }
+    ensures served { Serves init_words (λ c. made_again) }
 {}
 
 /// And one whose input is no program: it ends with the text's first fault, and writes nothing.
@@ -326,7 +326,7 @@ pub fn a_refused_init_is_written_out()
     ensures fault { program_in cut_text ≡ Err cut_fault }
     ensures hosted { IsHosted unmade unmade_steps }
     ensures made { MakesSilo unmade }
-    ensures served { Serves (λ c. true) (λ g. true) init_words unmade }
+    ensures served { Serves init_words (λ c. unmade) }
 {}
 
 /// And one whose last sync fails: it ends with the fault of the manager file, whose count rises. A crash then leaves the new
@@ -338,16 +338,16 @@ pub fn a_failed_init_is_written_out()
     ensures images { (image : Image) → IsImage halted.new.disk image → IsNewIfSilo magic account_program.text image }
     ensures opened { (image : Image) × IsImage halted.new.disk image × IsNewSilo magic account_program.text image }
     ensures shut { (image : Image) × IsImage halted.new.disk image × (IsSilo magic (image manager) → ⊥) }
-    ensures served { Serves (λ c. true) (λ g. true) init_words halted }
+    ensures served { Serves init_words (λ c. halted) }
 {}
 
 /// And the answer to words that say no command, as `init` with a word too many: bad use, and the host is as it was.
 pub fn bad_use_is_written_out()
     ensures hosted { IsHosted unused [] }
     ensures silent { (c : Command) → Say (λ g. true) other_words c → ⊥ }
-    ensures served { Serves (λ c. true) (λ g. true) other_words unused }
+    ensures served { Serves other_words (λ c. unused) }
     ensures any { (words : List (List ℕ)) → ((c : Command) → Say (λ g. true) words c → ⊥)
-        → Serves (λ c. true) (λ g. true) words unused }
+        → Serves words (λ c. unused) }
 {}
 
 /// And a call of `check` without a start, over an empty folder: it prints that 64 accounts have 64000, and leaves all else.
@@ -355,7 +355,7 @@ pub fn a_check_is_written_out()
     ensures line { line_of (summary_of 0 (checked 0 1)) ≡ check_line }
     ensures hosted { IsHosted check_call check_steps }
     ensures checks { Checks 0 1 check_call }
-    ensures served { Serves (λ c. true) (λ g. true) check_words check_call }
+    ensures served { Serves check_words (λ c. check_call) }
 {}
 
 /// The bank program of a load is a checked one, and its types and methods are numbered as a load's calls have them: the type

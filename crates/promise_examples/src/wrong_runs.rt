@@ -30,7 +30,7 @@ ghost use Rattle.silo_spec.specs.Silos.{manager, program_file, IsSilo, HasProgra
 ghost use Rattle.promise_spec.specs.Programs.{Program, ProgramFault, IsChecked, shape_in, program_in};
 ghost use Rattle.promise_spec.specs.Images.{IsSound};
 ghost use Rattle.promise_spec.specs.Openings.{DamagedAt, opened_as};
-ghost use Rattle.promise_spec.specs.Words.{GivenOption, Command, Manner};
+ghost use Rattle.promise_spec.specs.Words.{Command, Manner};
 ghost use Rattle.promise_spec.specs.Refusals.{IsUnopened, IsNamedIn};
 ghost use Rattle.promise_spec.specs.Records.{Commit, States, AreRecordsOf};
 ghost use Rattle.promise_spec.specs.Serial.{played};
@@ -249,12 +249,12 @@ pub fn refusals_are_true()
 /// No call keeps what the program promises that answers words that say nothing otherwise than as bad use, but for want of
 /// memory, or that changes the host then; or that answers bad use to words that say a command.
 pub fn words_are_answered()
-    ensures other { (built : Command → Bool) (takes : GivenOption → Bool) (words : List (List ℕ)) (r : Observed) → Serves built takes words r
-        → ((c : Command) → Understands built takes words c → ⊥) → r.ending ≢ ending.BadUse → r.ending ≢ ending.Memory → ⊥ }
-    ensures changed { (built : Command → Bool) (takes : GivenOption → Bool) (words : List (List ℕ)) (r : Observed) → Serves built takes words r
-        → ((c : Command) → Understands built takes words c → ⊥) → r.new ≢ r.old → ⊥ }
-    ensures said { (built : Command → Bool) (takes : GivenOption → Bool) (words : List (List ℕ)) (r : Observed) (c : Command) → Serves built takes words r
-        → Understands built takes words c → r.ending ≡ ending.BadUse → ⊥ }
+    ensures other { (words : List (List ℕ)) (shown : Command → Observed) (c : Command) → Serves words shown
+        → ((d : Command) → Understands words d → ⊥) → (shown c).ending ≢ ending.BadUse → (shown c).ending ≢ ending.Memory → ⊥ }
+    ensures changed { (words : List (List ℕ)) (shown : Command → Observed) (c : Command) → Serves words shown
+        → ((d : Command) → Understands words d → ⊥) → (shown c).new ≢ (shown c).old → ⊥ }
+    ensures said { (words : List (List ℕ)) (shown : Command → Observed) (c : Command) → Serves words shown
+        → Understands words c → (shown c).ending ≡ ending.BadUse → ⊥ }
 {}
 
 /// Over any host, one that tells nothing of what it holds too: no answer is right that calls words bad use that say a command,
@@ -263,23 +263,23 @@ pub fn words_are_answered()
 /// silo, or reported one, though any call failed; or that names one fault though a call on another channel failed, where it carries
 /// no lines.
 pub fn bad_use_is_said_by_words()
-    ensures said { (built : Command → Bool) (takes : GivenOption → Bool) (words : List (List ℕ)) (e : ending.Ending) (old new : Channel → ℕ) (c : Command)
-        → AnswersAs built takes words e old new → Understands built takes words c → e ≡ ending.BadUse → ⊥ }
-    ensures other { (built : Command → Bool) (takes : GivenOption → Bool) (words : List (List ℕ)) (e : ending.Ending) (old new : Channel → ℕ)
-        → AnswersAs built takes words e old new → ((c : Command) → Understands built takes words c → ⊥) → e ≢ ending.BadUse → e ≢ ending.Memory → ⊥ }
-    ensures used { (built : Command → Bool) (takes : GivenOption → Bool) (words : List (List ℕ)) (e : ending.Ending) (old new : Channel → ℕ) (channel : Channel)
-        → AnswersAs built takes words e old new → ((c : Command) → Understands built takes words c → ⊥) → new channel ≢ old channel → ⊥ }
-    ensures fault { (built : Command → Bool) (takes : GivenOption → Bool) (words : List (List ℕ)) (e : ending.Ending) (old new : Channel → ℕ) (f : FileId)
-        → AnswersAs built takes words e old new → e ≡ ending.DiskFault f → old (File f) < 2 ^ 64 - 1 → new (File f) ≡ old (File f) → ⊥ }
-    ensures input { (built : Command → Bool) (takes : GivenOption → Bool) (words : List (List ℕ)) (e : ending.Ending) (old new : Channel → ℕ)
-        → AnswersAs built takes words e old new → e ≢ ending.ReadFault → new Input ≢ old Input → ⊥ }
-    ensures output { (built : Command → Bool) (takes : GivenOption → Bool) (words : List (List ℕ)) (e : ending.Ending) (old new : Channel → ℕ)
-        → AnswersAs built takes words e old new → e ≢ ending.WriteFault → new Output ≢ old Output → ⊥ }
-    ensures made { (built : Command → Bool) (takes : GivenOption → Bool) (words : List (List ℕ)) (e : ending.Ending) (old new : Channel → ℕ) (c : Command) (channel : Channel)
-        → AnswersAs built takes words e old new → Understands built takes words c → ((f : ending.Ending) → GoesOn c f → ⊥) → e ≡ ending.Done
+    ensures said { (words : List (List ℕ)) (e : ending.Ending) (old new : Channel → ℕ) (c : Command)
+        → AnswersAs words e old new → Understands words c → e ≡ ending.BadUse → ⊥ }
+    ensures other { (words : List (List ℕ)) (e : ending.Ending) (old new : Channel → ℕ)
+        → AnswersAs words e old new → ((c : Command) → Understands words c → ⊥) → e ≢ ending.BadUse → e ≢ ending.Memory → ⊥ }
+    ensures used { (words : List (List ℕ)) (e : ending.Ending) (old new : Channel → ℕ) (channel : Channel)
+        → AnswersAs words e old new → ((c : Command) → Understands words c → ⊥) → new channel ≢ old channel → ⊥ }
+    ensures fault { (words : List (List ℕ)) (e : ending.Ending) (old new : Channel → ℕ) (f : FileId)
+        → AnswersAs words e old new → e ≡ ending.DiskFault f → old (File f) < 2 ^ 64 - 1 → new (File f) ≡ old (File f) → ⊥ }
+    ensures input { (words : List (List ℕ)) (e : ending.Ending) (old new : Channel → ℕ)
+        → AnswersAs words e old new → e ≢ ending.ReadFault → new Input ≢ old Input → ⊥ }
+    ensures output { (words : List (List ℕ)) (e : ending.Ending) (old new : Channel → ℕ)
+        → AnswersAs words e old new → e ≢ ending.WriteFault → new Output ≢ old Output → ⊥ }
+    ensures made { (words : List (List ℕ)) (e : ending.Ending) (old new : Channel → ℕ) (c : Command) (channel : Channel)
+        → AnswersAs words e old new → Understands words c → ((f : ending.Ending) → GoesOn c f → ⊥) → e ≡ ending.Done
         → new channel ≢ old channel → ⊥ }
-    ensures named { (built : Command → Bool) (takes : GivenOption → Bool) (words : List (List ℕ)) (e : ending.Ending) (old new : Channel → ℕ) (c : Command) (f : FileId) (channel : Channel)
-        → AnswersAs built takes words e old new → Understands built takes words c → ((g : ending.Ending) → GoesOn c g → ⊥) → e ≡ ending.DiskFault f
+    ensures named { (words : List (List ℕ)) (e : ending.Ending) (old new : Channel → ℕ) (c : Command) (f : FileId) (channel : Channel)
+        → AnswersAs words e old new → Understands words c → ((g : ending.Ending) → GoesOn c g → ⊥) → e ≡ ending.DiskFault f
         → channel ≢ File f → new channel ≢ old channel → ⊥ }
 {}
 

@@ -28,15 +28,19 @@ pub record IsBadUse (r : Observed) : Type 0 where
   pub unused : r.new ≡ r.old
   pub calm : NoneFailed r.faults_before r.faults_after
 
--- the words say a command that is built, with options that are built
-abbrev pub Understands : (Command → Bool) → (GivenOption → Bool) → List (List ℕ) → Command → Type 0
-Understands built takes words c = Say takes words c × (built c ≡ true)
+-- any option may be given
+abbrev pub any_option : GivenOption → Bool
+any_option g = true
 
--- What the program promises, of which these commands and options are built: words that say one of them are obeyed, and all
--- others are bad use.
-pub record Serves (built : Command → Bool) (takes : GivenOption → Bool) (words : List (List ℕ)) (r : Observed) : Type 0 where
-  pub obeys : (c : Command) → Understands built takes words c → Obeys c r
-  pub refuses : ((c : Command) → Understands built takes words c → ⊥) → IsBadUse r
+-- the words say this command
+abbrev pub Understands : List (List ℕ) → Command → Type 0
+Understands words c = Say any_option words c
+
+-- What the program promises of a call with these words, of which is told what it shows as a call of each command: words that say a
+-- command are obeyed, and all others are bad use.
+pub record Serves (words : List (List ℕ)) (shown : Command → Observed) : Type 0 where
+  pub obeys : (c : Command) → Understands words c → Obeys c (shown c)
+  pub refuses : ((c : Command) → Understands words c → ⊥) → (c : Command) → IsBadUse (shown c)
 
 -- a command may go on behind a file's fault and end so: one that carries lines, whose votes and seals may fail
 abbrev pub GoesOn : Command → Ending → Type 0
@@ -47,10 +51,10 @@ GoesOn _ e = ⊥
 -- What holds over any host, one that tells nothing of what it holds too: the words alone say what is bad use, but for want of
 -- memory, and a fault is shown by its count. No failed call is passed over, by want of memory neither: one on the input or the
 -- output is named; and where the command doesn't go on behind a file's fault, exactly the call that the ending names failed.
-pub record AnswersAs (built : Command → Bool) (takes : GivenOption → Bool) (words : List (List ℕ)) (e : Ending) (old new : Channel → ℕ) : Type 0 where
-  pub said : (c : Command) → Understands built takes words c → e ≢ BadUse
-  pub other : ((c : Command) → Understands built takes words c → ⊥) → ((e ≡ BadUse) ⊎ (e ≡ Memory)) × NoneFailed old new
+pub record AnswersAs (words : List (List ℕ)) (e : Ending) (old new : Channel → ℕ) : Type 0 where
+  pub said : (c : Command) → Understands words c → e ≢ BadUse
+  pub other : ((c : Command) → Understands words c → ⊥) → ((e ≡ BadUse) ⊎ (e ≡ Memory)) × NoneFailed old new
   pub risen : HasRisen e old new
   pub input : new Input ≢ old Input → e ≡ ReadFault
   pub output : new Output ≢ old Output → e ≡ WriteFault
-  pub exact : (c : Command) → Understands built takes words c → (GoesOn c e → ⊥) → HasFailedAs e old new
+  pub exact : (c : Command) → Understands words c → (GoesOn c e → ⊥) → HasFailedAs e old new

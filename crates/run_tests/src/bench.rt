@@ -3,7 +3,7 @@ use crate::answers::{
     add_whether_new,
 };
 use crate::bank::{NEW_LOG, new_books, new_silo, program_text};
-use crate::commands::{carry, copied};
+use crate::commands::{carry, carry_alone, copied};
 use crate::faults::add_fault;
 use crate::gates::add_held;
 use crate::names::{MANAGER, fault_of};
@@ -154,6 +154,19 @@ impl Bench {
         Ok(())
     }
 
+    // Carries a command without a runtime. What it leaves to workers is told, and the input stays laid out.
+    fn carry_alone(&mut self, out: &mut String, words: &str) -> Result<(), AllocError> {
+        self.syncs = self.host.syncs();
+        match carry_alone(self.alloc, &mut self.host, words, self.input.as_str())? {
+            Ok(status) => {
+                self.status = status;
+                self.input.clear();
+                add_output(out, status, &self.host)
+            }
+            Err(left) => write!(out, "{left:?}\n"),
+        }
+    }
+
     // Carries the input that was laid out by workers that a gate holds.
     fn hold<R: Threads + Wait + Sync>(
         &mut self,
@@ -193,6 +206,7 @@ impl Bench {
                 self.carry(rt, rest)?;
                 add_output(out, self.status, &self.host)?;
             }
+            "alone" => self.carry_alone(out, rest)?,
             "replies" => add_output(out, self.status, &self.host)?,
             "images" => self.carry_in_images(rt, out, rest)?,
             _ => return Ok(false),

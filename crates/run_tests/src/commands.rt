@@ -1,6 +1,6 @@
 // The program over a host in memory, what it puts out, and what a crash leaves of the host.
 use host_memory::MemoryHost;
-use silo_top::{Gate, GatePlace, Status, run_silo};
+use silo_top::{ByWorkers, Gate, GatePlace, Status, run_alone, run_silo};
 use std::alloc::{AllocError, Global};
 use std::sync::Wait;
 use std::thread::Threads;
@@ -46,6 +46,18 @@ pub fn carry<R: Threads + Wait + Sync>(
     input: &str,
 ) -> Result<Status, AllocError> {
     carry_by(rt, alloc, host, &OpenGate, list, input)
+}
+
+/// Carries out the command of these words over this input, but by workers, without a runtime.
+pub fn carry_alone(
+    alloc: Global,
+    host: &mut MemoryHost,
+    list: &str,
+    input: &str,
+) -> Result<Result<Status, ByWorkers>, AllocError> {
+    let words = words_of(alloc, list)?;
+    host.set_input(input.as_bytes())?;
+    Ok(run_alone(alloc, words.as_slice(), host, &OpenGate))
 }
 
 /// What was put out, as text.

@@ -10,6 +10,7 @@
 //! | `crash` | takes what a crash leaves that loses all that is pending |
 //! | `< ..`, `bank`, `rounds N`, `blanks N` | gives the next command a line more, or the bank program, N rounds of three transfers, N blanks |
 //! | `silo WORDS` | carries the command, and tells how it ended and all that the host has put out by then |
+//! | `alone WORDS` | does so without a runtime, or tells what the words leave to workers |
 //! | `count WORDS` | carries the command, and tells how it ended and, where all was done, how many lines were put out |
 //! | `held seal`, `held locks` | does so for a run by two workers whose threads a gate holds: see [`gates`] |
 //! | `images WORDS` | carries the command over sixteen images that a crash may leave here, and tells each of its ends once |

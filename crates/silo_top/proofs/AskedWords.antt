@@ -3,23 +3,20 @@ use Rattle.std.proofs.Common.{◌≡◌, ℕ, ◌<◌, ◌≤◌, Bool, true, fa
 use Rattle.std.specs.Prelude.{is_some, ◌||◌, ◌&&◌, Option, None, Some}
 use Rattle.std.specs.List.{list_all, list_any, AllByRecursion}
 use Rattle.promise_spec.specs.Words.{Choice, Width, Turns, Workers, GivenOption, Manner, manner_of, plain_manner, with_choice, is_workers, IsWithin, AreOptions, Command, Init, Run, Show, History, Audit, Load, Check, Say, SpellsRun, SpellsLoad}
-use Rattle.promise_spec.specs.Calls.{Understands}
+use Rattle.promise_spec.specs.Calls.{any_option, Understands}
 use Rattle.promise_spec.proofs.Words.{one_command}
 use Rattle.command_words.specs.Options.{Chosen, chosen_manner, is_choice_asked, run_chosen, load_chosen, command_of, has_option}
 use Rattle.command_words.specs.declared.words.LoadOptions.{LoadOptions}
 use Rattle.command_words.specs.declared.words.RunOptions.{RunOptions}
 use Rattle.command_words.specs.declared.words.Words.{Words}
 use Rattle.command_words.specs.declared.words.Words.TheVariants as words
-use Rattle.silo_top.specs.Answering.{is_built, is_taken, workers_manner}
+use Rattle.silo_top.specs.Answering.{workers_manner}
 use Rattle.silo_top.specs.Asking.{carriage_manner, IsCarriage, carriage_by, carriage_of}
 
 abbrev Texts : Type 0
 Texts = List (List ℕ)
 
 -- ---- options that are taken are taken where all are
-
-abbrev any_option : GivenOption → Bool
-any_option g = true
 
 all_taken : (options : List GivenOption) → list_all any_option options ≡ true
 all_taken [] = refl
@@ -144,8 +141,8 @@ module _ (texts : Texts) (said : Words) (o : RunOptions) (is : said ≡ words.Ru
   run_so = carried_so (run_chosen o) spelled.options spelled.are spelled.manner
 
   -- a run is asked for, and can be carried
-  pub run_understood : Understands is_built is_taken texts (Run (carriage_manner (carriage_of (run_chosen o))))
-  run_understood = (subst (λ (m : Manner). Say is_taken texts (Run m)) run_so.0 (says_any (stems o.workers) texts (Run (chosen_manner (run_chosen o))) spelled), refl)
+  pub run_understood : Understands texts (Run (carriage_manner (carriage_of (run_chosen o))))
+  run_understood = subst (λ (m : Manner). Say any_option texts (Run m)) run_so.0 (says_any (stems o.workers) texts (Run (chosen_manner (run_chosen o))) spelled)
 
   pub run_can : IsCarriage (carriage_of (run_chosen o))
   run_can = run_so.1
@@ -158,11 +155,8 @@ module _ (texts : Texts) (said : Words) (o : LoadOptions) (is : said ≡ words.L
   load_so = carried_so (load_chosen o) (load_spelled.before ++ (load_spelled.between ++ load_spelled.behind)) load_spelled.are load_spelled.manner
 
   -- so is a load, of few enough transfers
-  pub load_understood : Understands is_built is_taken texts (Load o.transfers o.seed (carriage_manner (carriage_of (load_chosen o))))
-  load_understood = (
-    subst (λ (m : Manner). Say is_taken texts (Load o.transfers o.seed m)) load_so.0 (says_any (stems o.workers) texts (Load o.transfers o.seed (chosen_manner (load_chosen o))) load_spelled),
-    refl,
-  )
+  pub load_understood : Understands texts (Load o.transfers o.seed (carriage_manner (carriage_of (load_chosen o))))
+  load_understood = subst (λ (m : Manner). Say any_option texts (Load o.transfers o.seed m)) load_so.0 (says_any (stems o.workers) texts (Load o.transfers o.seed (chosen_manner (load_chosen o))) load_spelled)
 
   pub load_can : IsCarriage (carriage_of (load_chosen o)) × (o.transfers ≤ 100000)
   load_can = (load_so.1, load_spelled.many.1)

@@ -19,15 +19,7 @@ use Rattle.interleaver.specs.Turns.{KeepsTurns, IsFreshRecord, TurnsGoOn}
 use Rattle.interleaver.proofs.Besides.{none-beside}
 use Rattle.interleaver.proofs.Unstopped.{turns-record}
 use Rattle.silo_top.specs.Answering.{turns_manner, workers_manner}
-use Rattle.silo_top.specs.Asking.{carriage_manner, IsCarriage}
-use Rattle.silo_top.specs.declared.asking.Carriage.{Carriage}
-use Rattle.silo_top.specs.declared.asking.Carriage.TheVariants.{Turns, Workers}
 use Rattle.silo_top.specs.Carrying.{StartsRun, CarriedOn, CarriesOn, CarriedLines}
-
--- a width that is carried is one at least
-pub carriage_wide : (how : Carriage) → IsCarriage how → 0 < (carriage_manner how).width
-carriage_wide (Turns width picks) is = is
-carriage_wide (Workers n) is = omega arith
 
 -- how lines ended to be carried, with the core or without
 abbrev pub with_core : {T : Type 0} → Core → Result T RunFault → Result Core RunFault
@@ -110,30 +102,29 @@ fault_of (Err fault) = Err fault
 abbrev no_core : Result Core RunFault
 no_core = Err Memory
 
-module _ (tells : Bool) (types : ProgramTree) (lines : List Line) (r : Run) (s s' : Settler) (f f' : Channel → ℕ) (w w' : World) (how : Carriage) where
+module _ (tells : Bool) (types : ProgramTree) (lines : List Line) (r : Run) (s s' : Settler) (f f' : Channel → ℕ) (w w' : World) where
   -- by workers, where the core didn't come back
-  workers_lost : (n : ℕ) → how ≡ Workers n → s' ≡ s → f' ≡ f → w' ≡ w → CarriedLines tells (carriage_manner how) types lines r s s' f f' w w' (Err Memory)
-  workers_lost n is same counts world =
-      subst (λ (x : Settler). CarriedLines tells (carriage_manner how) types lines r s x f f' w w' (Err Memory)) (sym same)
-      (subst (λ (x : Channel → ℕ). CarriedLines tells (carriage_manner how) types lines r s s f x w w' (Err Memory)) (sym counts)
-      (subst (λ (x : World). CarriedLines tells (carriage_manner how) types lines r s s f f w x (Err Memory)) (sym world)
+  workers_lost : s' ≡ s → f' ≡ f → w' ≡ w → CarriedLines tells workers_manner types lines r s s' f f' w w' (Err Memory)
+  workers_lost same counts world =
+      subst (λ (x : Settler). CarriedLines tells workers_manner types lines r s x f f' w w' (Err Memory)) (sym same)
+      (subst (λ (x : Channel → ℕ). CarriedLines tells workers_manner types lines r s s f x w w' (Err Memory)) (sym counts)
+      (subst (λ (x : World). CarriedLines tells workers_manner types lines r s s f f w x (Err Memory)) (sym world)
       (record {
         left = r;
-        carries = subst (λ (x : Carriage). CarriesOn tells (carriage_manner x) types lines r r s s f f w w no_core) (sym is) (lost_carried tells types lines r s f w);
+        carries = lost_carried tells types lines r s f w;
         beside = none-beside tells r r s f w (Err Memory) refl;
         core = tt;
       })))
 
-module _ {T : Type 0} (tells : Bool) (types : ProgramTree) (lines : List Line) (r : Run) (s s' : Settler) (f f' : Channel → ℕ) (w w' : World) (how : Carriage) where
-  -- in turns
-  pub turns_all : (core : Core) (result : Result T RunFault) (width : ℕ) (picks : List ℕ) → how ≡ Turns width picks
+module _ {T : Type 0} (tells : Bool) (types : ProgramTree) (lines : List Line) (r : Run) (s s' : Settler) (f f' : Channel → ℕ) (w w' : World) where
+  -- on one thread
+  pub turns_all : (core : Core) (result : Result T RunFault) (width : ℕ) (picks : List ℕ)
       → ((o : Outset) (b : Books) → IsOutset o types r lines width picks → CanTurn r s lines → IsFreshRecord o b r → KeepsTurns tells o b r s f w → TurnsGoOn tells o b r (run_of core) s s' f' w w' result)
-      → TurnsBeside tells r (run_of core) s s' f f' w w' result → (answer : Result Core RunFault) → with_core core result ≡ answer → CarriedLines tells (carriage_manner how) types lines r s s' f f' w w' answer
-  turns_all core result width picks is turns beside answer q =
-      subst (CarriedLines tells (carriage_manner how) types lines r s s' f f' w w') q (record {
+      → TurnsBeside tells r (run_of core) s s' f f' w w' result → (answer : Result Core RunFault) → with_core core result ≡ answer → CarriedLines tells (turns_manner width picks) types lines r s s' f f' w w' answer
+  turns_all core result width picks turns beside answer q =
+      subst (CarriedLines tells (turns_manner width picks) types lines r s s' f f' w w') q (record {
         left = run_of core;
-        carries = subst (λ (x : Carriage). CarriesOn tells (carriage_manner x) types lines r (run_of core) s s' f f' w w' (with_core core result)) (sym is)
-            (turns_carried tells types lines r (run_of core) s s' f f' w w' core result width picks turns);
+        carries = turns_carried tells types lines r (run_of core) s s' f f' w w' core result width picks turns;
         beside = beside_so tells types lines r (run_of core) s s' f f' w w' core result beside;
         core = core_left core (run_of core) result refl;
       })
@@ -144,27 +135,26 @@ module _ {T : Type 0} (tells : Bool) (types : ProgramTree) (lines : List Line) (
       → IfSome back (λ c. RecordGoesOn tells o b r (run_of c) s s' f' w w' result)
 
   -- by workers, where the core came back
-  pub workers_all : (n : ℕ) → how ≡ Workers n → (back : Option Core) (core : Core) → back ≡ Some core → (result : Result T RunFault) → WorkersKeep back result
-      → IfSome back (λ c. TurnsBeside tells r (run_of c) s s' f f' w w' result) → (answer : Result Core RunFault) → with_core core result ≡ answer → CarriedLines tells (carriage_manner how) types lines r s s' f f' w w' answer
-  workers_all n is back core some result kept beside answer q =
+  pub workers_all : (back : Option Core) (core : Core) → back ≡ Some core → (result : Result T RunFault) → WorkersKeep back result
+      → IfSome back (λ c. TurnsBeside tells r (run_of c) s s' f f' w w' result) → (answer : Result Core RunFault) → with_core core result ≡ answer → CarriedLines tells workers_manner types lines r s s' f f' w w' answer
+  workers_all back core some result kept beside answer q =
       let kept_so : WorkersKeep (Some core) result = subst (λ (x : Option Core). WorkersKeep x result) some kept in
       let beside_core : TurnsBeside tells r (run_of core) s s' f f' w w' result = subst (λ (x : Option Core). IfSome x (λ c. TurnsBeside tells r (run_of c) s s' f f' w w' result)) some beside in
-      subst (CarriedLines tells (carriage_manner how) types lines r s s' f f' w w') q (record {
+      subst (CarriedLines tells workers_manner types lines r s s' f f' w w') q (record {
         left = run_of core;
-        carries = subst (λ (x : Carriage). CarriesOn tells (carriage_manner x) types lines r (run_of core) s s' f f' w w' (with_core core result)) (sym is)
-            (workers_carried tells types lines r s s' f f' w w' core result (run_of core) kept_so);
+        carries = workers_carried tells types lines r s s' f f' w w' core result (run_of core) kept_so;
         beside = beside_so tells types lines r (run_of core) s s' f f' w w' core result beside_core;
         core = core_left core (run_of core) result refl;
       })
 
   -- by workers, where it ended by a fault
-  pub workers_faulted : (n : ℕ) → how ≡ Workers n → (back : Option Core) (result : Result T RunFault) → WorkersKeep back result
+  pub workers_faulted : (back : Option Core) (result : Result T RunFault) → WorkersKeep back result
       → IfSome back (λ c. TurnsBeside tells r (run_of c) s s' f f' w w' result) → (back ≡ None → (result ≡ Err Memory) × (s' ≡ s) × (f' ≡ f) × (w' ≡ w))
-      → (fault : RunFault) → result ≡ Err fault → CarriedLines tells (carriage_manner how) types lines r s s' f f' w w' (Err fault)
-  workers_faulted n is back result kept beside lost fault q = by back refl
+      → (fault : RunFault) → result ≡ Err fault → CarriedLines tells workers_manner types lines r s s' f f' w w' (Err fault)
+  workers_faulted back result kept beside lost fault q = by back refl
     where
-      by : (b : Option Core) → back ≡ b → CarriedLines tells (carriage_manner how) types lines r s s' f f' w w' (Err fault)
-      by (Some core) some = workers_all n is back core some result kept beside (Err fault) (ap (with_core core) q)
+      by : (b : Option Core) → back ≡ b → CarriedLines tells workers_manner types lines r s s' f f' w w' (Err fault)
+      by (Some core) some = workers_all back core some result kept beside (Err fault) (ap (with_core core) q)
       by None none =
           let l = lost none in
-          subst (CarriedLines tells (carriage_manner how) types lines r s s' f f' w w') (ap fault_of (sym l.0 ∙ q)) (workers_lost tells types lines r s s' f f' w w' how n is l.1 l.2 l.3)
+          subst (CarriedLines tells workers_manner types lines r s s' f f' w w') (ap fault_of (sym l.0 ∙ q)) (workers_lost tells types lines r s s' f f' w w' l.1 l.2 l.3)

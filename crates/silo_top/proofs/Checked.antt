@@ -10,7 +10,7 @@ use Rattle.promise_spec.specs.Words.{Manner}
 use Rattle.promise_spec.specs.Endings as ending
 use Rattle.promise_spec.specs.Checks.{Checks}
 use Rattle.silo_top.specs.declared.status.Status.{Status}
-use Rattle.silo_top.specs.Answering.{observed_call}
+use Rattle.silo_top.proofs.Observing.{observed_call}
 
 -- the line that it prints
 abbrev line : ℕ → ℕ → List ℕ

@@ -41,11 +41,12 @@ use Rattle.silo_opening.specs.declared.open.Opened.{Opened}
 use Rattle.silo_top.specs.declared.status.Status.{Status}
 use Rattle.silo_top.specs.Statuses.{status_ending}
 use Rattle.promise_spec.specs.Words.{Manner}
-use Rattle.silo_top.specs.Answering.{observed_run, AnswersRun}
+use Rattle.silo_top.specs.Answering.{AnswersRun}
 use Rattle.silo_top.specs.Carrying.{CarriedOn}
 use Rattle.silo_top.specs.Reading.{PulledOnly}
 use Rattle.silo_top.specs.Serving.{IsBehindOpening}
 use Rattle.run_books.specs.Beside.{EmitsAs, TurnsBeside}
+use Rattle.silo_top.proofs.Observing.{observed_run}
 use Rattle.silo_top.proofs.Beginning.{no_books}
 use Rattle.silo_top.proofs.Promised.{behind_promised}
 

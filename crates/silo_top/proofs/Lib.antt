@@ -1,3 +1,4 @@
+pub mod Observing
 pub mod Still
 pub mod Making
 pub mod Reported
@@ -24,3 +25,5 @@ pub mod LoadMade
 pub mod LoadSaid
 pub mod LoadAnswered
 pub mod Carried
+pub mod GoneOn
+pub mod LoadGoneOn

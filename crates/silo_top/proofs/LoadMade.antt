@@ -30,9 +30,10 @@ use Rattle.silo_opening.specs.declared.faults.OpenFault.{OpenFault}
 use Rattle.silo_opening.specs.declared.open.Opened.{Opened}
 use Rattle.silo_top.specs.declared.status.Status.{Status}
 use Rattle.silo_top.specs.Statuses.{status_ending}
-use Rattle.silo_top.specs.Answering.{observed_call, AnswersRun}
+use Rattle.silo_top.specs.Answering.{AnswersRun}
 use Rattle.silo_top.specs.Loading.{IsNewBank, IsMadeFrom, CarriesLoad, LiesWithin, creation_ending}
 use Rattle.silo_top.specs.Serving.{IsBehindOpening}
+use Rattle.silo_top.proofs.Observing.{observed_call}
 use Rattle.silo_top.proofs.Counted.{exactly_answers, open_failed, open_good}
 use Rattle.silo_top.proofs.LoadBegun.{bank_of, bank_checked, with_checked}
 use Rattle.silo_top.proofs.Unopened.{asked_untouched, refused_unopened}

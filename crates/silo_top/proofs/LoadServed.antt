@@ -67,7 +67,7 @@ use Rattle.promise_laws.proofs.ShownRuns.{explained}
 use Rattle.silo_top.specs.declared.status.Status.{Status}
 use Rattle.silo_top.specs.Statuses.{status_ending}
 use Rattle.silo_top.specs.declared.starting.Started.{Started}
-use Rattle.silo_top.specs.Answering.{observed_call}
+use Rattle.silo_top.proofs.Observing.{observed_call}
 use Rattle.silo_top.proofs.Read.{AreReadFrom}
 use Rattle.silo_top.specs.Starting.{IsStartOf}
 use Rattle.silo_top.specs.Serving.{IsBehindOpening}

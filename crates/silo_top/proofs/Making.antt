@@ -9,7 +9,7 @@ use Rattle.silo_opening.specs.Inits.{ending_of, ended_with}
 use Rattle.silo_opening.specs.declared.making.InitFault.{InitFault}
 use Rattle.silo_top.specs.declared.status.Status.{Status}
 use Rattle.silo_top.specs.Statuses.{status_ending}
-use Rattle.silo_top.specs.Answering.{observed_call}
+use Rattle.silo_top.proofs.Observing.{observed_call}
 
 -- what `init` promises is what the call shows, where its status is the answer's ending
 pub made : {A : Type 0} (m : Manner) (asked : List (List ℕ)) (old new : World) (before after : Channel → ℕ) (result : Result A InitFault) (status : Status) → status_ending status ≡ ending_of result

@@ -9,7 +9,7 @@ use Rattle.log_audit.specs.Endings.{report_ending, reported_as}
 use Rattle.log_audit.specs.declared.faults.ReportFault.{ReportFault}
 use Rattle.silo_top.specs.declared.status.Status.{Status}
 use Rattle.silo_top.specs.Statuses.{status_ending}
-use Rattle.silo_top.specs.Answering.{observed_call}
+use Rattle.silo_top.proofs.Observing.{observed_call}
 
 -- what a report promises is what the call shows, where its status is the answer's ending
 pub reported : {A : Type 0} (Obeys : Observed → Type 0) (m : Manner) (asked : List (List ℕ)) (old new : World) (before after : Channel → ℕ) (result : Result A ReportFault) (status : Status) → status_ending status ≡ report_ending result

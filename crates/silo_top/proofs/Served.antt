@@ -25,10 +25,10 @@ use Rattle.silo_opening.specs.declared.open.Opened.{Opened}
 use Rattle.silo_top.specs.declared.status.Status.{Status}
 use Rattle.silo_top.specs.declared.starting.Started.{Started}
 use Rattle.silo_top.specs.Statuses.{status_ending}
-use Rattle.silo_top.specs.Answering.{observed_run}
 use Rattle.silo_top.specs.Carrying.{StartsRun, CarriedOn, CarriesOn}
 use Rattle.promise_spec.specs.Words.{Manner}
 use Rattle.silo_top.specs.Reading.{PulledOnly}
+use Rattle.silo_top.proofs.Observing.{observed_run}
 use Rattle.silo_top.proofs.Read.{AreReadFrom}
 use Rattle.silo_top.specs.Starting.{IsStartOf}
 use Rattle.silo_top.specs.Serving.{IsBehindOpening}

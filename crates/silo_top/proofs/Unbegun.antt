@@ -31,10 +31,10 @@ use Rattle.opening_rules.proofs.Behind.{behind}
 use Rattle.silo_opening.specs.declared.open.Opened.{Opened}
 use Rattle.silo_top.specs.declared.status.Status.{Status}
 use Rattle.silo_top.specs.Statuses.{status_ending}
-use Rattle.silo_top.specs.Answering.{observed_run}
 use Rattle.silo_top.specs.Reading.{PulledOnly}
 use Rattle.silo_top.specs.Serving.{IsBehindOpening}
 use Rattle.run_books.proofs.Unvoted.{unvoted_behind}
+use Rattle.silo_top.proofs.Observing.{observed_run}
 use Rattle.silo_top.proofs.Still.{still_file}
 use Rattle.silo_top.proofs.Beginning.{none_applies, rose_none}
 use Rattle.silo_top.proofs.Promised.{behind_promised}

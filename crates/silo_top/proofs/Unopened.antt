@@ -25,7 +25,7 @@ use Rattle.silo_opening.specs.Counts.{OpenFaulted}
 use Rattle.silo_opening.specs.declared.faults.OpenFault.{OpenFault}
 use Rattle.silo_top.specs.declared.status.Status.{Status}
 use Rattle.silo_top.specs.Statuses.{status_ending}
-use Rattle.silo_top.specs.Answering.{observed_call, observed_run}
+use Rattle.silo_top.proofs.Observing.{observed_call, observed_run}
 use Rattle.silo_top.proofs.Counted.{open_failed}
 
 -- ---- nothing but asking

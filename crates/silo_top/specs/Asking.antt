@@ -7,6 +7,7 @@ use Rattle.silo_top.specs.declared.asking.Carriage.{Carriage}
 use Rattle.silo_top.specs.declared.asking.Carriage.TheVariants.{Turns, Workers}
 use Rattle.silo_top.specs.declared.asking.Asked.{Asked}
 use Rattle.silo_top.specs.declared.asking.Asked.TheVariants.{Init, Run, Show, History, Audit, Load, Check}
+use Rattle.silo_top.specs.declared.running.ByWorkers.{ByWorkers}
 
 -- ---- how lines are carried
 
@@ -50,3 +51,15 @@ MayBeCarried History = ⊤
 MayBeCarried Audit = ⊤
 MayBeCarried (Load transfers seed how) = IsCarriage how × (transfers ≤ 100000)
 MayBeCarried (Check starts seed) = ⊤
+
+-- ---- what is left to workers
+
+-- the command
+abbrev pub left_command : ByWorkers → Command
+left_command (ByWorkers.Run workers) = CarriesLines workers_manner
+left_command (ByWorkers.Load transfers seed workers) = CarriesLoad transfers seed workers_manner
+
+-- there are from 1 to 16, and a load has so many transfers at most
+abbrev pub MayBeLeft : ByWorkers → Type 0
+MayBeLeft (ByWorkers.Run workers) = (1 ≤ workers) × (workers ≤ 16)
+MayBeLeft (ByWorkers.Load transfers seed workers) = ((1 ≤ workers) × (workers ≤ 16)) × (transfers ≤ 100000)

@@ -6,3 +6,4 @@ pub mod Starting
 pub mod Serving
 pub mod Carrying
 pub mod Loading
+pub mod GoingOn

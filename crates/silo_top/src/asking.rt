@@ -2,7 +2,6 @@ ghost use Rattle.std.specs.Prelude.{◌≡◌, [], Err, IfOk, option_map, unwrap
 ghost use Rattle.promise_spec.specs.Words.{Command};
 ghost use Rattle.promise_spec.specs.Calls.{Understands};
 ghost use Rattle.command_words.specs.CutParts.{texts_of};
-ghost use Rattle.silo_top.specs.Answering.{is_built, is_taken};
 ghost use Rattle.command_words.specs.Options.{run_chosen, load_chosen};
 ghost use Rattle.silo_top.specs.Asking.{asked_command, carriage_of, MayBeCarried};
 
@@ -92,9 +91,9 @@ fn load_carriage(alloc: Global, options: LoadOptions) -> Carriage
 
 /// The command that the words ask for.
 pub(crate) fn read_asked(alloc: Global, words: &[String]) -> Result<Asked, WordsFault>
-    ensures asked { IfOk result (λ asked. Understands is_built is_taken (texts_of words.now) (asked_command asked)) }
+    ensures asked { IfOk result (λ asked. Understands (texts_of words.now) (asked_command asked)) }
     ensures bounds { IfOk result MayBeCarried }
-    ensures bad_use { result ≡ Err WordsFault.BadUse → (c : Command) → Understands is_built is_taken (texts_of words.now) c → ⊥ }
+    ensures bad_use { result ≡ Err WordsFault.BadUse → (c : Command) → Understands (texts_of words.now) c → ⊥ }
 {
     match read_words(alloc, words)? {
         Words::Init => Ok(Asked::Init),

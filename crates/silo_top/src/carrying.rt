@@ -1,28 +1,28 @@
-ghost use Rattle.std.specs.Prelude.{◌≡◌, ◌^◌, ◌<◌, ◌≤◌, ℕ, IsTrue};
-ghost use Rattle.host_trait.specs.Faults.{NoneFailed};
+ghost use Rattle.std.specs.Prelude.{◌≡◌, ◌<◌, ◌≤◌, IsTrue, IfOk, IfErr, vec_len};
+ghost use Rattle.promise_spec.specs.Words.{Manner};
 ghost use Rattle.host_trait.specs.Files.{StaysReady};
-ghost use Rattle.host_trait.specs.World.{World};
-ghost use Rattle.host_trait.specs.declared.channels.Channel.{Channel as AChannel};
-ghost use Rattle.log_reading.specs.Sums.{AreNear};
 ghost use Rattle.run_books.specs.Closing.{turns_ending};
+ghost use Rattle.promise_spec.specs.Words as command;
 ghost use Rattle.promise_spec.specs.Promise.{Promises};
-ghost use Rattle.silo_top.specs.Answering.{AnswersRun, observed_run};
-ghost use Rattle.silo_top.specs.Asking.{carriage_manner, IsCarriage};
+ghost use Rattle.silo_top.specs.Answering.{AnswersRun, shown};
+ghost use Rattle.silo_top.specs.Answering.{turns_manner, workers_manner};
+ghost use Rattle.silo_opening.specs.Opened.{ending_of};
+ghost use Rattle.silo_top.specs.GoingOn.{CanCarry, KeepsOn, AnswersOn};
 ghost use Rattle.silo_top.specs.Reading.{input_ending};
-ghost use Rattle.silo_top.specs.Serving.{IsBehindOpening, ending_by_turns};
+ghost use Rattle.silo_top.specs.Serving.{ending_by_turns};
 ghost use Rattle.silo_top.specs.Statuses.{status_ending};
 
-use crate::asking::Carriage;
-use crate::carriage::carry_all;
-use crate::input::{InputFault, read_input};
+use crate::carriage::{carry_by_workers, carry_in_turns};
+use crate::input::{INPUT_LIMIT, InputFault, read_input};
 use crate::starting::{Started, start};
 use crate::status::Status;
+use base_types::List;
 use history_core::Core;
 use host_trait::{FileId, Host};
 use interleaver::RunFault;
 use run_lines::InputLines;
 use settle_loop::Gate;
-use silo_opening::Opened;
+use silo_opening::{OpenFault, open_silo};
 use std::alloc::{AllocError, Global};
 use std::sync::Wait;
 use std::thread::Threads;
@@ -62,36 +62,68 @@ fn input_status(fault: InputFault) -> Status
     }
 }
 
-/// Reads the input to its end, and carries its lines over an opened silo.
-pub(crate) fn serve<R: Threads + Wait + Sync, H: Host, G: Gate + Sync>(
-    rt: &R,
+/// The status of a call whose silo wasn't opened.
+pub(crate) fn open_status(fault: OpenFault) -> Status
+    ensures { status_ending result ≡ ending_of fault }
+{
+    match fault {
+        OpenFault::NotASilo => Status::NotASilo,
+        OpenFault::Damaged { file, place } => Status::Damaged { file, place },
+        OpenFault::DiskFault { file } => Status::DiskFault { file },
+        OpenFault::Memory => Status::Memory,
+    }
+}
+
+/// A run that has begun: what carries its lines, and the input.
+#[derive(Drop)]
+pub(crate) struct Begun {
+    pub(crate) started: Started,
+    pub(crate) input: Vec<u8>,
+}
+
+/// Opens the silo, and reads the input to its end.
+fn begin_run<H: Host>(alloc: Global, host: &mut H) -> Result<Begun, Status>
+    // However its lines are carried from there on, the run keeps its promise.
+    ensures keeps { IfOk result (λ begun. IsTrue H.tells → KeepsOn H.tells begun.started begun.input.items (H.faults host.old) (H.world host.old) (H.faults host.new) (H.world host.new)) }
+    ensures answers_on { IfOk result (λ begun. AnswersOn H.tells begun.started begun.input.items (H.faults host.old) (H.faults host.new) (H.world host.new)) }
+    ensures can { IfOk result (λ begun. CanCarry H.tells begun.started (H.world host.new)) }
+    ensures within { IfOk result (λ begun. vec_len begun.input ≤ INPUT_LIMIT) }
+
+    // Where it didn't begin, it has kept it.
+    ensures promises { IfErr result (λ status. IsTrue H.tells → (m : Manner) → Promises m (shown (H.world host.old) (H.world host.new) (H.faults host.old) (H.faults host.new) status (command.Run m))) }
+    ensures answers { IfErr result (λ status. AnswersRun (status_ending status) (H.faults host.old) (H.faults host.new)) }
+    ensures ready { StaysReady (H.is_ready host.old) (H.is_ready host.new) }
+{
+    let opened = match open_silo(alloc, host) {
+        Ok(opened) => opened,
+        Err(fault) => return Err(open_status(fault)),
+    };
+    let started = match start(alloc, opened, false) {
+        Ok(started) => started,
+        Err(AllocError) => return Err(Status::Memory),
+    };
+    match read_input(alloc, host) {
+        Ok(input) => Ok(Begun { started, input }),
+        Err(fault) => Err(input_status(fault)),
+    }
+}
+
+/// Opens the silo, and carries the lines of the input on one thread.
+pub(crate) fn run_in_turns<H: Host, G: Gate>(
     alloc: Global,
-    opened: Opened,
     host: &mut H,
     gate: &G,
-    how: &Carriage,
+    width: u32,
+    picks: &List<u32>,
 ) -> Status
-    requires gate { opened.gate_at < 2 ^ 63 }
-    requires above { 0 < opened.next_unit.0 }
-    requires near { AreNear opened.ends }
-    requires few { opened.next_unit.0 ≤ 2 ^ 63 }
-    requires how { IsCarriage how.now }
-    requires behind { IsTrue H.tells → (old : World) × IsBehindOpening old (H.world host.old) opened }
-
-    // Behind the opening it keeps the whole promise of a run.
-    ensures promises { IsTrue H.tells → (old : World) (before : AChannel → ℕ) → IsBehindOpening old (H.world host.old) opened
-        → NoneFailed before (H.faults host.old)
-        → Promises (carriage_manner how.now) (observed_run (carriage_manner how.now) old (H.world host.new) before (H.faults host.new) result) }
+    requires wide { 0 < width }
+    ensures promises { IsTrue H.tells → Promises (turns_manner width picks.now) (shown (H.world host.old) (H.world host.new) (H.faults host.old) (H.faults host.new) result (command.Run (turns_manner width picks.now))) }
     ensures answers { AnswersRun (status_ending result) (H.faults host.old) (H.faults host.new) }
     ensures ready { StaysReady (H.is_ready host.old) (H.is_ready host.new) }
 {
-    let started = match start(alloc, opened, false) {
-        Ok(started) => started,
-        Err(AllocError) => return Status::Memory,
-    };
-    let input = match read_input(alloc, host) {
-        Ok(input) => input,
-        Err(fault) => return input_status(fault),
+    let Begun { started, input } = match begin_run(alloc, host) {
+        Ok(begun) => begun,
+        Err(status) => return status,
     };
     let Started {
         checked,
@@ -99,7 +131,43 @@ pub(crate) fn serve<R: Threads + Wait + Sync, H: Host, G: Gate + Sync>(
         mut settler,
     } = started;
     let lines = InputLines::new(&checked, input.as_slice());
-    turns_status(carry_all(
+    turns_status(carry_in_turns(
+        alloc,
+        &checked,
+        core,
+        &mut settler,
+        lines,
+        host,
+        gate,
+        width,
+        picks,
+    ))
+}
+
+/// Opens the silo, and carries the lines of the input by so many workers.
+pub(crate) fn run_by_workers<R: Threads + Wait + Sync, H: Host, G: Gate + Sync>(
+    rt: &R,
+    alloc: Global,
+    host: &mut H,
+    gate: &G,
+    workers: u32,
+) -> Status
+    requires few { workers ≤ 16 }
+    ensures promises { IsTrue H.tells → Promises workers_manner (shown (H.world host.old) (H.world host.new) (H.faults host.old) (H.faults host.new) result (command.Run workers_manner)) }
+    ensures answers { AnswersRun (status_ending result) (H.faults host.old) (H.faults host.new) }
+    ensures ready { StaysReady (H.is_ready host.old) (H.is_ready host.new) }
+{
+    let Begun { started, input } = match begin_run(alloc, host) {
+        Ok(begun) => begun,
+        Err(status) => return status,
+    };
+    let Started {
+        checked,
+        core,
+        mut settler,
+    } = started;
+    let lines = InputLines::new(&checked, input.as_slice());
+    turns_status(carry_by_workers(
         rt,
         alloc,
         &checked,
@@ -108,6 +176,6 @@ pub(crate) fn serve<R: Threads + Wait + Sync, H: Host, G: Gate + Sync>(
         lines,
         host,
         gate,
-        how,
+        workers,
     ))
 }

@@ -1,9 +1,9 @@
-ghost use Rattle.std.specs.Prelude.{◌≡◌, ℕ, List as AList, IsTrue};
+ghost use Rattle.std.specs.Prelude.{◌≡◌, IsTrue};
 ghost use Rattle.host_trait.specs.Files.{StaysReady};
-ghost use Rattle.promise_spec.specs.Words.{Manner};
+ghost use Rattle.promise_spec.specs.Words as command;
 ghost use Rattle.promise_spec.specs.Checks.{Checks};
 ghost use Rattle.promise_spec.specs.Endings.{HasFailedAs, BadUse};
-ghost use Rattle.silo_top.specs.Answering.{observed_call};
+ghost use Rattle.silo_top.specs.Answering.{shown};
 ghost use Rattle.silo_top.specs.Statuses.{status_ending};
 
 use crate::status::Status;
@@ -12,8 +12,8 @@ use std::alloc::{AllocError, Global};
 
 /// Runs two-phase commit between silos, with so many starts drawn from this seed, and prints how it ended. The folder isn't used.
 pub(crate) fn check<H: Host>(alloc: Global, host: &mut H, starts: u32, seed: u64) -> Status
-    ensures checks { IsTrue H.tells → (m : Manner) (asked : AList (AList ℕ)) → Checks starts seed
-        (observed_call m asked (H.world host.old) (H.world host.new) (H.faults host.old) (H.faults host.new) result) }
+    ensures checks { IsTrue H.tells → Checks starts seed
+        (shown (H.world host.old) (H.world host.new) (H.faults host.old) (H.faults host.new) result (command.Check starts seed)) }
     ensures exact { HasFailedAs (status_ending result) (H.faults host.old) (H.faults host.new) }
     ensures good { status_ending result ≡ BadUse → ⊥ }
     ensures ready { StaysReady (H.is_ready host.old) (H.is_ready host.new) }

@@ -1,39 +1,32 @@
-ghost use Rattle.std.specs.Prelude.{◌≡◌, ◌^◌, ◌<◌, ◌≤◌, ℕ, [], Ok, IsTrue};
-ghost use Rattle.host_trait.specs.Faults.{NoneFailed};
+ghost use Rattle.std.specs.Prelude.{◌≡◌, ◌<◌, ◌≤◌, IsTrue, IfOk, IfErr};
+ghost use Rattle.promise_spec.specs.Words.{Manner};
 ghost use Rattle.host_trait.specs.Files.{StaysReady};
-ghost use Rattle.host_trait.specs.World.{World};
-ghost use Rattle.host_trait.specs.declared.channels.Channel.{Channel as AChannel};
 ghost use Rattle.core_model.specs.Legal.{ends};
 ghost use Rattle.history_core.specs.Cores.{run_of};
-ghost use Rattle.log_reading.specs.Sums.{AreNear};
+ghost use Rattle.promise_spec.specs.Words as command;
 ghost use Rattle.promise_spec.specs.Endings.{HasFailedAs};
-ghost use Rattle.program_file.specs.Programs.{program_in};
-ghost use Rattle.script_tree.specs.Programs.{program_tree};
-ghost use Rattle.promise_spec.specs.Loads.{bank_text, Loads};
-ghost use Rattle.bank_load.specs.Requests.{load_texts};
+ghost use Rattle.promise_spec.specs.Loads.{Loads};
 ghost use Rattle.bank_load.specs.Summaries.{summary_line, total_kept};
-ghost use Rattle.log_reading.specs.Steps.{seen_in};
-ghost use Rattle.silo_opening.specs.Opened.{ending_of};
-ghost use Rattle.silo_top.specs.Answering.{AnswersRun, observed_call};
-ghost use Rattle.silo_top.specs.Asking.{carriage_manner, IsCarriage};
-ghost use Rattle.silo_top.specs.Loading.{IsNewBank, CarriesLoad, LiesWithin, creation_ending, load_ending, SaysSummary, MaySaySummary};
-ghost use Rattle.silo_top.specs.Serving.{IsBehindOpening};
+ghost use Rattle.silo_top.specs.Answering.{AnswersRun, shown};
+ghost use Rattle.silo_top.specs.Answering.{turns_manner, workers_manner};
+ghost use Rattle.silo_top.specs.GoingOn.{CanCarry, LoadCounts, LoadSays, LoadsOn, LoadAnswersOn};
+ghost use Rattle.silo_top.specs.Loading.{creation_ending, load_ending, SaysSummary, MaySaySummary};
 ghost use Rattle.silo_top.specs.Statuses.{status_ending};
 
-use crate::asking::Carriage;
-use crate::carriage::carry_all;
-use crate::carrying::MANAGER;
+use crate::carriage::{carry_by_workers, carry_in_turns};
+use crate::carrying::{MANAGER, open_status};
 use crate::starting::{Started, start};
 use crate::status::Status;
 use bank_load::{bank_text, load_lines, load_summary, total_balance};
+use base_types::List;
 use history_core::Core;
 use host_trait::{Failed, Host};
 use interleaver::RunFault;
 use program_file::accept;
+use request_wire::Line;
 use run_lines::ListLines;
-use script_check::Checked;
 use settle_loop::Gate;
-use silo_opening::{CreateFault, OpenFault, Opened, create, open_silo};
+use silo_opening::{CreateFault, Opened, create, open_silo};
 use std::alloc::{AllocError, Global};
 use std::sync::Wait;
 use std::thread::Threads;
@@ -67,76 +60,6 @@ fn load_status(fault: RunFault) -> Status
     }
 }
 
-/// Carries a load's lines over an opened silo of the bank program, and prints its summary.
-fn carry_load<R: Threads + Wait + Sync, H: Host, G: Gate + Sync>(
-    rt: &R,
-    alloc: Global,
-    opened: Opened,
-    host: &mut H,
-    gate: &G,
-    transfers: u32,
-    seed: u64,
-    how: &Carriage,
-) -> Status
-    requires gate { opened.gate_at < 2 ^ 63 }
-    requires above { 0 < opened.next_unit.0 }
-    requires near { AreNear opened.ends }
-    requires few { opened.next_unit.0 ≤ 2 ^ 63 }
-    requires how { IsCarriage how.now }
-    requires many { transfers ≤ 100000 }
-    requires bank { program_in bank_text ≡ Ok (program_tree opened.checked) }
-    requires within { IsTrue H.tells → LiesWithin (seen_in (H.world host.old).disk) opened }
-
-    // Behind the opening of a silo that was made for it, it keeps what is promised of a load.
-    ensures carries { IsTrue H.tells → (old : World) (before : AChannel → ℕ) → IsBehindOpening old (H.world host.old) opened → IsNewBank old
-        → NoneFailed before (H.faults host.old)
-        → CarriesLoad transfers seed (observed_call (carriage_manner how.now) (load_texts transfers seed) old (H.world host.new) before (H.faults host.new) result) }
-    ensures answers { AnswersRun (status_ending result) (H.faults host.old) (H.faults host.new) }
-    ensures ready { StaysReady (H.is_ready host.old) (H.is_ready host.new) }
-{
-    let started = match start(alloc, opened, true) {
-        Ok(started) => started,
-        Err(AllocError) => return Status::Memory,
-    };
-    let lines = match load_lines(alloc, transfers, seed) {
-        Ok(lines) => lines,
-        Err(AllocError) => return Status::Memory,
-    };
-    let requests = lines.len();
-    let Started {
-        checked,
-        core,
-        mut settler,
-    } = started;
-    let placed = ListLines::new(&lines);
-    match carry_all(
-        rt,
-        alloc,
-        &checked,
-        core,
-        &mut settler,
-        placed,
-        host,
-        gate,
-        how,
-    ) {
-        Ok(core) => print_summary(alloc, &core, requests, host),
-        Err(fault) => load_status(fault),
-    }
-}
-
-/// The status of a load whose silo wasn't opened.
-fn open_status(fault: OpenFault) -> Status
-    ensures { status_ending result ≡ ending_of fault }
-{
-    match fault {
-        OpenFault::NotASilo => Status::NotASilo,
-        OpenFault::Damaged { file, place } => Status::Damaged { file, place },
-        OpenFault::DiskFault { file } => Status::DiskFault { file },
-        OpenFault::Memory => Status::Memory,
-    }
-}
-
 /// The status of a load whose silo wasn't made.
 fn creation_status(fault: CreateFault) -> Status
     ensures { status_ending result ≡ creation_ending fault }
@@ -147,63 +70,155 @@ fn creation_status(fault: CreateFault) -> Status
     }
 }
 
-/// Opens the silo that was made of the bank program, and carries a load in it.
-fn load_made<R: Threads + Wait + Sync, H: Host, G: Gate + Sync>(
-    rt: &R,
+/// Prints the summary of a load whose lines are all carried, or names the fault that ended them.
+fn end_load<H: Host>(
     alloc: Global,
-    bank: Checked,
+    ended: Result<Core, RunFault>,
+    requests: usize,
     host: &mut H,
-    gate: &G,
-    transfers: u32,
-    seed: u64,
-    how: &Carriage,
 ) -> Status
-    requires how { IsCarriage how.now }
-    requires many { transfers ≤ 100000 }
-    requires bank { program_in bank_text ≡ Ok (program_tree bank) }
-    ensures carries { IsTrue H.tells → IsNewBank (H.world host.old)
-        → CarriesLoad transfers seed (observed_call (carriage_manner how.now) (load_texts transfers seed) (H.world host.old) (H.world host.new) (H.faults host.old) (H.faults host.new) result) }
-    ensures answers { AnswersRun (status_ending result) (H.faults host.old) (H.faults host.new) }
+    ensures counts { LoadCounts ended result (H.faults host.old) (H.faults host.new) }
+    ensures says { IsTrue H.tells → LoadSays ended requests result (H.world host.old) (H.world host.new) }
     ensures ready { StaysReady (H.is_ready host.old) (H.is_ready host.new) }
 {
-    match open_silo(alloc, host) {
-        Ok(opened) => {
-            let opened = Opened {
-                checked: bank,
-                count: opened.count,
-                store: opened.store,
-                ends: opened.ends,
-                next_unit: opened.next_unit,
-                gate_at: opened.gate_at,
-            };
-            carry_load(rt, alloc, opened, host, gate, transfers, seed, how)
-        }
-        Err(fault) => open_status(fault),
+    match ended {
+        Ok(core) => print_summary(alloc, &core, requests, host),
+        Err(fault) => load_status(fault),
     }
 }
 
-/// Makes a silo of the bank program, and carries the lines of a load in it. Nothing is made where there is no memory for the program.
-pub(crate) fn load<R: Threads + Wait + Sync, H: Host, G: Gate + Sync>(
+/// A load that has begun: what carries its lines, and these.
+#[derive(Drop)]
+pub(crate) struct BegunLoad {
+    pub(crate) started: Started,
+    pub(crate) lines: List<Line>,
+}
+
+/// Makes a silo of the bank program, opens it, and draws the lines of a load. Nothing is made where there is no memory for the program.
+fn begin_load<H: Host>(
+    alloc: Global,
+    host: &mut H,
+    transfers: u32,
+    seed: u64,
+) -> Result<BegunLoad, Status>
+    requires many { transfers ≤ 100000 }
+
+    // However its lines are carried from there on, the load keeps its promise.
+    ensures keeps { IfOk result (λ begun. IsTrue H.tells → LoadsOn transfers seed H.tells begun.started begun.lines (H.faults host.old) (H.world host.old) (H.faults host.new) (H.world host.new)) }
+    ensures answers_on { IfOk result (λ begun. LoadAnswersOn H.tells begun.started begun.lines (H.faults host.old) (H.faults host.new) (H.world host.new)) }
+    ensures can { IfOk result (λ begun. CanCarry H.tells begun.started (H.world host.new)) }
+
+    // Where it didn't begin, it has kept it.
+    ensures loads { IfErr result (λ status. IsTrue H.tells → (m : Manner) → Loads transfers seed m (shown (H.world host.old) (H.world host.new) (H.faults host.old) (H.faults host.new) status (command.Load transfers seed m))) }
+    ensures answers { IfErr result (λ status. AnswersRun (status_ending status) (H.faults host.old) (H.faults host.new)) }
+    ensures ready { StaysReady (H.is_ready host.old) (H.is_ready host.new) }
+{
+    let Ok(bank) = accept(alloc, bank_text()) else {
+        return Err(Status::Memory);
+    };
+    match create(host, bank_text()) {
+        Ok(()) => {}
+        Err(fault) => return Err(creation_status(fault)),
+    }
+    let opened = match open_silo(alloc, host) {
+        Ok(opened) => Opened {
+            checked: bank,
+            count: opened.count,
+            store: opened.store,
+            ends: opened.ends,
+            next_unit: opened.next_unit,
+            gate_at: opened.gate_at,
+        },
+        Err(fault) => return Err(open_status(fault)),
+    };
+    let started = match start(alloc, opened, true) {
+        Ok(started) => started,
+        Err(AllocError) => return Err(Status::Memory),
+    };
+    match load_lines(alloc, transfers, seed) {
+        Ok(lines) => Ok(BegunLoad { started, lines }),
+        Err(AllocError) => Err(Status::Memory),
+    }
+}
+
+/// Makes a silo of the bank program, and carries the lines of a load in it on one thread.
+pub(crate) fn load_in_turns<H: Host, G: Gate>(
+    alloc: Global,
+    host: &mut H,
+    gate: &G,
+    transfers: u32,
+    seed: u64,
+    width: u32,
+    picks: &List<u32>,
+) -> Status
+    requires wide { 0 < width }
+    requires many { transfers ≤ 100000 }
+    ensures loads { IsTrue H.tells → Loads transfers seed (turns_manner width picks.now) (shown (H.world host.old) (H.world host.new) (H.faults host.old) (H.faults host.new) result (command.Load transfers seed (turns_manner width picks.now))) }
+    ensures answers { AnswersRun (status_ending result) (H.faults host.old) (H.faults host.new) }
+    ensures ready { StaysReady (H.is_ready host.old) (H.is_ready host.new) }
+{
+    let BegunLoad { started, lines } = match begin_load(alloc, host, transfers, seed) {
+        Ok(begun) => begun,
+        Err(status) => return status,
+    };
+    let requests = lines.len();
+    let Started {
+        checked,
+        core,
+        mut settler,
+    } = started;
+    let placed = ListLines::new(&lines);
+    let ended = carry_in_turns(
+        alloc,
+        &checked,
+        core,
+        &mut settler,
+        placed,
+        host,
+        gate,
+        width,
+        picks,
+    );
+    end_load(alloc, ended, requests, host)
+}
+
+/// Makes a silo of the bank program, and carries the lines of a load in it by so many workers.
+pub(crate) fn load_by_workers<R: Threads + Wait + Sync, H: Host, G: Gate + Sync>(
     rt: &R,
     alloc: Global,
     host: &mut H,
     gate: &G,
     transfers: u32,
     seed: u64,
-    how: &Carriage,
+    workers: u32,
 ) -> Status
-    requires how { IsCarriage how.now }
+    requires few { workers ≤ 16 }
     requires many { transfers ≤ 100000 }
-    ensures loads { IsTrue H.tells → Loads transfers seed (carriage_manner how.now)
-        (observed_call (carriage_manner how.now) (load_texts transfers seed) (H.world host.old) (H.world host.new) (H.faults host.old) (H.faults host.new) result) }
+    ensures loads { IsTrue H.tells → Loads transfers seed workers_manner (shown (H.world host.old) (H.world host.new) (H.faults host.old) (H.faults host.new) result (command.Load transfers seed workers_manner)) }
     ensures answers { AnswersRun (status_ending result) (H.faults host.old) (H.faults host.new) }
     ensures ready { StaysReady (H.is_ready host.old) (H.is_ready host.new) }
 {
-    let Ok(bank) = accept(alloc, bank_text()) else {
-        return Status::Memory;
+    let BegunLoad { started, lines } = match begin_load(alloc, host, transfers, seed) {
+        Ok(begun) => begun,
+        Err(status) => return status,
     };
-    match create(host, bank_text()) {
-        Ok(()) => load_made(rt, alloc, bank, host, gate, transfers, seed, how),
-        Err(fault) => creation_status(fault),
-    }
+    let requests = lines.len();
+    let Started {
+        checked,
+        core,
+        mut settler,
+    } = started;
+    let placed = ListLines::new(&lines);
+    let ended = carry_by_workers(
+        rt,
+        alloc,
+        &checked,
+        core,
+        &mut settler,
+        placed,
+        host,
+        gate,
+        workers,
+    );
+    end_load(alloc, ended, requests, host)
 }

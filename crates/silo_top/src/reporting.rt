@@ -1,11 +1,11 @@
-ghost use Rattle.std.specs.Prelude.{◌≡◌, ℕ, List as AList, IsTrue};
+ghost use Rattle.std.specs.Prelude.{◌≡◌, IsTrue};
 ghost use Rattle.host_trait.specs.Files.{StaysReady};
-ghost use Rattle.promise_spec.specs.Words.{Manner};
+ghost use Rattle.promise_spec.specs.Words as command;
 ghost use Rattle.promise_spec.specs.Reports.{show_text, history_text};
 ghost use Rattle.promise_spec.specs.Commands.{Reports, Audits};
 ghost use Rattle.promise_spec.specs.Endings.{HasFailedAs, BadUse};
 ghost use Rattle.log_audit.specs.Endings.{report_ending};
-ghost use Rattle.silo_top.specs.Answering.{observed_call};
+ghost use Rattle.silo_top.specs.Answering.{shown};
 ghost use Rattle.silo_top.specs.Statuses.{status_ending};
 
 use crate::status::Status;
@@ -29,8 +29,8 @@ fn report_status(ended: Result<(), ReportFault>) -> Status
 
 /// Writes the state of each grain that the log wrote.
 pub(crate) fn show<H: Host>(alloc: Global, host: &mut H) -> Status
-    ensures reports { IsTrue H.tells → (m : Manner) (asked : AList (AList ℕ)) → Reports show_text
-        (observed_call m asked (H.world host.old) (H.world host.new) (H.faults host.old) (H.faults host.new) result) }
+    ensures reports { IsTrue H.tells → Reports show_text
+        (shown (H.world host.old) (H.world host.new) (H.faults host.old) (H.faults host.new) result command.Show) }
     ensures exact { HasFailedAs (status_ending result) (H.faults host.old) (H.faults host.new) }
     ensures good { status_ending result ≡ BadUse → ⊥ }
     ensures ready { StaysReady (H.is_ready host.old) (H.is_ready host.new) }
@@ -40,8 +40,8 @@ pub(crate) fn show<H: Host>(alloc: Global, host: &mut H) -> Status
 
 /// Writes each record of the log.
 pub(crate) fn history<H: Host>(alloc: Global, host: &mut H) -> Status
-    ensures reports { IsTrue H.tells → (m : Manner) (asked : AList (AList ℕ)) → Reports history_text
-        (observed_call m asked (H.world host.old) (H.world host.new) (H.faults host.old) (H.faults host.new) result) }
+    ensures reports { IsTrue H.tells → Reports history_text
+        (shown (H.world host.old) (H.world host.new) (H.faults host.old) (H.faults host.new) result command.History) }
     ensures exact { HasFailedAs (status_ending result) (H.faults host.old) (H.faults host.new) }
     ensures good { status_ending result ≡ BadUse → ⊥ }
     ensures ready { StaysReady (H.is_ready host.old) (H.is_ready host.new) }
@@ -51,8 +51,8 @@ pub(crate) fn history<H: Host>(alloc: Global, host: &mut H) -> Status
 
 /// Plays the log again, and writes the first unit whose record isn't what that gives.
 pub(crate) fn audit<H: Host>(alloc: Global, host: &mut H) -> Status
-    ensures audits { IsTrue H.tells → (m : Manner) (asked : AList (AList ℕ)) → Audits
-        (observed_call m asked (H.world host.old) (H.world host.new) (H.faults host.old) (H.faults host.new) result) }
+    ensures audits { IsTrue H.tells → Audits
+        (shown (H.world host.old) (H.world host.new) (H.faults host.old) (H.faults host.new) result command.Audit) }
     ensures exact { HasFailedAs (status_ending result) (H.faults host.old) (H.faults host.new) }
     ensures good { status_ending result ≡ BadUse → ⊥ }
     ensures ready { StaysReady (H.is_ready host.old) (H.is_ready host.new) }

@@ -1,32 +1,31 @@
-ghost use Rattle.std.specs.Prelude.{◌≡◌, ◌<◌, ℕ, List as AList, IsTrue};
+ghost use Rattle.std.specs.Prelude.{◌≡◌, IsTrue, IfOk, IfErr, OnErr};
 ghost use Rattle.host_trait.specs.Files.{StaysReady};
-ghost use Rattle.promise_spec.specs.Words.{Manner};
+ghost use Rattle.promise_spec.specs.Words as command;
 ghost use Rattle.promise_spec.specs.Commands.{MakesSilo};
 ghost use Rattle.promise_spec.specs.Endings.{HasFailedAs, BadUse};
-ghost use Rattle.promise_spec.specs.Promise.{Promises};
-ghost use Rattle.promise_spec.specs.Calls.{Serves, AnswersAs};
+ghost use Rattle.promise_spec.specs.Calls.{Understands, Serves, AnswersAs};
 ghost use Rattle.command_words.specs.CutParts.{texts_of};
-ghost use Rattle.silo_top.specs.Answering.{AnswersRun, is_built, is_taken, IsAsked, observed_call, observed_run};
-ghost use Rattle.silo_top.specs.Asking.{carriage_manner, IsCarriage};
+ghost use Rattle.silo_top.specs.Answering.{shown};
+ghost use Rattle.silo_top.specs.Asking.{left_command, MayBeLeft};
 ghost use Rattle.silo_top.specs.Statuses.{status_ending};
 
 use crate::asking::{Asked, Carriage, read_asked};
-use crate::carrying::serve;
+use crate::carrying::{run_by_workers, run_in_turns};
 use crate::checking::check;
-use crate::loading::load;
+use crate::loading::{load_by_workers, load_in_turns};
 use crate::reporting::{audit, history, show};
 use crate::status::Status;
 use command_words::WordsFault;
 use host_trait::Host;
 use settle_loop::Gate;
-use silo_opening::{InitFault, OpenFault, init, open_silo};
+use silo_opening::{InitFault, init};
 use std::alloc::Global;
 use std::sync::Wait;
 use std::thread::Threads;
 
 /// Makes a silo of the program that is the input.
 fn make<H: Host>(alloc: Global, host: &mut H) -> Status
-    ensures makes { IsTrue H.tells → (m : Manner) (asked : AList (AList ℕ)) → MakesSilo (observed_call m asked (H.world host.old) (H.world host.new) (H.faults host.old) (H.faults host.new) result) }
+    ensures makes { IsTrue H.tells → MakesSilo (shown (H.world host.old) (H.world host.new) (H.faults host.old) (H.faults host.new) result command.Init) }
     ensures exact { HasFailedAs (status_ending result) (H.faults host.old) (H.faults host.new) }
     ensures good { status_ending result ≡ BadUse → ⊥ }
     ensures ready { StaysReady (H.is_ready host.old) (H.is_ready host.new) }
@@ -42,26 +41,74 @@ fn make<H: Host>(alloc: Global, host: &mut H) -> Status
     }
 }
 
-/// Opens the silo, and serves the input over it.
-fn run<R: Threads + Wait + Sync, H: Host, G: Gate + Sync>(
-    rt: &R,
+/// A command that words leave to workers.
+#[derive(Clone, Copy, Debug, PartialEq, Eq)]
+pub enum ByWorkers {
+    /// To carry the lines of the input by so many.
+    Run {
+        workers: u32,
+    },
+    /// To make a silo and carry a load by so many: how many transfers are drawn from which seed.
+    Load {
+        transfers: u32,
+        seed: u64,
+        workers: u32,
+    },
+}
+
+/// Does all that the program does on one thread, and answers how it ended. Words that ask for workers aren't obeyed: the error says
+/// what they ask for, and nothing was done. [`run_silo`] says what each command does.
+///
+/// It starts no thread and waits for none, as its type says: it takes neither `Threads` nor `Wait`. So it returns, where the calls
+/// of its host and its gate do.
+pub fn run_alone<H: Host, G: Gate>(
     alloc: Global,
+    words: &[String],
     host: &mut H,
     gate: &G,
-    how: &Carriage,
-) -> Status
-    requires how { IsCarriage how.now }
-    ensures promises { IsTrue H.tells → Promises (carriage_manner how.now)
-        (observed_run (carriage_manner how.now) (H.world host.old) (H.world host.new) (H.faults host.old) (H.faults host.new) result) }
-    ensures answers { AnswersRun (status_ending result) (H.faults host.old) (H.faults host.new) }
+) -> Result<Status, ByWorkers>
+    // What the command promises that the words say, and that all other words are bad use.
+    ensures serves { IfOk result (λ status. IsTrue H.tells → Serves (texts_of words.now) (shown (H.world host.old) (H.world host.new) (H.faults host.old) (H.faults host.new) status)) }
+
+    // What the counts of faults say of the answer, over every host.
+    ensures answers { IfOk result (λ status. AnswersAs (texts_of words.now) (status_ending status) (H.faults host.old) (H.faults host.new)) }
+
+    // Only what the words leave to workers isn't done, and of that nothing.
+    ensures left { IfErr result (λ left. Understands (texts_of words.now) (left_command left)) }
+    ensures bounds { IfErr result MayBeLeft }
+    ensures unused { OnErr result (host.new ≡ host.old) }
     ensures ready { StaysReady (H.is_ready host.old) (H.is_ready host.new) }
 {
-    match open_silo(alloc, host) {
-        Ok(opened) => serve(rt, alloc, opened, host, gate, how),
-        Err(OpenFault::NotASilo) => Status::NotASilo,
-        Err(OpenFault::Damaged { file, place }) => Status::Damaged { file, place },
-        Err(OpenFault::DiskFault { file }) => Status::DiskFault { file },
-        Err(OpenFault::Memory) => Status::Memory,
+    match read_asked(alloc, words) {
+        Ok(Asked::Init) => Ok(make(alloc, host)),
+        Ok(Asked::Run(Carriage::Turns { width, picks })) => {
+            Ok(run_in_turns(alloc, host, gate, width, &picks))
+        }
+        Ok(Asked::Run(Carriage::Workers(workers))) => Err(ByWorkers::Run { workers }),
+        Ok(Asked::Show) => Ok(show(alloc, host)),
+        Ok(Asked::History) => Ok(history(alloc, host)),
+        Ok(Asked::Audit) => Ok(audit(alloc, host)),
+        Ok(
+            Asked::Load {
+                transfers,
+                seed,
+                how: Carriage::Turns { width, picks },
+            },
+        ) => { Ok(load_in_turns(alloc, host, gate, transfers, seed, width, &picks)) }
+        Ok(
+            Asked::Load {
+                transfers,
+                seed,
+                how: Carriage::Workers(workers),
+            },
+        ) => Err(ByWorkers::Load {
+            transfers,
+            seed,
+            workers,
+        }),
+        Ok(Asked::Check { starts, seed }) => Ok(check(alloc, host, starts, seed)),
+        Err(WordsFault::BadUse) => Ok(Status::BadUse),
+        Err(WordsFault::Memory) => Ok(Status::Memory),
     }
 }
 
@@ -88,8 +135,8 @@ fn run<R: Threads + Wait + Sync, H: Host, G: Gate + Sync>(
 /// a fault is answered only where a call on its channel failed, and no failed call on the input or the output is passed over
 /// (`AnswersAs`).
 ///
-/// It may wait (`Wait`): each clause holds of a call that returns, and none says that it does. The loops of one thread are proved
-/// to end, those of workers aren't.
+/// It is [`run_alone`], and adds the workers. By them it may wait (`Wait`): each clause holds of a call that returns, and none says that
+/// it does. A call whose words ask for no workers returns.
 pub fn run_silo<Rt: Threads + Wait + Sync, H: Host, G: Gate + Sync>(
     rt: &Rt,
     alloc: Global,
@@ -98,28 +145,21 @@ pub fn run_silo<Rt: Threads + Wait + Sync, H: Host, G: Gate + Sync>(
     gate: &G,
 ) -> Status
     // What the command promises that the words say, and that all other words are bad use.
-    ensures serves { IsTrue H.tells → (m : Manner) (asked : AList (AList ℕ)) → IsAsked (texts_of words.now) (H.world host.old) m asked → Serves is_built is_taken (texts_of words.now)
-        (observed_call m asked (H.world host.old) (H.world host.new) (H.faults host.old) (H.faults host.new) result) }
+    ensures serves { IsTrue H.tells → Serves (texts_of words.now) (shown (H.world host.old) (H.world host.new) (H.faults host.old) (H.faults host.new) result) }
 
     // What the counts of faults say of the answer, over every host.
-    ensures answers { AnswersAs is_built is_taken (texts_of words.now) (status_ending result) (H.faults host.old) (H.faults host.new) }
+    ensures answers { AnswersAs (texts_of words.now) (status_ending result) (H.faults host.old) (H.faults host.new) }
     ensures ready { StaysReady (H.is_ready host.old) (H.is_ready host.new) }
 {
-    match read_asked(alloc, words) {
-        Ok(Asked::Init) => make(alloc, host),
-        Ok(Asked::Run(how)) => run(rt, alloc, host, gate, &how),
-        Ok(Asked::Show) => show(alloc, host),
-        Ok(Asked::History) => history(alloc, host),
-        Ok(Asked::Audit) => audit(alloc, host),
-        Ok(
-            Asked::Load {
+    match run_alone(alloc, words, host, gate) {
+        Ok(status) => status,
+        Err(ByWorkers::Run { workers }) => run_by_workers(rt, alloc, host, gate, workers),
+        Err(
+            ByWorkers::Load {
                 transfers,
                 seed,
-                how,
+                workers,
             },
-        ) => load(rt, alloc, host, gate, transfers, seed, &how),
-        Ok(Asked::Check { starts, seed }) => check(alloc, host, starts, seed),
-        Err(WordsFault::BadUse) => Status::BadUse,
-        Err(WordsFault::Memory) => Status::Memory,
+        ) => { load_by_workers(rt, alloc, host, gate, transfers, seed, workers) }
     }
 }

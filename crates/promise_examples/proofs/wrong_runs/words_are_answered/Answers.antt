@@ -8,4 +8,4 @@ pub returns-clause-changed : goal.returns-clause-changed
 returns-clause-changed c = changed_by_none
 
 pub returns-clause-said : goal.returns-clause-said
-returns-clause-said c = λ built takes words r which serves. said_bad built takes words r serves which
+returns-clause-said c = said_bad

@@ -1,90 +1,45 @@
-use Rattle.std.proofs.Common.{◌≡◌, ℕ, List, [], Result, Err, ap, subst}
-use Rattle.promise_spec.specs.Words.{Command, Init, Run, Show, History, Audit, Load, Check}
-use Rattle.promise_spec.specs.Endings.{BadUse, Memory}
+use Rattle.std.proofs.Common.{◌≡◌, ℕ, List, subst}
+use Rattle.promise_spec.specs.Words.{Run, Load}
 use Rattle.promise_spec.specs.Calls.{Understands}
+use Rattle.promise_spec.specs.Loads.{Loads}
+use Rattle.promise_spec.specs.Promise.{Promises}
+use Rattle.bank_load.specs.Requests.{load_texts}
 use Rattle.command_words.specs.CutParts.{texts_of}
-use Rattle.command_words.specs.declared.faults.WordsFault.{WordsFault}
-use Rattle.silo_top.specs.declared.asking.Asked.{Asked}
-use Rattle.silo_top.specs.Answering.{is_built, is_taken, observed_call}
-use Rattle.silo_top.specs.Asking.{asked_command, carriage_manner, MayBeCarried}
+use Rattle.silo_top.specs.declared.running.ByWorkers.{ByWorkers}
+use Rattle.silo_top.specs.Answering.{workers_manner, shown, AnswersRun}
+use Rattle.silo_top.specs.Asking.{left_command, MayBeLeft}
 use Rattle.silo_top.specs.Statuses.{status_ending}
-use Rattle.silo_top.proofs.Calling.{obeyed_serves, exact_answers, run_answers, run_serves, load_serves, refused_serves, refused_answers, starved_serves, starved_answers}
+use Rattle.silo_top.proofs.Observing.{observed_call, observed_run}
+use Rattle.silo_top.proofs.Calling.{obeyed_serves, run_answers}
 use Rattle.silo_top.proofs.running.run_silo.Goals as goal
 
--- words that weren't read
-abbrev unread : WordsFault → Result Asked WordsFault
-unread e = Err e
+-- what is left is this command
+left : (texts : List (List ℕ)) (a b : ByWorkers) → a ≡ b → Understands texts (left_command a) → Understands texts (left_command b)
+left texts a b same u = subst (λ (x : ByWorkers). Understands texts (left_command x)) same u
 
--- what is understood is this command
-understood : (texts : List (List ℕ)) (a b : Asked) → a ≡ b → Understands is_built is_taken texts (asked_command a) → Understands is_built is_taken texts (asked_command b)
-understood texts a b same u = subst (λ (x : Asked). Understands is_built is_taken texts (asked_command x)) same u
+pub returns-in-Err-Run-clause-serves : goal.returns-in-Err-Run-clause-serves
+returns-in-Err-Run-clause-serves g c = λ told. obeyed_serves (texts_of c.args.words.now) (Run workers_manner) (left (texts_of c.args.words.now) c.in-Err-Run.field-0 (ByWorkers.Run c.in-Err-Run.workers) c.in-Err-Run.field-0-is c.in-Err-Run.ensures.left)
+    (shown (g.H.Host.world c.args.host.now) (g.H.Host.world c.run_by_workers.new.host) (g.H.Host.faults c.args.host.now) (g.H.Host.faults c.run_by_workers.new.host) c.run_by_workers.result)
+    (subst (λ h. Promises workers_manner (observed_run workers_manner (g.H.Host.world h) (g.H.Host.world c.run_by_workers.new.host) (g.H.Host.faults h) (g.H.Host.faults c.run_by_workers.new.host) c.run_by_workers.result)) c.in-Err-Run.ensures.unused (c.run_by_workers.ensures.promises told))
 
-pub returns-in-Ok-Init-clause-serves : goal.returns-in-Ok-Init-clause-serves
-returns-in-Ok-Init-clause-serves g c = λ told m asked is. obeyed_serves (texts_of c.args.words.now) Init (understood (texts_of c.args.words.now) c.in-Ok-Init.field-0 Asked.Init c.in-Ok-Init.field-0-is c.in-Ok-Init.ensures.asked)
-    (observed_call m asked (g.H.Host.world c.args.host.now) (g.H.Host.world c.make.new.host) (g.H.Host.faults c.args.host.now) (g.H.Host.faults c.make.new.host) c.make.result) (c.make.ensures.makes told m asked)
+pub returns-in-Err-Run-clause-answers : goal.returns-in-Err-Run-clause-answers
+returns-in-Err-Run-clause-answers g c = run_answers (texts_of c.args.words.now) (Run workers_manner) (left (texts_of c.args.words.now) c.in-Err-Run.field-0 (ByWorkers.Run c.in-Err-Run.workers) c.in-Err-Run.field-0-is c.in-Err-Run.ensures.left) (g.H.Host.faults c.args.host.now) (g.H.Host.faults c.run_by_workers.new.host) (status_ending c.run_by_workers.result) (λ begun. begun)
+    (subst (λ h. AnswersRun (status_ending c.run_by_workers.result) (g.H.Host.faults h) (g.H.Host.faults c.run_by_workers.new.host)) c.in-Err-Run.ensures.unused c.run_by_workers.ensures.answers)
 
-pub returns-in-Ok-Init-clause-answers : goal.returns-in-Ok-Init-clause-answers
-returns-in-Ok-Init-clause-answers g c = exact_answers (texts_of c.args.words.now) Init (understood (texts_of c.args.words.now) c.in-Ok-Init.field-0 Asked.Init c.in-Ok-Init.field-0-is c.in-Ok-Init.ensures.asked) (g.H.Host.faults c.args.host.now) (g.H.Host.faults c.make.new.host) (status_ending c.make.result) (λ q. c.make.ensures.good q) c.make.ensures.exact
+pub run_by_workers-requires-clause-few : goal.run_by_workers-requires-clause-few
+run_by_workers-requires-clause-few g c l u = (subst MayBeLeft c.in-Err-Run.field-0-is c.in-Err-Run.ensures.bounds).1
 
-pub returns-in-Ok-Show-clause-serves : goal.returns-in-Ok-Show-clause-serves
-returns-in-Ok-Show-clause-serves g c = λ told m asked is. obeyed_serves (texts_of c.args.words.now) Show (understood (texts_of c.args.words.now) c.in-Ok-Show.field-0 Asked.Show c.in-Ok-Show.field-0-is c.in-Ok-Show.ensures.asked)
-    (observed_call m asked (g.H.Host.world c.args.host.now) (g.H.Host.world c.show.new.host) (g.H.Host.faults c.args.host.now) (g.H.Host.faults c.show.new.host) c.show.result) (c.show.ensures.reports told m asked)
+pub returns-in-Err-Load-clause-serves : goal.returns-in-Err-Load-clause-serves
+returns-in-Err-Load-clause-serves g c = λ told. obeyed_serves (texts_of c.args.words.now) (Load c.in-Err-Load.transfers c.in-Err-Load.seed workers_manner) (left (texts_of c.args.words.now) c.in-Err-Load.field-0 (ByWorkers.Load c.in-Err-Load.transfers c.in-Err-Load.seed c.in-Err-Load.workers) c.in-Err-Load.field-0-is c.in-Err-Load.ensures.left)
+    (shown (g.H.Host.world c.args.host.now) (g.H.Host.world c.load_by_workers.new.host) (g.H.Host.faults c.args.host.now) (g.H.Host.faults c.load_by_workers.new.host) c.load_by_workers.result)
+    (subst (λ h. Loads c.in-Err-Load.transfers c.in-Err-Load.seed workers_manner (observed_call workers_manner (load_texts c.in-Err-Load.transfers c.in-Err-Load.seed) (g.H.Host.world h) (g.H.Host.world c.load_by_workers.new.host) (g.H.Host.faults h) (g.H.Host.faults c.load_by_workers.new.host) c.load_by_workers.result)) c.in-Err-Load.ensures.unused (c.load_by_workers.ensures.loads told))
 
-pub returns-in-Ok-Show-clause-answers : goal.returns-in-Ok-Show-clause-answers
-returns-in-Ok-Show-clause-answers g c = exact_answers (texts_of c.args.words.now) Show (understood (texts_of c.args.words.now) c.in-Ok-Show.field-0 Asked.Show c.in-Ok-Show.field-0-is c.in-Ok-Show.ensures.asked) (g.H.Host.faults c.args.host.now) (g.H.Host.faults c.show.new.host) (status_ending c.show.result) (λ q. c.show.ensures.good q) c.show.ensures.exact
+pub returns-in-Err-Load-clause-answers : goal.returns-in-Err-Load-clause-answers
+returns-in-Err-Load-clause-answers g c = run_answers (texts_of c.args.words.now) (Load c.in-Err-Load.transfers c.in-Err-Load.seed workers_manner) (left (texts_of c.args.words.now) c.in-Err-Load.field-0 (ByWorkers.Load c.in-Err-Load.transfers c.in-Err-Load.seed c.in-Err-Load.workers) c.in-Err-Load.field-0-is c.in-Err-Load.ensures.left) (g.H.Host.faults c.args.host.now) (g.H.Host.faults c.load_by_workers.new.host) (status_ending c.load_by_workers.result) (λ begun. begun)
+    (subst (λ h. AnswersRun (status_ending c.load_by_workers.result) (g.H.Host.faults h) (g.H.Host.faults c.load_by_workers.new.host)) c.in-Err-Load.ensures.unused c.load_by_workers.ensures.answers)
 
-pub returns-in-Ok-History-clause-serves : goal.returns-in-Ok-History-clause-serves
-returns-in-Ok-History-clause-serves g c = λ told m asked is. obeyed_serves (texts_of c.args.words.now) History (understood (texts_of c.args.words.now) c.in-Ok-History.field-0 Asked.History c.in-Ok-History.field-0-is c.in-Ok-History.ensures.asked)
-    (observed_call m asked (g.H.Host.world c.args.host.now) (g.H.Host.world c.history.new.host) (g.H.Host.faults c.args.host.now) (g.H.Host.faults c.history.new.host) c.history.result) (c.history.ensures.reports told m asked)
+pub load_by_workers-requires-clause-few : goal.load_by_workers-requires-clause-few
+load_by_workers-requires-clause-few g c l u = (subst MayBeLeft c.in-Err-Load.field-0-is c.in-Err-Load.ensures.bounds).0.1
 
-pub returns-in-Ok-History-clause-answers : goal.returns-in-Ok-History-clause-answers
-returns-in-Ok-History-clause-answers g c = exact_answers (texts_of c.args.words.now) History (understood (texts_of c.args.words.now) c.in-Ok-History.field-0 Asked.History c.in-Ok-History.field-0-is c.in-Ok-History.ensures.asked) (g.H.Host.faults c.args.host.now) (g.H.Host.faults c.history.new.host) (status_ending c.history.result) (λ q. c.history.ensures.good q) c.history.ensures.exact
-
-pub returns-in-Ok-Audit-clause-serves : goal.returns-in-Ok-Audit-clause-serves
-returns-in-Ok-Audit-clause-serves g c = λ told m asked is. obeyed_serves (texts_of c.args.words.now) Audit (understood (texts_of c.args.words.now) c.in-Ok-Audit.field-0 Asked.Audit c.in-Ok-Audit.field-0-is c.in-Ok-Audit.ensures.asked)
-    (observed_call m asked (g.H.Host.world c.args.host.now) (g.H.Host.world c.audit.new.host) (g.H.Host.faults c.args.host.now) (g.H.Host.faults c.audit.new.host) c.audit.result) (c.audit.ensures.audits told m asked)
-
-pub returns-in-Ok-Audit-clause-answers : goal.returns-in-Ok-Audit-clause-answers
-returns-in-Ok-Audit-clause-answers g c = exact_answers (texts_of c.args.words.now) Audit (understood (texts_of c.args.words.now) c.in-Ok-Audit.field-0 Asked.Audit c.in-Ok-Audit.field-0-is c.in-Ok-Audit.ensures.asked) (g.H.Host.faults c.args.host.now) (g.H.Host.faults c.audit.new.host) (status_ending c.audit.result) (λ q. c.audit.ensures.good q) c.audit.ensures.exact
-
-pub returns-in-Ok-Run-clause-serves : goal.returns-in-Ok-Run-clause-serves
-returns-in-Ok-Run-clause-serves g c = λ told m asked is. run_serves (texts_of c.args.words.now) (carriage_manner c.in-Ok-Run.how) (understood (texts_of c.args.words.now) c.in-Ok-Run.field-0 (Asked.Run c.in-Ok-Run.how) c.in-Ok-Run.field-0-is c.in-Ok-Run.ensures.asked) m asked
-    (g.H.Host.world c.args.host.now) (g.H.Host.world c.run.new.host) (g.H.Host.faults c.args.host.now) (g.H.Host.faults c.run.new.host) c.run.result is (c.run.ensures.promises told)
-
-pub returns-in-Ok-Run-clause-answers : goal.returns-in-Ok-Run-clause-answers
-returns-in-Ok-Run-clause-answers g c = run_answers (texts_of c.args.words.now) (Run (carriage_manner c.in-Ok-Run.how)) (understood (texts_of c.args.words.now) c.in-Ok-Run.field-0 (Asked.Run c.in-Ok-Run.how) c.in-Ok-Run.field-0-is c.in-Ok-Run.ensures.asked) (g.H.Host.faults c.args.host.now) (g.H.Host.faults c.run.new.host) (status_ending c.run.result) (λ begun. begun) c.run.ensures.answers
-
-pub returns-in-Ok-Load-clause-serves : goal.returns-in-Ok-Load-clause-serves
-returns-in-Ok-Load-clause-serves g c = λ told m asked is. load_serves (texts_of c.args.words.now) c.in-Ok-Load.transfers c.in-Ok-Load.seed (carriage_manner c.in-Ok-Load.how) (understood (texts_of c.args.words.now) c.in-Ok-Load.field-0 (Asked.Load c.in-Ok-Load.transfers c.in-Ok-Load.seed c.in-Ok-Load.how) c.in-Ok-Load.field-0-is c.in-Ok-Load.ensures.asked) m asked
-    (g.H.Host.world c.args.host.now) (g.H.Host.world c.load.new.host) (g.H.Host.faults c.args.host.now) (g.H.Host.faults c.load.new.host) c.load.result is (c.load.ensures.loads told)
-
-pub returns-in-Ok-Load-clause-answers : goal.returns-in-Ok-Load-clause-answers
-returns-in-Ok-Load-clause-answers g c = run_answers (texts_of c.args.words.now) (Load c.in-Ok-Load.transfers c.in-Ok-Load.seed (carriage_manner c.in-Ok-Load.how)) (understood (texts_of c.args.words.now) c.in-Ok-Load.field-0 (Asked.Load c.in-Ok-Load.transfers c.in-Ok-Load.seed c.in-Ok-Load.how) c.in-Ok-Load.field-0-is c.in-Ok-Load.ensures.asked) (g.H.Host.faults c.args.host.now) (g.H.Host.faults c.load.new.host) (status_ending c.load.result) (λ begun. begun) c.load.ensures.answers
-
-pub returns-in-Ok-Check-clause-serves : goal.returns-in-Ok-Check-clause-serves
-returns-in-Ok-Check-clause-serves g c = λ told m asked is. obeyed_serves (texts_of c.args.words.now) (Check c.in-Ok-Check.starts c.in-Ok-Check.seed) (understood (texts_of c.args.words.now) c.in-Ok-Check.field-0 (Asked.Check c.in-Ok-Check.starts c.in-Ok-Check.seed) c.in-Ok-Check.field-0-is c.in-Ok-Check.ensures.asked)
-    (observed_call m asked (g.H.Host.world c.args.host.now) (g.H.Host.world c.check.new.host) (g.H.Host.faults c.args.host.now) (g.H.Host.faults c.check.new.host) c.check.result) (c.check.ensures.checks told m asked)
-
-pub returns-in-Ok-Check-clause-answers : goal.returns-in-Ok-Check-clause-answers
-returns-in-Ok-Check-clause-answers g c = exact_answers (texts_of c.args.words.now) (Check c.in-Ok-Check.starts c.in-Ok-Check.seed) (understood (texts_of c.args.words.now) c.in-Ok-Check.field-0 (Asked.Check c.in-Ok-Check.starts c.in-Ok-Check.seed) c.in-Ok-Check.field-0-is c.in-Ok-Check.ensures.asked) (g.H.Host.faults c.args.host.now) (g.H.Host.faults c.check.new.host) (status_ending c.check.result) (λ q. c.check.ensures.good q) c.check.ensures.exact
-
-pub load-requires-clause-how : goal.load-requires-clause-how
-load-requires-clause-how g c l u = (subst MayBeCarried c.in-Ok-Load.field-0-is c.in-Ok-Load.ensures.bounds).0
-
-pub run-requires-clause-how : goal.run-requires-clause-how
-run-requires-clause-how g c l u = subst MayBeCarried c.in-Ok-Run.field-0-is c.in-Ok-Run.ensures.bounds
-
-pub load-requires-clause-many : goal.load-requires-clause-many
-load-requires-clause-many g c l u = (subst MayBeCarried c.in-Ok-Load.field-0-is c.in-Ok-Load.ensures.bounds).1
-
-pub returns-in-Err-BadUse-clause-serves : goal.returns-in-Err-BadUse-clause-serves
-returns-in-Err-BadUse-clause-serves g c = λ told m asked is. refused_serves (texts_of c.args.words.now) m asked (g.H.Host.world c.args.host.now) (g.H.Host.faults c.args.host.now) (c.in-Err-BadUse.ensures.bad_use (ap unread c.in-Err-BadUse.field-0-is))
-
-pub returns-in-Err-BadUse-clause-answers : goal.returns-in-Err-BadUse-clause-answers
-returns-in-Err-BadUse-clause-answers g c = refused_answers (texts_of c.args.words.now) (g.H.Host.faults c.args.host.now) (c.in-Err-BadUse.ensures.bad_use (ap unread c.in-Err-BadUse.field-0-is))
-
-pub returns-in-Err-Memory-clause-serves : goal.returns-in-Err-Memory-clause-serves
-returns-in-Err-Memory-clause-serves g c = λ told m asked is. starved_serves (texts_of c.args.words.now) m asked (g.H.Host.world c.args.host.now) (g.H.Host.faults c.args.host.now) is
-
-pub returns-in-Err-Memory-clause-answers : goal.returns-in-Err-Memory-clause-answers
-returns-in-Err-Memory-clause-answers g c = starved_answers (texts_of c.args.words.now) (g.H.Host.faults c.args.host.now)
+pub load_by_workers-requires-clause-many : goal.load_by_workers-requires-clause-many
+load_by_workers-requires-clause-many g c l u = (subst MayBeLeft c.in-Err-Load.field-0-is c.in-Err-Load.ensures.bounds).1
