@@ -172,17 +172,17 @@ fn are_ascending(writes: &[Written]) -> bool
 }
 
 // Whether the record keeps the limits of the format.
-fn may_spell(record: &CommitRecord) -> bool
-    ensures yes { IsTrue result → MaySpell record.now }
-    ensures no { MaySpell record.now → IsTrue result }
+fn may_spell(logged: &CommitRecord) -> bool
+    ensures yes { IsTrue result → MaySpell logged.now }
+    ensures no { MaySpell logged.now → IsTrue result }
 {
-    if record.call.args.len() > 8 || record.answers.len() > 64 || record.writes.len() > 64 {
+    if logged.call.args.len() > 8 || logged.answers.len() > 64 || logged.writes.len() > 64 {
         return false;
     }
-    if is_abort(&record.result) {
+    if is_abort(&logged.result) {
         return false;
     }
-    are_ascending(record.writes.as_slice())
+    are_ascending(logged.writes.as_slice())
 }
 
 // Whether the records keep the limits of the format.
