@@ -1,5 +1,5 @@
 -- The records of a batch, and what the votes kept.
-use Rattle.std.proofs.Common.{◌≡◌, inl, inr, ◌≤◌, Bool, true, if◌then◌else◌, List, [], ◌∷◌, ◌++◌, length, map, Some, refl, sym, ◌∙◌, ap, subst, arith, eqb-true}
+use Rattle.std.proofs.Common.{◌≡◌, inl, inr, ℕ, zero, suc, ◌≤◌, ◌<◌, Bool, true, if◌then◌else◌, List, [], ◌∷◌, ◌++◌, length, map, get_or, Some, refl, sym, ◌∙◌, ap, subst, arith, eqb-true}
 use Rattle.std.specs.Prelude.{zip}
 use Rattle.std.specs.List.{AllByRecursion}
 use Rattle.std.proofs.lemmas.Bool.{cases_Bool, and_parts}
@@ -163,3 +163,55 @@ all_kept voted all within [] [] are = tt
 all_kept voted all within [] (r ∷ rs) are = absurd are
 all_kept voted all within (e ∷ es) [] are = absurd are
 all_kept voted all within (e ∷ es) (r ∷ rs) are = (unit_kept voted all within e.unit e.writes r.writes are.0.writes, all_kept voted all within es rs are.1)
+
+-- ---- what has no record
+
+-- each write of a unit has its place
+pub place_there : (voted : List Voted) (u : UnitNo) (xs : List (GrainId × List Value)) (ws : List Written) (i : ℕ) (x : GrainId × List Value) → HavePlaces voted u xs ws → i < length xs → x ≡ get_or xs i x
+    → (p : Place) × (place_among u x.0 voted ≡ Some p)
+place_there voted u [] ws i x are low is = absurd (omega (arith, low))
+place_there voted u (y ∷ xs) [] i x are low is = absurd are
+place_there voted u (y ∷ xs) (w ∷ ws) zero x are low is = (w.place, ap (λ (z : GrainId × List Value). place_among u z.0 voted) is ∙ are.0.1)
+place_there voted u (y ∷ xs) (w ∷ ws) (suc i) x are low is = place_there voted u xs ws i x are.1 (omega (arith, low)) is
+
+-- each unit has its record
+pub record_there : (voted : List Voted) (es : List Effect) (rs : List CommitRecord) (i : ℕ) (e : Effect) → AreRecordsFor voted es rs → i < length es → e ≡ get_or es i e → (r : CommitRecord) × IsRecordFor voted e r
+record_there voted [] rs i e are low is = absurd (omega (arith, low))
+record_there voted (d ∷ es) [] i e are low is = absurd are
+record_there voted (d ∷ es) (r ∷ rs) zero e are low is = (r, subst (λ (x : Effect). IsRecordFor voted x r) (sym is) are.0)
+record_there voted (d ∷ es) (r ∷ rs) (suc i) e are low is = record_there voted es rs i e are.1 (omega (arith, low)) is
+
+-- ---- there is one list of records
+
+some_place : (p q : Place) → Some p ≡ Some q → p ≡ q
+some_place p q same = cc
+
+one_writes : (voted : List Voted) (u : UnitNo) (xs : List (GrainId × List Value)) (vs ws : List Written) → HavePlaces voted u xs vs → HavePlaces voted u xs ws → vs ≡ ws
+one_writes voted u [] [] [] are too = refl
+one_writes voted u [] [] (w ∷ ws) are too = absurd too
+one_writes voted u [] (v ∷ vs) ws are too = absurd are
+one_writes voted u (x ∷ xs) [] ws are too = absurd are
+one_writes voted u (x ∷ xs) (v ∷ vs) [] are too = absurd too
+one_writes voted u (x ∷ xs) (v ∷ vs) (w ∷ ws) are too =
+    let grain : v.grain ≡ w.grain = are.0.0 ∙ sym too.0.0 in
+    let place : v.place ≡ w.place = some_place v.place w.place (sym are.0.1 ∙ too.0.1) in
+    let more = one_writes voted u xs vs ws are.1 too.1 in
+    λ i. record { grain = grain i; place = place i } ∷ more i
+
+one_record : (voted : List Voted) (e : Effect) (q r : CommitRecord) → IsRecordFor voted e q → IsRecordFor voted e r → q ≡ r
+one_record voted e q r is too =
+    let unit : q.unit ≡ r.unit = is.unit ∙ sym too.unit in
+    let origin : q.origin ≡ r.origin = is.origin ∙ sym too.origin in
+    let call : q.call ≡ r.call = is.call ∙ sym too.call in
+    let answers : q.answers ≡ r.answers = is.answers ∙ sym too.answers in
+    let result : q.result ≡ r.result = is.result ∙ sym too.result in
+    let writes : q.writes ≡ r.writes = one_writes voted e.unit e.writes q.writes r.writes is.writes too.writes in
+    λ i. record { unit = unit i; origin = origin i; call = call i; answers = answers i; result = result i; writes = writes i }
+
+pub one_records : (voted : List Voted) (es : List Effect) (qs rs : List CommitRecord) → AreRecordsFor voted es qs → AreRecordsFor voted es rs → qs ≡ rs
+one_records voted [] [] [] are too = refl
+one_records voted [] [] (r ∷ rs) are too = absurd too
+one_records voted [] (q ∷ qs) rs are too = absurd are
+one_records voted (e ∷ es) [] rs are too = absurd are
+one_records voted (e ∷ es) (q ∷ qs) [] are too = absurd too
+one_records voted (e ∷ es) (q ∷ qs) (r ∷ rs) are too = let one = one_record voted e q r are.0 too.0 in let more = one_records voted es qs rs are.1 too.1 in λ i. one i ∷ more i

@@ -1,5 +1,8 @@
-ghost use Rattle.std.specs.Prelude.{◌≡◌, ◌<◌, ◌^◌, true, false, IsTrue, length, map, None, IfOk, IfSome};
+ghost use Rattle.std.specs.Prelude.{◌≡◌, ◌<◌, ◌≤◌, ◌^◌, List, true, false, IsTrue, length, map, None, IfOk, IfSome, IfNone, IsErrOf};
 ghost use Rattle.std.specs.List.{AllByRecursion};
+ghost use Rattle.commit_log.specs.declared.records.CommitRecord.{CommitRecord as ARecord};
+ghost use Rattle.commit_log.specs.declared.records.Written.{Written as AWritten};
+ghost use Rattle.batch_disk.specs.declared.recording.WorkFault.{WorkFault};
 ghost use Rattle.commit_log.specs.Encodable.{MaySpell, IsNoAbort};
 ghost use Rattle.commit_log.specs.Orders.{is_above, IsAscending};
 ghost use Rattle.commit_log.specs.Spelling.{spelling_of_body, spelling_of_block, RecordsFit};
@@ -17,6 +20,26 @@ use std::alloc::{AllocError, Global};
 pub struct SealWork {
     pub(crate) records: List<CommitRecord>,
     pub(crate) block: List<u8>,
+}
+
+/// Why a batch's units have no records.
+#[derive(Clone, Copy, Debug, PartialEq, Eq)]
+pub(crate) enum WorkFault {
+    /// There was no memory.
+    Memory,
+    /// A place of a version that a unit wrote isn't kept, or a unit or the batch goes beyond the limits of the format.
+    Unlawful,
+}
+
+impl From<AllocError> for WorkFault {
+    ghost use Rattle.std.specs.Prelude.{◌≡◌};
+    ghost use Rattle.batch_disk.specs.declared.recording.WorkFault.{WorkFault};
+
+    ghost from_gives = { λ _ fault. fault ≡ WorkFault.Memory };
+
+    fn from(_: AllocError) -> Self {
+        WorkFault::Memory
+    }
 }
 
 // Whether this is the unit's version of the grain.
@@ -45,7 +68,8 @@ fn places_of(
     unit: UnitNo,
     writes: &[(GrainId, State)],
 ) -> Result<Option<List<Written>>, AllocError>
-    ensures { IfOk result (λ found. IfSome found (λ made. HavePlaces (map voted_by kept.now) unit writes.now made)) }
+    ensures some { IfOk result (λ found. IfSome found (λ made. HavePlaces (map voted_by kept.now) unit writes.now made)) }
+    ensures none { IfOk result (λ found. IfNone found ((made : List AWritten) → HavePlaces (map voted_by kept.now) unit writes.now made → ⊥)) }
 {
     let mut made = List::new(alloc);
     for write in writes {
@@ -64,7 +88,8 @@ fn record_of(
     kept: &[KeptVersion],
     effect: Effect,
 ) -> Result<Option<CommitRecord>, AllocError>
-    ensures { IfOk result (λ found. IfSome found (λ made. IsRecordFor (map voted_by kept.now) effect made)) }
+    ensures some { IfOk result (λ found. IfSome found (λ made. IsRecordFor (map voted_by kept.now) effect made)) }
+    ensures none { IfOk result (λ found. IfNone found ((made : ARecord) → IsRecordFor (map voted_by kept.now) effect made → ⊥)) }
 {
     let Effect {
         unit,
@@ -94,7 +119,8 @@ fn records_of(
     kept: &[KeptVersion],
     effects: List<Effect>,
 ) -> Result<Option<List<CommitRecord>>, AllocError>
-    ensures { IfOk result (λ found. IfSome found (λ records. AreRecordsFor (map voted_by kept.now) effects records)) }
+    ensures some { IfOk result (λ found. IfSome found (λ records. AreRecordsFor (map voted_by kept.now) effects records)) }
+    ensures none { IfOk result (λ found. IfNone found ((records : List ARecord) → AreRecordsFor (map voted_by kept.now) effects records → ⊥)) }
 {
     let mut records = List::new(alloc);
     for effect in effects.into_vec() {
@@ -108,7 +134,8 @@ fn records_of(
 
 // Whether the outcome is none that the log keeps.
 fn is_abort(outcome: &Outcome) -> bool
-    ensures { result ≡ false → IsNoAbort outcome.now }
+    ensures none { result ≡ false → IsNoAbort outcome.now }
+    ensures some { IsNoAbort outcome.now → result ≡ false }
 {
     match outcome {
         Outcome::Aborted => true,
@@ -131,7 +158,8 @@ fn is_above(last: Option<GrainId>, grain: GrainId) -> bool
 
 // Whether the grains of these writes ascend.
 fn are_ascending(writes: &[Written]) -> bool
-    ensures { IsTrue result → IsAscending None writes.now }
+    ensures yes { IsTrue result → IsAscending None writes.now }
+    ensures no { IsAscending None writes.now → IsTrue result }
 {
     let mut last = None;
     for write in writes {
@@ -144,21 +172,23 @@ fn are_ascending(writes: &[Written]) -> bool
 }
 
 // Whether the record keeps the limits of the format.
-fn may_spell(record: &CommitRecord) -> bool
-    ensures { IsTrue result → MaySpell record.now }
+fn may_spell(logged: &CommitRecord) -> bool
+    ensures yes { IsTrue result → MaySpell logged.now }
+    ensures no { MaySpell logged.now → IsTrue result }
 {
-    if record.call.args.len() > 8 || record.answers.len() > 64 || record.writes.len() > 64 {
+    if logged.call.args.len() > 8 || logged.answers.len() > 64 || logged.writes.len() > 64 {
         return false;
     }
-    if is_abort(&record.result) {
+    if is_abort(&logged.result) {
         return false;
     }
-    are_ascending(record.writes.as_slice())
+    are_ascending(logged.writes.as_slice())
 }
 
 // Whether the records keep the limits of the format.
 fn all_may_spell(records: &[CommitRecord]) -> bool
-    ensures { IsTrue result → AllByRecursion MaySpell records.now }
+    ensures yes { IsTrue result → AllByRecursion MaySpell records.now }
+    ensures no { AllByRecursion MaySpell records.now → IsTrue result }
 {
     for record in records {
         if !may_spell(record) {
@@ -168,22 +198,28 @@ fn all_may_spell(records: &[CommitRecord]) -> bool
     true
 }
 
-/// The records of these units with the places that are kept, and their block.
+/// The records of these units with the places that are kept, and their block. `Unlawful` only where no such records are within
+/// the limits of the format.
 pub(crate) fn work_of(
     alloc: Global,
     kept: &[KeptVersion],
     effects: List<Effect>,
-) -> Result<SealWork, AllocError>
+) -> Result<SealWork, WorkFault>
     ensures records { IfOk result (λ work. AreRecordsFor (map voted_by kept.now) effects work.records) }
     ensures fits { IfOk result (λ work. RecordsFit work.records) }
     ensures small { IfOk result (λ work. length (spelling_of_body work.records) < 2 ^ 32) }
     ensures block { IfOk result (λ work. work.block ≡ spelling_of_block work.records) }
+    ensures unlawful { IsErrOf result WorkFault.Unlawful → (records : List ARecord) → AreRecordsFor (map voted_by kept.now) effects records
+        → length records ≤ 64 → AllByRecursion MaySpell records → ⊥ }
 {
     let Some(records) = records_of(alloc, kept, effects)? else {
-        return Err(AllocError);
+        return Err(WorkFault::Unlawful);
     };
-    if records.len() > 64 || !all_may_spell(records.as_slice()) {
-        return Err(AllocError);
+    if records.len() > 64 {
+        return Err(WorkFault::Unlawful);
+    }
+    if !all_may_spell(records.as_slice()) {
+        return Err(WorkFault::Unlawful);
     }
     let block = encode_block(alloc, &records)?;
     Ok(SealWork { records, block })

@@ -241,8 +241,10 @@ impl BatchWriter {
         ensures sealable { IfOk result (λ work. IsSealable self.now work) }
     {
         let votes = self.votes_of(batch);
-        let work = work_of(*self.kept.allocator(), votes, effects)?;
-        Ok(work)
+        match work_of(*self.kept.allocator(), votes, effects) {
+            Ok(work) => Ok(work),
+            Err(_) => Err(AllocError),
+        }
     }
 
     // The ends move past the places that a record names. It takes no memory.

@@ -1,5 +1,5 @@
 // What a crash may leave of a file, by making its events again.
-ghost use Rattle.std.specs.Prelude.{◌≡◌, ◌+◌, ◌<◌, ◌≤◌, ℕ, [], ◌∷◌, List, length, max, slice_index, true, IfOk, OnOk};
+ghost use Rattle.std.specs.Prelude.{◌≡◌, ◌+◌, ◌%◌, ◌<◌, ◌≤◌, ℕ, [], ◌∷◌, List, length, max, slice_index, true, IfOk, OnOk};
 ghost use Rattle.host_trait.specs.declared.channels.FileId.{FileId};
 ghost use Rattle.host_trait.specs.Disk.{FileState, MayLeave, Untouched, overlaid, settled};
 ghost use Rattle.host_memory.specs.Replay.{state_step, state_at};
@@ -136,8 +136,8 @@ impl Draft {
         true
     }
 
-    // A byte of an outcome: the base's where nothing is pending, else by the way and the seed.
-    fn byte(&self, i: usize, way: u64, seed: u64) -> u8
+    // A byte of an outcome: the base's where nothing is pending, else by the seed one of before and after, or any.
+    fn byte(&self, i: usize, is_torn: bool, seed: u64) -> u8
         ensures { i < length self.now.base.items → Untouched self.now.ranges.items i → result ≡ slice_index self.now.base.items i }
     {
         let old = self.base.get(i).copied().unwrap_or(0);
@@ -146,42 +146,34 @@ impl Draft {
         }
         let new = self.seen.get(i).copied().unwrap_or(0);
         let mixed = (i as u64).wrapping_mul(31).wrapping_add(seed);
-        match way {
-            0 => old,
-            1 => new,
-            2 => { if mixed % 2 == 0 { old } else { new } }
-            _ => (mixed % 256) as u8,
+        if !is_torn {
+            return (mixed % 256) as u8;
         }
+        if mixed % 2 == 0 { old } else { new }
     }
 
     // The length of an outcome.
-    fn size(&self, way: u64, seed: u64) -> usize
+    fn size(&self, seed: u64) -> usize
         ensures no_shorter { length self.now.base.items ≤ result }
         ensures no_longer { result ≤ max (length self.now.base.items) self.now.longest }
     {
         let least = self.base.len();
         let most = least.max(self.longest as usize);
         let room = most - least;
-        match way {
-            0 => least,
-            1 => self.seen.len().max(least).min(most),
-            _ => {
-                if room == 0 {
-                    return least;
-                }
-                least + (seed % room as u64) as usize + (seed / room as u64 % 2) as usize
-            }
+        if room == 0 {
+            return least;
         }
+        least + (seed % room as u64) as usize + (seed / room as u64 % 2) as usize
     }
 
-    // An outcome of a crash.
-    fn outcome(&self, alloc: Global, way: u64, seed: u64) -> Result<Vec<u8>, AllocError>
+    // An outcome of a crash in which what is pending is torn, or garbage.
+    fn outcome(&self, alloc: Global, is_torn: bool, seed: u64) -> Result<Vec<u8>, AllocError>
         ensures { IfOk result (λ bytes. MayLeave (drafted self.now) bytes.items) }
     {
-        let size = self.size(way, seed);
+        let size = self.size(seed);
         let mut bytes = Vec::new(alloc);
         for i in 0..size {
-            bytes.push(self.byte(i, way, seed))?;
+            bytes.push(self.byte(i, is_torn, seed))?;
         }
         Ok(bytes)
     }
@@ -201,7 +193,7 @@ fn draft_of(alloc: Global, events: &[Noted], until: u64, file: FileId) -> Result
 }
 
 // What a crash at a stamp may leave of a file; `pick` chooses. Of the four ways all that is pending is lost, or kept, or torn,
-// or garbage.
+// or garbage: the first two are contracts, and tests show the others.
 pub fn outcome_of(
     alloc: Global,
     events: &[Noted],
@@ -209,9 +201,17 @@ pub fn outcome_of(
     file: FileId,
     pick: u64,
 ) -> Result<Vec<u8>, AllocError>
-    ensures { IfOk result (λ bytes. MayLeave (state_at until events.now file) bytes.items) }
+    ensures left { IfOk result (λ bytes. MayLeave (state_at until events.now file) bytes.items) }
+    ensures lost { IfOk result (λ bytes. pick % 4 ≡ 0 → bytes.items ≡ (state_at until events.now file).base) }
+    ensures kept { IfOk result (λ bytes. pick % 4 ≡ 1 → bytes.items ≡ (state_at until events.now file).seen) }
 {
     let draft = draft_of(alloc, events, until, file)?;
-    let bytes = draft.outcome(alloc, pick % 4, pick / 4)?;
+    if pick % 4 == 0 {
+        return Ok(draft.base);
+    }
+    if pick % 4 == 1 {
+        return Ok(draft.seen);
+    }
+    let bytes = draft.outcome(alloc, pick % 4 == 2, pick / 4)?;
     Ok(bytes)
 }

@@ -264,6 +264,7 @@ module _ (p : Program) (n seed : ℕ) (r : Observed) (c : Course) (mid : World) 
           block = λ image left. b.block image (at_exit image left);
           differ = λ one other left left_too. b.differ one other (at_exit one left) (at_exit other left_too);
         });
+    behind = λ none image left. s.lasts.leaves.behind none image (at_exit image left);
   }
 
   -- where no batch is in doubt each image has the whole order

@@ -27,6 +27,6 @@ pub record IsTextIn (piece : Piece) (named : Named) (text : List ℕ) : Type 0 w
 
 -- whether a named version stands behind so many bytes that are read from an offset of this grain's file, and ends within 65,536
 -- bytes of it
-abbrev pub goes_on : GrainId → ℕ → ℕ → Named → Bool
-goes_on grain start size named =
+abbrev pub continues_piece : GrainId → ℕ → ℕ → Named → Bool
+continues_piece grain start size named =
     same_grain named.written.grain grain && ((named.written.place.offset == start + size) && nat_le (size + named.written.place.len) 65536)

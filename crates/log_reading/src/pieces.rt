@@ -10,7 +10,7 @@ ghost use Rattle.log_reading.specs.Counts.{ReadFaulted};
 ghost use Rattle.log_reading.specs.Steps.{seen_in, live_slot};
 ghost use Rattle.log_reading.specs.Versions.{version_named};
 ghost use Rattle.grain_log.specs.Reads.{IsTextAt};
-ghost use Rattle.log_reading.specs.Pieces.{IsPieceOf, IsTextIn, goes_on};
+ghost use Rattle.log_reading.specs.Pieces.{IsPieceOf, IsTextIn, continues_piece};
 
 use crate::faults::FolderFault;
 use base_types::{GrainId, Shape, Version};
@@ -89,10 +89,10 @@ pub fn version_of(
 }
 
 // Whether a version stands behind so many bytes of a piece that begins at an offset, and ends within 65,536 bytes of it.
-fn goes_on(grain: GrainId, start: u64, size: usize, named: Named) -> bool
+fn continues_piece(grain: GrainId, start: u64, size: usize, named: Named) -> bool
     requires low { start < 2 ^ 62 }
     requires size { size ≤ 65536 }
-    ensures { result ≡ goes_on grain start size named }
+    ensures { result ≡ continues_piece grain start size named }
 {
     let place = named.written.place;
     named.written.grain == grain
@@ -108,7 +108,7 @@ fn run_of(grain: GrainId, start: u64, named: &[Named]) -> usize
 {
     let mut size = 0usize;
     for one in named {
-        if !goes_on(grain, start, size, *one) {
+        if !continues_piece(grain, start, size, *one) {
             return size;
         }
         size += one.written.place.len as usize;

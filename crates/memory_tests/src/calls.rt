@@ -225,6 +225,32 @@ fn a_crash_reaches_each_kind_of_outcome(rt: HostRuntime) -> Result<(), Fail> {
     Ok(())
 }
 
+// Which of an image's two files have lost what was pending and which have kept it, where each did one or the other: one bit a pair.
+fn pair_of(image: &MemoryHost) -> u32 {
+    let manager = text_in(image, MANAGER);
+    let program = text_in(image, PROGRAM);
+    mark((manager == "abcd") & (program == "efgh"), 1)
+        | mark((manager == "abcd") & (program == "YZgh"), 2)
+        | mark((manager == "abWX") & (program == "efgh"), 4)
+        | mark((manager == "abWX") & (program == "YZgh"), 8)
+}
+
+#[test]
+fn the_files_of_an_image_go_each_its_way(rt: HostRuntime) -> Result<(), Fail> {
+    let mut host = with_abcd(&rt)?;
+    host.set_file(PROGRAM, b"efgh")?;
+    assert!(rt; write(&mut host, 2, b"WX").is_ok());
+    assert!(rt; host.write_at(FileId::Program { slot: 0 }, 0, b"YZ").is_ok());
+    let calls = host.calls();
+    let mut reached = 0;
+    for pick in 0..64u64 {
+        let crashed = host.crashed(calls, pick)?;
+        reached |= pair_of(&crashed);
+    }
+    assert_eq!(rt; reached, 0b1111);
+    Ok(())
+}
+
 #[test]
 fn a_crash_may_come_at_any_call(rt: HostRuntime) -> Result<(), Fail> {
     let mut host = MemoryHost::new(rt.alloc(), b"")?;

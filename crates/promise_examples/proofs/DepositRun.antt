@@ -264,6 +264,7 @@ module _ (r : Observed) (opened : Moment) (sealing : List Moment) (run : IsDepos
         absurd (differ (one_log (shape_in account_program) one a (first_commit ∷ []) log_a (run.logged one is_one).0 ∙ sym (one_log (shape_in account_program) other b (first_commit ∷ []) log_b (run.logged other is_other).0)));
     nowhere = λ e there. only (λ (d : Entry). d.what ≡ settled.InDoubt → IsNowhere account_program r d.unit → HasNoRecord course d.unit) first_entry e (λ is. absurd (cc is)) there;
     block = λ doubt. absurd (no_doubt doubt);
+    behind = λ none. run.behind;
   }
 
   no_fault : (channel : Channel) → RoseBy 0 (r.faults_before channel) (r.faults_after channel)

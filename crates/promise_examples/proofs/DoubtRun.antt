@@ -366,6 +366,7 @@ module _ (r : Observed) (opened : Moment) (told doubting : List Moment) (run : I
       block = run.block;
       differ = run.differ;
     };
+    behind = λ none. absurd (omega (arith, none, one_seal));
   }
 
   records : AreAdded (core_end account_program course) (first_commit ∷ [])

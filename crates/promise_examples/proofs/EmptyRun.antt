@@ -130,6 +130,7 @@ module _ (p : Program) (r : Observed) (opening : List Commit) (run : IsEmptyRun 
       doubt = λ one other a b is_one is_other log_a log_b differ. absurd (differ (one_log (shape_in p) one a (opening ++ []) log_a (whole one is_one) ∙ sym (one_log (shape_in p) other b (opening ++ []) log_b (whole other is_other))));
       nowhere = λ e none. absurd none;
       block = λ doubt. absurd (none_at doubt.at _ doubt.doubt.there);
+      behind = λ none. run.behind;
     };
     ended = record {
       given = run.given;

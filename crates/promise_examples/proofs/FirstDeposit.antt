@@ -14,7 +14,7 @@ use Rattle.promise_spec.specs.Records.{Commit, new_silo, standing_of}
 use Rattle.promise_spec.specs.Serial.{IsSerial}
 use Rattle.promise_spec.specs.Logs.{IsLog, IsKept, body_of, live_slot}
 use Rattle.base_types.specs.declared.calls.Value.{Value}
-use Rattle.gate_block.specs.Log.{gate_of}
+use Rattle.gate_block.specs.Log.{gate_of, LogsUpTo}
 use Rattle.gate_block.proofs.Logs as blocks
 use Rattle.gate_block.specs.Blocks.{block_of, found_at, shut}
 use Rattle.promise_spec.specs.Reports.{show_text, history_text, audit_text}
@@ -65,6 +65,10 @@ logged = record {
     tt,
   );
 }
+
+-- it ends at the file's last byte
+pub ends_last : LogsUpTo (map body_of ((first_commit ∷ []) ∷ [])) 88 (manager_bytes 1)
+ends_last = record { blocks = record { small = (omega arith, tt); at = refl; within = omega arith; blocks = refl }; closed = λ e. cc e }
 
 -- where the block's gate is closed, the log is empty
 pub closed_gate : IsLog live_slot (shape_in account_program) (folder 0 grain_bytes) []

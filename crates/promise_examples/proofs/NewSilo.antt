@@ -1,9 +1,9 @@
 -- The disks of a new silo of the accounts, and of one whose first deposit is sealed or being sealed: what their images have.
-use Rattle.std.proofs.Common.{◌≡◌, ◌≢◌, ◌⊎◌, inl, inr, ℕ, zero, suc, ◌+◌, ◌^◌, ◌<◌, ◌≤◌, Bool, true, false, if◌then◌else◌, List, [], ◌∷◌, ◌++◌, length, map, slice_index, Option, Some, None, Result, Ok, refl, sym, ◌∙◌, ap, subst, arith, length-append}
+use Rattle.std.proofs.Common.{◌≡◌, ◌≢◌, ◌⊎◌, inl, inr, ℕ, zero, suc, ◌+◌, ◌^◌, ◌<◌, ◌≤◌, Bool, true, false, if◌then◌else◌, List, [], ◌∷◌, ◌++◌, length, map, drop, slice_index, Option, Some, None, Result, Ok, refl, sym, ◌∙◌, ap, subst, arith, length-append}
 use Rattle.std.specs.Prelude.{codes, nat_lt}
 use Rattle.std.specs.Option.{ok_or}
 use Rattle.std.proofs.lemmas.Bool.{cases_eq, cases_lt}
-use Rattle.std.proofs.lemmas.List.{ext_get_or}
+use Rattle.std.proofs.lemmas.List.{ext_get_or, drop_all}
 use Rattle.json.proofs.Printed.Utf8.{are_ascii, IsUtf8-are_ascii}
 use Rattle.serde_json.specs.Data.{Data, unsigned, number, string, array, object, no_items, item, no_members, member}
 use Rattle.serde_json.specs.Read.{read}
@@ -17,7 +17,8 @@ use Rattle.host_trait.specs.declared.channels.FileId.TheVariants.{Manager, Progr
 use Rattle.host_trait.specs.Disk.{FileState, Untouched, MayLeave, settled}
 use Rattle.host_trait.specs.World.{Image, IsImage, World}
 use Rattle.host_trait.proofs.Crashes.{settled_only}
-use Rattle.gate_block.specs.Log.{LogsUpTo}
+use Rattle.gate_block.specs.Log.{LogsUpTo, gate_of}
+use Rattle.gate_block.proofs.Logs as blocks
 use Rattle.grain_log.specs.Places.{IsVersionAt}
 use Rattle.cell_model.specs.Units.{same_grain}
 use Rattle.log_reading.specs.Blocks.{header_damage}
@@ -169,6 +170,13 @@ module _ (image : Image) where
   sealed_images left =
       has_deposit image (settled_only program_bytes (image program_file) (left program_file)) (settled_only (manager_bytes 1) (image manager) (left manager))
       (settled_only grain_bytes (image (Grain 0 account_1)) (left (Grain 0 account_1)))
+
+-- a manager file whose log ends at its last byte has nothing behind it, as a shorter one has nothing there
+pub ends_there : (bodies : List (List ℕ)) (gate : ℕ) (c file was : List ℕ) → c ≡ file → LogsUpTo bodies gate file → length file ≡ gate + 1 → length was ≤ gate + 1 → drop (gate_of c + 1) c ≡ drop (gate_of c + 1) was
+ends_there bodies gate c file was is up long short =
+    let at : gate_of c ≡ gate = ap gate_of is ∙ (blocks.logged bodies gate file up).1 in
+    let size : length c ≡ gate + 1 = ap length is ∙ long in
+    ap (λ (n : ℕ). drop (n + 1) c) at ∙ drop_all (gate + 1) c (omega (arith, size)) ∙ sym (drop_all (gate + 1) was short) ∙ ap (λ (n : ℕ). drop (n + 1) was) (sym at)
 
 -- files of other slots, and the program's, are the same on both disks
 pub same_aside : (log grain later_log later_grain : FileState) (file : FileId) → IsAside live_slot file → disk_of later_log later_grain file ≡ disk_of log grain file

@@ -50,7 +50,7 @@ module _ (p : Program) (r : Observed) (c : Course) (keeps : Keeps p r c) where
   }
 
   leaves : LeavesAtExit p r c
-  leaves = record { logs = keeps.exit.logs; nowhere = keeps.exit.nowhere; block = keeps.exit.block }
+  leaves = record { logs = keeps.exit.logs; nowhere = keeps.exit.nowhere; block = keeps.exit.block; behind = keeps.exit.behind }
 
   ends : EndsRightly p r c
   ends = record {

@@ -296,6 +296,7 @@ module _ (r : Observed) (opened : Moment) (failing told : List Moment) (run : Is
         absurd (differ (one_log (shape_in account_program) one a [] log_a (run.exit one is_one).0 ∙ sym (one_log (shape_in account_program) other b [] log_b (run.exit other is_other).0)));
     nowhere = λ e there is nowhere l none. absurd none;
     block = λ doubt. absurd (no_doubt doubt);
+    behind = λ none. run.behind;
   }
 
   no_records : AreRecordsOf (committed (core_end account_program course)) []

@@ -52,7 +52,7 @@ use Rattle.promise_examples.specs.WrittenBatch.{both_commits, second_entry, both
 use Rattle.promise_examples.proofs.FirstDeposit.{five, logged}
 use Rattle.promise_examples.proofs.FirstFamily.{only, either_of}
 use Rattle.promise_examples.proofs.AccountText.{account_is_checked}
-use Rattle.promise_examples.proofs.NewSilo.{gate_is_silo, shut_has_none, gate_only, has_none, new_images, seen_possible, new_folder, program_spelled}
+use Rattle.promise_examples.proofs.NewSilo.{ends_there, gate_is_silo, shut_has_none, gate_only, has_none, new_images, seen_possible, new_folder, program_spelled}
 use Rattle.promise_examples.proofs.SealingDisks.{sealed_front, gate_front, alone_of, apart_of, between_of, at_new, at_block, at_staged}
 use Rattle.promise_examples.proofs.HostSteps.{pulled, ended, wrote_grain, wrote_log, synced_grain, synced_log, emitted}
 use Rattle.promise_examples.proofs.Between.{at_each, exit_there, all_less}
@@ -388,6 +388,7 @@ leaves = record {
   nowhere = λ e there.
       either_of (λ (d : Entry). d.what ≡ settled_as.InDoubt → IsNowhere account_program batched d.unit → HasNoRecord batch_course d.unit) first_entry second_entry e (λ is. absurd (cc is)) (λ is. absurd (cc is)) there;
   block = λ doubt. absurd (no_doubt doubt);
+  behind = λ none image left. ends_there (map body_of (both_commits ∷ [])) 152 (image manager) (manager_of both_block 1) new_manager (settled_only (manager_of both_block 1) (image manager) (left manager)) both_blocks refl (omega arith);
 }
 
 answered : (n : ℕ) → 1 ≤ n → n ≤ 2 → (e : Entry) × Member e both_entries × (e.line ≡ n)

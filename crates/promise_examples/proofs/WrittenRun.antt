@@ -1,8 +1,11 @@
 -- The run of one deposit that is written out meets all that is asked of such a run.
-use Rattle.std.proofs.Common.{◌≡◌, ℕ, List, [], ◌∷◌, ◌++◌, take, refl, sym, ap, arith}
+use Rattle.std.proofs.Common.{◌≡◌, ℕ, List, [], ◌∷◌, ◌++◌, map, take, refl, sym, ap, arith}
 use Rattle.serde_json.proofs.OnLiterals.{serde_json_on_literals}
 use Rattle.host_trait.specs.Disk.{Overwrote, settled}
 use Rattle.host_trait.specs.World.{Moment}
+use Rattle.host_trait.proofs.Crashes.{settled_only}
+use Rattle.silo_spec.specs.Silos.{manager}
+use Rattle.promise_spec.specs.Logs.{body_of}
 use Rattle.promise_spec.specs.Programs.{shape_in}
 use Rattle.promise_spec.specs.Words.{plain_manner}
 use Rattle.promise_spec.specs.Lines.{IsLineCall}
@@ -11,12 +14,12 @@ use Rattle.promise_spec.specs.Courses.{lines}
 use Rattle.promise_spec.specs.Promise.{IsSoundFolder, Keeps, Promises}
 use Rattle.promise_laws.specs.Obligations.{Shows}
 use Rattle.promise_laws.proofs.ShownPromise.{promised}
-use Rattle.promise_examples.specs.Examples.{accounts, account_program, deposit_call, first_entry, grain_bytes, block_bytes, manager_bytes}
+use Rattle.promise_examples.specs.Examples.{accounts, account_program, deposit_call, first_commit, first_entry, grain_bytes, block_bytes, manager_bytes}
 use Rattle.promise_examples.specs.DepositRuns.{IsDepositRun, deposit_course}
 use Rattle.promise_examples.specs.HostCalls.{IsHosted}
 use Rattle.promise_examples.specs.WrittenRun.{new_manager, new_disk, version_pending, block_pending, gate_pending, version_disk, voted_disk, block_disk, staged_disk, sealed_disk, request_line, reply_text, moment, opened, sealing, world_before, written_run, written_steps}
-use Rattle.promise_examples.proofs.FirstDeposit.{reply}
-use Rattle.promise_examples.proofs.NewSilo.{new_images, sealed_images, seen_possible, new_folder, sound_world, program_spelled, line_asks}
+use Rattle.promise_examples.proofs.FirstDeposit.{reply, ends_last}
+use Rattle.promise_examples.proofs.NewSilo.{new_images, ends_there, sealed_images, seen_possible, new_folder, sound_world, program_spelled, line_asks}
 use Rattle.promise_examples.proofs.SealingDisks.{at_new, at_block, at_staged, at_sealing, at_sealed, if_none, if_has}
 use Rattle.promise_examples.proofs.HostSteps.{pulled, ended, wrote_grain, wrote_log, synced_grain, synced_log, emitted}
 use Rattle.promise_examples.proofs.DepositRun.{kept, shown}
@@ -55,6 +58,7 @@ is_deposit_run = record {
     ),
   );
   logged = sealed_images;
+  behind = λ image left. ends_there (map body_of ((first_commit ∷ []) ∷ [])) 88 (image manager) (manager_bytes 1) new_manager (settled_only (manager_bytes 1) (image manager) (left manager)) ends_last refl (omega arith);
   alone = ((at_new written_run refl [] (settled [])).alone, (at_sealed written_run refl reply_text).alone);
   apart = ((at_new written_run refl [] (settled [])).apart, (at_sealed written_run refl reply_text).apart);
   some = λ file. (sealed_disk file).seen;

@@ -282,6 +282,7 @@ leaves = record {
   logs = λ image left. record { log = []; is = (at_exit.images image left).0; which = inl refl };
   nowhere = λ e there what none l added. absurd added;
   block = λ doubt. doubtful_block;
+  behind = λ none. absurd (omega (arith, none, one_seal));
 }
 
 -- the manager file's count rose

@@ -1,5 +1,5 @@
 -- The run that is written out, of a deposit whose version can't be written, meets all that is asked of such a run.
-use Rattle.std.proofs.Common.{◌≡◌, ◌≢◌, inl, ℕ, zero, suc, Bool, true, false, if◌then◌else◌, List, [], ◌∷◌, ◌++◌, refl, ap, subst, arith}
+use Rattle.std.proofs.Common.{◌≡◌, ◌≢◌, inl, ℕ, zero, suc, ◌+◌, drop, Bool, true, false, if◌then◌else◌, List, [], ◌∷◌, ◌++◌, refl, ap, subst, arith}
 use Rattle.std.specs.List.{AllByRecursion}
 use Rattle.std.specs.Fmt.{digits}
 use Rattle.serde_json.proofs.OnLiterals.{serde_json_on_literals}
@@ -9,6 +9,9 @@ use Rattle.host_trait.specs.declared.channels.Channel.TheVariants.{Input, Output
 use Rattle.host_trait.specs.declared.channels.FileId.{FileId}
 use Rattle.host_trait.specs.declared.channels.FileId.TheVariants.{Manager, Program as ProgramFile, Grain}
 use Rattle.host_trait.specs.Disk.{MayLeave, Wrote, settled}
+use Rattle.host_trait.proofs.Crashes.{settled_only}
+use Rattle.gate_block.specs.Log.{gate_of}
+use Rattle.silo_spec.specs.Silos.{manager}
 use Rattle.host_trait.specs.Faults.{FailedOn}
 use Rattle.host_trait.specs.World.{Image}
 use Rattle.cell_model.specs.Units.{same_grain}
@@ -98,6 +101,7 @@ is_vote_run = record {
   unsaid = (at_new voted refl [] version_cut, tt);
   first = subst (λ (l : List ℕ). AllByRecursion (IsBetween voted l HasNone) vote_told) first_line (at_new voted refl voted_text version_cut, tt);
   exit = λ image left. empty_images image version_cut left;
+  behind = λ image left. ap (λ (f : List ℕ). drop (gate_of (image manager) + 1) f) (settled_only new_manager (image manager) (left manager));
   alone = ((at_new voted refl [] (settled [])).alone, (at_new voted refl (voted_text ++ dependent_text) version_cut).alone);
   apart = ((at_new voted refl [] (settled [])).apart, (at_new voted refl (voted_text ++ dependent_text) version_cut).apart);
   syncs = omega arith;

@@ -1,5 +1,5 @@
 -- Runs that don't keep the promise.
-use Rattle.std.proofs.Common.{◌≡◌, ◌≢◌, inl, inr, ℕ, ◌+◌, ◌<◌, ◌≤◌, ◌^◌, Bool, true, false, List, [], ◌∷◌, ◌++◌, length, map, take, Some, Ok, Result, refl, sym, ap, subst, ◌∙◌, arith}
+use Rattle.std.proofs.Common.{◌≡◌, ◌≢◌, inl, inr, ℕ, ◌+◌, ◌<◌, ◌≤◌, ◌^◌, Bool, true, false, List, [], ◌∷◌, ◌++◌, length, map, take, drop, Some, Ok, Result, refl, sym, ap, subst, ◌∙◌, arith, length-drop}
 use Rattle.std.specs.Prelude.{slice_get}
 use Rattle.std.specs.Int.{w32, to_le_bytes, from_le_bytes}
 use Rattle.std.specs.List.{flat_map, AllByRecursion}
@@ -29,7 +29,7 @@ use Rattle.core_model.specs.Lines.{DifferInLine}
 use Rattle.core_model.specs.Serial.{committed, chosen}
 use Rattle.core_model.specs.CoreState.{Member, Mode}
 use Rattle.gate_block.proofs.Logs as blocks
-use Rattle.gate_block.specs.Log.{HasBlocks, LogsUpTo}
+use Rattle.gate_block.specs.Log.{HasBlocks, LogsUpTo, gate_of}
 use Rattle.host_trait.specs.declared.channels.FileId.{FileId}
 use Rattle.host_trait.specs.declared.channels.FileId.TheVariants as file
 use Rattle.host_trait.specs.World.{Image, IsImage, Moment, moment_of, last_of}
@@ -47,7 +47,7 @@ use Rattle.promise_spec.specs.Moments.{IsImageOf}
 use Rattle.promise_spec.specs.Lines.{ReadsLineAs, IsLineCall}
 use Rattle.promise_spec.specs.Outputs.{reply_lines}
 use Rattle.promise_spec.specs.Cores.{AppliesAt, how_many, state_before, core_from}
-use Rattle.promise_spec.specs.Causes.{RunHasDoubt, NoneRose, is_vote_of, syncs_of, most_syncs_of}
+use Rattle.promise_spec.specs.Causes.{RunHasDoubt, NoneRose, is_vote_of, is_unsealed, syncs_of, most_syncs_of}
 use Rattle.promise_examples.specs.Alive.{IsAlive}
 use Rattle.promise_spec.specs.Family.{states_after}
 use Rattle.promise_spec.specs.Endings as ending
@@ -56,7 +56,7 @@ use Rattle.promise_spec.specs.Replies.{IsEntryOf, IsTrueOf, HasNoRecord}
 use Rattle.promise_spec.specs.Crashes.{Acknowledges, IsAside}
 use Rattle.promise_spec.specs.Batches.{kept_by}
 use Rattle.promise_spec.specs.Explained.{AreAdded}
-use Rattle.promise_spec.specs.Exits.{HasBlock}
+use Rattle.promise_spec.specs.Exits.{HasBlock, IsLeft}
 use Rattle.promise_spec.specs.Promise.{Keeps, KeepsAnywhere, HasReadAll}
 use Rattle.promise_spec.specs.Loads.{KeepsLoad}
 use Rattle.promise_spec.proofs.Lists.{head_of, none_is, none_at, some_is, each_of, in_append, either_in, get_seam, member_at}
@@ -338,3 +338,11 @@ module _ (p : Program) (r : Observed) (c : Course) where
 
   pub done_in_doubt : Keeps p r c → RunHasDoubt (core_run p c) → r.ending ≡ ending.Done → ⊥
   done_in_doubt keeps doubt is = subst ending.EndingMayDoubt is (keeps.explained.doubt_ends doubt)
+
+-- what ends as it read is no longer than its log, where that file wasn't
+pub behind_the_log : (p : Program) (r : Observed) (c : Course) (image : Image) → IsExit p r c → how_many is_unsealed (core_run p c) ≡ 0 → IsImage r.new.disk image
+    → length (seen_at_entry r manager) ≤ gate_of (image manager) + 1 → gate_of (image manager) + 1 < length (image manager) → ⊥
+behind_the_log p r c image left none may short long =
+    let n : ℕ = gate_of (image manager) + 1 in
+    let same : length (drop n (image manager)) ≡ length (drop n (seen_at_entry r manager)) = ap length (left.behind none image may) in
+    omega (arith, same, length-drop n (image manager), length-drop n (seen_at_entry r manager), short, long)

@@ -14,6 +14,7 @@ use Rattle.promise_spec.specs.Lines.{IsLineCall}
 use Rattle.promise_spec.specs.Endings.{Done, input_limit}
 use Rattle.promise_spec.specs.Crashes.{LeavesAlone}
 use Rattle.promise_spec.specs.Courses.{Observed, Course, seen_at_entry, lines}
+use Rattle.promise_spec.specs.Exits.{EndsAsRead}
 use Rattle.promise_examples.specs.Examples.{accounts, account_program, account_1, first_commit, first_entry, deposit_call, deposit_events}
 
 -- the image is one of the program, and has an empty log, or the deposit's record
@@ -60,6 +61,7 @@ pub record IsDepositRun (r : Observed) (opened : Moment) (sealing : List Moment)
   pub entry : (image : Image) → IsImage opened.disk image → IsImage r.old.disk image × HasNone image
   pub sealed : AllByRecursion (IsBetween r r.old.output MayHaveDeposit) sealing
   pub logged : (image : Image) → IsImage r.new.disk image → HasDeposit image
+  pub behind : (image : Image) → IsImage r.new.disk image → EndsAsRead live_slot r image
   pub alone : LeavesAlone live_slot r opened × LeavesAlone live_slot r (moment_of r.new)
   pub apart : LeavesOthers r opened × LeavesOthers r (moment_of r.new)
   pub some : Image

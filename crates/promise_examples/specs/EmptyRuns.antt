@@ -12,9 +12,10 @@ use Rattle.promise_spec.specs.Images.{IsSoundIfSilo}
 use Rattle.promise_spec.specs.Endings.{Done}
 use Rattle.promise_spec.specs.Crashes.{LeavesAlone}
 use Rattle.promise_spec.specs.Courses.{Observed, Course, seen_at_entry, lines}
+use Rattle.promise_spec.specs.Exits.{EndsAsRead}
 
 -- The files read as this log at entry. The run synced it, read that the input is empty, and ended. Each image is one of
--- those at entry, has this log and is sound; there is one. It asked for no other sync. No count of faults changed,
+-- those at entry, has this log, ends behind it as the file read, and is sound; there is one. It asked for no other sync. No count of faults changed,
 -- nor did another file or the header.
 pub record IsEmptyRun (p : Program) (r : Observed) (opening : List Commit) : Type 0 where
   pub ending : r.ending ≡ Done
@@ -27,6 +28,7 @@ pub record IsEmptyRun (p : Program) (r : Observed) (opening : List Commit) : Typ
   pub synced : r.new.past ≡ r.old.past ++ moment_of r.new ∷ []
   pub entry : (image : Image) → IsImage r.new.disk image → IsImage r.old.disk image
   pub logs : (image : Image) → IsImage r.new.disk image → IsLog live_slot (shape_in p) image opening
+  pub behind : (image : Image) → IsImage r.new.disk image → EndsAsRead live_slot r image
   pub sound : (image : Image) → IsImage r.new.disk image → IsSoundIfSilo live_slot p image
   pub alone : LeavesAlone live_slot r (moment_of r.new)
   pub unwritten : (g : GrainId) → r.new.disk (Grain live_slot g) ≡ r.old.disk (Grain live_slot g)

@@ -12,6 +12,7 @@ use Rattle.promise_spec.specs.Outputs.{reply_lines}
 use Rattle.promise_spec.specs.Endings.{Done, input_limit}
 use Rattle.promise_spec.specs.Crashes.{LeavesAlone}
 use Rattle.promise_spec.specs.Courses.{Observed, Course, seen_at_entry, lines}
+use Rattle.promise_spec.specs.Exits.{EndsAsRead}
 use Rattle.promise_examples.specs.Examples.{account_program, account_1, voted_entry, vote_entries, vote_events, AskBoth}
 use Rattle.promise_examples.specs.DepositRuns.{HasNone, LeavesOthers, IsBetween}
 
@@ -34,6 +35,7 @@ pub record IsVoteRun (r : Observed) (opened : Moment) (failing told : List Momen
   pub unsaid : AllByRecursion (IsBetween r r.old.output HasNone) failing
   pub first : AllByRecursion (IsBetween r (r.old.output ++ reply_lines (shape_in account_program) (voted_entry ∷ [])) HasNone) told
   pub exit : (image : Image) → IsImage r.new.disk image → HasNone image
+  pub behind : (image : Image) → IsImage r.new.disk image → EndsAsRead live_slot r image
   pub alone : LeavesAlone live_slot r opened × LeavesAlone live_slot r (moment_of r.new)
   pub apart : LeavesOthers r opened × LeavesOthers r (moment_of r.new)
   pub syncs : r.new.syncs ≤ r.old.syncs + 2

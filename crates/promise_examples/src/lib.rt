@@ -26,8 +26,8 @@ pub use wrong_runs::{
     bad_use_is_said_by_words, batches_are_small, batches_are_whole, calm_runs_sync_once,
     checks_tell_their_world, cut_lines_are_replies, endings_are_true, inits_make_their_input,
     lines_are_answered_once, lines_begin_after_the_input, loads_tell_their_summary,
-    logs_are_not_lost, other_files_stay, records_come_from_lines, refusals_are_true,
-    replies_are_serial, replies_come_after_records, reports_tell_the_folder, syncs_are_bounded,
-    the_block_in_doubt_is_the_batchs, the_opening_log_is_the_disks, told_replies_are_written,
-    words_are_answered,
+    logs_are_not_lost, nothing_stands_behind_the_log, other_files_stay, records_come_from_lines,
+    refusals_are_true, replies_are_serial, replies_come_after_records, reports_tell_the_folder,
+    syncs_are_bounded, the_block_in_doubt_is_the_batchs, the_opening_log_is_the_disks,
+    told_replies_are_written, words_are_answered,
 };

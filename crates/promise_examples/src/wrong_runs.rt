@@ -17,7 +17,7 @@ ghost use Rattle.core_model.specs.Legal.{begins};
 ghost use Rattle.core_model.specs.Serial.{committed, chosen};
 ghost use Rattle.core_model.specs.Tests.{is_before};
 ghost use Rattle.core_model.specs.CoreState.{Member, Mode};
-ghost use Rattle.gate_block.specs.Log.{HasBlocks, LogsUpTo};
+ghost use Rattle.gate_block.specs.Log.{HasBlocks, LogsUpTo, gate_of};
 ghost use Rattle.host_trait.specs.declared.channels.Channel.{Channel};
 ghost use Rattle.host_trait.specs.declared.channels.Channel.TheVariants.{Input, Output, File};
 ghost use Rattle.host_trait.specs.declared.channels.FileId.{FileId};
@@ -38,7 +38,7 @@ ghost use Rattle.promise_spec.specs.Logs.{live_slot, magic, IsLog, IsPrefix, bod
 ghost use Rattle.promise_spec.specs.Moments.{IsImageOf};
 ghost use Rattle.promise_spec.specs.Lines.{IsLineCall};
 ghost use Rattle.promise_spec.specs.Cores.{AppliesAt, how_many, state_before};
-ghost use Rattle.promise_spec.specs.Causes.{RunHasDoubt, NoneRose, is_vote_of, syncs_of, most_syncs_of};
+ghost use Rattle.promise_spec.specs.Causes.{RunHasDoubt, NoneRose, is_vote_of, is_unsealed, syncs_of, most_syncs_of};
 ghost use Rattle.promise_examples.specs.Alive.{IsAlive};
 ghost use Rattle.promise_spec.specs.Family.{states_after};
 ghost use Rattle.promise_spec.specs.Endings as ending;
@@ -105,6 +105,15 @@ pub fn syncs_are_bounded()
     ensures anywhere { (p : Program) (r : Observed) (c : Course) → KeepsAnywhere p r c → r.old.syncs + most_syncs_of (core_run p c) < r.new.syncs → ⊥ }
     ensures load { (p : Program) (r : Observed) (c : Course) (n seed : ℕ) → KeepsLoad p n seed r c → r.old.syncs + most_syncs_of (core_run p c) < r.new.syncs → ⊥ }
     ensures unopened { (r : Observed) → IsUnopened r → r.old.syncs + 1 < r.new.syncs → ⊥ }
+{}
+
+/// No run or load keeps the promise in which no batch failed to be sealed and that leaves anything behind the log's closed gate in
+/// an image, though the manager file read as no longer than this at the entry; as one that wrote 8 bytes more would.
+pub fn nothing_stands_behind_the_log()
+    ensures run { (p : Program) (r : Observed) (c : Course) (image : Image) → Keeps p r c → how_many is_unsealed (core_run p c) ≡ 0 → IsImage r.new.disk image
+        → length (seen_at_entry r manager) ≤ gate_of (image manager) + 1 → gate_of (image manager) + 1 < length (image manager) → ⊥ }
+    ensures load { (p : Program) (r : Observed) (c : Course) (image : Image) (n seed : ℕ) → KeepsLoad p n seed r c → how_many is_unsealed (core_run p c) ≡ 0 → IsImage r.new.disk image
+        → length (seen_at_entry r manager) ≤ gate_of (image manager) + 1 → gate_of (image manager) + 1 < length (image manager) → ⊥ }
 {}
 
 /// Over any folder that opens, sound or not: no run keeps the promise that writes a grain's file on which no event votes, that

@@ -189,6 +189,7 @@ module _ (p : Program) (r : Observed) (c : Course) (mid : World) (b : IsBehind l
         logs = λ image may. elim (cut.log image may) [ inl was ↦ short image was | inr is ↦ whole_order image is ];
         nowhere = λ e there what none. nowhere e none;
         block = carries.block;
+        behind = carries.behind;
       };
     }
 

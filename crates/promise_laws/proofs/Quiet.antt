@@ -186,6 +186,7 @@ module _ (p : Program) (r s : Observed) (c : Course) (told : List Moment) (told_
     block = λ doubted.
         let o = k.block doubted in
         record { gate = o.gate; batch = o.batch; batches = o.batches; records = o.records; log = o.log; front = o.front; block = o.block; differ = o.differ };
+    behind = k.behind;
   }
 
   explained : IsExplained p r c → IsExplained p (alike r s) (quiet_course r c told)

@@ -247,6 +247,7 @@ module _ (p : Program) (r : Observed) (c : Course) (s : Shows p r c) where
     doubt = λ one other a b left left_too is_a is_b differ. (let d = doubtful_batch one other a b left left_too is_a is_b differ in doubted d.0 d.1);
     nowhere = s.leaves.nowhere;
     block = s.leaves.block;
+    behind = s.leaves.behind;
   }
 
   -- all clauses

@@ -11,11 +11,12 @@ use Rattle.promise_spec.specs.Programs.{Program, shape_in}
 use Rattle.promise_spec.specs.Records.{Commit}
 use Rattle.promise_spec.specs.Logs.{live_slot, IsLog}
 use Rattle.promise_spec.specs.Openings.{Reads, opened_as}
-use Rattle.promise_spec.specs.Causes.{RunHasDoubt}
+use Rattle.promise_spec.specs.Cores.{how_many}
+use Rattle.promise_spec.specs.Causes.{RunHasDoubt, is_unsealed}
 use Rattle.promise_spec.specs.Courses.{Observed, Course, seen_at_entry, core_run, core_end}
 use Rattle.promise_spec.specs.Crashes.{LeavesAlone}
 use Rattle.promise_spec.specs.Batches.{EndsABatch}
-use Rattle.promise_spec.specs.Exits.{BlockInDoubt}
+use Rattle.promise_spec.specs.Exits.{BlockInDoubt, EndsAsRead}
 use Rattle.promise_laws.specs.Journals.{Settlement, commits_of, Backs}
 
 -- what a read gives is among what a crash may leave, file by file
@@ -47,3 +48,4 @@ pub record Carries (p : Program) (r : Observed) (c : Course) (mid : host.World) 
   pub alone : Passes (LeavesAlone live_slot r) mid.past r.new.past
   pub alone_now : LeavesAlone live_slot r (moment_of r.new)
   pub block : RunHasDoubt (core_run p c) → BlockInDoubt live_slot r c (core_end p c)
+  pub behind : how_many is_unsealed (core_run p c) ≡ 0 → (image : Image) → IsImage r.new.disk image → EndsAsRead live_slot r image

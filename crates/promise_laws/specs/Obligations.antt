@@ -14,13 +14,14 @@ use Rattle.promise_spec.specs.Outputs.{Grew}
 use Rattle.promise_spec.specs.UnitRule.{KeepsUnitRule}
 use Rattle.promise_spec.specs.TurnRule.{KeepsTurnRule}
 use Rattle.promise_spec.specs.Images.{IsWholeFolder}
-use Rattle.promise_spec.specs.Causes.{AreFaults, RunHasDoubt, NoneRose, syncs_of, most_syncs_of}
+use Rattle.promise_spec.specs.Causes.{AreFaults, RunHasDoubt, NoneRose, is_unsealed, syncs_of, most_syncs_of}
+use Rattle.promise_spec.specs.Cores.{how_many}
 use Rattle.promise_spec.specs.Endings.{Done, WriteFault, DiskFault, HasRisen, IsCarried, HasLength, CountsSyncs, EndingMayDoubt}
 use Rattle.promise_spec.specs.Courses.{Observed, Course, order, moments, lines, seen_at_entry, basis, core_run, core_end}
 use Rattle.promise_spec.specs.Crashes.{LeavesAlone}
 use Rattle.promise_spec.specs.Batches.{EndsABatch}
 use Rattle.promise_spec.specs.Replies.{HasNoRecord}
-use Rattle.promise_spec.specs.Exits.{HasLogAtExit, IsNowhere, BlockInDoubt}
+use Rattle.promise_spec.specs.Exits.{HasLogAtExit, IsNowhere, BlockInDoubt, EndsAsRead}
 use Rattle.promise_spec.specs.Explained.{AreAdded, AreSettled, FileMayEndInDoubt, LeavesUnvoted}
 use Rattle.promise_laws.specs.Journals.{Settlement, commits_of, entries_of, KeepsJournal, AllLog, Backs}
 use Rattle.promise_spec.specs.Promise.{HasReadAll, IsDone}
@@ -70,11 +71,13 @@ pub record ExplainsEvents (p : Program) (r : Observed) (c : Course) : Type 0 whe
   pub unvoted : LeavesUnvoted live_slot p r c
 
 -- The log at the exit: each image has the whole order, or lacks the records of the batch in doubt. A unit that is told to
--- be in doubt and that no image has is in no record, and the block of a batch in doubt stands behind its gate.
+-- be in doubt and that no image has is in no record, and the block of a batch in doubt stands behind its gate. Where no batch
+-- failed to be sealed, nothing was left behind the log.
 pub record LeavesAtExit (p : Program) (r : Observed) (c : Course) : Type 0 where
   pub logs : (image : Image) → IsImage r.new.disk image → HasLogAtExit p c (core_end p c) image
   pub nowhere : (e : Entry) → Member e c.entries → e.what ≡ InDoubt → IsNowhere p r e.unit → HasNoRecord c e.unit
   pub block : RunHasDoubt (core_run p c) → BlockInDoubt live_slot r c (core_end p c)
+  pub behind : how_many is_unsealed (core_run p c) ≡ 0 → (image : Image) → IsImage r.new.disk image → EndsAsRead live_slot r image
 
 -- How it ended: its lines are the input's, nothing began before the input was read whole, and done means that each line
 -- has its entry; a fault is shown by its count, and an input that is too long by its length. Where nothing failed, so many

@@ -6,7 +6,7 @@ use Rattle.base_types.specs.declared.entries.Settled.TheVariants.{InDoubt}
 use Rattle.core_model.specs.CoreState.{UnitNo, Member, CoreState}
 use Rattle.core_model.specs.Serial.{chosen}
 use Rattle.gate_block.specs.Blocks.{block_of}
-use Rattle.gate_block.specs.Log.{HasBlocks}
+use Rattle.gate_block.specs.Log.{HasBlocks, gate_of}
 use Rattle.host_trait.specs.declared.channels.Channel.TheVariants.{File}
 use Rattle.host_trait.specs.declared.channels.FileId.TheVariants.{Manager}
 use Rattle.host_trait.specs.Faults.{Rose}
@@ -15,8 +15,9 @@ use Rattle.promise_spec.specs.Records.{Commit, AreRecordsOf}
 use Rattle.promise_spec.specs.Logs.{live_slot, IsLog, body_of}
 use Rattle.promise_spec.specs.Programs.{Program, shape_in}
 use Rattle.promise_spec.specs.Endings.{EndingMayDoubt}
-use Rattle.promise_spec.specs.Courses.{Observed, Course, order, core_run, core_end}
-use Rattle.promise_spec.specs.Causes.{RunHasDoubt}
+use Rattle.promise_spec.specs.Cores.{how_many}
+use Rattle.promise_spec.specs.Courses.{Observed, Course, order, seen_at_entry, core_run, core_end}
+use Rattle.promise_spec.specs.Causes.{RunHasDoubt, is_unsealed}
 use Rattle.promise_spec.specs.Replies.{HasNoRecord}
 
 -- the units to commit of the batch in doubt, in their order
@@ -78,10 +79,17 @@ pub record BlockInDoubt (live : ℕ) (r : Observed) (c : Course) (w : CoreState)
   pub differ : (one other : Image) → IsImage r.new.disk one → IsImage r.new.disk other →
       DifferAt gate (one (Manager live)) (other (Manager live))
 
--- The log at the exit, where lines are in doubt too.
+-- Behind the gate at which its log ends, the image's live manager file is as that file read at the entry: it ends there, where
+-- the file ended there.
+abbrev pub EndsAsRead : ℕ → Observed → Image → Type 0
+EndsAsRead live r image = drop (gate_of (image (Manager live)) + 1) (image (Manager live))
+    ≡ drop (gate_of (image (Manager live)) + 1) (seen_at_entry r (Manager live))
+
+-- The log at the exit, where lines are in doubt too. Where no batch failed to be sealed, nothing was left behind the log.
 pub record IsExit (p : Program) (r : Observed) (c : Course) : Type 0 where
   pub logs : (image : Image) → IsImage r.new.disk image → HasLogAtExit p c (core_end p c) image
   pub doubt : (one other : Image) (a b : List Commit) → IsImage r.new.disk one → IsImage r.new.disk other →
       IsLog live_slot (shape_in p) one a → IsLog live_slot (shape_in p) other b → a ≢ b → ImagesMayDiffer live_slot r c (core_end p c)
   pub nowhere : (e : Entry) → Member e c.entries → e.what ≡ InDoubt → IsNowhere p r e.unit → HasNoRecord c e.unit
   pub block : RunHasDoubt (core_run p c) → BlockInDoubt live_slot r c (core_end p c)
+  pub behind : how_many is_unsealed (core_run p c) ≡ 0 → (image : Image) → IsImage r.new.disk image → EndsAsRead live_slot r image

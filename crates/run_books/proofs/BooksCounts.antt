@@ -1,9 +1,10 @@
 -- How many events of a kind one more event makes, and what the counts of faults say then.
-use Rattle.std.proofs.Common.{◌≡◌, ℕ, zero, suc, ◌+◌, List, [], ◌∷◌, ◌++◌, take, Bool, true, false, refl, sym, ap, ◌∙◌, arith, append_assoc, Some, slice_get}
+use Rattle.std.proofs.Common.{◌≡◌, ℕ, zero, suc, ◌+◌, ◌≤◌, List, [], ◌∷◌, ◌++◌, take, Bool, true, false, refl, sym, ap, ◌∙◌, arith, append_assoc, Some, slice_get}
 use Rattle.std.specs.Prelude.{if◌then◌else◌, count_by}
 use Rattle.core_model.specs.declared.events.CoreEvent.{CoreEvent}
 use Rattle.core_model.specs.declared.events.CoreEvent.TheVariants.{Doubt}
-use Rattle.core_model.specs.Events.{applies}
+use Rattle.core_model.specs.CoreState.{CoreState}
+use Rattle.core_model.specs.Events.{applies, step}
 use Rattle.core_model.specs.Legal.{Run, begins, ends}
 use Rattle.core_model.specs.Laws.{extended}
 use Rattle.promise_spec.specs.Cores.{how_many, applied_from}
@@ -33,6 +34,23 @@ pub how-one : (p : CoreEvent → Bool) (r : Run) (e : CoreEvent) → p e ≡ tru
 how-one p r e is a =
     how-more p r e
     ∙ ap (λ (n : ℕ). how_many p r + n) (ap (λ (b : Bool). count_by p (if b then e ∷ [] else [])) a ∙ count-one p e is)
+
+-- what more events leave of a count: none are fewer
+count-begins : (p : CoreEvent → Bool) (w : CoreState) (xs ys : List CoreEvent) → count_by p (applied_from w xs) ≤ count_by p (applied_from w (xs ++ ys))
+count-begins p w [] ys = omega arith
+count-begins p w (x ∷ xs) ys = by (count-begins p (step w x) xs ys) (applies w x)
+  where
+    by : count_by p (applied_from (step w x) xs) ≤ count_by p (applied_from (step w x) (xs ++ ys)) → (a : Bool)
+        → count_by p (if a then x ∷ applied_from (step w x) xs else applied_from (step w x) xs) ≤ count_by p (if a then x ∷ applied_from (step w x) (xs ++ ys) else applied_from (step w x) (xs ++ ys))
+    by more true =
+        let one = count-more p (x ∷ []) (applied_from (step w x) xs) in
+        let other = count-more p (x ∷ []) (applied_from (step w x) (xs ++ ys)) in
+        omega (arith, more, one, other)
+    by more false = more
+
+-- so where there are none, there were none
+pub none-before : (p : CoreEvent → Bool) (r : Run) (more : List CoreEvent) → how_many p (extended r more) ≡ 0 → how_many p r ≡ 0
+none-before p r more none = let fewer : how_many p r ≤ how_many p (extended r more) = count-begins p (begins r) r.events more in omega (arith, fewer, none)
 
 -- ---- a doubt that is left
 

@@ -12,7 +12,8 @@ use Rattle.log_reading.specs.Steps.{live_slot}
 use Rattle.promise_spec.specs.Programs.{shape_in}
 use Rattle.promise_spec.specs.Logs.{IsLog}
 use Rattle.promise_spec.specs.Outputs.{IsProper}
-use Rattle.promise_spec.specs.Causes.{RunHasDoubt}
+use Rattle.log_reading.specs.Steps.{manager}
+use Rattle.promise_spec.specs.Causes.{RunHasDoubt, is_unsealed}
 use Rattle.promise_spec.specs.UnitRule.{KeepsUnitRule}
 use Rattle.promise_laws.specs.Journals.{Settlement, CutAt, Backs, commits_of, entries_of}
 use Rattle.promise_spec.proofs.Doubts.{doubt_left}
@@ -25,9 +26,9 @@ use Rattle.batch_disk.specs.Writers.{KeepsDisk}
 use Rattle.batch_disk.specs.declared.writer.BatchWriter.{BatchWriter}
 use Rattle.run_books.specs.Beginnings.{Outset, basis_of}
 use Rattle.run_books.specs.Books.{Books, booked_journal, AreInDoubt, AreBooked}
-use Rattle.run_books.specs.Images.{LeavesAside, HasOpenBlock, KeepsFolder, LastsSo}
+use Rattle.run_books.specs.Images.{LeavesAside, HasOpenBlock, EndsAsBegun, KeepsFolder, LastsSo}
 use Rattle.run_books.specs.Settling.{AreEven}
-use Rattle.run_books.proofs.BooksCounts.{doubt-ends}
+use Rattle.run_books.proofs.BooksCounts.{doubt-ends, none-before}
 use Rattle.run_books.proofs.BooksImages.{uncut, uncut-doubt, block-kept, vote-kept}
 use Rattle.run_books.proofs.BooksWritten.{parts, said_next}
 
@@ -70,6 +71,7 @@ module _ (o : Outset) (head : List ℕ) (b c : Books) (r : Run) (more : List Cor
         log = f.log ∙ ap (λ (j : List Settlement). o.opening ++ commits_of j) (sym front);
         keeps = subst (λ (k : Disk). KeepsDisk (shape_in o.program) head f.batches writer k) (sym disk) f.keeps;
         votes = λ v m. vote-kept r more above writer.batch v.unit v.write.grain v.state (f.votes v m);
+        behind = λ none. subst (λ (k : Disk). EndsAsBegun o writer.gate_at (k manager)) (sym disk) (f.behind (none-before is_unsealed r more none));
       })
 
   pub output-lasts : CutAt o.program o.opening o.world c.said c.unsaid c.doubted c.rest now' → LastsSo o head c r' writer' now'

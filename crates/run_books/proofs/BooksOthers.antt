@@ -44,7 +44,7 @@ use Rattle.run_books.specs.Settling.{AreEven, BooksGoOn}
 use Rattle.run_books.proofs.BooksStated.{OthersKeep}
 use Rattle.run_books.proofs.BooksCalls.{TellsNoFile, file-still, calls-same}
 use Rattle.run_books.proofs.BooksCore.{moves-run, unapplied-run}
-use Rattle.run_books.proofs.BooksCounts.{how-same, doubt-ends}
+use Rattle.run_books.proofs.BooksCounts.{how-same, none-before, doubt-ends}
 use Rattle.run_books.proofs.BooksLists.{alone, alone-commits, added-none, take-front}
 use Rattle.run_books.proofs.BooksGrown.{grown, grown-front, grown-commits, grown-booked, grown-even}
 use Rattle.run_books.proofs.BooksImages.{backs-alone, doubt-kept, block-kept, vote-kept}
@@ -245,6 +245,7 @@ module _ (tells : Bool) (o : Outset) (b : Books) (r : Run) (e : CoreEvent) (sett
       log = f.log ∙ ap (λ (c : List Commit). o.opening ++ c) (sym (grown-commits b more [] b.doubted ∙ append-nil (commits_of (b.said ++ b.unsaid))));
       keeps = f.keeps;
       votes = λ v m. vote-kept r (e ∷ []) above settler.writer.batch v.unit v.write.grain v.state (f.votes v m);
+      behind = λ none. f.behind (none-before is_unsealed r (e ∷ []) none);
     });
   }
 

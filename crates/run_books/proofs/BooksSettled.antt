@@ -46,7 +46,7 @@ use Rattle.settle_loop.specs.declared.settler.StopCause.TheVariants.{InDoubt, Wr
 use Rattle.settle_loop.proofs.Alone.{alone-applies}
 use Rattle.run_books.specs.Beginnings.{Outset, basis_of}
 use Rattle.run_books.specs.Books.{Books, IsPutOut}
-use Rattle.run_books.specs.Images.{LastsSo}
+use Rattle.run_books.specs.Images.{EndsAsBegun, LastsSo}
 use Rattle.run_books.specs.Records.{KeepsBooks, HasDoubted}
 use Rattle.run_books.specs.Settling.{AreEven, CanSettle, SaysOfStep, BooksGoOn}
 use Rattle.run_books.proofs.BooksCalls.{file-same, calls-same}
@@ -315,6 +315,7 @@ module _ {H : Type 0} (tells : Bool) (world : H → World) (faults : H → Chann
                   keeps = subst (λ (w : World). KeepsDisk (shape_in o.program) head f.batches after.writer w.disk) (lacks.world_is t)
                       ((lacks.images t).keeps (shape_in o.program) head f.batches fair.0 fair.1 f.keeps);
                   votes = votes-same r n before.writer after.writer lacks.batch lacks.kept f.votes;
+                  behind = λ none. subst (λ (gate : ℕ). EndsAsBegun o gate ((world old).disk manager)) (sym lacks.same.gate) (f.behind none);
                 });
           });
         },

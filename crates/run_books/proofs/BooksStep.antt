@@ -1,8 +1,9 @@
 -- The books after the event that a step of the settler puts.
-use Rattle.std.proofs.Common.{◌≡◌, inr, ℕ, List, [], ◌∷◌, ◌++◌, Bool, true, false, ◌||◌, refl, sym, ap, ◌∙◌, subst, append-nil, append_assoc, Some, None, is_some}
+use Rattle.std.proofs.Common.{◌≡◌, inr, ℕ, ◌+◌, List, [], ◌∷◌, ◌++◌, length, drop, Bool, true, false, ◌||◌, refl, sym, ap, ◌∙◌, subst, append-nil, append_assoc, Some, None, is_some, arith, drop-drop}
 use Rattle.std.specs.Prelude.{IsTrue, if◌then◌else◌}
 use Rattle.base_types.specs.declared.calls.GrainId.{GrainId}
 use Rattle.base_types.specs.declared.entries.Entry.{Entry}
+use Rattle.base_types.specs.declared.stores.Version.{Version}
 use Rattle.host_trait.specs.declared.channels.Channel.{Channel}
 use Rattle.host_trait.specs.World.{World, Passes, moment_of}
 use Rattle.host_trait.proofs.Moments.{started}
@@ -18,6 +19,8 @@ use Rattle.core_laws.proofs.Split.{no_doubt}
 use Rattle.promise_spec.specs.Programs.{shape_in}
 use Rattle.promise_spec.specs.Records.{Commit}
 use Rattle.promise_spec.specs.Crashes.{Acknowledges}
+use Rattle.promise_spec.specs.Cores.{how_many}
+use Rattle.promise_spec.specs.Causes.{is_unsealed}
 use Rattle.promise_spec.specs.UnitRule.{KeepsUnitRule}
 use Rattle.promise_laws.specs.Journals.{Settlement, Seals, commits_of}
 use Rattle.batch_disk.specs.Resting.{Voted, log_of}
@@ -31,6 +34,8 @@ use Rattle.batch_disk.proofs.Recorded.{records_are}
 use Rattle.commit_log.specs.declared.gate.Sealing.{Sealing}
 use Rattle.commit_log.specs.declared.gate.Sealing.TheVariants as sealing
 use Rattle.commit_log.specs.declared.records.CommitRecord.{CommitRecord}
+use Rattle.commit_log.specs.Sealing.{SealHasCause}
+use Rattle.log_reading.specs.Steps.{manager}
 use Rattle.settle_loop.specs.Works.{event_of, tells_entry, tells_doubt, counted_up}
 use Rattle.settle_loop.specs.HostSteps.{MakesNoCall, VotesOn, SealsUnits, DoesFor, batch_made}
 use Rattle.settle_loop.specs.Journaling.{as_settled, LeavesLogs, JournalsAs}
@@ -38,11 +43,11 @@ use Rattle.settle_loop.specs.declared.settler.Settler.{Settler}
 use Rattle.settle_loop.proofs.Journaled.{journals, leaves}
 use Rattle.run_books.specs.Beginnings.{Outset, basis_of}
 use Rattle.run_books.specs.Books.{Books, AreInDoubt, AreBooked}
-use Rattle.run_books.specs.Images.{KeepsFolder, LastsSo}
+use Rattle.run_books.specs.Images.{EndsAsBegun, KeepsFolder, LastsSo}
 use Rattle.run_books.specs.Records.{KeepsBooks}
 use Rattle.run_books.specs.Settling.{AreEven, CanSettle}
 use Rattle.run_books.proofs.BooksCore.{Moves, moves-run}
-use Rattle.run_books.proofs.BooksCounts.{doubt-ends}
+use Rattle.run_books.proofs.BooksCounts.{doubt-ends, how-one, none-before}
 use Rattle.run_books.proofs.BooksLists.{alone}
 use Rattle.run_books.proofs.BooksGrown.{grown, grown-commits}
 use Rattle.run_books.proofs.BooksImages.{vote-kept}
@@ -56,6 +61,14 @@ pub none-doubted : (w : CoreState) (d : List Settlement) → AreInDoubt w d → 
 none-doubted w [] is none = refl
 none-doubted w (batch ∷ []) is none = absurd (let z : Some is.0 ≡ None = sym is.1 ∙ none in cc)
 none-doubted w (batch ∷ (another ∷ rest)) is none = absurd is
+
+-- what stood behind the gate before stands behind the next one
+behind-block : (gate size next : ℕ) (was now begun : List ℕ) → next ≡ gate + size → drop (gate + (size + 1)) now ≡ drop (gate + (size + 1)) was → drop (gate + 1) was ≡ drop (gate + 1) begun → drop (next + 1) now ≡ drop (next + 1) begun
+behind-block gate size next was now begun is torn same =
+    let one : next + 1 ≡ gate + (size + 1) = omega (arith, is) in
+    let two : gate + (size + 1) ≡ gate + 1 + size = omega arith in
+    ap (λ (n : ℕ). drop n now) one ∙ torn ∙ ap (λ (n : ℕ). drop n was) two ∙ sym (drop-drop size (gate + 1) was) ∙ ap (drop size) same ∙ drop-drop size (gate + 1) begun
+    ∙ ap (λ (n : ℕ). drop n begun) (sym two ∙ sym one)
 
 module _ {H : Type 0} (tells : Bool) (world : H → World) (faults : H → Channel → ℕ) (o : Outset) (b : Books) (r : Run) (before after : Settler) (old new : H)
     (can : CanSettle o (shape_in o.program) r) (even : AreEven before.quiet b (ends r)) (k : KeepsBooks tells o b r before (faults old) (world old)) where
@@ -83,6 +96,7 @@ module _ {H : Type 0} (tells : Bool) (world : H → World) (faults : H → Chann
     seals : Seals o.program (log_of f.batches) batch (world old) (world new)
     rest : Passes (LeavesRest head (world old)) (world old).past (world new).past
     rest_now : LeavesRest head (world old) (moment_of (world new))
+    behind : how_many is_unsealed (extended r (e ∷ [])) ≡ 0 → EndsAsBegun o after.writer.gate_at ((world new).disk manager)
 
   module _ (e : CoreEvent) (c : IsCounted e) (entry : tells_entry e ≡ false) (late : is_after_doubt e ≡ false) where
     abbrev r' : Run
@@ -123,6 +137,7 @@ module _ {H : Type 0} (tells : Bool) (world : H → World) (faults : H → Chann
                 ∙ ap (λ (x : List Commit). o.opening ++ x) (sym (grown-commits b m.more batch []));
             keeps = d.keeps;
             votes = d.votes;
+            behind = d.behind;
           }))
           );
     }
@@ -149,8 +164,8 @@ module _ {H : Type 0} (tells : Bool) (world : H → World) (faults : H → Chann
 
     -- no log changes
     leaves-disk : (head : List ℕ) (f : KeepsFolder o head b r before.writer (world old).disk) → LeavesLogs o.program head f.batches before.writer after.writer (world old) (world new) → AreOfVotes (extended r (e ∷ [])) after.writer
-        → DiskAfter e head f []
-    leaves-disk head f left votes = record {
+        → (how_many is_unsealed (extended r (e ∷ [])) ≡ 0 → EndsAsBegun o after.writer.gate_at ((world new).disk manager)) → DiskAfter e head f []
+    leaves-disk head f left votes behind = record {
       batches = f.batches;
       log = sym (append-nil (log_of f.batches));
       keeps = left.disk;
@@ -158,7 +173,15 @@ module _ {H : Type 0} (tells : Bool) (world : H → World) (faults : H → Chann
       seals = left.seals;
       rest = left.rest;
       rest_now = left.rest_now;
+      behind = behind;
     }
+
+    -- without a host call nothing is left behind the log
+    behind-still : (head : List ℕ) (f : KeepsFolder o head b r before.writer (world old).disk) → MakesNoCall tells world faults before.writer after.writer old new
+        → how_many is_unsealed (extended r (e ∷ [])) ≡ 0 → EndsAsBegun o after.writer.gate_at ((world new).disk manager)
+    behind-still head f does none =
+        subst (λ (x : BatchWriter). EndsAsBegun o x.gate_at ((world new).disk manager)) (sym does.writer)
+        (subst (λ (h : H). EndsAsBegun o before.writer.gate_at ((world h).disk manager)) (sym does.host) (f.behind (none-before is_unsealed r (e ∷ []) none)))
 
     votes-still : AreOfVotes r before.writer → after.writer ≡ before.writer → AreOfVotes r' after.writer
     votes-still votes same = subst (λ (w : BatchWriter). AreOfVotes r' w) (sym same) (λ v there. vote-kept r (e ∷ []) can.above before.writer.batch v.unit v.write.grain v.state (votes v there))
@@ -173,27 +196,49 @@ module _ {H : Type 0} (tells : Bool) (world : H → World) (faults : H → Chann
   or-none true = refl
   or-none false = refl
 
+  -- a vote leaves the manager file alone
+  vote-behind : (n : ℕ) (g : GrainId) (said : Bool) (versions : List Version) (t : IsTrue tells) → VotesOn tells world faults n g said versions before.writer after.writer old new
+      → EndsAsBegun o before.writer.gate_at ((world old).disk manager) → EndsAsBegun o after.writer.gate_at ((world new).disk manager)
+  vote-behind n g said versions t does was =
+      subst (λ (gate : ℕ). EndsAsBegun o gate ((world new).disk manager)) (sym does.same.gate)
+      (subst (EndsAsBegun o before.writer.gate_at) (sym ((does.run t).now.others manager (λ q. cc q))) was)
+
+  -- and a batch on disk moves its gate behind the block
+  next-gate : (n : ℕ) (x : Sealing) (made : List CommitRecord) (v w : BatchWriter) (size : ℕ) → event.Sealed n ≡ event_of n x → SealHasCause x v.gate_at size (faults old) (faults new) → WriterAfter x made v w → w.gate_at ≡ v.gate_at + size
+  next-gate n (sealing.Sealed next) made v w size q cause is = is.0 ∙ cause.0
+  next-gate n sealing.NotSealed made v w size q cause is = absurd (cc q)
+  next-gate n sealing.InDoubt made v w size q cause is = absurd (cc q)
+
+  seal-behind : (n : ℕ) (t : IsTrue tells) → (does : SealsUnits tells world faults n (event.Sealed n) (to_commit (ends r) (ends r).manager.batch) before.writer after.writer old new)
+      → EndsAsBegun o before.writer.gate_at ((world old).disk manager) → EndsAsBegun o after.writer.gate_at ((world new).disk manager)
+  seal-behind n t does was bytes left =
+      let gate : ℕ = before.writer.gate_at in
+      let size : ℕ = length does.work.block in
+      let next : after.writer.gate_at ≡ gate + size = next-gate n does.answer does.work.records before.writer after.writer size does.event does.cause does.after_is in
+      let crash = (does.run t).now.crash bytes left in
+      behind-block gate size after.writer.gate_at crash.0 bytes (o.world.disk manager).seen next crash.2.after (was crash.0 crash.1)
+
   -- the three events without a host call
   pub by-decide : (n : ℕ) → MakesNoCall tells world faults before.writer after.writer old new → IsCounted (event.Decide n) → StepDone (event.Decide n)
   by-decide n does c =
       let e : CoreEvent = event.Decide n in
       plain-done e c refl refl refl []
       (adds-none tells world faults o b r before after old new can.above can.units k e c.applied (moves-run r e c.applied) c.quiet c.written refl (c.doubted ∙ or-none before.doubted) (λ g. refl) refl refl refl does)
-      (λ t head f. leaves-disk e c refl refl head f (no-call e c refl refl head f does) (votes-still e c refl refl f.votes does.writer)) no-older
+      (λ t head f. leaves-disk e c refl refl head f (no-call e c refl refl head f does) (votes-still e c refl refl f.votes does.writer) (behind-still e c refl refl head f does)) no-older
 
   pub by-learn : (u : UnitNo) (g : GrainId) → MakesNoCall tells world faults before.writer after.writer old new → IsCounted (event.Learn u g) → StepDone (event.Learn u g)
   by-learn u g does c =
       let e : CoreEvent = event.Learn u g in
       plain-done e c refl refl refl []
       (adds-none tells world faults o b r before after old new can.above can.units k e c.applied (moves-run r e c.applied) c.quiet c.written refl (c.doubted ∙ or-none before.doubted) (λ h. refl) refl refl refl does)
-      (λ t head f. leaves-disk e c refl refl head f (no-call e c refl refl head f does) (votes-still e c refl refl f.votes does.writer)) no-older
+      (λ t head f. leaves-disk e c refl refl head f (no-call e c refl refl head f does) (votes-still e c refl refl f.votes does.writer) (behind-still e c refl refl head f does)) no-older
 
   pub by-take : MakesNoCall tells world faults before.writer after.writer old new → IsCounted event.Take → StepDone event.Take
   by-take does c =
       let e : CoreEvent = event.Take in
       plain-done e c refl refl refl []
       (adds-none tells world faults o b r before after old new can.above can.units k e c.applied (moves-run r e c.applied) c.quiet c.written refl (c.doubted ∙ or-none before.doubted) (λ g. refl) refl refl refl does)
-      (λ t head f. leaves-disk e c refl refl head f (no-call e c refl refl head f does) (votes-still e c refl refl f.votes does.writer)) no-older
+      (λ t head f. leaves-disk e c refl refl head f (no-call e c refl refl head f does) (votes-still e c refl refl f.votes does.writer) (behind-still e c refl refl head f does)) no-older
 
   -- a vote
   pub by-vote : (n : ℕ) (g : GrainId) (said : Bool) → MakesEvent (settler_step (ends r)) (event.Vote n g said) → VotesOn tells world faults n g said (versions_to_write (ends r) (ends r).manager.batch g) before.writer after.writer old new → IsCounted (event.Vote n g said) → StepDone (event.Vote n g said)
@@ -201,7 +246,8 @@ module _ {H : Type 0} (tells : Bool) (world : H → World) (faults : H → Chann
       let e : CoreEvent = event.Vote n g said in
       plain-done e c refl refl refl []
       (adds-vote tells world faults o b r before after old new can.above can.units k n g said c.applied (moves-run r e c.applied) c.quiet c.written (c.doubted ∙ or-none before.doubted) does)
-      (λ t head f. leaves-disk e c refl refl head f (journal-of e c refl refl makes t head f does) (votes-after r n g said before.writer after.writer can.above c.applied does.batch does.kept f.votes)) no-older
+      (λ t head f. leaves-disk e c refl refl head f (journal-of e c refl refl makes t head f does) (votes-after r n g said before.writer after.writer can.above c.applied does.batch does.kept f.votes)
+      (λ none. vote-behind n g said (versions_to_write (ends r) (ends r).manager.batch g) t does (f.behind (none-before is_unsealed r (e ∷ []) none)))) no-older
 
   -- a batch on disk, or not
   sealed-gone : (n : ℕ) (x : Sealing) (made : List CommitRecord) (v w : BatchWriter) → event.Sealed n ≡ event_of n x → WriterAfter x made v w → kept_of w ≡ []
@@ -220,7 +266,8 @@ module _ {H : Type 0} (tells : Bool) (world : H → World) (faults : H → Chann
       plain-done e c refl refl refl []
       (adds-unsealed tells world faults o b r before after old new can.above can.units k n c.applied (moves-run r e c.applied) c.quiet c.written (c.doubted ∙ or-none before.doubted) does)
       (λ t head f. leaves-disk e c refl refl head f (journal-of e c refl refl makes t head f does)
-      (votes-gone e c refl refl (unsealed-gone n does.answer does.work.records before.writer after.writer does.event does.after_is))) no-older
+      (votes-gone e c refl refl (unsealed-gone n does.answer does.work.records before.writer after.writer does.event does.after_is))
+      (λ none. absurd (let one = how-one is_unsealed r e refl c.applied in omega (arith, one, none)))) no-older
 
   pub by-sealed : (n : ℕ) → MakesEvent (settler_step (ends r)) (event.Sealed n) → SealsUnits tells world faults n (event.Sealed n) (to_commit (ends r) (ends r).manager.batch) before.writer after.writer old new → IsCounted (event.Sealed n) → StepDone (event.Sealed n)
   by-sealed n makes does c =
@@ -241,6 +288,7 @@ module _ {H : Type 0} (tells : Bool) (world : H → World) (faults : H → Chann
         seals = s.seals;
         rest = s.rest;
         rest_now = s.rest_now;
+        behind = λ none. seal-behind n t does (f.behind (none-before is_unsealed r (e ∷ []) none));
       }))
       (λ x l said there is. fresh-batch (basis_of o) r e batch (commits_of (b.said ++ ((b.unsaid ++ as_settled batch ∷ []) ++ alone m.more))) can.above can.units c.units
       (records_are (voted_of n before.writer) effects does.work.records does.records) kept.booked.commits

@@ -1,25 +1,32 @@
 -- What the images keep of the turns' books is what has to last of a whole run.
 use Rattle.std.proofs.Common.{◌≡◌, ◌≢◌, ℕ, List, [], ◌∷◌, ◌++◌, map, Bool, true, inl, inr, ⊎_elim, refl, sym, ap, ◌∙◌, subst, append-nil}
-use Rattle.std.specs.Prelude.{IsTrue, take}
+use Rattle.std.specs.Prelude.{IsTrue, ◌+◌, take, drop, false, Option, Some, None, is_some}
 use Rattle.std.specs.List.{AllByRecursion}
 use Rattle.host_trait.specs.declared.channels.FileId.{FileId}
 use Rattle.host_trait.specs.declared.channels.FileId.TheVariants.{Program as ProgramFile, Manager, Grain}
-use Rattle.host_trait.specs.World.{Moment, moment_of}
+use Rattle.host_trait.specs.Disk.{FileState}
+use Rattle.host_trait.specs.World.{Moment, Image, IsImage, moment_of}
 use Rattle.host_trait.proofs.Moments.{weaker}
 use Rattle.core_model.specs.CoreState.{CoreState}
 use Rattle.core_model.specs.declared.effects.Effect.{Effect}
 use Rattle.core_model.specs.Serial.{chosen}
 use Rattle.core_model.specs.Legal.{Run, ends}
+use Rattle.core_model.specs.declared.events.CoreEvent.TheVariants.{Doubt}
+use Rattle.gate_block.specs.Log.{gate_of}
+use Rattle.gate_block.proofs.Logs.{logged}
 use Rattle.log_reading.specs.Steps.{live_slot, manager}
 use Rattle.promise_spec.specs.Records.{Commit, AreRecordsOf}
-use Rattle.promise_spec.specs.Logs.{IsLog}
+use Rattle.promise_spec.specs.Logs.{IsLog, body_of}
 use Rattle.promise_spec.specs.Programs.{shape_in}
 use Rattle.promise_spec.specs.Outputs.{IsProper}
 use Rattle.promise_spec.specs.Crashes.{IsAside, LeavesAlone}
-use Rattle.promise_spec.specs.Causes.{RunHasDoubt}
-use Rattle.promise_spec.specs.Exits.{AreOf, units_in_doubt, BlockInDoubt}
+use Rattle.promise_spec.specs.Cores.{how_many}
+use Rattle.promise_spec.specs.Causes.{RunHasDoubt, is_unsealed}
+use Rattle.promise_spec.specs.Exits.{AreOf, units_in_doubt, BlockInDoubt, EndsAsRead}
 use Rattle.promise_laws.specs.Journals.{Settlement, CutAt, Backs, commits_of, entries_of}
-use Rattle.promise_spec.specs.Courses.{Observed, Course, order, core_end, seen_at_entry}
+use Rattle.promise_spec.specs.Courses.{Observed, Course, order, core_run, core_end, seen_at_entry}
+use Rattle.promise_spec.proofs.Doubts.{doubt_left}
+use Rattle.promise_laws.proofs.Applied.{none-applies}
 use Rattle.promise_laws.specs.Closings.{IsBehind, ReadsMayStay, AllEnd, Carries}
 use Rattle.promise_laws.specs.Obligations.{Opens, Lasts}
 use Rattle.promise_laws.proofs.KeptRuns.{whole_lasts, doubt_lasts}
@@ -49,7 +56,8 @@ units-named (e ∷ es) [] p = absurd p
 units-named (e ∷ es) (l ∷ ls) p = (λ i. p.0.unit i ∷ units-named es ls p.1 i)
 
 module _ (o : Outset) (head : List ℕ) (b : Books) (r : Run) (writer : BatchWriter) (seen : Observed) (c : Course)
-    (l : LastsSo o head b r writer seen.new) (is : IsCourseOf o b r seen c) (heads : head ≡ take 15 (seen_at_entry seen manager)) (behind : IsBehind live_slot o.program seen c o.world) where
+    (l : LastsSo o head b r writer seen.new) (is : IsCourseOf o b r seen c) (heads : head ≡ take 15 (seen_at_entry seen manager)) (behind : IsBehind live_slot o.program seen c o.world)
+    (sure : how_many is_unsealed r ≡ 0 → writer.in_doubt ≡ false) where
   end : ends r ≡ core_end o.program c
   end = ap ends (sym is.run)
 
@@ -77,6 +85,15 @@ module _ (o : Outset) (head : List ℕ) (b : Books) (r : Run) (writer : BatchWri
     differ = h.differ;
   }
 
+  -- where no batch failed to be sealed, nothing was left behind the log
+  ends-as-read : how_many is_unsealed (core_run o.program c) ≡ 0 → (image : Image) → IsImage seen.new.disk image → EndsAsRead live_slot seen image
+  ends-as-read none image left =
+      let before : how_many is_unsealed r ≡ 0 = ap (how_many is_unsealed) (sym is.run) ∙ none in
+      let f = l.folder (sure before) in
+      let gate : gate_of (image manager) ≡ writer.gate_at = (logged (map body_of f.batches) writer.gate_at (image manager) (f.keeps.images image left).blocks).1 in
+      let begun : (o.world.disk manager).seen ≡ seen_at_entry seen manager = ap (λ (s : FileState). s.seen) behind.settled in
+      ap (λ (n : ℕ). drop (n + 1) (image manager)) gate ∙ f.behind before (image manager) (left manager) ∙ (λ i. drop (sym gate i + 1) (begun i))
+
   carries : (journal : List Settlement) → booked_journal b ≡ journal → Carries o.program seen c o.world journal
   carries journal q = record {
     commits = is.added ∙ ap commits_of q;
@@ -86,6 +103,7 @@ module _ (o : Outset) (head : List ℕ) (b : Books) (r : Run) (writer : BatchWri
     alone = weaker (LeavesAside head o.world) (LeavesAlone live_slot seen) alone-at l.alone;
     alone_now = alone-at (moment_of seen.new) l.alone_now;
     block = λ d. block-of (l.block (subst RunHasDoubt is.run d));
+    behind = ends-as-read;
   }
 
   cut-of : (doubted : List Settlement) → b.doubted ≡ doubted → CutAt o.program c.opening o.world b.said b.unsaid doubted c.rest seen.new
@@ -112,10 +130,18 @@ module _ (o : Outset) (head : List ℕ) (b : Books) (r : Run) (writer : BatchWri
         is-some x t = absurd cc
     lasts-by (batch ∷ (other ∷ more)) q d = absurd d
 
+-- where no batch failed to be sealed none is in doubt
+none-doubted : (r : Run) → how_many is_unsealed r ≡ 0 → is_some (ends r).manager.doubt ≡ false
+none-doubted r none = by (ends r).manager.doubt refl
+  where
+    by : (d : Option ℕ) → (ends r).manager.doubt ≡ d → is_some d ≡ false
+    by None q = refl
+    by (Some begins) q = (let left : HasDoubt r = doubt_left r begins q in absurd (none-applies is_unsealed r none left.at (Doubt left.number) left.doubt refl))
+
 -- what has to last
 pub lasts : (tells : Bool) (o : Outset) (head : List ℕ) (b : Books) (r : Run) (settler : Settler) (seen : Observed) (c : Course)
     → tells ≡ true → KeepsRecord tells o b r settler seen.faults_after seen.new → LastsSo o head b r settler.writer seen.new → IsCourseOf o b r seen c
     → head ≡ take 15 (seen_at_entry seen manager) → IsBehind live_slot o.program seen c o.world → Opens o.program seen c → ReadsMayStay seen.new
     → Lasts o.program seen c
 lasts tells o head b r settler seen c t k l is heads behind opens stay =
-    lasts-by o head b r settler.writer seen c l is heads behind opens stay (k.books.outside (subst IsTrue (sym t) refl)).output.proper b.doubted refl k.books.booked.doubted
+    lasts-by o head b r settler.writer seen c l is heads behind (λ none. k.books.unsure ∙ k.books.doubt ∙ none-doubted r none) opens stay (k.books.outside (subst IsTrue (sym t) refl)).output.proper b.doubted refl k.books.booked.doubted

@@ -1,5 +1,6 @@
 -- What each image that a crash may leave keeps of a run's books.
-use Rattle.std.specs.Prelude.{◌≡◌, ◌≢◌, ◌⊎◌, ℕ, false, List, [], ◌++◌, map, take}
+use Rattle.std.specs.Prelude.{◌≡◌, ◌≢◌, ◌⊎◌, ℕ, ◌+◌, false, List, [], ◌++◌, map, take, drop}
+use Rattle.host_trait.specs.Disk.{FileState, MayLeave}
 use Rattle.host_trait.specs.declared.channels.FileId.{FileId}
 use Rattle.host_trait.specs.World.{World, Disk, Moment, Image, IsImage, Passes, moment_of}
 use Rattle.core_model.specs.CoreState.{CoreState, Member}
@@ -11,7 +12,8 @@ use Rattle.promise_spec.specs.Programs.{shape_in}
 use Rattle.promise_spec.specs.Records.{Commit, AreRecordsOf}
 use Rattle.promise_spec.specs.Logs.{IsLog, body_of}
 use Rattle.promise_spec.specs.Crashes.{IsAside}
-use Rattle.promise_spec.specs.Causes.{RunHasDoubt}
+use Rattle.promise_spec.specs.Cores.{how_many}
+use Rattle.promise_spec.specs.Causes.{RunHasDoubt, is_unsealed}
 use Rattle.promise_spec.specs.Exits.{HasBlock, DifferAt}
 use Rattle.promise_laws.specs.Journals.{CutAt, Backs, commits_of}
 use Rattle.promise_laws.specs.Closings.{AllEnd}
@@ -39,13 +41,18 @@ pub record HasOpenBlock (log : List Commit) (w : CoreState) (disk : Disk) : Type
   pub block : EachImage (HasBlock live_slot gate batch) disk
   pub differ : (one other : Image) → IsImage disk one → IsImage disk other → DifferAt gate (one manager) (other manager)
 
--- the writer keeps the folder's log, which is the opening's and the books', and the versions that it keeps are those of the
--- core's votes
+-- what a crash may leave of the manager file is behind this gate as the file read where the run began
+abbrev pub EndsAsBegun : Outset → ℕ → FileState → Type 0
+EndsAsBegun o gate file = (bytes : List ℕ) → MayLeave file bytes → drop (gate + 1) bytes ≡ drop (gate + 1) (o.world.disk manager).seen
+
+-- The writer keeps the folder's log, which is the opening's and the books', and the versions that it keeps are those of the
+-- core's votes. Where no batch failed to be sealed, nothing was left behind the log.
 pub record KeepsFolder (o : Outset) (head : List ℕ) (b : Books) (r : Run) (writer : BatchWriter) (disk : Disk) : Type 0 where
   pub batches : List (List Commit)
   pub log : log_of batches ≡ o.opening ++ commits_of (b.said ++ b.unsaid)
   pub keeps : KeepsDisk (shape_in o.program) head batches writer disk
   pub votes : (v : Voted) → Member v (kept_of writer) → IsOfVote (ends r) writer.batch v.unit v.write.grain v.state
+  pub behind : how_many is_unsealed r ≡ 0 → EndsAsBegun o writer.gate_at (disk manager)
 
 -- an image has the batch in doubt, where one may have it
 abbrev pub SomeHas : Outset → Books → Disk → Type 0

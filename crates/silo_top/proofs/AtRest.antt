@@ -1,7 +1,7 @@
 -- An opened folder as the settler's writer keeps it: where each image has the log that was opened, each has it up to the writer's
 -- gate, and the writer's ends are those of the places that it names.
-use Rattle.std.proofs.Common.{◌≡◌, ℕ, ◌≤◌, max, Bool, true, false, if◌then◌else◌, List, [], ◌∷◌, Option, Some, None, length, unwrap_or, refl, sym, ◌∙◌, ap, subst, arith, append-nil}
-use Rattle.std.specs.Prelude.{map, take}
+use Rattle.std.proofs.Common.{◌≡◌, ℕ, ◌+◌, ◌≤◌, max, Bool, true, false, if◌then◌else◌, List, [], ◌∷◌, Option, Some, None, length, unwrap_or, refl, sym, ◌∙◌, ap, subst, arith, append-nil}
+use Rattle.std.specs.Prelude.{map, take, drop}
 use Rattle.std.specs.List.{AllByRecursion}
 use Rattle.base_types.specs.declared.calls.GrainId.{GrainId}
 use Rattle.host_trait.specs.Files.{same_grain}
@@ -117,8 +117,8 @@ module _ (o : Outset) (x : Opened) (st : Started) (seen : Image) (is : IsOpenedF
       (all_read (λ (w : Written). write_end w ≤ length (image (grain_file w.grain))) o.opening (kept_within (shape_in o.program) image o.opening kept)) grain)
 
   -- Where nothing is pending in the manager file and each image has the log, the writer keeps the folder so.
-  pub starts_resting : (r : Run) (disk : Disk) → disk manager ≡ settled (seen manager) → IsImage disk seen → AllLog o.program o.opening disk → KeepsFolder o (take 15 (seen manager)) no_books r writer disk
-  starts_resting r disk still left all = record {
+  pub starts_resting : (r : Run) (disk : Disk) → disk manager ≡ settled (seen manager) → (o.world.disk manager).seen ≡ seen manager → IsImage disk seen → AllLog o.program o.opening disk → KeepsFolder o (take 15 (seen manager)) no_books r writer disk
+  starts_resting r disk still begun left all = record {
     batches = own.batches;
     log = sym own.commits ∙ sym (append-nil o.opening);
     keeps = record {
@@ -130,6 +130,7 @@ module _ (o : Outset) (x : Opened) (st : Started) (seen : Image) (is : IsOpenedF
       images = each;
     };
     votes = λ v there. absurd (subst (Member v) start.kept there);
+    behind = λ none bytes may. ap (drop (writer.gate_at + 1)) (settled_only (seen manager) bytes (subst (λ (f : FileState). MayLeave f bytes) still may) ∙ sym begun);
   }
     where
       own : IsLog live_slot (shape_in o.program) seen o.opening

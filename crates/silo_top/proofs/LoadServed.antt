@@ -287,7 +287,7 @@ module _ {T : Type 0} (n seed : ℕ) (m : Manner) (x : Opened) (st : Started) (o
     lasting : LastsSo out head b r' s'.writer new
     lasting = goes.on.lasts told head (starts_lasting out head r0.base r0.kinds r0.opening st.settler.writer mid (still_none mid) all base
         (λ image image_is. ap (take 15) (settled_only (old.disk manager).seen (image manager) (subst (λ (f : FileState). MayLeave f (image manager)) is.settled (image_is manager))))
-        (λ sure. starts_resting out x st (seen_in old.disk) is.opened start refl r0 mid.disk is.settled seen_left all))
+        (λ sure. starts_resting out x st (seen_in old.disk) is.opened start refl r0 mid.disk is.settled (ap (λ (f : FileState). f.seen) is.settled) seen_left all))
 
     pub lasts_so : Lasts p seen c0
     lasts_so = lasts true out head b r' s' seen c0 refl goes.on.record_kept lasting course refl stands opens stay_new

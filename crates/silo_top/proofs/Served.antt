@@ -85,5 +85,5 @@ module _ {T : Type 0} (m : Manner) (x : Opened) (st : Started) (old mid now new 
       (λ opens. (let all : AllLog outset.program outset.opening mid.disk = subst (λ (m : Moment). AllLog outset.program outset.opening m.disk) behind.last opens.opened in
       starts_lasting outset (take 15 (old.disk manager).seen) first.base first.kinds first.opening st.settler.writer now pulled all base
       (λ image image_is. ap (take 15) (settled_only (old.disk manager).seen (image manager) (subst (λ (f : FileState). MayLeave f (image manager)) is.settled (image_is manager))))
-      (λ sure. starts_resting outset x st (seen_in old.disk) is.opened start refl first now.disk (ap (λ (d : Disk). d manager) pulled.disk ∙ is.settled) seen_left
+      (λ sure. starts_resting outset x st (seen_in old.disk) is.opened start refl first now.disk (ap (λ (d : Disk). d manager) pulled.disk ∙ is.settled) (ap (λ (f : FileState). f.seen) is.settled) seen_left
       (subst (AllLog outset.program outset.opening) (sym pulled.disk) all))))

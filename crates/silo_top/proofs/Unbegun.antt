@@ -1,6 +1,6 @@
 -- A run that opened its folder, and ended before a line began.
 use Rattle.std.proofs.Common.{◌≡◌, ◌≢◌, inl, ℕ, ◌+◌, ◌*◌, ◌<◌, ◌≤◌, List, [], ◌++◌, length, refl, sym, ◌∙◌, ap, subst, arith, append-nil}
-use Rattle.std.specs.Prelude.{take}
+use Rattle.std.specs.Prelude.{take, drop}
 use Rattle.host_trait.specs.declared.channels.Channel.{Channel}
 use Rattle.host_trait.specs.declared.channels.Channel.TheVariants.{File}
 use Rattle.host_trait.specs.declared.channels.FileId.{FileId}
@@ -9,6 +9,7 @@ use Rattle.host_trait.specs.Disk.{FileState, MayLeave}
 use Rattle.host_trait.specs.World.{World, Moment, Disk, Image, IsImage, moment_of}
 use Rattle.host_trait.proofs.Crashes.{settled_only}
 use Rattle.host_trait.proofs.Moments.{weaker}
+use Rattle.gate_block.specs.Log.{gate_of}
 use Rattle.core_model.specs.Legal.{ends}
 use Rattle.promise_spec.specs.Logs.{live_slot, IsLog}
 use Rattle.promise_spec.specs.Programs.{Program, shape_in}
@@ -159,6 +160,8 @@ module _ (m : Manner) (o : Opened) (old mid new : World) (before after : Channel
       alone = weaker (λ (x : Moment). x ≡ moment_of mid) (LeavesAlone live_slot r) alone_at pulled.moments;
       alone_now = alone_at (moment_of new) now_is;
       block = λ d. absurd (no_doubt d);
+      behind = λ none image left. (ap (λ (l : List ℕ). drop (gate_of (image (Manager live_slot)) + 1) l)
+          (settled_only (seen_at_entry r (Manager live_slot)) (image (Manager live_slot)) (subst (λ (s : FileState). MayLeave s (image (Manager live_slot))) (ap (λ (d : Disk). d (Manager live_slot)) pulled.disk ∙ stands.settled) (left (Manager live_slot)))));
     }
 
     lasts : Lasts p r c

@@ -1,11 +1,11 @@
-use Rattle.std.proofs.Common.{rules, ◌≡◌, ◌++◌, ◌∷◌, [], List, map, take, refl, sym, ◌∙◌, subst}
+use Rattle.std.proofs.Common.{rules, ◌≡◌, ◌++◌, ◌∷◌, [], List, map, take, refl, sym, ◌∙◌, subst, Some}
 use Rattle.base_types.specs.declared.calls.GrainId.{GrainId}
 use Rattle.base_types.specs.declared.calls.Value.{Value}
 use Rattle.commit_log.specs.declared.records.Written.{Written}
 use Rattle.batch_disk.specs.Writers.{voted_by}
 use Rattle.batch_disk.specs.Records.{HavePlaces}
 use Rattle.batch_disk.proofs.Lists.{took}
-use Rattle.batch_disk.proofs.Recorded.{places_push}
+use Rattle.batch_disk.proofs.Recorded.{places_push, place_there}
 use Rattle.batch_disk.proofs.recording.places_of.Goals as goal
 
 pub loop-write-preserved : goal.loop-write-preserved
@@ -21,3 +21,10 @@ loop-write-preserved c =
           (subst (λ (l : List Written). HavePlaces voted c.args.unit (take i xs ++ x ∷ []) l) (sym pushed)
           (places_push voted c.args.unit (take i xs) c.loop-write.made x w c.loop-write.invariant.placed refl (sym c.place_among.ensures ∙ c.in-Some.is)));
     }
+
+pub returns-in_default-clause-none : goal.returns-in_default-clause-none
+returns-in_default-clause-none c made are =
+    let voted = map voted_by c.args.kept.now in
+    let there = place_there voted c.args.unit c.args.writes.now made c.loop-write.write-index c.write-item.result are c.loop-write-test.true c.write-item.is in
+    let found : c.place_among.result ≡ Some there.0 = c.place_among.ensures ∙ there.1 in
+    absurd (c.in_default.not-Some there.0 found)

@@ -6,10 +6,10 @@ use Rattle.batch_disk.proofs.Recorded.{all_kept}
 use Rattle.batch_disk.proofs.Standing.{voted_within}
 use Rattle.batch_disk.proofs.writer.BatchWriter.prepare.Goals as goal
 
-pub returns-clause-sealable : goal.returns-clause-sealable
-returns-clause-sealable c =
+pub returns-in-Ok-clause-sealable : goal.returns-in-Ok-clause-sealable
+returns-in-Ok-clause-sealable c =
     let a = c.args.self.now in
     let es = c.args.effects in
-    let rs = c.in_ok-work.work.records in
-    let are : AreRecordsFor (voted_of c.args.batch a) es rs = subst (λ (vs : List Voted). AreRecordsFor vs es rs) c.votes_of-votes.ensures c.in_ok-work.ensures.records in
-    record { fits = c.in_ok-work.ensures.fits; small = c.in_ok-work.ensures.small; block = c.in_ok-work.ensures.block; kept = all_kept (voted_of c.args.batch a) (kept_of a) (voted_within a c.args.batch) es rs are }
+    let rs = c.in-Ok.work.records in
+    let are : AreRecordsFor (voted_of c.args.batch a) es rs = subst (λ (vs : List Voted). AreRecordsFor vs es rs) c.votes_of-votes.ensures c.in-Ok.ensures.records in
+    record { fits = c.in-Ok.ensures.fits; small = c.in-Ok.ensures.small; block = c.in-Ok.ensures.block; kept = all_kept (voted_of c.args.batch a) (kept_of a) (voted_within a c.args.batch) es rs are }

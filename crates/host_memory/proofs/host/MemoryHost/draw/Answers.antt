@@ -23,4 +23,4 @@ returns-clause-drawn c count low is drawing =
     let done = c.in_ok-put_file.ensures.ok in
     drawing_new c.args.events.now c.args.until count c.args.noted.now low is (is_written c.args.self.now) (world_in c.args.self.now).disk drawing c.in-Some.file c.deref.result.now (is_written c.put_file.new.self) (world_in c.put_file.new.self).disk
     c.in-Some.ensures.some done.written done.disk
-    (subst (λ (l : List ℕ). MayLeave (state_at c.args.until c.args.events.now c.in-Some.file) l) (sym c.deref.ensures.value) c.in_ok-bytes.ensures)
+    (subst (λ (l : List ℕ). MayLeave (state_at c.args.until c.args.events.now c.in-Some.file) l) (sym c.deref.ensures.value) c.in_ok-bytes.ensures.left)
