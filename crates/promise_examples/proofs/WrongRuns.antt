@@ -56,7 +56,7 @@ use Rattle.promise_spec.specs.Replies.{IsEntryOf, IsTrueOf, HasNoRecord}
 use Rattle.promise_spec.specs.Crashes.{Acknowledges, IsAside}
 use Rattle.promise_spec.specs.Batches.{kept_by}
 use Rattle.promise_spec.specs.Explained.{AreAdded}
-use Rattle.promise_spec.specs.Exits.{HasBlock, IsLeft}
+use Rattle.promise_spec.specs.Exits.{HasBlock, IsExit}
 use Rattle.promise_spec.specs.Promise.{Keeps, KeepsAnywhere, HasReadAll}
 use Rattle.promise_spec.specs.Loads.{KeepsLoad}
 use Rattle.promise_spec.proofs.Lists.{head_of, none_is, none_at, some_is, each_of, in_append, either_in, get_seam, member_at}

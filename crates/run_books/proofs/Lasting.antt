@@ -136,7 +136,7 @@ none-doubted r none = by (ends r).manager.doubt refl
   where
     by : (d : Option ℕ) → (ends r).manager.doubt ≡ d → is_some d ≡ false
     by None q = refl
-    by (Some begins) q = (let left : HasDoubt r = doubt_left r begins q in absurd (none-applies is_unsealed r none left.at (Doubt left.number) left.doubt refl))
+    by (Some begins) q = (let left : RunHasDoubt r = doubt_left r begins q in absurd (none-applies is_unsealed r none left.at (Doubt left.number) left.doubt refl))
 
 -- what has to last
 pub lasts : (tells : Bool) (o : Outset) (head : List ℕ) (b : Books) (r : Run) (settler : Settler) (seen : Observed) (c : Course)
