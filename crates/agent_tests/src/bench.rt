@@ -3,6 +3,7 @@ ghost use Rattle.core_access.specs.Settling.{is_settling};
 ghost use Rattle.script_tree.specs.Programs.{program_tree};
 ghost use Rattle.agent_tests.specs.Carrying.{IsCarrying};
 
+use crate::told::Told;
 use crate::told_core::ToldCore;
 use base_types::{BadRequest, Call, Store, UnitNo};
 use core_access::Access;
@@ -35,7 +36,10 @@ impl Bench {
             next_unit: UnitNo(1),
         };
         Ok(Bench {
-            core: ToldCore::new(alloc, Core::new(alloc, opened)),
+            core: ToldCore {
+                core: Core::new(alloc, opened),
+                told: Told::new(alloc),
+            },
             agents: Agents::new(alloc),
             lines: 0,
         })
@@ -73,7 +77,7 @@ impl Bench {
         let index = unit.wrapping_sub(1);
         if index < self.agents.list.len() {
             match self.agents.advance(alloc, checked, &mut self.core, index)? {
-                Went::Stayed => self.core.tell_stays(unit),
+                Went::Stayed => self.core.told.tell_stays(unit),
                 _ => {}
             }
         }

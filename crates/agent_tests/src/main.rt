@@ -9,12 +9,21 @@
 //! - `run`: the first unit that can move goes on, until none can and all is settled;
 //! - `turns`: likewise, but the units that can move go on by turns;
 //! - `settle`: all is settled that can be; `lose`: likewise, but no file can be written.
+//!
+//! A line that begins with `race` is played over a new core that a worker shares with another: the worker carries its requests by
+//! `carry_lines`, and before its N-th event comes what `N<DEED` says of the other, before its N-th look what `N?DEED` says. So an
+//! event may be answered otherwise than the look before it had shown. Deeds are `begin:LINE`; `read`, `update`, `refuse`, `free` or `learn`
+//! with `:UNIT:GRAIN`; `take`, `vote:GRAIN`, `decide`, `seal`, `lose`, `doubt`; and `halt`.
 #![tactic(auto)]
 
 mod bench;
+mod deeds;
 mod playing;
 mod program;
+mod racing;
+mod shared_core;
 mod texts;
+mod told;
 mod told_core;
 
 use playing::play;
@@ -23,7 +32,7 @@ use std::io;
 
 fn main(rt: HostRuntime) -> io::Result<()> {
     match program(rt.alloc()) {
-        Some(checked) => play(&rt, &checked),
+        Some(checked) => play(&rt, &rt, &checked),
         None => println!(rt; "no program"),
     }
 }

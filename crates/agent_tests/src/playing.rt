@@ -3,9 +3,11 @@ ghost use Rattle.script_tree.specs.Programs.{program_tree};
 ghost use Rattle.agent_tests.specs.Carrying.{IsCarrying};
 
 use crate::bench::Bench;
+use crate::racing::play_race;
 use script_check::Checked;
 use std::alloc::{AllocError, Global};
 use std::io;
+use std::sync::Wait;
 
 // Does what a word of a line says.
 fn play_word(
@@ -46,14 +48,31 @@ fn play_line(
     for word in line.split(' ') {
         play_word(bench, alloc, checked, word)?;
     }
-    Ok(bench.core.take_text(alloc))
+    Ok(bench.core.told.take_text(alloc))
 }
 
-/// Plays all lines of the input, and prints what each makes.
-pub fn play(rt: &HostRuntime, checked: &Checked) -> io::Result<()> {
+// Plays a row of a race, or else a line.
+fn play_row<R: Wait>(
+    bench: &mut Bench,
+    waiting: &R,
+    alloc: Global,
+    checked: &Checked,
+    line: &str,
+) -> Result<String, AllocError>
+    requires { IsCarrying (program_tree checked.now) bench.old }
+    ensures { IfOk result (λ _. IsCarrying (program_tree checked.now) bench.new) }
+{
+    match line.strip_prefix("race ") {
+        Some(words) => return play_race(waiting, alloc, checked, words),
+        None => return play_line(bench, alloc, checked, line),
+    }
+}
+
+/// Plays all lines of the input, and prints what each makes. A worker waits by the second handle.
+pub fn play<R: Wait>(rt: &HostRuntime, waiting: &R, checked: &Checked) -> io::Result<()> {
     let mut bench = Bench::new(rt.alloc(), checked)?;
     for line in rt.lines(rt.alloc()) {
-        let text = play_line(&mut bench, rt.alloc(), checked, line?.as_str())?;
+        let text = play_row(&mut bench, waiting, rt.alloc(), checked, line?.as_str())?;
         print!(rt; "{text}")?;
     }
     Ok(())

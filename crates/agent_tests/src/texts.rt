@@ -51,6 +51,16 @@ fn add_grain(out: &mut String, grain: GrainId) -> Result<(), AllocError> {
     write!(out, "{name}/{key}")
 }
 
+/// The number of the type with this name.
+pub fn kind_named(name: &str) -> Option<u16> {
+    for kind in 0..TYPES.len() {
+        if TYPES[kind].0 == name {
+            return u16::try_from(kind).ok();
+        }
+    }
+    None
+}
+
 fn method_name(call: &Call) -> &'static str {
     match TYPES.get(usize::from(call.grain.kind)) {
         Some(one) => one.1.get(usize::from(call.method)).copied().unwrap_or("?"),
@@ -127,6 +137,24 @@ fn add_end(out: &mut String, word: &str, effect: &Effect) -> Result<(), AllocErr
     add_writes(out, effect.writes.as_slice())
 }
 
+// What the settler or a stop does to a batch or to the run.
+fn add_settling(out: &mut String, event: &CoreEvent) -> Result<(), AllocError> {
+    match event {
+        CoreEvent::Take => out.push_str("takes a batch"),
+        CoreEvent::Vote { grain, .. } => {
+            out.push_str("votes on ")?;
+            add_grain(out, *grain)
+        }
+        CoreEvent::Decide { .. } => out.push_str("decides"),
+        CoreEvent::Sealed { .. } => out.push_str("has sealed"),
+        CoreEvent::NotSealed { .. } => out.push_str("has not sealed"),
+        CoreEvent::Doubt { .. } => out.push_str("is in doubt"),
+        CoreEvent::Learn { unit, grain } => add_lock(out, *unit, "is learnt at", *grain),
+        CoreEvent::Halt => out.push_str("stops the run"),
+        _ => out.push_str("another event"),
+    }
+}
+
 /// An event, as text.
 pub fn add_event(out: &mut String, event: &CoreEvent) -> Result<(), AllocError> {
     match event {
@@ -150,14 +178,15 @@ pub fn add_event(out: &mut String, event: &CoreEvent) -> Result<(), AllocError> 
         CoreEvent::Release { unit, grain } => add_lock(out, *unit, "frees", *grain),
         CoreEvent::Finish { effect, .. } => add_end(out, "finishes", effect),
         CoreEvent::EndPlain { effect, .. } => add_end(out, "ends", effect),
-        _ => out.push_str("another event"),
+        CoreEvent::Bad { line, why: _why } => write!(out, "line {line} is bad"),
+        _ => add_settling(out, event),
     }
 }
 
 /// What an event was answered, behind its text, to the end of the line.
 pub fn add_reply(out: &mut String, reply: &CoreReply) -> Result<(), AllocError> {
     match reply {
-        CoreReply::Done => out.push_str("\n"),
+        CoreReply::Done | CoreReply::Taken { .. } | CoreReply::Decided { .. } => out.push_str("\n"),
         CoreReply::Began { unit } => {
             let unit = unit.0;
             write!(out, " as {unit}\n")

@@ -4,69 +4,17 @@ ghost use Rattle.core_access.specs.Settling.{is_settling};
 ghost use Rattle.core_access.specs.Sights.{Tells};
 ghost use Rattle.history_core.specs.Cores.{run_of};
 
-use crate::texts::{add_event, add_reply};
+use crate::told::Told;
 use core_access::Access;
 use core_model::{CoreAnswer, CoreEvent, CoreQuestion, CoreReply};
 use history_core::Core;
-use std::alloc::{AllocError, Global};
-use std::mem;
+use std::alloc::AllocError;
 
 /// A core that one has alone. Each event that is put into it is told as a line of text.
 #[derive(Drop)]
 pub struct ToldCore {
     pub core: Core,
-    text: String,
-    /// There was no memory for some of the text.
-    lost: bool,
-}
-
-impl ToldCore {
-    /// The core, of which nothing is told yet.
-    pub fn new(alloc: Global, core: Core) -> ToldCore
-        ensures { result.core ≡ core }
-    {
-        ToldCore {
-            core,
-            text: String::new(alloc),
-            lost: false,
-        }
-    }
-
-    /// What was told since this was asked for last.
-    pub fn take_text(&mut self, alloc: Global) -> String
-        ensures { self.new.core ≡ self.old.core }
-    {
-        if self.lost {
-            let _ = self.text.push_str("no memory for all of it\n");
-        }
-        mem::replace(&mut self.text, String::new(alloc))
-    }
-
-    /// Tells that a unit's agent put nothing.
-    pub fn tell_stays(&mut self, unit: usize)
-        ensures { self.new.core ≡ self.old.core }
-    {
-        let text = &mut self.text;
-        if write!(text, "{unit} stays\n").is_err() {
-            self.lost = true;
-        }
-    }
-
-    fn tell_event(&mut self, event: &CoreEvent)
-        ensures { self.new.core ≡ self.old.core }
-    {
-        if add_event(&mut self.text, event).is_err() {
-            self.lost = true;
-        }
-    }
-
-    fn tell_reply(&mut self, reply: &CoreReply)
-        ensures { self.new.core ≡ self.old.core }
-    {
-        if add_reply(&mut self.text, reply).is_err() {
-            self.lost = true;
-        }
-    }
+    pub told: Told,
 }
 
 impl Access for ToldCore {
@@ -81,10 +29,10 @@ impl Access for ToldCore {
     ghost aside = { λ c. tt };
 
     fn put(&mut self, event: CoreEvent) -> Result<CoreReply, (AllocError, CoreEvent)> {
-        self.tell_event(&event);
+        self.told.tell_event(&event);
         match Access::put(&mut self.core, event) {
             Ok(reply) => {
-                self.tell_reply(&reply);
+                self.told.tell_reply(&reply);
                 Ok(reply)
             }
             Err(refused) => Err(refused),

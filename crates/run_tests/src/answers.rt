@@ -84,6 +84,19 @@ pub fn add_whether_new(
     write!(out, "{is_new}")
 }
 
+/// The sum of the three accounts in what the host holds by now, none where no run over it is done.
+pub fn money_in<R: Threads + Wait + Sync>(
+    rt: &R,
+    alloc: Global,
+    host: &MemoryHost,
+) -> Result<Option<i64>, AllocError> {
+    let mut image = copied(host)?;
+    match read_books(rt, alloc, &mut image)? {
+        Some(books) => Ok(Some(sum_of(books))),
+        None => Ok(None),
+    }
+}
+
 /// Writes the sum of the three accounts in what the host holds by now.
 pub fn add_money<R: Threads + Wait + Sync>(
     rt: &R,
@@ -91,12 +104,8 @@ pub fn add_money<R: Threads + Wait + Sync>(
     out: &mut String,
     host: &MemoryHost,
 ) -> Result<(), AllocError> {
-    let mut image = copied(host)?;
-    match read_books(rt, alloc, &mut image)? {
-        Some(books) => {
-            let sum = sum_of(books);
-            write!(out, "{sum}")
-        }
+    match money_in(rt, alloc, host)? {
+        Some(sum) => write!(out, "{sum}"),
         None => out.push_str("none"),
     }
 }

@@ -7,8 +7,9 @@ use crate::commands::{carry, carry_alone, copied};
 use crate::faults::add_fault;
 use crate::gates::add_held;
 use crate::names::{MANAGER, fault_of};
+use crate::noise::{add_noisy, add_noisy_faults, add_noisy_stops};
 use crate::stops::add_stops;
-use crate::transfers::{add_transfers, rounds};
+use crate::transfers::{add_transfers, hot_rounds, mixed_rounds, rounds};
 use host_memory::MemoryHost;
 use silo_top::Status;
 use std::alloc::{AllocError, Global};
@@ -100,6 +101,8 @@ impl Bench {
         };
         let taken = match word {
             "rounds" => rounds(self.alloc, count),
+            "mixed" => mixed_rounds(self.alloc, count),
+            "hot" => hot_rounds(self.alloc, count),
             "blanks" => blanks(self.alloc, count),
             _ => return Ok(false),
         };
@@ -232,6 +235,7 @@ impl Bench {
             "transfers" => add_transfers(rt, self.alloc, out, &self.host),
             "stops" => add_stops(rt, self.alloc, out, &self.host),
             "fails" => self.add_fails(rt, out, rest),
+            "noise" => self.add_noise(rt, out, rest),
             _ => self.add_kept(out, word, rest),
         }
     }
@@ -247,6 +251,31 @@ impl Bench {
             Some(fault) => add_fault(rt, self.alloc, out, &self.host, fault),
             None => out.push_str("no such case"),
         }
+    }
+
+    // Writes how many runs over copies of the host went well whose threads are held up.
+    fn add_noise<R: Threads + Wait + Sync>(
+        &mut self,
+        rt: &R,
+        out: &mut String,
+        rest: &str,
+    ) -> Result<(), AllocError> {
+        let (count, words) = rest.split_once(' ').unwrap_or((rest, ""));
+        let input = self.input.as_str();
+        match (number_of(count), words.split_once(' ')) {
+            (Some(runs), Some(("stops", words))) => {
+                add_noisy_stops(rt, self.alloc, out, &self.host, runs, words, input)?
+            }
+            (Some(runs), Some(_)) => {
+                add_noisy(rt, self.alloc, out, &self.host, runs, words, input)?
+            }
+            (None, Some(_)) if count == "faults" => {
+                add_noisy_faults(rt, self.alloc, out, &self.host, words, input)?
+            }
+            _ => out.push_str("no such case")?,
+        }
+        self.input.clear();
+        Ok(())
     }
 
     // Writes what a case tells that carries nothing.

@@ -1,12 +1,12 @@
-// Runs whose threads a gate holds at places, until others were reached: two transactions are carried side by side, and one reads
-// what another has written before its batch is on disk.
+// Runs whose threads a gate holds at places, until others were reached: two transactions are carried side by side, one reads what
+// another has written before its batch is on disk, and sixteen are in flight at once.
 use crate::answers::add_end;
 use crate::commands::carry_by;
 use host_memory::MemoryHost;
 use silo_top::{Gate, GatePlace, Status};
 use std::alloc::{AllocError, Global};
 use std::sync::Wait;
-use std::sync::atomic::{AtomicBool, Ordering};
+use std::sync::atomic::{AtomicBool, AtomicU64, Ordering};
 use std::thread::Threads;
 
 // How often a hold looks before it gives up.
@@ -80,6 +80,25 @@ impl Gate for BothGranted {
     }
 }
 
+/// Holds each unit that begins until sixteen have begun.
+#[derive(Drop)]
+struct AllBegun {
+    begun: AtomicU64,
+    all: AtomicBool,
+    missed: AtomicBool,
+}
+
+impl Gate for AllBegun {
+    fn reach(&self, place: GatePlace) {
+        if let GatePlace::Begun { .. } = place {
+            if self.begun.fetch_add(1, Ordering::SeqCst) == 15 {
+                self.all.store(true, Ordering::SeqCst);
+            }
+            hold(&self.all, &self.missed);
+        }
+    }
+}
+
 // Whether what the gate waits for came, and whether a place was waited for in vain.
 fn add_places(out: &mut String, came: bool, missed: &AtomicBool) -> Result<(), AllocError> {
     let missed = missed.load(Ordering::SeqCst);
@@ -126,8 +145,28 @@ fn add_locks<R: Threads + Wait + Sync>(
     Ok(status)
 }
 
-/// Carries two lines by two workers that a gate holds, and writes how that ended: at the word `seal` the gate is
-/// [`ReadBeforeSeal`], and at `locks` [`BothGranted`].
+// Sixteen workers have a unit each at once.
+fn add_all<R: Threads + Wait + Sync>(
+    rt: &R,
+    alloc: Global,
+    out: &mut String,
+    host: &mut MemoryHost,
+    input: &str,
+) -> Result<Status, AllocError> {
+    let gate = AllBegun {
+        begun: AtomicU64::new(0),
+        all: AtomicBool::new(false),
+        missed: AtomicBool::new(false),
+    };
+    let status = carry_by(rt, alloc, host, &gate, "run --workers 16", input)?;
+    add_end(out, status, host)?;
+    let came = gate.all.load(Ordering::SeqCst);
+    add_places(out, came, &gate.missed)?;
+    Ok(status)
+}
+
+/// Carries lines by workers that a gate holds, and writes how that ended: at the word `seal` two by [`ReadBeforeSeal`], at `locks`
+/// two by [`BothGranted`], and at `all` sixteen by [`AllBegun`].
 pub fn add_held<R: Threads + Wait + Sync>(
     rt: &R,
     alloc: Global,
@@ -139,6 +178,7 @@ pub fn add_held<R: Threads + Wait + Sync>(
     match word {
         "seal" => add_seal(rt, alloc, out, host, input),
         "locks" => add_locks(rt, alloc, out, host, input),
+        "all" => add_all(rt, alloc, out, host, input),
         _ => {
             out.push_str("no such case")?;
             Ok(Status::BadUse)

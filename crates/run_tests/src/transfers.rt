@@ -35,13 +35,45 @@ const ROUND: &str = r#"{"args":[1,2,1],"call":"atm/0.transfer"}
 {"args":[3,1,1],"call":"atm/0.transfer"}
 "#;
 
-/// The lines of so many rounds of transfers between the three accounts.
-pub fn rounds(alloc: Global, count: u64) -> Result<String, AllocError> {
+// So many rounds of these lines.
+fn repeated(alloc: Global, round: &str, count: u64) -> Result<String, AllocError> {
     let mut lines = String::new(alloc);
     for _ in 0..count {
-        lines.push_str(ROUND)?;
+        lines.push_str(round)?;
     }
     Ok(lines)
+}
+
+/// The lines of so many rounds of transfers between the three accounts.
+pub fn rounds(alloc: Global, count: u64) -> Result<String, AllocError> {
+    repeated(alloc, ROUND, count)
+}
+
+// The lines of a mixed round: the transfers of a round, and between them runs that begin units of their own on the first account, or
+// on the grain that they hold, and deposit nothing.
+const MIXED: &str = r#"{"args":[1,2,1],"call":"atm/0.transfer"}
+{"args":[1,0],"call":"probe/1.aside"}
+{"args":[2,3,1],"call":"atm/0.transfer"}
+{"args":[],"call":"probe/1.outer"}
+{"args":[3,1,1],"call":"atm/0.transfer"}
+{"args":[1,0],"call":"probe/2.split"}
+"#;
+
+// The lines of a hot round: all want the first account, two of them by units of their own.
+const HOT: &str = r#"{"args":[1,1,1],"call":"atm/0.transfer"}
+{"args":[1,0],"call":"probe/1.aside"}
+{"args":[1,0],"call":"probe/2.split"}
+{"args":[],"call":"account/1.read"}
+"#;
+
+/// The lines of so many mixed rounds.
+pub fn mixed_rounds(alloc: Global, count: u64) -> Result<String, AllocError> {
+    repeated(alloc, MIXED, count)
+}
+
+/// The lines of so many hot rounds.
+pub fn hot_rounds(alloc: Global, count: u64) -> Result<String, AllocError> {
+    repeated(alloc, HOT, count)
 }
 
 /// Carries the six transfers.

@@ -8,10 +8,29 @@ use crate::steps::{Load, Publish, Release, Take};
 use std::hint::spin_loop;
 use std::snapshot::Snapshot;
 use std::sync::Wait;
+use std::sync::atomic::AtomicU64;
 use std::thread::yield_now;
+use std::time::Duration;
 
 // How often one looks again at once, before other threads may have the processor. A turn is over within a microsecond.
 const MOST_SPINS: u32 = 100;
+
+// How often one gives the processor away, before one sleeps: so long only who has the turn and doesn't run keeps others waiting.
+const MOST_YIELDS: u32 = 64;
+
+// How long one sleeps then, in microseconds.
+const NAP: u64 = 50;
+
+// Lets others run, after so many tries for the turn.
+fn give_way<R: Wait>(rt: &R, tries: u32) {
+    if tries % MOST_SPINS != 0 {
+        spin_loop();
+    } else if tries % (MOST_SPINS * MOST_YIELDS) != 0 {
+        yield_now();
+    } else {
+        AtomicU64::new(0).park_timeout(rt, 0, Duration::from_micros(NAP));
+    }
+}
 
 impl<T: TurnObject> TurnCell<T> {
     ghost use Rattle.turn_cell.specs.Places.{object_in};
@@ -52,13 +71,8 @@ impl<T: TurnObject> TurnCell<T> {
             {
                 return word;
             }
-            if tries < MOST_SPINS {
-                tries += 1;
-                spin_loop();
-            } else {
-                tries = 0;
-                yield_now();
-            }
+            tries = tries.wrapping_add(1);
+            give_way(rt, tries);
         }
         unreachable!()
     }

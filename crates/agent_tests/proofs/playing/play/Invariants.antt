@@ -4,4 +4,4 @@ use Rattle.agent_tests.proofs.playing.play.Given as goal
 
 -- each agent knows its unit still
 abbrev pub invariant-loop-line : goal.invariant-loop-line
-invariant-loop-line l = IsCarrying (program_tree l.checked) l.bench
+invariant-loop-line g l = IsCarrying (program_tree l.checked) l.bench
