@@ -7,10 +7,11 @@
 # file that it wrote and two of the log.
 # Wanted at width 64: 20,000 transfers in at most 1.25 times the time of the bare syncs; 50,000 a second where syncs cost nothing; at
 # 100,000 at most 1.1 times the time for each that it takes at 2,000.
-# Measured beside other work on four processors: 36 us of processor time for each transfer at width 64, at 2,000 as at 20,000, and
-# 19,500 a second where syncs cost nothing, so the second isn't met there. By a profile a quarter of the time is walks over the units
-# in flight, which each turn makes: a tenth looks for units to drop, a twentieth for the mover, and the rest counts the lines among
-# them; what is left is spread over the core's events, the allocator and the bytes of versions and records.
+# Measured beside other work, four times as much as the four processors carry: 17 to 24 us of processor time for each transfer at width
+# 64 where syncs cost nothing, at 2,000, at 20,000 and at 100,000. By that a processor of its own would carry 42,000 to 59,000 a second;
+# beside that work it was 12,000 to 19,000. Of the instructions (157,000 a transfer, by callgrind) a seventh clears room, most of it 16
+# KiB in which a line is read, an eighth allocates and frees, a fifteenth walks over the units in flight to the mover, a twelfth looks
+# grains up in trees, and a twentieth each copies and carries the core's events; the rest is spread.
 top=$(cd "$(dirname "${BASH_SOURCE[0]}")/.." && pwd)
 [ -n "${SILO:-}" ] || "$top/silo" </dev/null >/dev/null 2>&1
 exec python3 - "$top" "${SILO:-$top/crates/silo/out/silo}" "$@" <<'END'

@@ -9,7 +9,7 @@ use Rattle.core_model.specs.Learning.{to_learn, next_learn}
 use Rattle.core_model.specs.Events.{applies}
 use Rattle.core_model.specs.declared.events.CoreEvent.TheVariants.{Take}
 use Rattle.core_model.specs.Answers.{view, next_wanted}
-use Rattle.core_model.specs.Settler.{Seals, Writes, Takes, Rests, first_unvoted, last_step, learn_step, later_step, undecided_step, batch_step, settler_step, versions_to_write, to_commit, write_work, work_in}
+use Rattle.core_model.specs.Settler.{Seals, Writes, Takes, Rests, has_step, first_unvoted, last_step, learn_step, later_step, undecided_step, batch_step, settler_step, versions_to_write, to_commit, write_work, work_in}
 use Rattle.core_model.specs.declared.questions.CoreQuestion.{CoreQuestion}
 use Rattle.core_model.specs.declared.questions.CoreAnswer.{CoreAnswer}
 use Rattle.core_model.specs.declared.questions.SettlerWork.{SettlerWork}
@@ -184,3 +184,71 @@ takes-is p may can t e = λ w s r. ap (work_in w) (sym (cond-true (may && applie
 
 pub rests-is : (p : Parts) (may can : Bool) → ((w : CoreState) → PartsStand p w → IsCoreReached w → can ≡ applies w Take) → (may && can) ≡ false → ShowsStep p (λ w. if may && applies w Take then Takes else Rests) work.Nothing
 rests-is p may can t e = λ w s r. ap (work_in w) (sym (cond-false (may && applies w Take) Takes Rests (ap (λ b. may && b) (sym (t w s r)) ∙ e)))
+
+-- ---- whether the settler has a step
+
+abbrev pub either : Bool → Bool → Bool
+either true b = true
+either false b = b
+
+-- whatever is open, what is to write and what is to learn are a step, and so is a batch that can be taken where nothing is in doubt
+abbrev pub stepping : Bool → Bool → Bool → Bool → Bool → Bool
+stepping batch unwritten doubt unlearnt takes = either batch (either unwritten (if doubt then false else either unlearnt takes))
+
+last-has : (w : CoreState) (may : Bool) → has_step (last_step w may) ≡ either (nat_lt w.manager.emitted (length w.manager.settled)) (may && applies w Take)
+last-has w may = by (nat_lt w.manager.emitted (length w.manager.settled)) (may && applies w Take)
+  where
+    by : (n m : Bool) → has_step (if n then Writes else (if m then Takes else Rests)) ≡ either n m
+    by true m = refl
+    by false true = refl
+    by false false = refl
+
+later-has : (w : CoreState) → has_step (later_step w) ≡ stepping false (nat_lt w.manager.emitted (length w.manager.settled)) (is_some w.manager.doubt) (is_some (next_learn w)) (applies w Take)
+later-has w = by (is_some w.manager.doubt) (next_learn w)
+  where
+    here : (n : Bool) → true ≡ either n true
+    here true = refl
+    here false = refl
+
+    by : (d : Bool) (x : Option (UnitNo × GrainId)) → has_step (if d then last_step w false else learn_step w x)
+        ≡ stepping false (nat_lt w.manager.emitted (length w.manager.settled)) d (is_some x) (applies w Take)
+    by true x = last-has w false
+    by false None = last-has w true
+    by false (Some x) = here (nat_lt w.manager.emitted (length w.manager.settled))
+
+batch-has : (w : CoreState) (b : Option Batch) → has_step (batch_step w b) ≡ either (is_some b) (has_step (later_step w))
+batch-has w None = refl
+batch-has w (Some x) = by (is_some x.decisions) (first_unvoted x)
+  where
+    by : (d : Bool) (g : Option GrainId) → has_step (if d then Seals x.number else undecided_step x.number g) ≡ true
+    by true g = refl
+    by false None = refl
+    by false (Some g) = refl
+
+-- by what is kept
+pub has-work : (p : Parts) (w : CoreState) (batch unwritten doubt unlearnt takes : Bool) → PartsStand p w → is_some p.batch ≡ batch → nat_lt p.entries.emitted (length p.entries.entries) ≡ unwritten → p.doubt ≡ doubt
+    → is_some (slice_get p.learn.pairs 0) ≡ unlearnt → applies w Take ≡ takes → stepping batch unwritten doubt unlearnt takes ≡ has_step (settler_step w)
+has-work p w batch unwritten doubt unlearnt takes s b n d l t =
+    sym (batch-has w w.manager.batch ∙ ap (either (is_some w.manager.batch)) (later-has w)
+    ∙ (λ i. stepping ((sym s.batch.same ∙ b) i) (((λ j. nat_lt (s.emitted j) (length (s.settled j))) ∙ n) i) ((s.doubt ∙ d) i) ((ap is_some (sym (learn-is p w s)) ∙ l) i) (t i)))
+
+pub open-has : (p : Parts) (w : CoreState) → PartsStand p w → is_some p.batch ≡ true → true ≡ has_step (settler_step w)
+open-has p w s b = has-work p w true _ _ _ _ s b refl refl refl refl
+
+pub unwritten-has : (p : Parts) (w : CoreState) → PartsStand p w → nat_lt p.entries.emitted (length p.entries.entries) ≡ true → true ≡ has_step (settler_step w)
+unwritten-has p w s n = by (is_some p.batch) ∙ has-work p w _ true _ _ _ s refl n refl refl refl
+  where
+    by : (b : Bool) → true ≡ stepping b true p.doubt (is_some (slice_get p.learn.pairs 0)) (applies w Take)
+    by true = refl
+    by false = refl
+
+pub doubt-has : (p : Parts) (w : CoreState) → PartsStand p w → is_some p.batch ≡ false → nat_lt p.entries.emitted (length p.entries.entries) ≡ false → p.doubt ≡ true → false ≡ has_step (settler_step w)
+doubt-has p w s b n d = has-work p w false false true _ _ s b n d refl refl
+
+pub unlearnt-has : (p : Parts) (w : CoreState) → PartsStand p w → is_some p.batch ≡ false → nat_lt p.entries.emitted (length p.entries.entries) ≡ false → p.doubt ≡ false
+    → is_some (slice_get p.learn.pairs 0) ≡ true → true ≡ has_step (settler_step w)
+unlearnt-has p w s b n d l = has-work p w false false false true _ s b n d l refl
+
+pub takes-has : (p : Parts) (w : CoreState) (takes : Bool) → PartsStand p w → is_some p.batch ≡ false → nat_lt p.entries.emitted (length p.entries.entries) ≡ false → p.doubt ≡ false
+    → is_some (slice_get p.learn.pairs 0) ≡ false → takes ≡ applies w Take → takes ≡ has_step (settler_step w)
+takes-has p w takes s b n d l t = has-work p w false false false false takes s b n d l (sym t)

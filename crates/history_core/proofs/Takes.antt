@@ -1,8 +1,8 @@
 -- The size of the next batch, and the state after it was taken.
 use Rattle.std.proofs.Common.{◌≡◌, ℕ, zero, suc, ◌+◌, ◌<◌, ◌≤◌, List, [], ◌∷◌, ◌++◌, Bool, true, false, ◌&&◌, not, inl, inr, refl, sym, ap, ◌∙◌, subst, arith, Option, Some, None, length, take, drop, map, nat_lt, is_none, Vec, Global}
-use Rattle.std.specs.Prelude.{if◌then◌else◌}
+use Rattle.std.specs.Prelude.{if◌then◌else◌, slice_get}
 use Rattle.std.specs.List.{list_all as all}
-use Rattle.std.proofs.lemmas.Bool.{and_parts}
+use Rattle.std.proofs.lemmas.Bool.{and_parts, lt-ltb}
 use Rattle.std.proofs.lemmas.List.{take-map}
 use Rattle.cell_model.specs.Locks.{holds_lock}
 use Rattle.core_model.specs.CoreState.{UnitNo, GrainId, Batch, CoreState}
@@ -47,6 +47,28 @@ pub size-is : (p : Parts) (w : CoreState) → PartsStand p w → front_by p (map
 size-is p w s =
     ap (front_by p) (sym (take-map effect_in 64 p.waiting.items) ∙ ap (take 64) s.effects ∙ take-map (effect_of w) 64 (waiting w))
     ∙ front-prefix p w s (take 64 (waiting w))
+
+-- a batch has a unit where the first that waits is free
+none-fronts : (p : Parts) (ms : List FinishedUnit) → slice_get ms 0 ≡ None → false ≡ nat_lt 0 (front_by p (map effect_in (take 64 ms)))
+none-fronts p [] q = refl
+none-fronts p (m ∷ ms) q = absurd cc
+
+first-fronts : (p : Parts) (ms : List FinishedUnit) (m : FinishedUnit) → slice_get ms 0 ≡ Some m → is_free_by p m.effect ≡ nat_lt 0 (front_by p (map effect_in (take 64 ms)))
+first-fronts p [] m q = absurd cc
+first-fronts p (x ∷ ms) m q = ap (λ (y : FinishedUnit). is_free_by p y.effect) (sym (same x m q)) ∙ by (is_free_by p x.effect)
+  where
+    same : (a b : FinishedUnit) → Some a ≡ Some b → a ≡ b
+    same a b e = cc
+
+    by : (b : Bool) → b ≡ nat_lt 0 (if b then front_by p (map effect_in (take 63 ms)) + 1 else 0)
+    by true = sym (lt-ltb 0 (front_by p (map effect_in (take 63 ms)) + 1) (omega arith))
+    by false = refl
+
+pub none-front : (p : Parts) (w : CoreState) → PartsStand p w → slice_get p.waiting.items 0 ≡ None → false ≡ nat_lt 0 (batch_size w)
+none-front p w s q = none-fronts p p.waiting.items q ∙ ap (nat_lt 0) (size-is p w s)
+
+pub first-front : (p : Parts) (w : CoreState) (m : FinishedUnit) → PartsStand p w → slice_get p.waiting.items 0 ≡ Some m → is_free_by p m.effect ≡ nat_lt 0 (batch_size w)
+first-front p w m s q = first-fronts p p.waiting.items m q ∙ ap (nat_lt 0) (size-is p w s)
 
 -- what a batch takes its room of, where none is open
 pub keeps-room : (p : Parts) (entries : EntriesInRoom) (learn : PairsInRoom) (last : LastStates) → p.batch ≡ None →

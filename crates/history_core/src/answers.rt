@@ -4,6 +4,7 @@ ghost use Rattle.std.specs.Option.{option_copied};
 ghost use Rattle.core_access.specs.Spared.{is_plain};
 ghost use Rattle.core_model.specs.Answers.{answer_to};
 ghost use Rattle.core_model.specs.Legal.{ends};
+ghost use Rattle.core_model.specs.Settler.{has_step, settler_step};
 ghost use Rattle.core_model.specs.Tests.{ask_answer, is_decided};
 ghost use Rattle.core_model.specs.Events.{applies};
 ghost use Rattle.core_model.specs.declared.events.CoreEvent.TheVariants.{Take};
@@ -44,6 +45,13 @@ impl Core {
         ensures { result ≡ applies (ends (run_of self.now)) Take }
     {
         self.parts.can_take()
+    }
+
+    /// Whether the settler has a step. Nothing is copied for it.
+    pub fn has_settler_step(&self) -> bool
+        ensures { result ≡ has_step (settler_step (ends (run_of self.now))) }
+    {
+        self.parts.has_work()
     }
 
     /// The first settled entry that isn't written yet, `None` where all are.

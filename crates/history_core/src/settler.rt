@@ -2,8 +2,9 @@
 ghost use Rattle.std.specs.Prelude.{◌≡◌, ◌&&◌, Some, IfOk, if◌then◌else◌};
 ghost use Rattle.core_model.specs.Events.{applies};
 ghost use Rattle.core_model.specs.declared.events.CoreEvent.TheVariants.{Take};
-ghost use Rattle.core_model.specs.Settler.{Takes, Rests, later_step, last_step, settler_step};
-ghost use Rattle.history_core.specs.Kept.{StandsForReached};
+ghost use Rattle.core_model.specs.CoreState.{CoreState};
+ghost use Rattle.core_model.specs.Settler.{Takes, Rests, later_step, last_step, settler_step, has_step};
+ghost use Rattle.history_core.specs.Kept.{PartsStand, IsCoreReached, StandsForReached};
 ghost use Rattle.history_core.specs.Questions.{ShowsStep};
 
 use crate::parts::Parts;
@@ -12,6 +13,25 @@ use open_batch::OpenBatch;
 use std::alloc::AllocError;
 
 impl Parts {
+    // Whether the settler has a step. Takes no memory.
+    pub(crate) fn has_work(&self) -> bool
+        ensures { (w : CoreState) → PartsStand self.now w → IsCoreReached w → result ≡ has_step (settler_step w) }
+    {
+        if self.batch.is_some() {
+            return true;
+        }
+        if self.entries.has_next() {
+            return true;
+        }
+        if self.doubt {
+            return false;
+        }
+        if self.learn.first().is_some() {
+            return true;
+        }
+        self.can_take()
+    }
+
     // What the settler does next, with all that it needs for it. Each version is copied for its vote, each effect for its
     // seal and each entry for its writing, and nothing else.
     pub(crate) fn next_work(&self) -> Result<SettlerWork, AllocError>

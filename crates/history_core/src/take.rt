@@ -1,5 +1,5 @@
 // A batch is taken.
-ghost use Rattle.std.specs.Prelude.{◌≡◌, ◌≤◌, length, map, take, None, IfOk, OnOk, OnErr};
+ghost use Rattle.std.specs.Prelude.{◌≡◌, ◌≤◌, nat_lt, length, map, take, None, IfOk, OnOk, OnErr};
 ghost use Rattle.core_model.specs.CoreState.{CoreState};
 ghost use Rattle.core_model.specs.declared.events.CoreEvent.TheVariants.{Take};
 ghost use Rattle.core_model.specs.Events.{batch_size};
@@ -24,7 +24,17 @@ impl Parts {
     pub(crate) fn can_take(&self) -> bool
         ensures { Tells self.now Take result }
     {
-        self.is_going() && self.batch.is_none() && self.batch_size() > 0
+        self.is_going() && self.batch.is_none() && self.has_free_front()
+    }
+
+    // Whether a batch would have a unit: the first of the finished units that no batch has yet holds no lock.
+    fn has_free_front(&self) -> bool
+        ensures { (w : CoreState) → PartsStand self.now w → result ≡ nat_lt 0 (batch_size w) }
+    {
+        match self.waiting.first() {
+            None => return false,
+            Some(member) => return self.is_free(&member.effect),
+        }
     }
 
     // How many units a batch would have: the longest prefix, of at most 64, of the finished units that no batch has

@@ -1,9 +1,7 @@
 -- Where nobody can move: all is done.
-use Rattle.std.proofs.Common.{◌≡◌, ◌⊎◌, ℕ, zero, suc, ◌≤◌, ◌<◌, Option, Some, None, List, [], ◌∷◌, ◌++◌, length, Bool, true, false, true≢false, inl, inr, ⊎_elim, refl, sym, ap, ◌∙◌, subst, arith}
+use Rattle.std.proofs.Common.{◌≡◌, ℕ, zero, suc, ◌≤◌, ◌<◌, Option, Some, None, List, [], ◌∷◌, ◌++◌, length, Bool, true, false, true≢false, refl, sym, ap, ◌∙◌, subst, arith}
 use Rattle.std.specs.Prelude.{if◌then◌else◌, is_some, nat_lt, slice_get, take, drop}
-use Rattle.std.proofs.lemmas.Bool.{lt-ltb, cond-true, and_parts, cases_Bool}
-use Rattle.std.proofs.Common.{eqb-true}
-use Rattle.std.specs.Prelude.{◌==◌}
+use Rattle.std.proofs.lemmas.Bool.{lt-ltb, cond-true, and_parts}
 use Rattle.base_types.specs.declared.shapes.Shape.{Shape}
 use Rattle.base_types.specs.declared.shapes.TypeShape.{TypeShape}
 use Rattle.script_check.specs.Accepted.{IsAcceptedProgram}
@@ -11,7 +9,6 @@ use Rattle.script_check.specs.Shapes.{type_shapes}
 use Rattle.script_tree.specs.Programs.{ProgramTree}
 use Rattle.run_books.specs.Settling.{CanSettle}
 use Rattle.run_books.proofs.LineCounts.{so-many, at-most}
-use Rattle.interleaver.proofs.Frames.{same-number}
 use Rattle.core_model.specs.Changes.{swept, swept_by}
 use Rattle.core_laws.proofs.Decoded.{Change, bad, begin, lock, raise, refuse, finish, end_plain, end_snapshot, release, take_batch, vote, decide_some, decide_none, seal_batch, spoil_batch, doubt_batch, learn, emit, halt_run, want, load, decode}
 use Rattle.settle_loop.specs.Works.{tells_doubt}
@@ -21,13 +18,13 @@ use Rattle.turn_rules.proofs.Growth.{ends-more}
 use Rattle.std.proofs.lemmas.Option.{slice_get_within}
 use Rattle.base_types.specs.declared.entries.Entry.{Entry}
 use Rattle.request_wire.specs.declared.requests.Line.{Line}
-use Rattle.core_model.specs.CoreState.{Member, Batch, CoreState}
+use Rattle.core_model.specs.CoreState.{Batch, CoreState}
 use Rattle.core_model.specs.declared.effects.Effect.{Effect}
 use Rattle.core_model.specs.declared.events.CoreEvent.{CoreEvent}
 use Rattle.core_model.specs.declared.events.CoreEvent.TheVariants.{Doubt}
 use Rattle.core_model.specs.Legal.{Run, ends}
 use Rattle.core_model.specs.Laws.{extended}
-use Rattle.core_model.specs.Lines.{DifferInLine, EntriesAreOnce}
+use Rattle.core_model.specs.Lines.{EntriesAreOnce}
 use Rattle.core_model.specs.CoreState.{GrainId}
 use Rattle.core_model.specs.Events.{applies, step, does, can, is_allowed}
 use Rattle.core_model.specs.Learning.{next_learn}

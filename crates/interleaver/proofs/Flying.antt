@@ -215,3 +215,29 @@ module _ (types : ProgramTree) (r : Run) (legal : IsLegalRun r) (calm : (ends r)
               → length (filter (is_flying (ends r)) (units_carried (if b then a ∷ filter (is_flown (ends r)) xs else filter (is_flown (ends r)) xs))) ≡ length (filter (λ (z : Agent). is_line z.carried.origin) (if b then a ∷ filter (is_flown (ends r)) xs else filter (is_flown (ends r)) xs))
           by true e more = one a (filter (is_flying (ends r)) (units_carried (filter (is_flown (ends r)) xs))) (filter (λ (z : Agent). is_line z.carried.origin) (filter (is_flown (ends r)) xs)) (flies-as going a k.0 c.0 e) more
           by false e more = more
+
+  -- who is carried has begun
+  begun-agent : (a : Agent) → Knows types (own_sight r) a → HasBegun (ends r) a.carried.unit
+  begun-agent a knows = by a.doing refl
+    where
+      runs : (x : Run) → x ≡ r → (ends x).units.phase a.carried.unit ≡ Running → HasBegun (ends r) a.carried.unit
+      runs x e q = running-begun a.carried.unit (subst (λ (z : Run). (ends z).units.phase a.carried.unit ≡ Running) e q)
+
+      by : (d : Doing) → a.doing ≡ d → HasBegun (ends r) a.carried.unit
+      by (Asks work pause) e =
+          let k : KnowsPaused types (own_sight r) a.carried work pause = subst (KnowsDoing types (own_sight r) a.carried) e knows in
+          runs (run_seen (own_sight r)) (own-run r) (k.linked (own-alone _ r)).given.running
+      by (Awaits work child) e =
+          let k : KnowsWaiting types (own_sight r) a.carried work child = subst (KnowsDoing types (own_sight r) a.carried) e knows in
+          runs (run_seen (own_sight r)) (own-run r) (k.linked (own-alone _ r)).awaits.running
+      by (Frees held) e =
+          let k : IsOver (run_seen (own_sight r)) a.carried held = subst (KnowsDoing types (own_sight r) a.carried) e knows (own-alone _ r) in
+          over-begun ((ends r).units.phase a.carried.unit) (subst (λ (x : Run). IsOver x a.carried held) (own-run r) k).over
+      by Stopped e =
+          let k : IsBarred (run_seen (own_sight r)) a.carried = subst (KnowsDoing types (own_sight r) a.carried) e knows (own-alone _ r) in
+          runs (run_seen (own_sight r)) (own-run r) k.running
+
+  -- a line's unit that is carried is decided where it is settled
+  pub told-agent : (a : Agent) → Knows types (own_sight r) a → (ends r).units.origin a.carried.unit ≡ a.carried.origin → is_line a.carried.origin ≡ true
+      → is_decided (ends r) a.carried.unit ≡ is_settled (ends r) a.carried.unit
+  told-agent a knows came line = told a.carried.unit (begun-agent a knows) ((ends r).units.origin a.carried.unit) refl (ap is_line came ∙ line)

@@ -8,6 +8,7 @@ pub mod OtherTurns
 pub mod LineTurns
 pub mod Lacking
 pub mod Flying
+pub mod Looking
 pub mod Finishing
 pub mod Choosing
 pub mod Rooms

@@ -2,7 +2,6 @@
 use Rattle.std.proofs.Common.{◌≡◌, ℕ, List, [], Bool, true, false, refl, sym, ap, subst, append-nil}
 use Rattle.std.specs.Prelude.{Result, Ok, Err}
 use Rattle.host_trait.specs.declared.channels.Channel.{Channel}
-use Rattle.host_trait.specs.declared.channels.Channel.TheVariants.{Output}
 use Rattle.host_trait.specs.World.{World}
 use Rattle.host_trait.proofs.Moments.{started}
 use Rattle.request_wire.specs.declared.requests.Line.{Line}
@@ -15,7 +14,7 @@ use Rattle.core_model.specs.declared.events.CoreEvent.{CoreEvent}
 use Rattle.core_model.specs.Legal.{Run}
 use Rattle.settle_loop.specs.declared.settler.Settler.{Settler}
 use Rattle.run_books.specs.Beginnings.{Outset}
-use Rattle.run_books.specs.Beside.{EmitsAs, TurnsBeside}
+use Rattle.run_books.specs.Beside.{TurnsBeside}
 use Rattle.run_books.specs.Books.{Books}
 use Rattle.run_books.specs.Records.{TurnsEndAs, HasCarriedAll}
 use Rattle.interleaver.specs.Turns.{KeepsTurns as KeepsRecord, IsFreshRecord, TurnsGoOn as RecordGoesOn}

@@ -1,9 +1,7 @@
 -- Where a run of turns begins.
-use Rattle.std.proofs.Common.{◌≡◌, ◌⊎◌, ℕ, zero, suc, ◌+◌, ◌-◌, ◌≤◌, ◌<◌, List, [], ◌∷◌, ◌++◌, length, Bool, true, false, true≢false, inl, inr, refl, sym, ap, ◌∙◌, subst, arith}
-use Rattle.std.specs.Prelude.{not, ◌&&◌, ◌||◌, take}
-use Rattle.std.specs.List.{AllByRecursion}
+use Rattle.std.proofs.Common.{◌≡◌, ◌⊎◌, ℕ, zero, suc, ◌+◌, ◌-◌, ◌≤◌, ◌<◌, List, [], Bool, true, false, true≢false, inl, inr, refl, sym, ap, ◌∙◌, arith}
+use Rattle.std.specs.Prelude.{not, ◌&&◌, ◌||◌}
 use Rattle.std.proofs.lemmas.Bool.{cases_Bool}
-use Rattle.std.proofs.lemmas.List.{length-append}
 use Rattle.base_types.specs.declared.calls.Origin.{Origin}
 use Rattle.base_types.specs.declared.entries.Entry.{Entry}
 use Rattle.base_types.specs.declared.calls.Origin.TheVariants.{Line as OfLineOrigin, Child}
@@ -24,7 +22,6 @@ use Rattle.core_laws.proofs.Lined.{once-ends}
 use Rattle.script_check.specs.Accepted.{IsAcceptedProgram}
 use Rattle.script_tree.specs.Programs.{ProgramTree}
 use Rattle.promise_spec.specs.Cores.{HasBegun}
-use Rattle.promise_laws.specs.Journals.{Settlement, entries_of}
 use Rattle.promise_spec.specs.UnitRule.{KeepsUnitRule}
 use Rattle.promise_spec.specs.TurnRule.{units_from, is_line, is_settled, units_of}
 use Rattle.turn_rules.specs.Carried.{is_flying, is_kept, AreKept}
@@ -35,9 +32,8 @@ use Rattle.turn_rules.proofs.Listed.{filter-none}
 use Rattle.turn_rules.proofs.Numbers.{units-below}
 use Rattle.settle_loop.specs.declared.settler.Settler.{Settler}
 use Rattle.run_books.specs.Beginnings.{Outset, IsOutset, CanTurn, basis_of}
-use Rattle.run_books.specs.Books.{Books, IsPutOut}
+use Rattle.run_books.specs.Books.{Books}
 use Rattle.interleaver.specs.Turns.{KeepsTurns as KeepsRecord, IsFreshRecord}
-use Rattle.run_books.specs.Settling.{AreEven}
 use Rattle.interleaver.specs.UnderWay.{IsUnderWay}
 use Rattle.run_books.proofs.Resting.{even-at-rest}
 

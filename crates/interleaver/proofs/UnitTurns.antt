@@ -31,14 +31,14 @@ use Rattle.txn_agent.specs.Linked.{IsLegalRun}
 use Rattle.txn_agent.specs.Stepping.{Puts, AnswerSays, is_move}
 use Rattle.txn_agent.proofs.Going.{puts-applied, missed-not}
 use Rattle.txn_agent.proofs.Telling.{alone-tells}
-use Rattle.unit_carrier.specs.Carrying.{StepsOn, units_carried, with_child, went_by}
+use Rattle.unit_carrier.specs.Carrying.{StepsOn, units_carried, with_child}
 use Rattle.unit_carrier.specs.declared.agents.Went.{Went}
 use Rattle.run_books.specs.Beginnings.{Outset, GoUpFrom, basis_of}
 use Rattle.run_books.specs.Books.{Books}
 use Rattle.interleaver.specs.Flights.{loop_at}
 use Rattle.run_books.specs.Settling.{AreEven}
 use Rattle.interleaver.specs.UnderWay.{TurnStage, IsUnderWay, WentOn}
-use Rattle.interleaver.proofs.Frames.{lines-stay, unit-others, unit-no-halt, unit-no-line, done-begins-none, began-is-new}
+use Rattle.interleaver.proofs.Frames.{lines-stay, unit-others, unit-no-line, done-begins-none, began-is-new}
 use Rattle.run_books.proofs.BooksStated.{OthersKeep}
 use Rattle.core_access.proofs.Sights.{looks-alone}
 use Rattle.core_model.specs.Settler.{has_step, settler_step}

@@ -1,3 +1,4 @@
 pub mod Flights
+pub mod Looking
 pub mod Turns
 pub mod UnderWay

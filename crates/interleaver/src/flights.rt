@@ -1,9 +1,14 @@
-ghost use Rattle.std.specs.Prelude.{◌≡◌, filter, count_by};
+ghost use Rattle.std.specs.Prelude.{◌≡◌, true, filter, count_by};
+ghost use Rattle.std.specs.List.{list_all};
+ghost use Rattle.core_access.specs.OneHolder.{none_comes, own_sight};
 ghost use Rattle.core_model.specs.Legal.{ends};
 ghost use Rattle.history_core.specs.Cores.{run_of};
 ghost use Rattle.promise_spec.specs.TurnRule.{is_line};
 ghost use Rattle.txn_agent.specs.declared.agent.Agent.{Agent as AnAgent};
-ghost use Rattle.interleaver.specs.Flights.{flown_unless, is_flown};
+ghost use Rattle.script_tree.specs.Programs.{ProgramTree};
+ghost use Rattle.unit_carrier.specs.Carrying.{AreCarried, units_carried};
+ghost use Rattle.interleaver.specs.Flights.{flown_unless, is_flown, is_open};
+ghost use Rattle.interleaver.specs.Looking.{IsLooked, IsNow, IsStill};
 
 use history_core::Core;
 use settle_loop::Settler;
@@ -41,13 +46,65 @@ fn drop_settled(agents: &mut Agents, core: &Core)
     agents.list.retain(|agent| is_flown(core, agent));
 }
 
-/// Drops the units that are no more to be looked at. After a doubt it drops none: the settler alone moves then.
-pub(crate) fn drop_unless_doubted(agents: &mut Agents, core: &Core, settler: &Settler)
-    ensures { agents.new.list.items ≡ flown_unless settler.now.doubted (ends (run_of core.now)) agents.old.list.items }
+/// Whether the unit is a line's that isn't decided.
+fn is_open(core: &Core, agent: &Agent) -> bool
+    ensures { result ≡ is_open (ends (run_of core.now)) agent.now }
 {
-    if !settler.doubted() {
-        drop_settled(agents, core);
+    agent.is_line() && !core.is_decided(agent.unit())
+}
+
+/// Whether each of the units is a line's that isn't decided.
+fn are_open(agents: &Agents, core: &Core) -> bool
+    ensures { result ≡ list_all (is_open (ends (run_of core.now))) agents.now.list.items }
+{
+    agents.list.iter().all(|agent| is_open(core, agent))
+}
+
+/// Whether so many entries are settled, and nothing is in doubt.
+fn is_still(looked: Option<usize>, core: &Core) -> bool
+    ensures { result ≡ true → IsStill looked (run_of core.now) }
+{
+    match looked {
+        None => false,
+        Some(settled) => settled == core.settled().len() && !core.is_halted(),
     }
+}
+
+/// How many entries are settled, where nothing is in doubt.
+fn looked_now(core: &Core) -> Option<usize>
+    ensures { IsNow result (run_of core.now) }
+{
+    if core.is_halted() {
+        return None;
+    }
+    Some(core.settled().len())
+}
+
+/// Drops the units that are no more to be looked at. After a doubt it drops none: the settler alone moves then. It looks at none
+/// where all of them were lines' that weren't decided, and nothing was settled since.
+pub(crate) fn drop_unless_doubted(
+    agents: &mut Agents,
+    looked: &mut Option<usize>,
+    core: &Core,
+    settler: &Settler,
+)
+    requires carried { (types : ProgramTree) × AreCarried types none_comes (own_sight (run_of core.now)) agents.old.list.items }
+    requires looked { IsLooked looked.old (run_of core.now) (units_carried agents.old.list.items) }
+    ensures flown { agents.new.list.items ≡ flown_unless settler.now.doubted (ends (run_of core.now)) agents.old.list.items }
+    ensures looked { IsLooked looked.new (run_of core.now) (units_carried agents.new.list.items) }
+{
+    if settler.doubted() {
+        return;
+    }
+    if is_still(*looked, core) {
+        return;
+    }
+    if are_open(agents, core) {
+        *looked = looked_now(core);
+        return;
+    }
+    drop_settled(agents, core);
+    *looked = None;
 }
 
 /// How many of the units are lines'.

@@ -35,14 +35,13 @@ pub(crate) fn pick_at(picks: &[u32], index: usize) -> usize
 }
 
 /// Whether the settler has a step, as a number.
-fn settler_moves(core: &mut Core, settler: &Settler) -> Result<usize, AllocError>
-    ensures same { run_of core.new ≡ run_of core.old }
-    ensures moves { IfOk result (λ n. n ≡ (if has_step (settler_step (ends (run_of core.old))) then 1 else 0)) }
+fn settler_moves(core: &Core) -> usize
+    ensures { result ≡ (if has_step (settler_step (ends (run_of core.now))) then 1 else 0) }
 {
-    if settler.applies(core)? {
-        return Ok(1);
+    if core.has_settler_step() {
+        return 1;
     }
-    Ok(0)
+    0
 }
 
 /// The mover at a pick, which counts the movers round and round: the units that can move, and after them the settler where it
@@ -64,7 +63,7 @@ pub(crate) fn next_mover(
         → IfOk result (λ mover. IsNextMover (program_tree checked.now) (run_of core.old) (units_carried agents.old.list.items) pick mover) }
 {
     if settler.doubted() {
-        if settler_moves(core, settler)? == 0 {
+        if settler_moves(core) == 0 {
             return Ok(NextMover::Nobody);
         }
         return Ok(NextMover::Settler);
@@ -73,11 +72,15 @@ pub(crate) fn next_mover(
         Found::At(index) => return Ok(NextMover::Unit(index)),
         Found::Few(units) => units,
     };
-    let movers = units.saturating_add(settler_moves(core, settler)?);
+    let movers = units.saturating_add(settler_moves(core));
     if movers == 0 {
         return Ok(NextMover::Nobody);
     }
-    match agents.find(alloc, checked, core, pick % movers)? {
+    let place = pick % movers;
+    if place >= units {
+        return Ok(NextMover::Settler);
+    }
+    match agents.find(alloc, checked, core, place)? {
         Found::At(index) => Ok(NextMover::Unit(index)),
         Found::Few(_) => Ok(NextMover::Settler),
     }

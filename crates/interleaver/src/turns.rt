@@ -1,27 +1,28 @@
 ghost use Rattle.std.specs.Prelude.{◌≡◌, ◌+◌, ◌-◌, ◌<◌, ◌≤◌, ◌^◌, ◌⊎◌, ℕ, List as AList, true, false, IsTrue, IfOk, IfErr, OnErr, length};
 ghost use Rattle.request_wire.specs.declared.requests.Line.{Line as ALine};
 ghost use Rattle.host_trait.specs.Files.{StaysReady};
-ghost use Rattle.core_model.specs.Legal.{ends};
+ghost use Rattle.core_model.specs.Legal.{Run, ends};
 ghost use Rattle.core_model.specs.Settler.{has_step, settler_step};
 ghost use Rattle.core_model.specs.declared.events.CoreReply.{CoreReply as AReply};
 ghost use Rattle.core_access.specs.OneHolder.{none_comes, own_sight};
 ghost use Rattle.core_access.specs.Sights.{Looks};
 ghost use Rattle.history_core.specs.Cores.{run_of};
-ghost use Rattle.script_tree.specs.Programs.{program_tree};
+ghost use Rattle.script_tree.specs.Programs.{ProgramTree, program_tree};
 ghost use Rattle.script_check.specs.Shapes.{type_shapes};
 ghost use Rattle.turn_rules.specs.Turning.{has_room};
 ghost use Rattle.txn_agent.specs.Linked.{IsLegalRun};
 ghost use Rattle.txn_agent.specs.Stepping.{Acts};
 ghost use Rattle.worker_rules.specs.Stories.{NoneLoads};
 ghost use Rattle.batch_disk.specs.Writers.{IsInBounds, FitsDisk};
-ghost use Rattle.unit_carrier.specs.Carrying.{AreCarried, unit_at};
+ghost use Rattle.unit_carrier.specs.Carrying.{AreCarried, unit_at, units_carried};
 ghost use Rattle.unit_carrier.specs.Lines.{PutsLine};
 ghost use Rattle.settle_loop.specs.Turning.{has_unwritten};
 ghost use Rattle.run_books.specs.declared.faults.RunFault.TheVariants.{Memory};
 ghost use Rattle.run_books.specs.Beginnings.{Outset, CanTurn, IsOutset};
 ghost use Rattle.run_books.specs.Beside.{TurnsBeside};
 ghost use Rattle.run_books.specs.Books.{Books};
-ghost use Rattle.interleaver.specs.Flights.{loop_at, next_line_by};
+ghost use Rattle.interleaver.specs.Flights.{lines_carried, loop_at, next_line_by};
+ghost use Rattle.interleaver.specs.Looking.{IsLooked, looked_after};
 ghost use Rattle.run_books.specs.Records.{KeepsBooks};
 ghost use Rattle.interleaver.specs.Turns.{KeepsTurns, IsFreshRecord, TurnsGoOn};
 ghost use Rattle.run_books.specs.Settling.{AreEven, CanSettle};
@@ -46,6 +47,8 @@ pub(crate) struct Turns {
     pub(crate) alloc: Global,
     pub(crate) shape: Shape,
     pub(crate) agents: Agents,
+    /// How many entries were settled when all units that are carried were lines' that weren't decided, where that is known.
+    pub(crate) looked: Option<usize>,
     pub(crate) begun: usize,
     pub(crate) used: usize,
 }
@@ -101,7 +104,33 @@ fn reach_step<G: Gate>(gate: &G, unit: UnitNo, went: Went) {
     }
 }
 
+/// What is known still behind a unit's step.
+fn looked_after(looked: Option<usize>, went: Went) -> Option<usize>
+    ensures { result ≡ looked_after looked went }
+{
+    match went {
+        Went::Moved => looked,
+        Went::Granted {
+            grain: _grain,
+            source: _source,
+        } => looked,
+        Went::Began { child: _child } => None,
+        Went::Stayed => looked,
+    }
+}
+
 impl Turns {
+    /// How many lines are in flight.
+    fn in_flight(&self) -> usize
+        ensures { (types : ProgramTree) (r : Run) → AreCarried types none_comes (own_sight r) self.now.agents.list.items
+            → IsLooked self.now.looked r (units_carried self.now.agents.list.items) → result ≡ lines_carried self.now.agents.list.items }
+    {
+        match self.looked {
+            None => lines_in(&self.agents),
+            Some(_settled) => self.agents.list.len(),
+        }
+    }
+
     /// The next line, where one may begin: fewer lines than the width are in flight, one is left, and nothing is in doubt. No line
     /// is read before it may begin.
     fn next_line<L: Lines>(
@@ -110,10 +139,15 @@ impl Turns {
         lines: &mut L,
         width: u32,
     ) -> Result<Option<Line>, AllocError>
+        requires known { (types : ProgramTree) × (r : Run) × AreCarried types none_comes (own_sight r) self.now.agents.list.items
+            × IsLooked self.now.looked r (units_carried self.now.agents.list.items) }
         ensures same { L.lines lines.new ≡ L.lines lines.old }
         ensures next { IfOk result (λ line. line ≡ next_line_by settler.now.doubted self.now.agents.list.items width self.now.begun (L.lines lines.old)) }
     {
-        if settler.doubted() || lines_in(&self.agents) >= width as usize {
+        if settler.doubted() {
+            return Ok(None);
+        }
+        if self.in_flight() >= width as usize {
             return Ok(None);
         }
         lines.line_at(self.alloc, self.begun)
@@ -134,6 +168,7 @@ impl Turns {
         ensures memory { IfErr result (λ fault. fault ≡ Memory) }
         ensures begins { IfOk result (λ _. BeganOn (program_tree checked.now) line.now (run_of core.old) (run_of core.new) self.old.agents.list.items self.new.agents.list.items) }
         ensures carried { IfOk result (λ _. AreCarried (program_tree checked.now) none_comes (own_sight (run_of core.new)) self.new.agents.list.items) }
+        ensures looked { IfOk result (λ _. IsLooked self.new.looked (run_of core.new) (units_carried self.new.agents.list.items)) }
         ensures begun { IfOk result (λ _. self.new.begun ≡ self.old.begun + 1) }
         ensures used { self.new.used ≡ self.old.used }
         ensures shape { self.new.shape ≡ self.old.shape }
@@ -143,6 +178,7 @@ impl Turns {
         let began = begin_line(self.alloc, checked, core, &mut self.agents, line)?;
         core.show_few();
         reach_begun(gate, began);
+        self.looked = None;
         self.begun += 1;
         Ok(())
     }
@@ -157,10 +193,12 @@ impl Turns {
     ) -> Result<(), RunFault>
         requires within { index < length self.old.agents.list.items }
         requires carried { AreCarried (program_tree checked.now) none_comes (own_sight (run_of core.old)) self.old.agents.list.items }
+        requires looked { IsLooked self.old.looked (run_of core.old) (units_carried self.old.agents.list.items) }
         ensures acts { Acts none_comes (program_tree checked.now) (unit_at self.old.agents.list.items index) (own_sight (run_of core.old)) (own_sight (run_of core.new)) }
         ensures memory { IfErr result (λ fault. fault ≡ Memory) }
         ensures moves { IfOk result (λ _. MovedOn (program_tree checked.now) index (run_of core.old) (run_of core.new) self.old.agents.list.items self.new.agents.list.items) }
         ensures carried { IfOk result (λ _. AreCarried (program_tree checked.now) none_comes (own_sight (run_of core.new)) self.new.agents.list.items) }
+        ensures looked { IfOk result (λ _. IsLooked self.new.looked (run_of core.new) (units_carried self.new.agents.list.items)) }
         ensures begun { self.new.begun ≡ self.old.begun }
         ensures used { self.new.used ≡ self.old.used }
         ensures shape { self.new.shape ≡ self.old.shape }
@@ -169,6 +207,7 @@ impl Turns {
         let went = self.agents.advance(self.alloc, checked, core, index)?;
         core.show_few();
         reach_step(gate, unit, went);
+        self.looked = looked_after(self.looked, went);
         Ok(())
     }
 
@@ -183,6 +222,7 @@ impl Turns {
         picks: &[u32],
     ) -> Result<bool, RunFault>
         requires carried { AreCarried (program_tree checked.now) none_comes (own_sight (run_of core.old)) self.old.agents.list.items }
+        requires looked { IsLooked self.old.looked (run_of core.old) (units_carried self.old.agents.list.items) }
         requires room { self.old.used < 2 ^ 64 - 1 }
         requires shape { self.old.shape.types ≡ type_shapes (program_tree checked.now) }
         requires bounds { IsInBounds settler.old.writer }
@@ -192,6 +232,7 @@ impl Turns {
             → TurnSays H.tells o (program_tree checked.now) lines width picks.now b (stage_of (run_of core.old) settler.old (H.faults host.old) (H.world host.old) self.old) (stage_of (run_of core.new) settler.new (H.faults host.new) (H.world host.new) self.new) result }
         ensures beside { TurnsBeside H.tells (run_of core.old) (run_of core.new) settler.old settler.new (H.faults host.old) (H.faults host.new) (H.world host.old) (H.world host.new) result }
         ensures carried { IfOk result (λ _. AreCarried (program_tree checked.now) none_comes (own_sight (run_of core.new)) self.new.agents.list.items) }
+        ensures looked { IfOk result (λ _. IsLooked self.new.looked (run_of core.new) (units_carried self.new.agents.list.items)) }
         ensures used { IfOk result (λ _. self.new.used ≤ self.old.used + 1) }
         ensures goes { IfOk result (λ more. more ≡ true → self.new.begun + self.new.used ≡ self.old.begun + self.old.used + 1) }
         ensures shape { self.new.shape ≡ self.old.shape }
@@ -229,6 +270,7 @@ impl Turns {
         picks: &[u32],
     ) -> Result<bool, RunFault>
         requires carried { AreCarried (program_tree checked.now) none_comes (own_sight (run_of core.old)) self.old.agents.list.items }
+        requires looked { IsLooked self.old.looked (run_of core.old) (units_carried self.old.agents.list.items) }
         requires room { self.old.begun + self.old.used < 2 ^ 64 - 1 }
         requires shape { self.old.shape.types ≡ type_shapes (program_tree checked.now) }
         requires bounds { IsInBounds settler.old.writer }
@@ -238,6 +280,7 @@ impl Turns {
             → TurnSays H.tells o (program_tree checked.now) (L.lines lines.old) width picks.now b (stage_of (run_of core.old) settler.old (H.faults host.old) (H.world host.old) self.old) (stage_of (run_of core.new) settler.new (H.faults host.new) (H.world host.new) self.new) result }
         ensures beside { TurnsBeside H.tells (run_of core.old) (run_of core.new) settler.old settler.new (H.faults host.old) (H.faults host.new) (H.world host.old) (H.world host.new) result }
         ensures carried { IfOk result (λ _. AreCarried (program_tree checked.now) none_comes (own_sight (run_of core.new)) self.new.agents.list.items) }
+        ensures looked { IfOk result (λ _. IsLooked self.new.looked (run_of core.new) (units_carried self.new.agents.list.items)) }
         ensures used { IfOk result (λ _. self.new.used ≤ self.old.used + 1) }
         ensures goes { IfOk result (λ more. more ≡ true → self.new.begun + self.new.used ≡ self.old.begun + self.old.used + 1) }
         ensures shape { self.new.shape ≡ self.old.shape }
@@ -245,7 +288,7 @@ impl Turns {
         ensures fits { IsTrue H.tells → FitsDisk settler.new.writer (H.world host.new).disk }
         ensures ready { StaysReady (H.is_ready host.old) (H.is_ready host.new) }
     {
-        drop_unless_doubted(&mut self.agents, core, settler);
+        drop_unless_doubted(&mut self.agents, &mut self.looked, core, settler);
         match self.next_line(settler, lines, width)? {
             Some(line) => {
                 self.begin(checked, core, &line, gate)?;
@@ -307,6 +350,7 @@ pub fn run_turns<H: Host, G: Gate, L: Lines>(
         alloc,
         shape: checked.shape()?,
         agents: Agents::new(alloc),
+        looked: None,
         begun: 0,
         used: 0,
     };

@@ -40,12 +40,12 @@ fn add_version(
 ) -> Result<(), AllocError>
     ensures { OnOk result (versions.new ≡ versions.old ++ version_by (λ u. is_bad (verdict_in units.now u)) grain member.now) }
 {
-    if is_left_out(member, units) {
-        return Ok(());
-    }
     let Some(state) = written(member.effect.writes.as_slice(), grain) else {
         return Ok(());
     };
+    if is_left_out(member, units) {
+        return Ok(());
+    }
     versions.push(Version {
         unit: member.effect.unit,
         state: state.copy()?,

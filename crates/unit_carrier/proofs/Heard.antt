@@ -1,14 +1,18 @@
 -- What a look tells of a unit that has heard of its child.
-use Rattle.std.proofs.Common.{◌≡◌, Bool, sym, ap, ◌∙◌, subst}
+use Rattle.std.proofs.Common.{◌≡◌, Bool, true, false, true≢false, refl, sym, ap, ◌∙◌, subst}
 use Rattle.core_model.specs.Asked.{IsGoing}
 use Rattle.core_model.specs.Legal.{ends}
 use Rattle.core_model.specs.declared.events.CoreEvent.{CoreEvent}
 use Rattle.core_access.specs.Sights.{Sight, run_seen, Looks, Counts}
+use Rattle.core_access.proofs.Sights.{looks-none}
 use Rattle.script_tree.specs.Programs.{ProgramTree}
 use Rattle.txn_agent.specs.declared.agent.Agent.{Agent}
 use Rattle.txn_agent.specs.Linked.{IfOwn, Knows}
-use Rattle.txn_agent.specs.Stepping.{Hears}
+use Rattle.txn_agent.specs.declared.work.Doing.{Doing}
+use Rattle.txn_agent.specs.declared.work.Doing.TheVariants.{Asks, Awaits, Frees, Stopped}
+use Rattle.txn_agent.specs.Stepping.{Hears, has_freed_all}
 use Rattle.txn_agent.specs.Movable.{ShowsMove, moves}
+use Rattle.txn_agent.proofs.Moving.{freeing_all}
 use Rattle.unit_carrier.specs.Carrying.{HasCoreAlone}
 use Rattle.unit_carrier.proofs.Known.{looks-same, shows-move}
 
@@ -25,3 +29,15 @@ move-told types may s s1 s2 old new b h first second same knows hears shows goin
     let told : ShowsMove types (run_seen s1) new.carried new.doing b = subst (λ (x : Sight). ShowsMove types (run_seen x) new.carried new.doing b) two (shows holds.counts knows (after.alone _)) in
     shows-move types may s1 new.carried new.doing b holds knows hears told (subst (λ (x : Sight). IsGoing (ends (run_seen x))) (sym one) going)
     ∙ ap (λ (x : Sight). moves types (run_seen x) new.carried) one ∙ ap (moves types (run_seen s)) same
+
+-- who has freed all doesn't move
+pub freed-rests : (types : ProgramTree) (may : CoreEvent → Bool) (s : Sight) (a : Agent) → HasCoreAlone may s → Knows types s a → has_freed_all a.doing ≡ true → false ≡ moves types (run_seen s) a.carried
+freed-rests types may s a h knows q = by a.doing refl
+  where
+    by : (d : Doing) → a.doing ≡ d → false ≡ moves types (run_seen s) a.carried
+    by (Asks work pause) e = absurd (true≢false (sym q ∙ ap has_freed_all e))
+    by (Awaits work child) e = absurd (true≢false (sym q ∙ ap has_freed_all e))
+    by (Frees held) e =
+        let shown : ShowsMove types (run_seen s) a.carried a.doing false = freeing_all may types s s a.carried (looks-none may s) h.counts a.doing knows held true e (sym q ∙ ap has_freed_all e) (h.alone _) in
+        subst (λ (d : Doing). ShowsMove types (run_seen s) a.carried d false) e shown
+    by Stopped e = absurd (true≢false (sym q ∙ ap has_freed_all e))

@@ -13,7 +13,8 @@ use script_check::Checked;
 use std::alloc::{AllocError, Global};
 use txn_agent::Agent;
 
-/// Whether the unit can move. First it hears of a child that is decided.
+/// Whether the unit can move. First it hears of a child that is decided. Of one that is over and has given back all its locks nothing
+/// is asked.
 pub(crate) fn can_move_now<A: Access>(
     alloc: Global,
     checked: &Checked,
@@ -30,6 +31,9 @@ pub(crate) fn can_move_now<A: Access>(
     ensures knows { IfOk result (λ _. Knows (program_tree checked.now) (A.sight access.new) agent.new) }
     ensures moves { IsGoing (ends (run_seen (A.sight access.old))) → IfOk result (λ b. b ≡ can_move (program_tree checked.now) (ends (run_seen (A.sight access.old))) (got_in (run_seen (A.sight access.old))) agent.old.carried.unit) }
 {
+    if agent.has_freed_all() {
+        return Ok(false);
+    }
     agent.ready(alloc, checked, access)?;
     let moves = agent.can_move(access)?;
     Ok(moves)

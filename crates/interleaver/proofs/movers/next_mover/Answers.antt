@@ -9,6 +9,7 @@ use Rattle.history_core.specs.Cores.{run_of}
 use Rattle.script_tree.specs.Programs.{program_tree}
 use Rattle.unit_carrier.specs.Carrying.{FindsMover, FindsWithin, moving, units_carried}
 use Rattle.unit_carrier.specs.declared.agents.Found.{Found}
+use Rattle.unit_carrier.specs.declared.agents.Found.TheVariants.{Few}
 use Rattle.interleaver.proofs.Picking.{found-first, found-next, found-few, found-nobody, going, own-back, seen-mover, sum-is, within-new}
 use Rattle.interleaver.proofs.movers.next_mover.Goals as goal
 
@@ -29,11 +30,8 @@ returns-in-At-clause-mover c = λ d h.
     (subst (FindsMover types r units c.args.pick) c.in-At.is
     (seen-mover types r r c.args.agents.now.list.items c.args.agents.now.list.items c.args.pick c.in_ok-index.field-0 refl refl at c.in_ok-index.ensures.found))
 
-pub returns-in_err-settler_moves-2-clause-same : goal.returns-in_err-settler_moves-2-clause-same
-returns-in_err-settler_moves-2-clause-same c = c.settler_moves-2.ensures.same ∙ own-back (run_of c.args.core.now) (run_of c.find.new.access) c.find.ensures.same
-
 pub returns-then-movers-eq0-clause-same : goal.returns-then-movers-eq0-clause-same
-returns-then-movers-eq0-clause-same c = c.settler_moves-2.ensures.same ∙ own-back (run_of c.args.core.now) (run_of c.find.new.access) c.find.ensures.same
+returns-then-movers-eq0-clause-same c = own-back (run_of c.args.core.now) (run_of c.find.new.access) c.find.ensures.same
 
 pub returns-then-movers-eq0-clause-mover : goal.returns-then-movers-eq0-clause-mover
 returns-then-movers-eq0-clause-mover c = λ d h.
@@ -44,11 +42,32 @@ returns-then-movers-eq0-clause-mover c = λ d h.
     let at : IsGoing (ends r) = going types r units c.args.pick sure h in
     let first : run_of c.find.new.access ≡ r = own-back r (run_of c.find.new.access) c.find.ensures.same in
     let sum : c.saturating_add-movers.result ≡ length (moving types r units) + (if has_step (settler_step (ends r)) then 1 else 0) =
-    sum-is types r (run_of c.find.new.access) c.args.agents.now.list.items c.find.new.self.list.items c.args.pick c.in-Few.units c.in_ok-settler_moves-2.field-0 c.saturating_add-movers.result first
+    sum-is types r (run_of c.find.new.access) c.args.agents.now.list.items c.find.new.self.list.items c.args.pick c.in-Few.units c.settler_moves-2.result c.saturating_add-movers.result first
     (omega (arith, c.args.agents.now.list.small)) at
     (λ x. subst (FindsMover types (run_seen (own_sight r)) units c.args.pick) c.in-Few.is (c.in_ok-index.ensures.found x))
-    c.in_ok-settler_moves-2.ensures.moves c.saturating_add-movers.ensures in
+    c.settler_moves-2.ensures c.saturating_add-movers.ensures in
     found-nobody types r units c.args.pick sure c.saturating_add-movers.result sum c.if-movers-eq0.true
+
+pub returns-then-place-units-clause-same : goal.returns-then-place-units-clause-same
+returns-then-place-units-clause-same c = own-back (run_of c.args.core.now) (run_of c.find.new.access) c.find.ensures.same
+
+pub returns-then-place-units-clause-mover : goal.returns-then-place-units-clause-mover
+returns-then-place-units-clause-mover c = λ d h.
+    let sure : is_some (ends (run_of c.args.core.now)).manager.doubt ≡ false = sym d ∙ sym c.doubted.ensures ∙ c.if-doubted.false in
+    let types = program_tree c.args.checked.now in
+    let r = run_of c.args.core.now in
+    let units = units_carried c.args.agents.now.list.items in
+    let at : IsGoing (ends r) = going types r units c.args.pick sure h in
+    let first : run_of c.find.new.access ≡ r = own-back r (run_of c.find.new.access) c.find.ensures.same in
+    let sum : c.saturating_add-movers.result ≡ length (moving types r units) + (if has_step (settler_step (ends r)) then 1 else 0) =
+    sum-is types r (run_of c.find.new.access) c.args.agents.now.list.items c.find.new.self.list.items c.args.pick c.in-Few.units c.settler_moves-2.result c.saturating_add-movers.result first
+    (omega (arith, c.args.agents.now.list.small)) at
+    (λ x. subst (FindsMover types (run_seen (own_sight r)) units c.args.pick) c.in-Few.is (c.in_ok-index.ensures.found x))
+    c.settler_moves-2.ensures c.saturating_add-movers.ensures in
+    let few : FindsMover types r units c.args.pick (Few c.in-Few.units) =
+    subst (FindsMover types r units c.args.pick) c.in-Few.is
+    (seen-mover types r r c.args.agents.now.list.items c.args.agents.now.list.items c.args.pick c.in_ok-index.field-0 refl refl at c.in_ok-index.ensures.found) in
+    found-few types r units c.args.pick sure c.saturating_add-movers.result c.in-Few.units sum c.if-movers-eq0.false (few.0, c.if-place-units.true)
 
 pub returns-in-At-2-clause-mover : goal.returns-in-At-2-clause-mover
 returns-in-At-2-clause-mover c = λ d h.
@@ -59,13 +78,12 @@ returns-in-At-2-clause-mover c = λ d h.
     let at : IsGoing (ends r) = going types r units c.args.pick sure h in
     let first : run_of c.find.new.access ≡ r = own-back r (run_of c.find.new.access) c.find.ensures.same in
     let sum : c.saturating_add-movers.result ≡ length (moving types r units) + (if has_step (settler_step (ends r)) then 1 else 0) =
-    sum-is types r (run_of c.find.new.access) c.args.agents.now.list.items c.find.new.self.list.items c.args.pick c.in-Few.units c.in_ok-settler_moves-2.field-0 c.saturating_add-movers.result first
+    sum-is types r (run_of c.find.new.access) c.args.agents.now.list.items c.find.new.self.list.items c.args.pick c.in-Few.units c.settler_moves-2.result c.saturating_add-movers.result first
     (omega (arith, c.args.agents.now.list.small)) at
     (λ x. subst (FindsMover types (run_seen (own_sight r)) units c.args.pick) c.in-Few.is (c.in_ok-index.ensures.found x))
-    c.in_ok-settler_moves-2.ensures.moves c.saturating_add-movers.ensures in
-    let last : run_of c.settler_moves-2.new.core ≡ r = c.settler_moves-2.ensures.same ∙ first in
+    c.settler_moves-2.ensures c.saturating_add-movers.ensures in
     let found : FindsMover types r units (c.args.pick % c.saturating_add-movers.result) c.in_ok-index-2.field-0 =
-    seen-mover types r (run_of c.settler_moves-2.new.core) c.args.agents.now.list.items c.find.new.self.list.items (c.args.pick % c.saturating_add-movers.result) c.in_ok-index-2.field-0 last c.in_ok-index.ensures.units at c.in_ok-index-2.ensures.found in
+    seen-mover types r (run_of c.find.new.access) c.args.agents.now.list.items c.find.new.self.list.items (c.args.pick % c.saturating_add-movers.result) c.in_ok-index-2.field-0 first c.in_ok-index.ensures.units at c.in_ok-index-2.ensures.found in
     found-next types r units c.args.pick sure c.saturating_add-movers.result c.in-At-2.index sum
     (subst (FindsMover types r units (c.args.pick % c.saturating_add-movers.result)) c.in-At-2.is found)
 
@@ -78,30 +96,29 @@ returns-in-Few-2-clause-mover c = λ d h.
     let at : IsGoing (ends r) = going types r units c.args.pick sure h in
     let first : run_of c.find.new.access ≡ r = own-back r (run_of c.find.new.access) c.find.ensures.same in
     let sum : c.saturating_add-movers.result ≡ length (moving types r units) + (if has_step (settler_step (ends r)) then 1 else 0) =
-    sum-is types r (run_of c.find.new.access) c.args.agents.now.list.items c.find.new.self.list.items c.args.pick c.in-Few.units c.in_ok-settler_moves-2.field-0 c.saturating_add-movers.result first
+    sum-is types r (run_of c.find.new.access) c.args.agents.now.list.items c.find.new.self.list.items c.args.pick c.in-Few.units c.settler_moves-2.result c.saturating_add-movers.result first
     (omega (arith, c.args.agents.now.list.small)) at
     (λ x. subst (FindsMover types (run_seen (own_sight r)) units c.args.pick) c.in-Few.is (c.in_ok-index.ensures.found x))
-    c.in_ok-settler_moves-2.ensures.moves c.saturating_add-movers.ensures in
-    let last : run_of c.settler_moves-2.new.core ≡ r = c.settler_moves-2.ensures.same ∙ first in
+    c.settler_moves-2.ensures c.saturating_add-movers.ensures in
     let found : FindsMover types r units (c.args.pick % c.saturating_add-movers.result) c.in_ok-index-2.field-0 =
-    seen-mover types r (run_of c.settler_moves-2.new.core) c.args.agents.now.list.items c.find.new.self.list.items (c.args.pick % c.saturating_add-movers.result) c.in_ok-index-2.field-0 last c.in_ok-index.ensures.units at c.in_ok-index-2.ensures.found in
+    seen-mover types r (run_of c.find.new.access) c.args.agents.now.list.items c.find.new.self.list.items (c.args.pick % c.saturating_add-movers.result) c.in_ok-index-2.field-0 first c.in_ok-index.ensures.units at c.in_ok-index-2.ensures.found in
     found-few types r units c.args.pick sure c.saturating_add-movers.result c.in-Few-2.field-0 sum c.if-movers-eq0.false
     (subst (FindsMover types r units (c.args.pick % c.saturating_add-movers.result)) c.in-Few-2.is found)
 
 pub returns-in_err-index-2-clause-same : goal.returns-in_err-index-2-clause-same
 returns-in_err-index-2-clause-same c =
-    own-back (run_of c.settler_moves-2.new.core) (run_of c.find-2.new.access) c.find-2.ensures.same
-    ∙ c.settler_moves-2.ensures.same ∙ own-back (run_of c.args.core.now) (run_of c.find.new.access) c.find.ensures.same
+    own-back (run_of c.find.new.access) (run_of c.find-2.new.access) c.find-2.ensures.same
+    ∙ own-back (run_of c.args.core.now) (run_of c.find.new.access) c.find.ensures.same
 
 pub returns-in-At-2-clause-same : goal.returns-in-At-2-clause-same
 returns-in-At-2-clause-same c =
-    own-back (run_of c.settler_moves-2.new.core) (run_of c.find-2.new.access) c.find-2.ensures.same
-    ∙ c.settler_moves-2.ensures.same ∙ own-back (run_of c.args.core.now) (run_of c.find.new.access) c.find.ensures.same
+    own-back (run_of c.find.new.access) (run_of c.find-2.new.access) c.find-2.ensures.same
+    ∙ own-back (run_of c.args.core.now) (run_of c.find.new.access) c.find.ensures.same
 
 pub returns-in-Few-2-clause-same : goal.returns-in-Few-2-clause-same
 returns-in-Few-2-clause-same c =
-    own-back (run_of c.settler_moves-2.new.core) (run_of c.find-2.new.access) c.find-2.ensures.same
-    ∙ c.settler_moves-2.ensures.same ∙ own-back (run_of c.args.core.now) (run_of c.find.new.access) c.find.ensures.same
+    own-back (run_of c.find.new.access) (run_of c.find-2.new.access) c.find-2.ensures.same
+    ∙ own-back (run_of c.args.core.now) (run_of c.find.new.access) c.find.ensures.same
 
 pub returns-in-At-clause-within : goal.returns-in-At-clause-within
 returns-in-At-clause-within c =

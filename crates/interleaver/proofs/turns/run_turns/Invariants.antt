@@ -6,10 +6,11 @@ use Rattle.history_core.specs.Cores.{run_of}
 use Rattle.script_tree.specs.Programs.{program_tree}
 use Rattle.script_check.specs.Shapes.{type_shapes}
 use Rattle.batch_disk.specs.Writers.{IsInBounds, FitsDisk}
-use Rattle.unit_carrier.specs.Carrying.{AreCarried}
+use Rattle.unit_carrier.specs.Carrying.{AreCarried, units_carried}
 use Rattle.run_books.specs.Beginnings.{Outset, CanTurn, IsOutset}
 use Rattle.run_books.specs.Beside.{TurnsBeside}
 use Rattle.run_books.specs.Books.{Books}
+use Rattle.interleaver.specs.Looking.{IsLooked}
 use Rattle.interleaver.specs.Turns.{KeepsTurns as KeepsRecord, IsFreshRecord}
 use Rattle.interleaver.specs.UnderWay.{WentOn, stage_of}
 use Rattle.interleaver.proofs.turns.run_turns.Given as goal
@@ -17,6 +18,7 @@ use Rattle.interleaver.proofs.turns.run_turns.Given as goal
 abbrev pub invariant-loop-turn : goal.invariant-loop-turn
 invariant-loop-turn g l = record {
   carried : AreCarried (program_tree l.checked) none_comes (own_sight (run_of l.core)) l.state.agents.list.items;
+  looked : IsLooked l.state.looked (run_of l.core) (units_carried l.state.agents.list.items);
   shape : l.state.shape.types ≡ type_shapes (program_tree l.checked);
   turns : l.state.begun + l.state.used ≡ l._turn;
   lines : g.L.Lines.lines l.lines ≡ g.L.Lines.lines l.fn.lines;

@@ -2,9 +2,13 @@ use Rattle.std.proofs.Common.{◌∙◌, sym, subst}
 use Rattle.core_access.specs.Sights.{Sight}
 use Rattle.script_tree.specs.Programs.{program_tree}
 use Rattle.txn_agent.specs.Linked.{Knows}
-use Rattle.unit_carrier.proofs.Heard.{move-told}
+use Rattle.unit_carrier.proofs.Heard.{freed-rests, move-told}
 use Rattle.unit_carrier.proofs.Known.{looks-same}
 use Rattle.unit_carrier.proofs.moves.can_move_now.Goals as goal
+
+pub returns-then-has_freed_all-clause-moves : goal.returns-then-has_freed_all-clause-moves
+returns-then-has_freed_all-clause-moves g c = λ going.
+    freed-rests (program_tree c.args.checked.now) g.A.Access.may_come (g.A.Access.sight c.args.access.now) c.args.agent.now c.requires.holds c.requires.knows (sym c.has_freed_all.ensures ∙ c.if-has_freed_all.true)
 
 pub returns-in_err-ready-clause-same : goal.returns-in_err-ready-clause-same
 returns-in_err-ready-clause-same g c =

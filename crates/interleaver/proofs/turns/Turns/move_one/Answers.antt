@@ -23,11 +23,28 @@ use Rattle.interleaver.proofs.Besides.{acts-beside, beside-err, none-beside}
 use Rattle.run_books.proofs.BooksOthers.{others-keep}
 use Rattle.run_books.proofs.Leaving.{beside-well}
 use Rattle.interleaver.proofs.Choosing.{none-out, nobody-says, says-lack, settles-known, unit-says, unit-out-says, settler-says, settler-out-says}
+use Rattle.interleaver.proofs.Looking.{same-looked, settles-looked}
 use Rattle.interleaver.proofs.turns.Turns.move_one.Goals as goal
 
 pub returns-in-Settler-clause-carried : goal.returns-in-Settler-clause-carried
 returns-in-Settler-clause-carried g c =
     settles-known (program_tree c.args.checked.now) c.next_mover.new.agents.list.items (run_of c.next_mover.new.core) (run_of c.settle.new.core) c.settle.ensures.settles c.in_ok-next_mover.ensures.carried
+
+pub returns-in-Nobody-clause-looked : goal.returns-in-Nobody-clause-looked
+returns-in-Nobody-clause-looked g c =
+    same-looked c.args.self.now.looked (run_of c.args.core.now) (run_of c.next_mover.new.core) (units_carried c.args.self.now.agents.list.items) (units_carried c.next_mover.new.agents.list.items) c.next_mover.ensures.same
+    (units-same c.next_mover.new.agents.list.items c.args.self.now.agents.list.items c.in_ok-next_mover.ensures.units) c.requires.looked
+
+pub returns-in-Settler-clause-looked : goal.returns-in-Settler-clause-looked
+returns-in-Settler-clause-looked g c =
+    settles-looked (program_tree c.args.checked.now) c.args.self.now.looked (run_of c.next_mover.new.core) (run_of c.settle.new.core) c.next_mover.new.agents.list.items c.in_ok-next_mover.ensures.carried c.settle.ensures.settles
+    (same-looked c.args.self.now.looked (run_of c.args.core.now) (run_of c.next_mover.new.core) (units_carried c.args.self.now.agents.list.items) (units_carried c.next_mover.new.agents.list.items) c.next_mover.ensures.same
+    (units-same c.next_mover.new.agents.list.items c.args.self.now.agents.list.items c.in_ok-next_mover.ensures.units) c.requires.looked)
+
+pub move_unit-requires-clause-looked : goal.move_unit-requires-clause-looked
+move_unit-requires-clause-looked g c =
+    same-looked c.args.self.now.looked (run_of c.args.core.now) (run_of c.next_mover.new.core) (units_carried c.args.self.now.agents.list.items) (units_carried c.next_mover.new.agents.list.items) c.next_mover.ensures.same
+    (units-same c.next_mover.new.agents.list.items c.args.self.now.agents.list.items c.in_ok-next_mover.ensures.units) c.requires.looked
 
 pub returns-in_err-next_mover-clause-turns : goal.returns-in_err-next_mover-clause-turns
 returns-in_err-next_mover-clause-turns g c = λ o b lines width way full.
