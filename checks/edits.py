@@ -31,7 +31,7 @@ def lacks(crate, path):
     name, old, texts, made = None, None, {}, 0
     for line in filter(str.strip, read(path).split("\n")):
         kind, _, text = line.partition(":")
-        text = text.removeprefix(" ")
+        text = text[1:] if text.startswith(" ") else text
         if kind == "file":
             name = os.path.join(TOP, "crates", crate, text.strip())
             if not os.path.isfile(name):
