@@ -36,6 +36,7 @@ PROGRAM
 """
 
 # A kit's rt in Python, with what tools/prove uses of it: a sum goes down to each crate along every way, and what is begun and ended is told.
+# A library that is made has the text of its crate.
 PYTHON_RT = r"""#!/usr/bin/env python3
 import os, sys, time, types
 rtlib = types.ModuleType("rtlib")
@@ -63,12 +64,16 @@ def stop_on_links(folder):
 def files_of(folder):
     return [folder + "/src/lib.rt"]
 
+def help_of(verb):
+    return verb + os.environ.get("HELP", " --statements --backend")
+
 class Crate:
     def __init__(self, folder, root, known):
         with open(root + "/crates.txt") as file:
             uses = dict(line.split("#")[0].split(":") for line in file if ":" in line)
         self.folder, self.name = folder, os.path.basename(folder)
         self.is_program = self.name == "silo"
+        self.rlib = folder + "/out/rlib/" + self.name + ".rlib"
         known[self.name] = self
         self.deps = [known.get(name) or Crate(root + "/crates/" + name, root, known) for name in uses[self.name].split()]
 
@@ -78,22 +83,45 @@ class Crate:
             found += [it for it in [*dep.below(), dep] if it not in found]
         return found
 
+    def text(self):
+        with open(files_of(self.folder)[0]) as file:
+            return file.read()
+
     def stamp(self):
         READ.append(self.name)
-        return "(" + self.name + "".join(dep.stamp() for dep in self.deps) + ")"
+        return "(" + self.name + (self.text() if os.environ.get("TEXT") else "") + "".join(dep.stamp() for dep in self.deps) + ")"
 
-    def build_rlib(self, flags, anew):
-        say("begin " + self.name + " " + " ".join(flags))
-        time.sleep(1.5 if self.name == "right" else 0.5)
+    def words(self, flags, keeps=True):
+        return [*flags, *(dep.name + "=" + os.path.relpath(dep.rlib, TOP) for dep in self.deps), *["KEEPS"] * keeps]
+
+    def call(self, *words):
+        at = words.index("-o")
+        say("begin " + self.name + " " + " ".join([*words[:at], os.path.relpath(os.path.join(self.folder, words[at + 1]), TOP)]))
+        time.sleep(0.9 if self.name == "right" else 0.3)
         say("end " + self.name)
         if self.name == os.environ.get("KILLED"):
             del os.environ["KILLED"]
             return -9
+        if self.name == os.environ.get("EDITED"):
+            with open(files_of(self.folder)[0], "a") as file:
+                file.write("// meanwhile")
+        if self.name == os.environ.get("FAILS"):
+            return 1
+        if not self.is_program:
+            os.makedirs(words[at + 1])
+            with open(words[at + 1] + "/format", "w") as file:
+                file.write(self.text())
         print("logic=proved", file=self.out)
-        return int(self.name == os.environ.get("FAILS"))
+        return 0
+
+    def compile(self, flags, to, tests=False):
+        say("rt compiles it")
+        return 1
 
     def run(self, flags, arguments):
-        say("begin " + self.name + " " + " ".join(flags))
+        status = self.compile(flags, "out/silo.o", False)
+        if status:
+            return status
         READ.clear()
         first, second = self.stamp(), self.stamp()
         say(" ".join([first, str(first == second), str(len(READ))]))
@@ -102,7 +130,8 @@ class Crate:
             file.write("#!/bin/sh\n")
         return 2
 
-for it in (root_above, lock, guarded, stop_on_links, files_of, Crate):
+rtlib.KIT, rtlib.RATTLE = "/kit", "rattle"
+for it in (root_above, lock, guarded, stop_on_links, files_of, help_of, Crate):
     setattr(rtlib, it.__name__, it)
 if os.environ.get("LACKS"):
     delattr(Crate, os.environ["LACKS"])
@@ -264,13 +293,16 @@ with tempfile.TemporaryDirectory() as room:
     # By the kit's own calls: what has most text above it first, side by side, with the jobs that are left over; each sum made once a crate.
     top = repository(room, PYTHON_RT)
     file(f"{top}/crates.txt", "low:\nleft: low\nright: low\ntall: left\nsilo: low left right tall\n")
+    USES = {"low": [], "left": ["low"], "right": ["low"], "tall": ["left"], "silo": ["low", "left", "right", "tall"]}
     for name in ("left", "right", "tall"):
         file(f"{top}/crates/{name}/src/lib.rt", "// a crate\n")
 
-    def prove(jobs, **more):
-        """How tools/prove ends, and what the stand-in was asked."""
+    def prove(jobs, anew=True, **more):
+        """How tools/prove ends, and what the stand-in was asked. Where it is anew, nothing of an earlier run is left."""
         if os.path.exists(f"{room}/asked"):
             os.remove(f"{room}/asked")
+        if anew:
+            shutil.rmtree(f"{top}/crates/silo/out", ignore_errors=True)
         done = subprocess.run([f"{top}/tools/prove", jobs], cwd=f"{top}/crates/silo", env=environment(room, **more), capture_output=True, timeout=60)
         with open(f"{room}/asked") as it:
             lines = it.read().split("\n")[:-1]
@@ -279,18 +311,47 @@ with tempfile.TemporaryDirectory() as room:
         names = [name if how == "is proved" else f"{name} {how.split()[-1]}" for name, how in said]
         return done.returncode, names, lines[:3] + sorted(lines[3:5]) + lines[5:]
 
-    sums = "(silo(low)(left(low))(right(low))(tall(left(low)))) True "
-    wanted = ["lock low left right tall silo", "begin low --jobs 4", "end low", "begin left --jobs 2", "begin right --jobs 2", "end left",
-              "begin tall --jobs 2", "end tall", "end right", "begin silo --jobs 4", f"{sums}10"]
+    def begin(name, jobs):
+        """What is asked for a crate: a library of statements over those of the crates that it uses, or the program over them."""
+        over = "".join(f" {it}=crates/silo/out/rlib/{it}.rlib" for it in USES[name])
+        makes = "--toolchain /kit/toolchain --backend llvm crates/silo/out/silo.o" if name == "silo" else f"--statements crates/silo/out/rlib/{name}.rlib"
+        return f"begin {name} rattle build --jobs {jobs}{over} {makes}"
+
+    def again(**more):
+        """What is proved where an earlier run proved all."""
+        number, names, asked = prove("4", anew=False, TEXT="1", **more)
+        return number, len(names), [line.split()[1] for line in asked if line.startswith("begin ")]
+
+    sums = "(silo(low)(left(low))(right(low))(tall(left(low)))) True 10"
+    wanted = ["lock low left right tall silo", begin("low", 4), "end low", begin("left", 2), begin("right", 2), "end left",
+              begin("tall", 2), "end tall", "end right", begin("silo", 4), "end silo", sums]
     rows.row("side by side", prove("4"), (0, ["low", "left", "tall", "right", "silo"], wanted))
-    one = [f"{word} --jobs 1" if word.startswith("begin") else word for name in ("low", "left", "right", "tall") for word in (f"begin {name}", f"end {name}")]
+    one = [word for name in ("low", "left", "right", "tall", "silo") for word in (begin(name, 1), f"end {name}")]
     found = prove("1")
-    rows.row("one after another", (found[0], sorted(found[2][1:-2])), (0, sorted(one)))
+    rows.row("one after another", (found[0], sorted(found[2][1:-1])), (0, sorted(one)))
     rows.row("a library that fails", prove("4", FAILS="left"), (1, ["low", "left 1", "right"], [*wanted[:6], "end right"]))
-    killed = [*wanted[:6], "begin tall --jobs 2", "end tall", "end right", "begin right --jobs 2", "end right", "begin silo --jobs 2", wanted[-1]]
+    killed = [*wanted[:6], begin("tall", 2), "end tall", "end right", begin("right", 2), "end right", begin("silo", 2), "end silo", sums]
     rows.row("a check that is killed", prove("4", KILLED="right"), (0, ["low", "left", "tall", "right -9", "right", "silo"], killed))
+
+    # What is proved stays, as long as its text does, and the libraries that it stands on are as they were.
+    rows.row("a first run", prove("4", TEXT="1")[0], 0)
+    rows.row("nothing changed", again(), (0, 5, ["silo"]))
+    file(f"{top}/crates/left/src/lib.rt", "// another crate\n")
+    rows.row("a text that changed", again(), (0, 5, ["left", "tall", "silo"]))
+    file(f"{top}/crates/silo/out/rlib/right.rlib/format", "// a crat")
+    rows.row("a library that isn't as it was made", again(), (0, 5, ["right", "silo"]))
+    os.remove(f"{top}/crates/silo/out/rlib/low.made")
+    rows.row("a library that nobody knows", again(), (0, 5, ["low", "silo"]))
+    file(f"{top}/crates/right/src/lib.rt", "// a right crate\n")
+    rows.row("a text that changes meanwhile", again(EDITED="right"), (0, 5, ["right", "silo"]))
+    rows.row("and the next run", again(), (0, 5, ["right", "silo"]))
+    file(f"{top}/crates/left/src/lib.rt", "// a wrong crate\n")
+    rows.row("a change that fails", again(FAILS="left")[::2], (1, ["left"]))
+    rows.row("fails again", again(FAILS="left")[::2], (1, ["left"]))
+
     plain = ["as it is: all check --jobs 4", "as it is: run"]
     rows.row("a kit without what is used", prove("4", LACKS="stamp"), (0, [], plain))
+    rows.row("a rattle without it", prove("4", HELP=""), (0, [], plain))
     rows.row("rt as it is", prove("4", SILO_PLAIN_RT="1"), (0, [], plain))
     rows.row("no jobs", subprocess.run([f"{top}/tools/prove"], capture_output=True).returncode, 1)
     if os.path.exists(f"{top}/crates/silo/out/silo"):

@@ -82,7 +82,7 @@ with tempfile.TemporaryDirectory() as room:
     while not why(bank)[1]:
         pass
     rows.row("another process: silo", run(bank, "run"), FAULT)
-    rows.row("another process", why(bank), (f"another process (silo, {going.pid}) has {bank}: wait for it (flock {bank} true)", 1))
+    rows.row("another process", why(bank), (f"another process ({os.path.basename(PROGRAM)}, {going.pid}) has {bank}: wait for it (flock {bank} true)", 1))
     going.communicate(timeout=60)
     holder = subprocess.Popen(["flock", bank, "sh", "-c", "echo; read -r line"], stdin=subprocess.PIPE, stdout=subprocess.PIPE)
     holder.stdout.readline()
