@@ -6,7 +6,7 @@ use Rattle.log_reading.specs.Steps.{live_slot}
 use Rattle.promise_spec.specs.Programs.{Program, shape_in}
 use Rattle.promise_spec.specs.Records.{Commit}
 use Rattle.promise_spec.specs.Logs.{IsLog}
-use Rattle.promise_laws.specs.Journals.{Settlement, IsSealing, Seals, Doubts, commits_of}
+use Rattle.promise_spec.specs.Journals.{Settlement, IsSealing, Seals, Doubts, commits_of}
 use Rattle.batch_disk.specs.Resting.{log_of, EachImage, SomeImage}
 use Rattle.batch_disk.specs.Moments.{KeepsLog, IsSeam}
 use Rattle.batch_disk.specs.Seals.{NoneHas}

@@ -10,7 +10,7 @@ ghost use Rattle.log_reading.specs.Steps.{live_slot, manager};
 ghost use Rattle.promise_spec.specs.Programs.{Program, shape_in};
 ghost use Rattle.promise_spec.specs.Records.{Commit};
 ghost use Rattle.promise_spec.specs.Logs.{IsLog};
-ghost use Rattle.promise_laws.specs.Journals.{Settlement, Seals, Doubts, commits_of};
+ghost use Rattle.promise_spec.specs.Journals.{Settlement, Seals, Doubts, commits_of};
 ghost use Rattle.batch_disk.specs.Resting.{log_of, EachImage, SomeImage};
 ghost use Rattle.batch_disk.specs.Moments.{KeepsLog};
 ghost use Rattle.batch_disk.specs.Writers.{FitsDisk, KeepsDisk};

@@ -20,7 +20,7 @@ use Rattle.promise_spec.specs.Orders.{IsOrdered}
 use Rattle.promise_spec.specs.Crashes.{SurvivesCrashes, StaySound}
 use Rattle.promise_spec.specs.Explained.{ComeOfEvents, IsExplained}
 use Rattle.promise_spec.specs.Exits.{ImagesMayDiffer, IsExit}
-use Rattle.promise_laws.specs.Journals.{KeepsJournal, commits_of}
+use Rattle.promise_spec.specs.Journals.{KeepsJournal, commits_of}
 use Rattle.promise_spec.proofs.Lists.{either_in, in_append}
 use Rattle.promise_spec.proofs.OneLog.{one_log}
 use Rattle.promise_laws.proofs.Journaled as journaled

@@ -40,7 +40,7 @@ use Rattle.promise_spec.specs.Crashes.{HasOutcome, LeavesAlone, SurvivesCrashes,
 use Rattle.promise_spec.specs.Batches.{EndsABatch}
 use Rattle.promise_spec.specs.Exits.{IsExit, ImagesMayDiffer, HasLogAtExit, IsNowhere, units_in_doubt}
 use Rattle.promise_spec.specs.Explained.{ComeOfEvents, AreAdded, AreSettled, IsExplained}
-use Rattle.promise_laws.specs.Journals.{Settlement, KeepsJournal, Backs, commits_of, entries_of}
+use Rattle.promise_spec.specs.Journals.{Settlement, KeepsJournal, Backs, commits_of, entries_of}
 use Rattle.promise_spec.specs.Promise.{IsSoundFolder, HasEnded, Keeps}
 use Rattle.promise_laws.specs.Obligations.{Shows}
 use Rattle.promise_examples.specs.Examples.{accounts, account_program, account_1, unit_no, first_commit, locked_entry, doubt_entry, conflict_entries, conflict_events, account_run}

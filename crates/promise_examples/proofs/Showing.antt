@@ -4,7 +4,7 @@ use Rattle.core_model.specs.CoreState.{Member}
 use Rattle.host_trait.specs.World.{Moment, Image, IsImage, moment_of, last_of}
 use Rattle.promise_spec.specs.Programs.{Program}
 use Rattle.promise_spec.specs.Courses.{Observed, Course, moments}
-use Rattle.promise_laws.specs.Journals.{Settlement, Backs, commits_of}
+use Rattle.promise_spec.specs.Journals.{Settlement, Backs, commits_of}
 use Rattle.promise_spec.specs.Images.{IsSoundFolder}
 use Rattle.promise_spec.specs.Promise.{Keeps}
 use Rattle.promise_spec.proofs.WholeFolders.{whole_folder}

@@ -34,7 +34,7 @@ use Rattle.promise_spec.specs.Batches.{EndsABatch}
 use Rattle.promise_spec.specs.Explained.{AreSettled}
 use Rattle.promise_spec.specs.Exits.{IsNowhere}
 use Rattle.promise_spec.specs.Replies.{HasNoRecord}
-use Rattle.promise_laws.specs.Journals.{Settlement, Backs, commits_of}
+use Rattle.promise_spec.specs.Journals.{Settlement, Backs, commits_of}
 use Rattle.promise_spec.specs.Promise.{Keeps, Promises}
 use Rattle.promise_spec.proofs.WholeFolders.{whole_folder}
 use Rattle.promise_spec.proofs.Lists.{head_of, tail_of, none_is}

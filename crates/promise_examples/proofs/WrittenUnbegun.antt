@@ -24,7 +24,7 @@ use Rattle.promise_spec.specs.Crashes.{LeavesAlone}
 use Rattle.promise_spec.specs.Batches.{EndsABatch}
 use Rattle.promise_spec.specs.Explained.{AreAdded, AreSettled}
 use Rattle.promise_spec.specs.Exits.{HasBlock, DifferAt, BlockInDoubt}
-use Rattle.promise_laws.specs.Journals.{Settlement, Backs}
+use Rattle.promise_spec.specs.Journals.{Settlement, Backs}
 use Rattle.promise_spec.specs.Promise.{Keeps, Promises}
 use Rattle.promise_spec.proofs.WholeFolders.{whole_folder}
 use Rattle.promise_spec.proofs.OneLog.{one_log}

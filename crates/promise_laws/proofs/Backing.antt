@@ -4,7 +4,7 @@ use Rattle.base_types.specs.declared.entries.Entry.{Entry}
 use Rattle.core_model.specs.CoreState.{Member}
 use Rattle.promise_spec.specs.Records.{Commit}
 use Rattle.promise_spec.specs.Crashes.{Acknowledges}
-use Rattle.promise_laws.specs.Journals.{Settlement, Backs, commits_of, entries_of}
+use Rattle.promise_spec.specs.Journals.{Settlement, Backs, commits_of, entries_of}
 use Rattle.promise_spec.proofs.Lists.{head_of, tail_of, in_append, either_in, in_flat}
 use Rattle.promise_laws.proofs.Journaled.{commits_of-append}
 

@@ -13,7 +13,7 @@ use Rattle.promise_spec.specs.Images.{AreChained, AreNumbered, IsWholeIfSilo, Is
 use Rattle.promise_spec.specs.Moments.{IsImageOf, IsLongest}
 use Rattle.promise_spec.specs.Courses.{Observed, Course}
 use Rattle.promise_spec.specs.Crashes.{Holds}
-use Rattle.promise_laws.specs.Journals.{Settlement, KeepsJournal, AllKeep, Backs, commits_of, entries_of}
+use Rattle.promise_spec.specs.Journals.{Settlement, KeepsJournal, AllKeep, Backs, commits_of, entries_of}
 use Rattle.promise_spec.proofs.Lists.{fronts, in_append, either_in, parts_of}
 
 pub commits_of-append : (a b : List Settlement) → commits_of (a ++ b) ≡ commits_of a ++ commits_of b

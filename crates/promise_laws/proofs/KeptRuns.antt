@@ -21,7 +21,7 @@ use Rattle.promise_spec.specs.Courses.{Observed, Course, order, moments, seen_at
 use Rattle.promise_spec.specs.Crashes.{IsAside, LeavesAlone}
 use Rattle.promise_spec.specs.Batches.{EndsABatch}
 use Rattle.promise_spec.specs.Exits.{HasLogAtExit, IsNowhere, AreOf, units_in_doubt}
-use Rattle.promise_laws.specs.Journals.{Settlement, KeepsJournal, AllSay, AllLog, CutAt, IsSealing, commits_of, entries_of}
+use Rattle.promise_spec.specs.Journals.{Settlement, KeepsJournal, AllSay, AllLog, CutAt, IsSealing, commits_of, entries_of}
 use Rattle.promise_spec.specs.Promise.{Promises}
 use Rattle.promise_spec.specs.Replies.{HasNoRecord}
 use Rattle.promise_spec.proofs.Lists.{each_of, in_append, either_in}

@@ -19,7 +19,7 @@ use Rattle.promise_spec.specs.Programs.{Program, shape_in}
 use Rattle.promise_spec.specs.Records.{Commit}
 use Rattle.promise_spec.specs.Logs.{magic, IsKept, body_of, IsLog, IsPrefix, live_slot}
 use Rattle.promise_spec.specs.Images.{AreChained, IsWholeFolder}
-use Rattle.promise_laws.specs.Journals.{AllLog}
+use Rattle.promise_spec.specs.Journals.{AllLog}
 use Rattle.promise_spec.proofs.Lists.{head_of, tail_of, none_is, parts_of}
 use Rattle.promise_spec.proofs.OneLog.{one_log}
 

@@ -23,7 +23,7 @@ use Rattle.promise_spec.specs.Replies.{AreReplies}
 use Rattle.promise_spec.specs.Crashes.{SurvivesCrashes, StaySound, HoldsReplies}
 use Rattle.promise_spec.specs.Explained.{ComeOfEvents, IsExplained}
 use Rattle.promise_spec.specs.Exits.{ImagesMayDiffer, IsExit}
-use Rattle.promise_laws.specs.Journals.{KeepsJournal, commits_of}
+use Rattle.promise_spec.specs.Journals.{KeepsJournal, commits_of}
 use Rattle.promise_spec.specs.Promise.{HasEnded, Keeps}
 use Rattle.promise_spec.proofs.OneLog.{one_log}
 use Rattle.promise_laws.proofs.Journaled as journaled

@@ -18,7 +18,7 @@ use Rattle.promise_spec.specs.Programs.{Program, shape_in}
 use Rattle.promise_spec.specs.Records.{Commit}
 use Rattle.promise_spec.specs.Logs.{IsLog, IsPrefix, live_slot}
 use Rattle.promise_spec.specs.Outputs.{IsProper, reply_lines}
-use Rattle.promise_laws.specs.Journals.{Settlement, KeepsJournal, AllSay, AllLog, JournalAt, DoubtAt, CutAt, IsSealing, Seals, Doubts, commits_of, entries_of}
+use Rattle.promise_spec.specs.Journals.{Settlement, KeepsJournal, AllSay, AllLog, JournalAt, DoubtAt, CutAt, IsSealing, Seals, Doubts, commits_of, entries_of}
 use Rattle.promise_spec.proofs.Lists.{head_of, parts_of}
 use Rattle.promise_laws.proofs.Journaled.{commits_of-append}
 

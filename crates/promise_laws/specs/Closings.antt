@@ -17,7 +17,7 @@ use Rattle.promise_spec.specs.Courses.{Observed, Course, seen_at_entry, core_run
 use Rattle.promise_spec.specs.Crashes.{LeavesAlone}
 use Rattle.promise_spec.specs.Batches.{EndsABatch}
 use Rattle.promise_spec.specs.Exits.{BlockInDoubt, EndsAsRead}
-use Rattle.promise_laws.specs.Journals.{Settlement, commits_of, Backs}
+use Rattle.promise_spec.specs.Journals.{Settlement, commits_of, Backs}
 
 -- what a read gives is among what a crash may leave, file by file
 abbrev pub ReadsMayStay : host.World → Type 0

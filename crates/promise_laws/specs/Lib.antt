@@ -1,4 +1,3 @@
-pub mod Journals
 pub mod QuietRuns
 pub mod SoundMoments
 pub mod Legality

@@ -23,7 +23,7 @@ use Rattle.promise_spec.specs.Batches.{EndsABatch}
 use Rattle.promise_spec.specs.Replies.{HasNoRecord}
 use Rattle.promise_spec.specs.Exits.{HasLogAtExit, IsNowhere, BlockInDoubt, EndsAsRead}
 use Rattle.promise_spec.specs.Explained.{AreAdded, AreSettled, FileMayEndInDoubt, LeavesUnvoted}
-use Rattle.promise_laws.specs.Journals.{Settlement, commits_of, entries_of, KeepsJournal, AllLog, Backs}
+use Rattle.promise_spec.specs.Journals.{Settlement, commits_of, entries_of, KeepsJournal, AllLog, Backs}
 use Rattle.promise_spec.specs.Promise.{HasReadAll, IsDone}
 
 -- The run opened this log, over a whole folder: the files read as it, and each image at the return of the opening's last

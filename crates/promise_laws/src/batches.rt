@@ -2,7 +2,7 @@ ghost use Rattle.std.specs.Prelude.{◌++◌, ◌<◌, List};
 ghost use Rattle.host_trait.specs.World as host;
 ghost use Rattle.host_trait.specs.World.{Moment, Passes};
 ghost use Rattle.core_model.specs.CoreState.{CoreState};
-ghost use Rattle.promise_laws.specs.Journals.{Settlement, AllLog, IsSealing, commits_of};
+ghost use Rattle.promise_spec.specs.Journals.{Settlement, AllLog, IsSealing, commits_of};
 ghost use Rattle.core_model.specs.declared.events.CoreEvent.{CoreEvent};
 ghost use Rattle.core_model.specs.Events.{step};
 ghost use Rattle.core_model.specs.Laws.{extended};

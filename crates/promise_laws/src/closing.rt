@@ -6,7 +6,7 @@ ghost use Rattle.promise_spec.specs.Logs.{IsLog, live_slot};
 ghost use Rattle.promise_spec.specs.Outputs.{IsProper};
 ghost use Rattle.promise_spec.specs.Courses.{Observed, Course, order, core_end};
 ghost use Rattle.promise_spec.specs.Exits.{AreOf, units_in_doubt};
-ghost use Rattle.promise_laws.specs.Journals.{Settlement, CutAt, commits_of, entries_of};
+ghost use Rattle.promise_spec.specs.Journals.{Settlement, CutAt, commits_of, entries_of};
 ghost use Rattle.promise_spec.specs.Images.{IsWholeFolder};
 ghost use Rattle.promise_spec.specs.Promise.{Promises};
 ghost use Rattle.promise_laws.specs.Closings.{ReadsMayStay, IsBehind, Carries};

@@ -31,3 +31,4 @@ pub mod Commands
 pub mod Loads
 pub mod Checks
 pub mod Calls
+pub mod Journals

@@ -16,7 +16,7 @@ use Rattle.promise_spec.specs.Crashes.{Acknowledges}
 use Rattle.promise_spec.specs.Outputs.{IsProper}
 use Rattle.promise_spec.specs.Batches.{EndsABatch}
 use Rattle.promise_spec.specs.UnitRule.{KeepsUnitRule}
-use Rattle.promise_laws.specs.Journals.{Settlement, IsSealing, Doubts, JournalAt, DoubtAt, CutAt, Backs, commits_of, entries_of}
+use Rattle.promise_spec.specs.Journals.{Settlement, IsSealing, Doubts, JournalAt, DoubtAt, CutAt, Backs, commits_of, entries_of}
 use Rattle.promise_laws.proofs.Journaled.{commits_of-append}
 use Rattle.promise_laws.proofs.Stepping.{doubts_on, doubt_cut}
 use Rattle.promise_laws.proofs.Backing.{backs_on}

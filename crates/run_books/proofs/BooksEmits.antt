@@ -15,7 +15,7 @@ use Rattle.promise_spec.specs.Outputs.{IsProper}
 use Rattle.log_reading.specs.Steps.{manager}
 use Rattle.promise_spec.specs.Causes.{RunHasDoubt, is_unsealed}
 use Rattle.promise_spec.specs.UnitRule.{KeepsUnitRule}
-use Rattle.promise_laws.specs.Journals.{Settlement, CutAt, Backs, commits_of, entries_of}
+use Rattle.promise_spec.specs.Journals.{Settlement, CutAt, Backs, commits_of, entries_of}
 use Rattle.promise_spec.proofs.Doubts.{doubt_left}
 use Rattle.promise_laws.proofs.Stepping.{emits_on, cuts_on, doubt_emits_on, doubt_cuts_on, whole_cut, doubt_cut}
 use Rattle.promise_laws.specs.Closings.{AllEnd}

@@ -16,7 +16,7 @@ use Rattle.core_model.specs.Settler.{Step, Votes, Decides, Seals as SealStep, Le
 use Rattle.log_reading.specs.Steps.{live_slot, manager}
 use Rattle.promise_spec.specs.Programs.{shape_in}
 use Rattle.promise_spec.specs.Records.{Commit, AreRecordsOf}
-use Rattle.promise_laws.specs.Journals.{Settlement, Seals, Doubts, commits_of, entries_of}
+use Rattle.promise_spec.specs.Journals.{Settlement, Seals, Doubts, commits_of, entries_of}
 use Rattle.promise_laws.proofs.Journaled.{commits_of-append}
 use Rattle.batch_disk.specs.Resting.{log_of, SomeImage}
 use Rattle.batch_disk.specs.Records.{commits_by}

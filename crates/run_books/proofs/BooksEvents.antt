@@ -28,7 +28,7 @@ use Rattle.promise_spec.specs.Records.{Commit, AreRecordsOf}
 use Rattle.promise_spec.specs.Causes.{AreFaults, is_no, is_unsealed, is_vote, is_vote_of, is_sealed}
 use Rattle.promise_spec.specs.Cores.{how_many}
 use Rattle.promise_spec.specs.UnitRule.{KeepsUnitRule}
-use Rattle.promise_laws.specs.Journals.{Settlement, commits_of, entries_of}
+use Rattle.promise_spec.specs.Journals.{Settlement, commits_of, entries_of}
 use Rattle.log_reading.specs.Steps.{live_slot, manager}
 use Rattle.batch_disk.specs.Resting.{grain_file}
 use Rattle.batch_disk.specs.Records.{commits_by}

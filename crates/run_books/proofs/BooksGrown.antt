@@ -5,7 +5,7 @@ use Rattle.core_model.specs.CoreState.{CoreState}
 use Rattle.core_model.specs.declared.effects.Effect.{Effect}
 use Rattle.core_model.specs.Serial.{committed}
 use Rattle.promise_spec.specs.Records.{Commit, AreRecordsOf}
-use Rattle.promise_laws.specs.Journals.{Settlement, commits_of, entries_of}
+use Rattle.promise_spec.specs.Journals.{Settlement, commits_of, entries_of}
 use Rattle.promise_laws.proofs.Journaled.{commits_of-append}
 use Rattle.run_books.specs.Books.{Books, AreInDoubt, AreBooked, IsPutOut}
 use Rattle.run_books.specs.Settling.{IsAsTold, AreEven}

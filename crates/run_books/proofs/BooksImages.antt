@@ -12,7 +12,7 @@ use Rattle.promise_spec.specs.Programs.{Program, shape_in}
 use Rattle.promise_spec.specs.Records.{Commit, AreRecordsOf}
 use Rattle.promise_spec.specs.Logs.{IsLog, live_slot}
 use Rattle.promise_spec.specs.Outputs.{reply_lines}
-use Rattle.promise_laws.specs.Journals.{Settlement, AllSay, JournalAt, DoubtAt, CutAt, Backs, commits_of, entries_of}
+use Rattle.promise_spec.specs.Journals.{Settlement, AllSay, JournalAt, DoubtAt, CutAt, Backs, commits_of, entries_of}
 use Rattle.promise_laws.proofs.Journaled.{commits_of-append}
 use Rattle.promise_laws.proofs.Backing.{backs_on}
 use Rattle.settler_rules.specs.Voting.{IsOfVote}

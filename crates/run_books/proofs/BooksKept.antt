@@ -15,7 +15,7 @@ use Rattle.promise_spec.specs.Records.{AreRecordsOf}
 use Rattle.promise_spec.specs.Outputs.{Grew}
 use Rattle.promise_spec.specs.Causes.{AreFaults}
 use Rattle.promise_spec.specs.UnitRule.{KeepsUnitRule}
-use Rattle.promise_laws.specs.Journals.{Settlement, commits_of, entries_of}
+use Rattle.promise_spec.specs.Journals.{Settlement, commits_of, entries_of}
 use Rattle.settle_loop.specs.Works.{tells_entry}
 use Rattle.settle_loop.specs.declared.settler.Settler.{Settler}
 use Rattle.log_reading.specs.Steps.{live_slot}

@@ -2,7 +2,7 @@
 use Rattle.std.proofs.Common.{◌≡◌, ℕ, zero, suc, ◌≤◌, List, [], ◌∷◌, ◌++◌, length, map, take, refl, ap, ◌∙◌, arith, append-nil, Some, slice_get}
 use Rattle.std.specs.List.{AllByRecursion}
 use Rattle.base_types.specs.declared.entries.Entry.{Entry}
-use Rattle.promise_laws.specs.Journals.{Settlement, commits_of, entries_of}
+use Rattle.promise_spec.specs.Journals.{Settlement, commits_of, entries_of}
 
 -- entries without records, each a settlement of its own
 abbrev pub entry_alone : Entry → Settlement

@@ -27,7 +27,7 @@ use Rattle.promise_spec.specs.UnitRule.{KeepsUnitRule}
 use Rattle.promise_spec.specs.Programs.{Program, shape_in}
 use Rattle.promise_spec.specs.Outputs.{reply_lines}
 use Rattle.promise_spec.specs.Logs.{IsLog}
-use Rattle.promise_laws.specs.Journals.{Settlement, AllSay, JournalAt, CutAt, Backs, commits_of, entries_of}
+use Rattle.promise_spec.specs.Journals.{Settlement, AllSay, JournalAt, CutAt, Backs, commits_of, entries_of}
 use Rattle.promise_spec.proofs.Doubts.{doubt_left}
 use Rattle.promise_laws.proofs.Journaled.{commits_of-append}
 use Rattle.promise_laws.proofs.Stepping.{settles_on, whole_cut}

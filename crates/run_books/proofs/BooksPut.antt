@@ -23,7 +23,7 @@ use Rattle.promise_spec.specs.Records.{AreRecordsOf}
 use Rattle.promise_spec.specs.Outputs.{IsProper, Grew, reply_lines}
 use Rattle.promise_spec.specs.Causes.{is_no, is_unsealed, is_vote, is_vote_of, is_sealed}
 use Rattle.promise_spec.specs.UnitRule.{KeepsUnitRule}
-use Rattle.promise_laws.specs.Journals.{commits_of, entries_of}
+use Rattle.promise_spec.specs.Journals.{commits_of, entries_of}
 use Rattle.promise_laws.proofs.Stepping.{cut-no_feed, cut_is_front}
 use Rattle.log_reading.specs.Steps.{live_slot}
 use Rattle.settler_rules.specs.Entries.{IsEntryInRange}

@@ -15,7 +15,7 @@ use Rattle.promise_spec.specs.Outputs.{IsProper}
 use Rattle.promise_spec.specs.Batches.{EndsABatch}
 use Rattle.promise_spec.specs.Causes.{RunHasDoubt}
 use Rattle.promise_spec.specs.UnitRule.{KeepsUnitRule}
-use Rattle.promise_laws.specs.Journals.{Settlement, IsSealing, Seals, JournalAt, CutAt, Backs, commits_of, entries_of}
+use Rattle.promise_spec.specs.Journals.{Settlement, IsSealing, Seals, JournalAt, CutAt, Backs, commits_of, entries_of}
 use Rattle.promise_laws.proofs.Stepping.{seals_on, settles_on, whole_cut}
 use Rattle.promise_laws.proofs.Backing.{backs_on}
 use Rattle.promise_spec.proofs.Lists.{in_append, in_flat}

@@ -34,7 +34,7 @@ use Rattle.settler_rules.specs.Entries.{IsEntryInRange}
 use Rattle.settler_rules.proofs.Settled.{entry-proper}
 use Rattle.batch_disk.specs.Writers.{KeepsDisk}
 use Rattle.promise_spec.specs.UnitRule.{KeepsUnitRule}
-use Rattle.promise_laws.specs.Journals.{CutAt, entries_of}
+use Rattle.promise_spec.specs.Journals.{CutAt, entries_of}
 use Rattle.promise_spec.proofs.Doubts.{doubt_left}
 use Rattle.settle_loop.specs.Works.{tells_entry, tells_doubt, has_applied, counted_up}
 use Rattle.settle_loop.specs.HostSteps.{WritesEntry, CutsEntry, DoesFor, MakesNoCall, LacksRoom}

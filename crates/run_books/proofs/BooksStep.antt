@@ -22,7 +22,7 @@ use Rattle.promise_spec.specs.Crashes.{Acknowledges}
 use Rattle.promise_spec.specs.Cores.{how_many}
 use Rattle.promise_spec.specs.Causes.{is_unsealed}
 use Rattle.promise_spec.specs.UnitRule.{KeepsUnitRule}
-use Rattle.promise_laws.specs.Journals.{Settlement, Seals, commits_of}
+use Rattle.promise_spec.specs.Journals.{Settlement, Seals, commits_of}
 use Rattle.batch_disk.specs.Resting.{Voted, log_of}
 use Rattle.batch_disk.specs.Moments.{LeavesRest, KeepsLog}
 use Rattle.batch_disk.specs.Records.{commits_by}

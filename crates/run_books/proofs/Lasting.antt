@@ -23,7 +23,7 @@ use Rattle.promise_spec.specs.Crashes.{IsAside, LeavesAlone}
 use Rattle.promise_spec.specs.Cores.{how_many}
 use Rattle.promise_spec.specs.Causes.{RunHasDoubt, is_unsealed}
 use Rattle.promise_spec.specs.Exits.{AreOf, units_in_doubt, BlockInDoubt, EndsAsRead}
-use Rattle.promise_laws.specs.Journals.{Settlement, CutAt, Backs, commits_of, entries_of}
+use Rattle.promise_spec.specs.Journals.{Settlement, CutAt, Backs, commits_of, entries_of}
 use Rattle.promise_spec.specs.Courses.{Observed, Course, order, core_run, core_end, seen_at_entry}
 use Rattle.promise_spec.proofs.Doubts.{doubt_left}
 use Rattle.promise_laws.proofs.Applied.{none-applies}

@@ -4,7 +4,7 @@ use Rattle.base_types.specs.declared.entries.Entry.{Entry}
 use Rattle.host_trait.specs.declared.channels.Channel.{Channel}
 use Rattle.host_trait.specs.World.{World}
 use Rattle.core_model.specs.Legal.{Run, ends}
-use Rattle.promise_laws.specs.Journals.{Settlement, entries_of}
+use Rattle.promise_spec.specs.Journals.{Settlement, entries_of}
 use Rattle.settle_loop.specs.declared.settler.Settler.{Settler}
 use Rattle.run_books.specs.Beginnings.{Outset}
 use Rattle.run_books.specs.Books.{Books, IsPutOut}

@@ -7,7 +7,7 @@ use Rattle.core_model.specs.Serial.{committed, chosen}
 use Rattle.request_wire.specs.Reply.{reply_line}
 use Rattle.promise_spec.specs.Records.{AreRecordsOf}
 use Rattle.promise_spec.specs.Logs.{IsPrefix}
-use Rattle.promise_laws.specs.Journals.{Settlement, commits_of, entries_of}
+use Rattle.promise_spec.specs.Journals.{Settlement, commits_of, entries_of}
 
 -- What is settled and written; what is settled and not yet written; the batch of a doubt, where an image may have it; and what
 -- a failed call wrote of a line.

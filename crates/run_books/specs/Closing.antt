@@ -4,7 +4,7 @@ use Rattle.core_model.specs.Legal.{Run}
 use Rattle.log_reading.specs.Steps.{manager}
 use Rattle.promise_spec.specs.Endings.{Ending, Done, WriteFault as Unwritten, DiskFault, Memory as NoMemory}
 use Rattle.promise_spec.specs.Courses.{Observed, Course, core_run}
-use Rattle.promise_laws.specs.Journals.{commits_of, entries_of}
+use Rattle.promise_spec.specs.Journals.{commits_of, entries_of}
 use Rattle.run_books.specs.declared.faults.RunFault.{RunFault}
 use Rattle.run_books.specs.declared.faults.RunFault.TheVariants.{InDoubt, WriteFault, Memory}
 use Rattle.run_books.specs.Beginnings.{Outset}

@@ -15,7 +15,7 @@ use Rattle.promise_spec.specs.Crashes.{IsAside}
 use Rattle.promise_spec.specs.Cores.{how_many}
 use Rattle.promise_spec.specs.Causes.{RunHasDoubt, is_unsealed}
 use Rattle.promise_spec.specs.Exits.{HasBlock, DifferAt}
-use Rattle.promise_laws.specs.Journals.{CutAt, Backs, commits_of}
+use Rattle.promise_spec.specs.Journals.{CutAt, Backs, commits_of}
 use Rattle.promise_laws.specs.Closings.{AllEnd}
 use Rattle.batch_disk.specs.Resting.{Voted, log_of, EachImage, SomeImage}
 use Rattle.batch_disk.specs.Writers.{kept_of, KeepsDisk}

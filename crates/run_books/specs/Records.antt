@@ -14,7 +14,7 @@ use Rattle.promise_spec.specs.Outputs.{Grew}
 use Rattle.promise_spec.specs.Cores.{how_many}
 use Rattle.promise_spec.specs.UnitRule.{KeepsUnitRule}
 use Rattle.promise_spec.specs.Causes.{AreFaults, RunHasDoubt, NoneRose, is_vote, is_vote_of, is_sealed, is_unsealed}
-use Rattle.promise_laws.specs.Journals.{entries_of}
+use Rattle.promise_spec.specs.Journals.{entries_of}
 use Rattle.turn_rules.specs.Quiet.{HasRun}
 use Rattle.settle_loop.specs.declared.settler.Settler.{Settler}
 use Rattle.run_books.specs.declared.faults.RunFault.{RunFault}

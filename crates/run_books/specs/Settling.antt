@@ -12,7 +12,7 @@ use Rattle.core_model.specs.Settler.{settler_step, Rests}
 use Rattle.script_check.specs.Accepted.{IsAcceptedProgram}
 use Rattle.promise_spec.specs.Programs.{shape_in}
 use Rattle.promise_spec.specs.UnitRule.{KeepsUnitRule}
-use Rattle.promise_laws.specs.Journals.{entries_of}
+use Rattle.promise_spec.specs.Journals.{entries_of}
 use Rattle.settle_loop.specs.declared.settler.Settler.{Settler}
 use Rattle.settle_loop.specs.declared.settler.Turned.{Turned}
 use Rattle.settle_loop.specs.declared.settler.Turned.TheVariants.{Stepped, Nothing, Stop}

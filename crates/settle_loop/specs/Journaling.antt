@@ -14,7 +14,7 @@ use Rattle.core_model.specs.Settler.{settler_step, Votes, Seals as SealStep, ver
 use Rattle.log_reading.specs.Steps.{manager}
 use Rattle.promise_spec.specs.Programs.{Program, shape_in}
 use Rattle.promise_spec.specs.Records.{Commit, AreRecordsOf}
-use Rattle.promise_laws.specs.Journals.{Settlement, Seals, Doubts}
+use Rattle.promise_spec.specs.Journals.{Settlement, Seals, Doubts}
 use Rattle.promise_spec.specs.Logs.{IsLog, live_slot}
 use Rattle.batch_disk.specs.Resting.{log_of, NotAmong, AreOfType, SomeImage}
 use Rattle.batch_disk.specs.Moments.{LeavesRest}

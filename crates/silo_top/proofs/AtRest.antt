@@ -20,7 +20,7 @@ use Rattle.core_model.specs.Legal.{Run, ends}
 use Rattle.promise_spec.specs.Programs.{shape_in}
 use Rattle.promise_spec.specs.Records.{Commit}
 use Rattle.promise_spec.specs.Logs.{IsKept, IsLog, body_of}
-use Rattle.promise_laws.specs.Journals.{AllLog}
+use Rattle.promise_spec.specs.Journals.{AllLog}
 use Rattle.promise_spec.proofs.ReadVersions.{all_in_order, all_of_order}
 use Rattle.batch_disk.specs.Resting.{IsAtRest, StandsIn, IsBelow, AreBelow, grain_file, write_end, raised_end, raised_ends, all_writes}
 use Rattle.batch_disk.specs.Writers.{file_end, kept_of}

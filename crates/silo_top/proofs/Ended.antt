@@ -17,7 +17,7 @@ use Rattle.promise_spec.specs.Records.{Commit, standing_of}
 use Rattle.promise_spec.specs.Outputs.{Grew}
 use Rattle.promise_spec.specs.Cores.{core_from, how_many}
 use Rattle.promise_spec.specs.Causes.{is_vote, is_vote_of, is_sealed, is_unsealed, syncs_of, most_syncs_of}
-use Rattle.promise_laws.specs.Journals.{commits_of, entries_of}
+use Rattle.promise_spec.specs.Journals.{commits_of, entries_of}
 use Rattle.promise_spec.specs.Endings.{Ending, Done, BadUse, WriteFault as Unwritten, HasRisen, IsBegun, IsCarried, HasLength, IsAllWritten, input_limit}
 use Rattle.promise_spec.specs.Courses.{Observed, Course, seen_at_entry, core_run}
 use Rattle.promise_spec.specs.Explained.{AreSettled}

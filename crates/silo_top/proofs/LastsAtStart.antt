@@ -10,7 +10,7 @@ use Rattle.promise_spec.specs.Logs.{live_slot, IsLog}
 use Rattle.promise_spec.specs.Programs.{shape_in}
 use Rattle.promise_spec.specs.Records.{Commit}
 use Rattle.promise_spec.specs.Batches.{EndsABatch}
-use Rattle.promise_laws.specs.Journals.{AllLog, Seals, IsSealing, CutAt}
+use Rattle.promise_spec.specs.Journals.{AllLog, Seals, IsSealing, CutAt}
 use Rattle.promise_laws.proofs.Stepping.{begins_at, stays_on, whole_cut}
 use Rattle.promise_laws.specs.Closings.{AllEnd}
 use Rattle.promise_laws.proofs.BatchEnds.{records-end}

@@ -31,7 +31,7 @@ use Rattle.promise_spec.specs.Endings as ending
 use Rattle.promise_spec.specs.Endings.{Ending, HasRisen, HasFailedAs, IsBegun, EndingMayDoubt}
 use Rattle.promise_spec.specs.Explained.{FileMayEndInDoubt, IsExplained}
 use Rattle.promise_spec.specs.Promise.{IsAnswered}
-use Rattle.promise_laws.specs.Journals.{Settlement, AllLog, commits_of, entries_of}
+use Rattle.promise_spec.specs.Journals.{Settlement, AllLog, commits_of, entries_of}
 use Rattle.promise_spec.specs.Courses.{Observed, Course, order, seen_at_entry, core_run, core_end}
 use Rattle.promise_spec.specs.Loads.{bank_text, load_calls, summary_text, AskFor, KeepsLoad, total_of}
 use Rattle.promise_spec.proofs.Lists.{all_of, each_of}

@@ -12,7 +12,7 @@ use Rattle.script_tree.specs.Programs.{program_tree}
 use Rattle.core_model.specs.Legal.{Run}
 use Rattle.history_core.specs.Cores.{run_of}
 use Rattle.log_reading.specs.Steps.{seen_in, manager}
-use Rattle.promise_laws.specs.Journals.{AllLog}
+use Rattle.promise_spec.specs.Journals.{AllLog}
 use Rattle.promise_spec.specs.Endings.{input_limit}
 use Rattle.promise_spec.specs.Promise.{Promises}
 use Rattle.promise_laws.specs.Closings.{ReadsMayStay}

@@ -20,7 +20,7 @@ use Rattle.promise_spec.specs.Causes.{RunHasDoubt}
 use Rattle.promise_spec.specs.Courses.{Observed, Course, seen_at_entry, basis, core_run, core_end}
 use Rattle.promise_spec.specs.Crashes.{LeavesAlone, IsAside}
 use Rattle.promise_spec.specs.Batches.{EndsABatch}
-use Rattle.promise_laws.specs.Journals.{AllLog, Seals, IsSealing, CutAt}
+use Rattle.promise_spec.specs.Journals.{AllLog, Seals, IsSealing, CutAt}
 use Rattle.promise_spec.specs.Promise.{Promises}
 use Rattle.promise_laws.proofs.Stepping.{begins_at, stays_on, whole_cut}
 use Rattle.promise_laws.specs.Closings.{ReadsMayStay, IsBehind, AllEnd, Carries}
