@@ -9,6 +9,6 @@ mod calls;
 mod linux;
 mod refused;
 
-pub use calls::{Handle, Look, SystemCalls};
+pub use calls::{Access, Handle, Look, SystemCalls};
 pub use linux::{InFolder, Linux};
 pub use refused::Refused;
