@@ -1,3 +1,4 @@
+ghost use Rattle.std.specs.Prelude.{ℕ, ◌≤◌, IsTrue};
 ghost use Rattle.host_trait.specs.Files.{HasSlot};
 
 use crate::machine::{Fault, Machine, OnMachine};
@@ -195,7 +196,8 @@ fn ask_host<S: SystemCalls + Drop>(
     file: FileId,
     step: &Step<'_>,
 ) -> Result<u64, AllocError>
-    requires { HasSlot file }
+    requires file { HasSlot file }
+    requires untold { (at count : ℕ) → IsTrue S.tells → at ≤ count }
 {
     add_answer(out, host, file, step)?;
     Ok(host.fault_count(Channel::File(file)))

@@ -1,8 +1,8 @@
 -- Reads and writes that are made part by part.
-use Rattle.std.proofs.Common.{◌≡◌, ◌≢◌, ◌⊎◌, inl, inr, append-nil, ℕ, zero, suc, ◌+◌, ◌-◌, ◌^◌, ◌<◌, ◌≤◌, min, List, [], ◌∷◌, ◌++◌, length, take, drop, refl, sym, ◌∙◌, ap, subst, arith, append_assoc, length-append, length-take, length-drop, take-append-drop, length-take-le, take_all, take-add}
-use Rattle.std.proofs.lemmas.List.{take-take, drop-drop, take_at, drop_at}
+use Rattle.std.proofs.Common.{◌≡◌, ◌⊎◌, inl, inr, append-nil, ℕ, zero, suc, ◌+◌, ◌^◌, ◌<◌, ◌≤◌, List, [], ◌∷◌, ◌++◌, length, take, drop, refl, sym, ◌∙◌, ap, subst, arith, append_assoc, length-append, length-take, length-drop, take-append-drop, length-take-le, take_all, take-add}
+use Rattle.std.proofs.lemmas.List.{drop-drop, take_at, drop_at}
 use Rattle.host_trait.specs.declared.channels.FileId.{FileId}
-use Rattle.host_trait.specs.Disk.{FileState, Tears, Pends, Wrote, Overwrote, overlaid}
+use Rattle.host_trait.specs.Disk.{FileState, Tears, Pends, Overwrote, overlaid}
 use Rattle.host_trait.specs.World.{World, Moment, Emitted, Filled, Written, Ticks, moment_of}
 use Rattle.host_trait.proofs.Crashes.{Tears-trans, Tears-wider, Tears-overlaid}
 use Rattle.system_calls.specs.System.{System, SameEntries, SameBeside, IsReadPart, AppendsPart, MayGoOn, IsLastPending, WritesPart, FailsPart, TearsFrom, PendsFrom, KeepsTime}

@@ -1,5 +1,5 @@
 -- What the folder's calls do to what the system holds.
-use Rattle.std.specs.Prelude.{◌≡◌, ◌≢◌, ◌+◌, Bool, true, IsTrue}
+use Rattle.std.specs.Prelude.{◌≡◌, ◌≢◌, ◌+◌, Bool, IsTrue}
 use Rattle.host_trait.specs.declared.channels.FileId.{FileId}
 use Rattle.host_trait.specs.World.{Synced}
 use Rattle.system_calls.specs.System.{System}

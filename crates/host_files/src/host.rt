@@ -17,7 +17,7 @@ use system_calls::SystemCalls;
 
 /// A host over the calls of a system: the standard streams, and a folder of files.
 ///
-/// It tells nothing of what they hold, and counts the faults of each channel: what the system refuses, a length or the end
+/// It tells what they hold where the system does, and counts the faults of each channel: what the system refuses, a length or the end
 /// of a written range that isn't below 2 to the 63, anything but a regular file under a file's name, and a file that was seen to
 /// have bytes and is gone, are faults. A call that was interrupted is made again. A file that isn't there has no bytes. Once a
 /// sync of a file has failed, each later call on that file fails, since the system may have dropped what was pending. The first
@@ -41,7 +41,8 @@ pub struct FolderHost<S: SystemCalls> {
 
 impl<S: SystemCalls + Drop> FolderHost<S> {
     /// A host over this system, whose files stand in the folder at this path. The empty text is the folder in which the program
-    /// runs. Nothing is read or made, and no call has failed.
+    /// runs. Nothing is read or made, and no call has failed. What an earlier refusal of a sync has left, the system may have
+    /// dropped, so that there was none is asked.
     pub fn new(alloc: Global, system: S, folder: &str) -> Result<FolderHost<S>, AllocError>
         requires { IsTrue S.tells → NoSyncRefused (S.state system) }
         ensures system { IfOk result (λ host. host.folder.system ≡ system) }

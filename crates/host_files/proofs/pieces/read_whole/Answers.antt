@@ -1,4 +1,4 @@
-use Rattle.std.proofs.Common.{◌≡◌, ◌+◌, ◌<◌, ◌≤◌, ℕ, List, length, sym, ◌∙◌, ap, subst, arith, rules}
+use Rattle.std.proofs.Common.{◌<◌, ℕ, sym, subst, rules}
 use Rattle.system_calls.specs.System.{System, IsReadPart}
 use Rattle.host_files.proofs.Parts.{ReadSome, read_more}
 use Rattle.host_files.proofs.pieces.read_whole.Goals as goal

@@ -1,4 +1,4 @@
-use Rattle.std.proofs.Common.{◌≡◌, ◌≢◌, ◌+◌, ◌<◌, ◌≤◌, ℕ, List, length, sym, ◌∙◌, ap, subst, arith, rules}
+use Rattle.std.proofs.Common.{◌≡◌, ◌≢◌, ◌+◌, ◌<◌, ◌≤◌, ℕ, length, sym, subst, rules}
 use Rattle.system_calls.specs.System.{System}
 use Rattle.system_calls.specs.declared.refused.Refused.{Refused}
 use Rattle.host_files.proofs.Parts.{WroteSome, entries_on, write_more, write_fails, wrote_some, wrote_whole, overwrites, goes_to}
