@@ -1,9 +1,11 @@
+ghost use Rattle.std.specs.Prelude.{ℕ, ◌≤◌, IsTrue};
 ghost use Rattle.host_trait.specs.Files.{HasSlot};
 
 use crate::machine::{Fault, Machine, OnMachine};
 use crate::steps::{Step, add_answer, bytes_of, file_of};
 use crate::streams::{add_machine_streams, add_standard, add_streams};
 use crate::sweep::add_sweep;
+use crate::told::add_told;
 use host_files::FolderHost;
 use host_trait::{Channel, FileId};
 use std::alloc::{AllocError, Global};
@@ -91,6 +93,7 @@ impl<'a> Bench<'a> {
             "standard-streams" => add_standard(self.rt, &mut out)?,
             "machine-streams" => add_machine_streams(self.rt, self.machine, &mut out)?,
             "sweep" => add_sweep(self.rt.alloc(), self.machine, fault_of(rest), &mut out)?,
+            "told" => add_told(self.rt.alloc(), rest, &mut out)?,
             _ => self.add_case(&mut out, word, rest)?,
         }
         Ok(out)
@@ -195,7 +198,8 @@ fn ask_host<S: SystemCalls + Drop>(
     file: FileId,
     step: &Step<'_>,
 ) -> Result<u64, AllocError>
-    requires { HasSlot file }
+    requires file { HasSlot file }
+    requires untold { (at count : ℕ) → IsTrue S.tells → at ≤ count }
 {
     add_answer(out, host, file, step)?;
     Ok(host.fault_count(Channel::File(file)))

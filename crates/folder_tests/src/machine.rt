@@ -4,7 +4,7 @@ ghost use Rattle.std.specs.Prelude.{◌≡◌, ◌≤◌, IfOk};
 use host_trait::FileId;
 use std::alloc::{AllocError, Global};
 use std::cell::{Cell, RefCell};
-use system_calls::{Handle, Look, Refused, SystemCalls};
+use system_calls::{Access, Handle, Look, Refused, SystemCalls};
 
 /// How the machine answers.
 #[derive(Clone, Copy, PartialEq, Eq)]
@@ -348,7 +348,11 @@ impl<'a> SystemCalls for OnMachine<'a> {
 
     ghost state = { λ machine. record { world = empty_world; is_entered = λ file. false; is_doubtful = λ file. false; has_lost = false } };
 
+    ghost finds = { λ folder. false };
+
     ghost seen_may_stay = { λ machine file told. untold told };
+
+    ghost found_may_stay = { λ machine file bytes told found. untold told };
 
     fn open_folder(&mut self, path: &str) -> Result<OpenFolder<'a>, Refused> {
         let machine = self.0;
@@ -382,28 +386,22 @@ impl<'a> SystemCalls for OnMachine<'a> {
         _folder: &OpenFolder<'a>,
         file: FileId,
         name: &str,
+        access: Access,
     ) -> Result<OpenedFile<'a>, Refused> {
         let fault = self.0.turn();
-        if fault == Fault::Unreached {
+        if access == Access::Both && fault == Fault::Unreached {
             return Err(Refused::Missing);
         }
-        self.0.look(file)?;
-        match fault {
-            Fault::Refused => Err(Refused::Failed),
-            Fault::ReadOnly => Err(Refused::ReadOnly),
-            _ => self.opened(file, "open", name),
+        if access == Access::Read && fault == Fault::Refused {
+            return Err(Refused::Failed);
         }
-    }
-
-    fn open_to_read(
-        &mut self,
-        _folder: &OpenFolder<'a>,
-        file: FileId,
-        name: &str,
-    ) -> Result<OpenedFile<'a>, Refused> {
-        self.0.turn_plain()?;
         self.0.look(file)?;
-        self.opened(file, "open to read", name)
+        match (access, fault) {
+            (Access::Read, _) => self.opened(file, "open to read", name),
+            (Access::Both, Fault::Refused) => Err(Refused::Failed),
+            (Access::Both, Fault::ReadOnly) => Err(Refused::ReadOnly),
+            (Access::Both, _) => self.opened(file, "open", name),
+        }
     }
 
     fn make(

@@ -1,4 +1,7 @@
 // What the host does with its input and its output.
+ghost use Rattle.std.specs.Prelude.{IsTrue};
+ghost use Rattle.system_calls.specs.System.{NoSyncRefused};
+
 use crate::machine::{Machine, OnMachine};
 use host_files::FolderHost;
 use host_trait::{Channel, Host};
@@ -30,7 +33,9 @@ fn add_over<S: SystemCalls + Drop>(
     alloc: Global,
     system: S,
     out: &mut String,
-) -> Result<(), AllocError> {
+) -> Result<(), AllocError>
+    requires { IsTrue S.tells → NoSyncRefused (S.state system) }
+{
     let mut host = FolderHost::new(alloc, system, "f")?;
     add_answers(out, &mut host)
 }

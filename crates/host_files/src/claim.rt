@@ -1,5 +1,6 @@
 // A process's hold on a folder.
-ghost use Rattle.std.specs.Prelude.{◌≡◌, IsSome, OnErr, IfOk, IsTrue, false, None};
+ghost use Rattle.std.specs.Prelude.{◌≡◌, IfSome, OnErr, IfOk, IsTrue, Some, is_some, false, None};
+ghost use Rattle.system_calls.specs.System.{HasNoBytes};
 
 use system_calls::{Refused, SystemCalls};
 
@@ -15,12 +16,14 @@ pub struct Claim<T> {
     for_errors: Option<T>,
     folder: Option<T>,
     is_missing: bool,
+    ghost held: { IsTrue (is_some folder) → is_missing ≡ false },
 }
 
 impl<T: Drop> Claim<T> {
     /// A hold on nothing yet.
     pub fn new() -> Claim<T>
-        ensures { result.folder ≡ None }
+        ensures folder { result.folder ≡ None }
+        ensures missing { result.is_missing ≡ false }
     {
         Claim {
             for_input: None,
@@ -32,7 +35,9 @@ impl<T: Drop> Claim<T> {
     }
 
     /// The handle of the folder, where it is taken.
-    pub fn folder(&self) -> Option<&T> {
+    pub fn folder(&self) -> Option<&T>
+        ensures { IfSome result (λ folder. self.now.folder ≡ Some folder.now) }
+    {
         self.folder.as_ref()
     }
 
@@ -44,9 +49,12 @@ impl<T: Drop> Claim<T> {
         system: &mut S,
         path: &str,
     ) -> Result<bool, Refused>
-        ensures taken { IfOk result (λ there. IsTrue there → IsSome self.new.folder) }
-        ensures missing { IfOk result (λ there. there ≡ false → self.new.folder ≡ self.old.folder) }
+        requires { IsTrue S.tells → IsTrue self.old.is_missing → HasNoBytes (S.state system.old) }
+        ensures taken { IfOk result (λ there. IsTrue there → IsTrue (is_some self.new.folder)) }
+        ensures missing { IfOk result (λ there. there ≡ false → IsTrue self.new.is_missing) }
         ensures stays { OnErr result (self.new.folder ≡ self.old.folder) }
+        ensures kept { IsTrue (is_some self.old.folder) → self.new.folder ≡ self.old.folder }
+        ensures absent { IsTrue S.tells → IsTrue self.new.is_missing → HasNoBytes (S.state system.new) }
         ensures state { IsTrue S.tells → S.state system.new ≡ S.state system.old }
     {
         if self.folder.is_some() {

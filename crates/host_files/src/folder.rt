@@ -1,12 +1,19 @@
 // The system's calls on the files of a folder.
-ghost use Rattle.std.specs.Prelude.{◌≡◌, ◌+◌, ◌^◌, ◌<◌, ◌≤◌, length, IsTrue, IsErr, IfOk, IfSome, OnOk, OnErr};
+ghost use Rattle.std.specs.Prelude.{◌≡◌, ◌≢◌, ◌+◌, ◌^◌, ◌<◌, ◌≤◌, ℕ, [], length, IsTrue, IsErr, IsNone, is_some, is_ok, true, false, IfOk, IfErr, IfSome, OnOk, OnErr};
+ghost use Rattle.std.specs.Option.{ForSome};
 ghost use Rattle.host_trait.specs.Files.{name_of, same_file};
+ghost use Rattle.host_trait.specs.Disk.{Overwrote};
+ghost use Rattle.host_trait.specs.World.{Pulled, Emitted, Filled, Written, Synced};
+ghost use Rattle.host_trait.specs.declared.channels.FileId.{FileId};
+ghost use Rattle.system_calls.specs.System.{NoSyncRefused, HasNoBytes};
+ghost use Rattle.host_files.specs.Told.{SameButEntries, SyncsFile};
+ghost use Rattle.host_files.specs.declared.folder.Entries.{Entries};
 
 use crate::claim::Claim;
 use crate::pieces::{put_out, read_whole, take_input, write_whole};
 use crate::table::Asked;
 use host_trait::FileId;
-use system_calls::{Handle, Refused, SystemCalls};
+use system_calls::{Access, Handle, Refused, SystemCalls};
 
 const LIMIT: u64 = 1 << 63;
 
@@ -41,6 +48,12 @@ pub struct Folder<S: SystemCalls> {
     reader: Option<Kept<S::File>>,
     writer: Option<Kept<S::File>>,
     entries: Entries,
+    ghost absent: { IsTrue S.tells → IsTrue claim.is_missing → HasNoBytes (S.state system) },
+    ghost reached: { IsTrue S.tells → IsTrue is_reached → ForSome claim.folder (λ folder. IsTrue (S.finds folder)) },
+    ghost opened: { IsTrue is_reached → IsTrue (is_some claim.folder) },
+    ghost written: { IsTrue (is_some writer) → IsTrue (is_some claim.folder) },
+    ghost entered: { IsTrue S.tells → entries ≡ Entries.Synced → (file : FileId) → IsTrue ((S.state system).is_entered file) },
+    ghost calm: { IsTrue S.tells → entries ≢ Entries.Lost → (S.state system).has_lost ≡ false },
 }
 
 fn is_same(a: FileId, b: FileId) -> bool
@@ -66,7 +79,9 @@ fn is_one(a: FileId, b: FileId) -> bool
 
 // The handle that was kept, where it is this file's. No other is kept then either.
 fn take_kept<T: Handle + Drop>(kept: &mut Option<Kept<T>>, file: FileId) -> Option<T>
-    ensures { IfSome result (λ opened. T.file opened ≡ file) }
+    ensures file { IfSome result (λ opened. T.file opened ≡ file) }
+    ensures kept { IfSome result (λ opened. IsTrue (is_some kept.old)) }
+    ensures none { is_some kept.new ≡ false }
 {
     match kept.take() {
         Some(kept) => {
@@ -88,20 +103,46 @@ fn open_file<S: SystemCalls>(
     asked: Asked<'_>,
 ) -> Result<S::File, Refused>
     requires { asked.name.now ≡ name_of asked.file }
-    ensures { IfOk result (λ opened. S.File.file opened ≡ asked.entry.file) }
+    ensures told { IsTrue S.tells → S.state system.new ≡ S.state system.old }
+    ensures file { IfOk result (λ opened. S.File.file opened ≡ asked.entry.file) }
+    ensures found { OnOk result (IsTrue S.tells → IsTrue (S.finds folder.now)) }
+    ensures missing { IfErr result (λ error. error ≡ Refused.Missing → IsTrue S.tells → IsTrue (S.finds folder.now)
+        → ((S.state system.old).world.disk asked.entry.file).seen ≡ []) }
 {
-    match system.open(folder, asked.file, asked.name) {
+    match system.open(folder, asked.file, asked.name, Access::Both) {
         Ok(opened) => Ok(opened),
         Err(Refused::ReadOnly) => {
-            let found = system.look(folder, asked.file, asked.name)?;
+            let Ok(found) = system.look(folder, asked.file, asked.name) else {
+                return Err(Refused::Failed);
+            };
             if !found.is_regular {
                 return Err(Refused::Failed);
             }
-            let opened = system.open_to_read(folder, asked.file, asked.name)?;
+            let opened = system.open(folder, asked.file, asked.name, Access::Read)?;
             Ok(opened)
         }
         Err(error) => Err(error),
     }
+}
+
+// A name that isn't found in a folder where names aren't looked for says nothing of the file.
+fn refuse_unreached<S: SystemCalls>(
+    system: &mut S,
+    folder: &S::Folder,
+    is_reached: bool,
+) -> Result<(), Refused>
+    requires { IsTrue S.tells → IsTrue is_reached → IsTrue (S.finds folder.now) }
+    ensures told { IsTrue S.tells → S.state system.new ≡ S.state system.old }
+    ensures found { OnOk result (IsTrue S.tells → IsTrue (S.finds folder.now)) }
+{
+    if is_reached {
+        return Ok(());
+    }
+    let found = system.reaches(folder)?;
+    if !found {
+        return Err(Refused::Failed);
+    }
+    Ok(())
 }
 
 // A file of which a sync has failed is asked nothing more: the system may have dropped what was pending, and a later sync
@@ -128,7 +169,9 @@ fn refuse_gone(had_bytes: bool) -> Result<(), Refused>
 impl<S: SystemCalls + Drop> Folder<S> {
     /// The folder at this path. Its own entries count as not yet synced. Nothing is opened.
     pub fn new(system: S, path: String) -> Folder<S>
-        ensures { result.entries ≡ Entries.Pending }
+        requires { IsTrue S.tells → NoSyncRefused (S.state system) }
+        ensures entries { result.entries ≡ Entries.Pending }
+        ensures system { result.system ≡ system }
     {
         Folder {
             system,
@@ -144,13 +187,20 @@ impl<S: SystemCalls + Drop> Folder<S> {
     /// Moves the next input bytes into the front of the slice, and answers how many.
     pub fn pull(&mut self, into: &mut [u8]) -> Result<usize, Refused>
         ensures bound { IfOk result (λ count. count ≤ length into.old) }
+        ensures ok { IfOk result (λ count. IsTrue S.tells → Pulled count into.new (S.state self.old.system).world (S.state self.new.system).world) }
+        ensures err { OnErr result (IsTrue S.tells → S.state self.new.system ≡ S.state self.old.system) }
+        ensures doubts { IsTrue S.tells → (S.state self.new.system).is_doubtful ≡ (S.state self.old.system).is_doubtful }
     {
         let count = take_input(&mut self.system, into)?;
         Ok(count)
     }
 
     /// Appends all bytes to the output.
-    pub fn emit(&mut self, bytes: &[u8]) -> Result<(), Refused> {
+    pub fn emit(&mut self, bytes: &[u8]) -> Result<(), Refused>
+        ensures ok { OnOk result (IsTrue S.tells → Emitted (length bytes.now) bytes.now (S.state self.old.system).world (S.state self.new.system).world) }
+        ensures part { IsTrue S.tells → ((n : ℕ) × Emitted n bytes.now (S.state self.old.system).world (S.state self.new.system).world) }
+        ensures doubts { IsTrue S.tells → (S.state self.new.system).is_doubtful ≡ (S.state self.old.system).is_doubtful }
+    {
         put_out(&mut self.system, bytes)?;
         Ok(())
     }
@@ -158,7 +208,10 @@ impl<S: SystemCalls + Drop> Folder<S> {
     // Opens a file of the folder. None where there is neither file nor folder.
     fn find(&mut self, asked: Asked<'_>) -> Result<Option<S::File>, Refused>
         requires { asked.name.now ≡ name_of asked.file }
+        ensures told { IsTrue S.tells → S.state self.new.system ≡ S.state self.old.system }
         ensures file { IfOk result (λ found. IfSome found (λ opened. S.File.file opened ≡ asked.entry.file)) }
+        ensures absent { IfOk result (λ found. IsNone found → IsTrue S.tells → ((S.state self.old.system).world.disk asked.entry.file).seen ≡ []) }
+        ensures taken { IfOk result (λ found. IfSome found (λ opened. IsTrue (is_some self.new.claim.folder))) }
         ensures entries { self.new.entries ≡ self.old.entries }
     {
         if !self.claim.take(&mut self.system, self.path.as_str())? {
@@ -175,9 +228,7 @@ impl<S: SystemCalls + Drop> Folder<S> {
             }
             Err(Refused::Missing) => {
                 refuse_gone(asked.had_bytes)?;
-                if !self.is_reached && !self.system.reaches(folder)? {
-                    return Err(Refused::Failed);
-                }
+                refuse_unreached(&mut self.system, folder, self.is_reached)?;
                 self.is_reached = true;
                 Ok(None)
             }
@@ -188,7 +239,10 @@ impl<S: SystemCalls + Drop> Folder<S> {
     // As `find`, and only a regular file is taken. One that had bytes was seen to be regular.
     fn find_regular(&mut self, asked: Asked<'_>) -> Result<Option<S::File>, Refused>
         requires { asked.name.now ≡ name_of asked.file }
+        ensures told { IsTrue S.tells → S.state self.new.system ≡ S.state self.old.system }
         ensures file { IfOk result (λ found. IfSome found (λ opened. S.File.file opened ≡ asked.entry.file)) }
+        ensures absent { IfOk result (λ found. IsNone found → IsTrue S.tells → ((S.state self.old.system).world.disk asked.entry.file).seen ≡ []) }
+        ensures taken { IfOk result (λ found. IfSome found (λ opened. IsTrue (is_some self.new.claim.folder))) }
         ensures entries { self.new.entries ≡ self.old.entries }
     {
         let Some(opened) = self.find(asked)? else {
@@ -204,6 +258,8 @@ impl<S: SystemCalls + Drop> Folder<S> {
     /// 2 to the 63 or more.
     pub fn length(&mut self, asked: Asked<'_>) -> Result<u64, Refused>
         requires { asked.name.now ≡ name_of asked.file }
+        ensures told { IsTrue S.tells → S.state self.new.system ≡ S.state self.old.system }
+        ensures len { IfOk result (λ count. IsTrue S.tells → count ≡ length ((S.state self.old.system).world.disk asked.entry.file).seen) }
         ensures bound { IfOk result (λ count. count < 2 ^ 63) }
         ensures lost { IsTrue asked.entry.is_lost → IsErr result }
         ensures entries { self.new.entries ≡ self.old.entries }
@@ -233,7 +289,9 @@ impl<S: SystemCalls + Drop> Folder<S> {
     // The handle that last read the file, or a new one. None where there is no file.
     fn take_reader(&mut self, asked: Asked<'_>) -> Result<Option<S::File>, Refused>
         requires { asked.name.now ≡ name_of asked.file }
+        ensures told { IsTrue S.tells → S.state self.new.system ≡ S.state self.old.system }
         ensures file { IfOk result (λ found. IfSome found (λ opened. S.File.file opened ≡ asked.entry.file)) }
+        ensures absent { IfOk result (λ found. IsNone found → IsTrue S.tells → ((S.state self.old.system).world.disk asked.entry.file).seen ≡ []) }
         ensures entries { self.new.entries ≡ self.old.entries }
     {
         if let Some(opened) = take_kept(&mut self.reader, asked.file) {
@@ -246,6 +304,8 @@ impl<S: SystemCalls + Drop> Folder<S> {
     /// Reads from there on, until the slice is full or the file ends. A file that isn't there has no bytes.
     pub fn read_at(&mut self, asked: Asked<'_>, at: u64, into: &mut [u8]) -> Result<usize, Refused>
         requires { asked.name.now ≡ name_of asked.file }
+        ensures told { IsTrue S.tells → S.state self.new.system ≡ S.state self.old.system }
+        ensures bytes { IfOk result (λ count. IsTrue S.tells → Filled count at ((S.state self.old.system).world.disk asked.entry.file).seen into.old into.new) }
         ensures bound { IfOk result (λ count. count ≤ length into.old) }
         ensures lost { IsTrue asked.entry.is_lost → IsErr result }
         ensures entries { self.new.entries ≡ self.old.entries }
@@ -266,7 +326,9 @@ impl<S: SystemCalls + Drop> Folder<S> {
     // Makes a file, whose entry doesn't last until the next sync of the folder's.
     fn make(&mut self, asked: Asked<'_>) -> Result<S::File, Refused>
         requires { asked.name.now ≡ name_of asked.file }
+        ensures told { IsTrue S.tells → SameButEntries (S.state self.old.system) (S.state self.new.system) }
         ensures file { IfOk result (λ opened. S.File.file opened ≡ asked.entry.file) }
+        ensures taken { OnOk result (IsTrue (is_some self.new.claim.folder)) }
         ensures lost { self.old.entries ≡ Entries.Lost → self.new.entries ≡ Entries.Lost }
         ensures pending { OnOk result (self.new.entries ≡ Entries.Synced → ⊥) }
     {
@@ -283,7 +345,9 @@ impl<S: SystemCalls + Drop> Folder<S> {
     // The handle that last wrote the file, or a new one. The file is made where it isn't there.
     fn take_writer(&mut self, asked: Asked<'_>) -> Result<S::File, Refused>
         requires { asked.name.now ≡ name_of asked.file }
+        ensures told { IsTrue S.tells → SameButEntries (S.state self.old.system) (S.state self.new.system) }
         ensures file { IfOk result (λ opened. S.File.file opened ≡ asked.entry.file) }
+        ensures taken { OnOk result (IsTrue (is_some self.new.claim.folder)) }
         ensures lost { self.old.entries ≡ Entries.Lost → self.new.entries ≡ Entries.Lost }
     {
         if let Some(opened) = take_kept(&mut self.writer, asked.file) {
@@ -298,7 +362,12 @@ impl<S: SystemCalls + Drop> Folder<S> {
 
     /// Writes from there on, and makes the file where it isn't there. A range that doesn't end below 2 to the 63 is refused.
     pub fn write_at(&mut self, asked: Asked<'_>, at: u64, bytes: &[u8]) -> Result<(), Refused>
-        requires { asked.name.now ≡ name_of asked.file }
+        requires name { asked.name.now ≡ name_of asked.file }
+        requires place { IsTrue S.tells → at ≤ length ((S.state self.old.system).world.disk asked.file).seen }
+        ensures told { IsTrue S.tells → Written asked.entry.file at (length bytes.now) (S.state self.old.system).world (S.state self.new.system).world }
+        ensures ok { OnOk result (IsTrue S.tells
+            → Overwrote at bytes.now ((S.state self.old.system).world.disk asked.entry.file) ((S.state self.new.system).world.disk asked.entry.file)) }
+        ensures doubts { IsTrue S.tells → (S.state self.new.system).is_doubtful ≡ (S.state self.old.system).is_doubtful }
         ensures bound { OnOk result (at + length bytes.now < 2 ^ 63) }
         ensures lost { IsTrue asked.entry.is_lost → IsErr result }
         ensures entries { self.old.entries ≡ Entries.Lost → self.new.entries ≡ Entries.Lost }
@@ -320,6 +389,9 @@ impl<S: SystemCalls + Drop> Folder<S> {
 
     // Syncs the folder's entries where a file was made since they last were.
     fn sync_entries(&mut self) -> Result<(), Refused>
+        ensures told { IsTrue S.tells → ((S.state self.new.system).world ≡ (S.state self.old.system).world)
+            × ((S.state self.new.system).is_doubtful ≡ (S.state self.old.system).is_doubtful) }
+        ensures folder { self.new.claim ≡ self.old.claim }
         ensures ok { OnOk result (self.new.entries ≡ Entries.Synced) }
         ensures err { OnErr result (self.new.entries ≡ Entries.Lost) }
         ensures lost { self.old.entries ≡ Entries.Lost → IsErr result }
@@ -342,7 +414,9 @@ impl<S: SystemCalls + Drop> Folder<S> {
     /// Syncs a file's bytes and length, and before that the folder's entries at the first sync and after a file was made: a sync
     /// of bytes helps only where their file is found.
     pub fn sync(&mut self, asked: Asked<'_>) -> Result<(), Refused>
-        requires { asked.name.now ≡ name_of asked.file }
+        requires name { asked.name.now ≡ name_of asked.file }
+        requires calm { IsTrue S.tells → asked.is_lost ≡ false → (S.state self.old.system).is_doubtful asked.file ≡ false }
+        ensures told { IsTrue S.tells → SyncsFile asked.entry.file (is_ok result) (S.state self.old.system) (S.state self.new.system) }
         ensures lost { IsTrue asked.entry.is_lost → IsErr result }
         ensures entered { OnOk result (self.new.entries ≡ Entries.Synced) }
         ensures believed { self.old.entries ≡ Entries.Lost → IsErr result }

@@ -1,4 +1,8 @@
-ghost use Rattle.std.specs.Prelude.{◌≡◌, ◌+◌, ◌^◌, ◌<◌, ◌≤◌, length, IsTrue, IsErr, IfOk, OnOk, OnErr};
+ghost use Rattle.std.specs.Prelude.{◌≡◌, ◌+◌, ◌^◌, ◌<◌, ◌≤◌, length, is_ok, IsTrue, IsErr, IfOk, OnOk, OnErr};
+ghost use Rattle.host_trait.specs.Disk.{Overwrote};
+ghost use Rattle.host_trait.specs.World.{Asked, Filled, Written, Synced};
+ghost use Rattle.host_trait.specs.declared.channels.FileId.{FileId};
+ghost use Rattle.system_calls.specs.System.{NoSyncRefused};
 ghost use Rattle.host_files.specs.Table.{is_named, is_lost, counts_of, StayLost};
 ghost use Rattle.host_trait.specs.Faults.{Counted};
 ghost use Rattle.host_trait.specs.Files.{MayAsk, StaysReady};
@@ -13,7 +17,7 @@ use system_calls::SystemCalls;
 
 /// A host over the calls of a system: the standard streams, and a folder of files.
 ///
-/// It tells nothing of what they hold, and counts the faults of each channel: what the system refuses, a length or the end
+/// It tells what they hold where the system does, and counts the faults of each channel: what the system refuses, a length or the end
 /// of a written range that isn't below 2 to the 63, anything but a regular file under a file's name, and a file that was seen to
 /// have bytes and is gone, are faults. A call that was interrupted is made again. A file that isn't there has no bytes. Once a
 /// sync of a file has failed, each later call on that file fails, since the system may have dropped what was pending. The first
@@ -32,13 +36,17 @@ pub struct FolderHost<S: SystemCalls> {
     table: Table,
     input_faults: u64,
     output_faults: u64,
+    ghost doubts: { IsTrue S.tells → (file : FileId) → IsTrue ((S.state folder.system).is_doubtful file) → IsTrue (is_lost table.files file) },
 }
 
 impl<S: SystemCalls + Drop> FolderHost<S> {
     /// A host over this system, whose files stand in the folder at this path. The empty text is the folder in which the program
-    /// runs. Nothing is read or made, and no call has failed.
+    /// runs. Nothing is read or made, and no call has failed. What an earlier refusal of a sync has left, the system may have
+    /// dropped, so that there was none is asked.
     pub fn new(alloc: Global, system: S, folder: &str) -> Result<FolderHost<S>, AllocError>
-        ensures { IfOk result (λ host. (channel : Channel)
+        requires { IsTrue S.tells → NoSyncRefused (S.state system) }
+        ensures system { IfOk result (λ host. host.folder.system ≡ system) }
+        ensures faults { IfOk result (λ host. (channel : Channel)
             → counts_of host.input_faults host.output_faults host.table.files channel ≡ 0) }
     {
         let path = if folder.is_empty() { "." } else { folder };
@@ -68,17 +76,16 @@ impl<S: SystemCalls + Drop> FolderHost<S> {
 impl<S: SystemCalls + Drop> Host for FolderHost<S> {
     ghost use Rattle.std.specs.Prelude.{false};
     ghost use Rattle.host_files.specs.Table.{is_named, counts_of};
-    ghost use Rattle.host_trait.specs.World.{empty_world, untold};
 
-    ghost tells = { false };
+    ghost tells = { S.tells };
 
-    ghost world = { λ host. empty_world };
+    ghost world = { λ host. (S.state host.folder.system).world };
 
     ghost faults = { λ host. counts_of host.input_faults host.output_faults host.table.files };
 
     ghost is_ready = { λ host. is_named host.table.files };
 
-    ghost seen_may_stay = { λ host file told. untold told };
+    ghost seen_may_stay = { λ host file told. S.seen_may_stay host.folder.system file told };
 
     fn pull(&mut self, into: &mut [u8]) -> Result<usize, Failed> {
         match self.folder.pull(into) {
@@ -102,6 +109,8 @@ impl<S: SystemCalls + Drop> Host for FolderHost<S> {
 
     fn length(&mut self, file: FileId) -> Result<u64, Failed>
         requires { MayAsk (is_named self.old.table.files) file }
+        ensures told { IsTrue S.tells → Asked (S.state self.old.folder.system).world (S.state self.new.folder.system).world }
+        ensures len { IfOk result (λ n. IsTrue S.tells → n ≡ length ((S.state self.old.folder.system).world.disk file).seen) }
         ensures bound { IfOk result (λ n. n < 2 ^ 63) }
         ensures faults { Counted (File file) result
             (counts_of self.old.input_faults self.old.output_faults self.old.table.files)
@@ -118,6 +127,8 @@ impl<S: SystemCalls + Drop> Host for FolderHost<S> {
 
     fn read_at(&mut self, file: FileId, at: u64, into: &mut [u8]) -> Result<usize, Failed>
         requires { MayAsk (is_named self.old.table.files) file }
+        ensures told { IsTrue S.tells → Asked (S.state self.old.folder.system).world (S.state self.new.folder.system).world }
+        ensures bytes { IfOk result (λ n. IsTrue S.tells → Filled n at ((S.state self.old.folder.system).world.disk file).seen into.old into.new) }
         ensures bound { IfOk result (λ n. n ≤ length into.old) }
         ensures faults { Counted (File file) result
             (counts_of self.old.input_faults self.old.output_faults self.old.table.files)
@@ -133,7 +144,10 @@ impl<S: SystemCalls + Drop> Host for FolderHost<S> {
     }
 
     fn write_at(&mut self, file: FileId, at: u64, bytes: &[u8]) -> Result<(), Failed>
-        requires { MayAsk (is_named self.old.table.files) file }
+        requires file { MayAsk (is_named self.old.table.files) file }
+        requires place { IsTrue S.tells → at ≤ length ((S.state self.old.folder.system).world.disk file).seen }
+        ensures told { IsTrue S.tells → Written file at (length bytes.now) (S.state self.old.folder.system).world (S.state self.new.folder.system).world }
+        ensures ok { OnOk result (IsTrue S.tells → Overwrote at bytes.now ((S.state self.old.folder.system).world.disk file) ((S.state self.new.folder.system).world.disk file)) }
         ensures bound { OnOk result (at + length bytes.now < 2 ^ 63) }
         ensures faults { Counted (File file) result
             (counts_of self.old.input_faults self.old.output_faults self.old.table.files)
@@ -154,6 +168,8 @@ impl<S: SystemCalls + Drop> Host for FolderHost<S> {
 
     fn sync(&mut self, file: FileId) -> Result<(), Failed>
         requires { MayAsk (is_named self.old.table.files) file }
+        ensures told { IsTrue S.tells → Synced file (is_ok result) (S.state self.old.folder.system).world (S.state self.new.folder.system).world }
+        ensures count { OnOk result (IsTrue S.tells → (S.state self.new.folder.system).world.syncs ≡ (S.state self.old.folder.system).world.syncs + 1) }
         ensures faults { Counted (File file) result
             (counts_of self.old.input_faults self.old.output_faults self.old.table.files)
             (counts_of self.new.input_faults self.new.output_faults self.new.table.files) }

@@ -1,5 +1,8 @@
 // Whole reads and writes by calls that move some bytes each.
-ghost use Rattle.std.specs.Prelude.{◌+◌, ◌^◌, ◌<◌, ◌≤◌, length, IfOk};
+ghost use Rattle.std.specs.Prelude.{◌≡◌, ◌+◌, ◌^◌, ◌<◌, ◌≤◌, ℕ, length, IsTrue, IfOk, OnOk, OnErr};
+ghost use Rattle.host_trait.specs.Disk.{Overwrote};
+ghost use Rattle.host_trait.specs.World.{Pulled, Emitted, Filled, Written};
+ghost use Rattle.system_calls.specs.System.{SameEntries};
 
 use system_calls::{Refused, SystemCalls};
 
@@ -10,7 +13,10 @@ pub fn read_whole<S: SystemCalls>(
     at: u64,
     into: &mut [u8],
 ) -> Result<usize, Refused>
+    ensures told { IsTrue S.tells → S.state system.new ≡ S.state system.old }
     ensures bound { IfOk result (λ count. count ≤ length into.old) }
+    ensures bytes { IfOk result (λ count. IsTrue S.tells
+        → Filled count at ((S.state system.old).world.disk (S.File.file opened.now)).seen into.old into.new) }
 {
     let mut count = 0;
     for _ in 0..u64::MAX {
@@ -18,8 +24,12 @@ pub fn read_whole<S: SystemCalls>(
             return Ok(count);
         }
         match system.read_at(opened, at, into, count) {
-            Ok(0) => return Ok(count),
-            Ok(more) => count += more,
+            Ok(more) => {
+                if more == 0 {
+                    return Ok(count);
+                }
+                count += more;
+            }
             Err(Refused::Interrupted) => {}
             Err(error) => return Err(error),
         }
@@ -34,7 +44,13 @@ pub fn write_whole<S: SystemCalls>(
     at: u64,
     bytes: &[u8],
 ) -> Result<(), Refused>
-    requires { at + length bytes.now < 2 ^ 63 }
+    requires fits { at + length bytes.now < 2 ^ 63 }
+    requires place { IsTrue S.tells → at ≤ length ((S.state system.old).world.disk (S.File.file opened.now)).seen }
+    ensures told { IsTrue S.tells
+        → Written (S.File.file opened.now) at (length bytes.now) (S.state system.old).world (S.state system.new).world }
+    ensures ok { OnOk result (IsTrue S.tells
+        → Overwrote at bytes.now ((S.state system.old).world.disk (S.File.file opened.now)) ((S.state system.new).world.disk (S.File.file opened.now))) }
+    ensures entries { IsTrue S.tells → SameEntries (S.state system.old) (S.state system.new) }
 {
     let mut done = 0;
     for _ in 0..u64::MAX {
@@ -58,6 +74,9 @@ pub fn write_whole<S: SystemCalls>(
 /// Takes the next input bytes into the front of the slice, and answers how many.
 pub fn take_input<S: SystemCalls>(system: &mut S, into: &mut [u8]) -> Result<usize, Refused>
     ensures bound { IfOk result (λ count. count ≤ length into.old) }
+    ensures ok { IfOk result (λ count. IsTrue S.tells → Pulled count into.new (S.state system.old).world (S.state system.new).world) }
+    ensures err { OnErr result (IsTrue S.tells → S.state system.new ≡ S.state system.old) }
+    ensures entries { IsTrue S.tells → SameEntries (S.state system.old) (S.state system.new) }
 {
     for _ in 0..u64::MAX {
         match system.read_input(into) {
@@ -70,15 +89,24 @@ pub fn take_input<S: SystemCalls>(system: &mut S, into: &mut [u8]) -> Result<usi
 }
 
 /// Appends all bytes to the output.
-pub fn put_out<S: SystemCalls>(system: &mut S, bytes: &[u8]) -> Result<(), Refused> {
+pub fn put_out<S: SystemCalls>(system: &mut S, bytes: &[u8]) -> Result<(), Refused>
+    ensures ok { OnOk result (IsTrue S.tells
+        → Emitted (length bytes.now) bytes.now (S.state system.old).world (S.state system.new).world) }
+    ensures part { IsTrue S.tells → ((n : ℕ) × Emitted n bytes.now (S.state system.old).world (S.state system.new).world) }
+    ensures entries { IsTrue S.tells → SameEntries (S.state system.old) (S.state system.new) }
+{
     let mut done = 0;
     for _ in 0..u64::MAX {
         if done >= bytes.len() {
             return Ok(());
         }
         match system.write_output(bytes, done) {
-            Ok(0) => return Err(Refused::Failed),
-            Ok(more) => done += more,
+            Ok(more) => {
+                if more == 0 {
+                    return Err(Refused::Failed);
+                }
+                done += more;
+            }
             Err(Refused::Interrupted) => {}
             Err(error) => return Err(error),
         }

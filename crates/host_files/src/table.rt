@@ -1,5 +1,5 @@
 // The names of the files that are ready, how often calls on each have failed, and whether a sync of it has.
-ghost use Rattle.std.specs.Prelude.{◌≡◌, ◌≢◌, ◌≤◌, ℕ, Ok, IsTrue, IsOk, IfOk, OnOk, OnErr};
+ghost use Rattle.std.specs.Prelude.{◌≡◌, ◌≢◌, ◌≤◌, ℕ, Ok, is_ok, IsTrue, IfOk, OnOk, OnErr};
 ghost use Rattle.host_trait.specs.Files.{HasSlot, MayAsk, StaysReady, name_of};
 ghost use Rattle.host_trait.specs.Faults.{Rose, Counted};
 ghost use Rattle.host_trait.specs.declared.channels.FileId.{FileId};
@@ -228,7 +228,7 @@ impl Table {
     /// Passes on what a sync of a file answered. Where it failed, that is counted, and the file is lost.
     pub fn count_sync(&mut self, file: FileId, answer: Result<(), Refused>) -> Result<(), Failed>
         requires { MayAsk (is_named self.old.files) file }
-        ensures ok { OnOk result (IsOk answer) }
+        ensures answer { is_ok result ≡ is_ok answer }
         ensures faults { (input output : ℕ) → Counted (File file) result
             (counts_of input output self.old.files) (counts_of input output self.new.files) }
         ensures lost { OnErr result (IsTrue (is_lost self.new.files file)) }

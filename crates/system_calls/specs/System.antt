@@ -1,11 +1,11 @@
 -- What the operating system holds of a folder and of the standard streams, and what its calls do.
-use Rattle.std.specs.Prelude.{◌≡◌, ◌≢◌, ◌⊎◌, ℕ, zero, suc, ◌+◌, ◌-◌, ◌^◌, ◌<◌, ◌≤◌, Bool, true, false, IsTrue, List, [], ◌∷◌, ◌++◌, length, take, drop}
+use Rattle.std.specs.Prelude.{◌≡◌, ◌≢◌, ◌⊎◌, ℕ, zero, suc, ◌+◌, ◌^◌, ◌<◌, ◌≤◌, Bool, false, IsTrue, List, [], ◌∷◌, ◌++◌, length, take, drop}
 use Rattle.host_trait.specs.declared.channels.FileId.{FileId}
 use Rattle.host_trait.specs.Disk.{FileState, MayLeave, Tears, Pends, overlaid}
 use Rattle.host_trait.specs.World.{World, Moment, Written, Synced, moment_of}
 
 -- The streams and the files' bytes with the moments so far; for which files the folder's entry lasts; of which files a sync was
--- refused; and whether a sync of the folder was. A moment's files are those of a crash that finds their entries.
+-- refused; and whether a sync of the folder was. A file whose entry doesn't last has no bytes that last either.
 pub record System : Type 0 where
   pub world : World
   pub is_entered : FileId → Bool
@@ -13,8 +13,17 @@ pub record System : Type 0 where
   pub has_lost : Bool
 
 -- What a crash may leave under a file's name: nothing where its entry doesn't last, or what the disk model says.
-abbrev pub MayStand : System → FileId → List ℕ → Type 0
-MayStand system file bytes = ((system.is_entered file ≡ false) × (bytes ≡ [])) ⊎ MayLeave (system.world.disk file) bytes
+abbrev pub MayBeFound : System → FileId → List ℕ → Type 0
+MayBeFound system file bytes = ((system.is_entered file ≡ false) × (bytes ≡ [])) ⊎ MayLeave (system.world.disk file) bytes
+
+-- no sync was refused so far
+pub record NoSyncRefused (system : System) : Type 0 where
+  pub files : (file : FileId) → system.is_doubtful file ≡ false
+  pub folder : system.has_lost ≡ false
+
+-- no file has bytes
+abbrev pub HasNoBytes : System → Type 0
+HasNoBytes system = (file : FileId) → (system.world.disk file).seen ≡ []
 
 -- the entries, and what is known of syncs, are as they were
 pub record SameEntries (old new : System) : Type 0 where
@@ -23,16 +32,16 @@ pub record SameEntries (old new : System) : Type 0 where
   pub lost : new.has_lost ≡ old.has_lost
 
 -- This file may have been made, so that its entry may not last. It has no bytes.
-pub record Makes (file : FileId) (old new : System) : Type 0 where
+pub record MakesFile (file : FileId) (old new : System) : Type 0 where
   pub world : new.world ≡ old.world
   pub others : (f : FileId) → f ≢ file → new.is_entered f ≡ old.is_entered f
   pub doubtful : new.is_doubtful ≡ old.is_doubtful
   pub lost : new.has_lost ≡ old.has_lost
 
--- A sync of the folder: all entries last after one that succeeds, unless one was refused before.
+-- a sync of the folder: all entries last after one that succeeds
 pub record EntersAll (ok : Bool) (old new : System) : Type 0 where
   pub world : new.world ≡ old.world
-  pub entered : IsTrue ok → old.has_lost ≡ false → (f : FileId) → IsTrue (new.is_entered f)
+  pub entered : IsTrue ok → (f : FileId) → IsTrue (new.is_entered f)
   pub calm : IsTrue ok → new.has_lost ≡ old.has_lost
   pub stays : (f : FileId) → IsTrue (old.is_entered f) → IsTrue (new.is_entered f)
   pub doubtful : new.is_doubtful ≡ old.is_doubtful
@@ -61,7 +70,7 @@ KeepsTime zero old new = new.past ≡ old.past ++ moment_of new ∷ []
 KeepsTime (suc from) old new = (before : List Moment) → old.past ≡ before ++ moment_of old ∷ [] → new.past ≡ before ++ moment_of new ∷ []
 
 -- n more bytes were appended to the output, those from this place on
-pub record PutsOut (n from : ℕ) (bytes : List ℕ) (old new : System) : Type 0 where
+pub record AppendsPart (n from : ℕ) (bytes : List ℕ) (old new : System) : Type 0 where
   pub input : new.world.input ≡ old.world.input
   pub output : new.world.output ≡ old.world.output ++ take n (drop from bytes)
   pub disk : new.world.disk ≡ old.world.disk
@@ -69,6 +78,18 @@ pub record PutsOut (n from : ℕ) (bytes : List ℕ) (old new : System) : Type 0
   pub past : 0 < n → KeepsTime from old.world new.world
   pub none : n ≡ 0 → new ≡ old
   pub entries : SameEntries old new
+
+-- this range is the last that is pending
+pub record IsLastPending (at size : ℕ) (file : FileState) : Type 0 where
+  pub before : List (ℕ × ℕ)
+  pub ranges : file.ranges ≡ (at, size) ∷ before
+  pub longest : at + size ≤ file.longest
+
+-- A write of so many bytes at this offset may go on at this place of its own: the file reaches up to there, and behind the write's
+-- begin its range is pending.
+pub record MayGoOn (from at size : ℕ) (file : FileState) : Type 0 where
+  pub reach : at + from ≤ length file.seen
+  pub pending : 0 < from → IsLastPending at size file
 
 -- what a write leaves as it was: all other files, the streams, and the entries
 pub record SameBeside (file : FileId) (old new : System) : Type 0 where

@@ -1,9 +1,9 @@
-ghost use Rattle.std.specs.Prelude.{◌≡◌, ◌≢◌, ◌+◌, ◌-◌, ◌^◌, ◌<◌, ◌≤◌, ℕ, Bool, false, IsTrue, length, is_ok, IfOk, IfErr, OnErr, []};
+ghost use Rattle.std.specs.Prelude.{◌≡◌, ◌≢◌, ◌+◌, ◌-◌, ◌^◌, ◌<◌, ◌≤◌, ℕ, Bool, false, IsTrue, List, length, is_ok, IfOk, IfErr, OnOk, OnErr, []};
 ghost use Rattle.host_trait.specs.Files.{name_of};
 ghost use Rattle.host_trait.specs.Disk.{MayLeave};
 ghost use Rattle.host_trait.specs.World.{Pulled};
 ghost use Rattle.host_trait.specs.declared.channels.FileId.{FileId};
-ghost use Rattle.system_calls.specs.System.{System, Makes, EntersAll, SyncsData, SameEntries, IsReadPart, PutsOut, WritesPart, FailsPart};
+ghost use Rattle.system_calls.specs.System.{System, MayBeFound, HasNoBytes, MakesFile, EntersAll, SyncsData, SameEntries, IsReadPart, AppendsPart, MayGoOn, WritesPart, FailsPart};
 
 use crate::refused::Refused;
 use host_trait::FileId;
@@ -23,14 +23,23 @@ pub struct Look {
     pub length: u64,
 }
 
+/// How a file is opened.
+#[derive(Clone, Copy, Debug, PartialEq, Eq)]
+pub enum Access {
+    /// To read and write it.
+    Both,
+    /// To read it. A pipe that nobody writes to may wait for its other end.
+    Read,
+}
+
 /// The system's calls on one folder, on the files there, and on the standard streams.
 ///
 /// A system that tells, says by its state what it holds: what is left of the input, what the output holds, what each file holds
-/// and what a crash may leave of it, and which entries of the folder last. A call that isn't said to change the state leaves it
-/// as it was, and so does each that is interrupted.
+/// and what a crash may leave of it, which entries of the folder last, and which syncs were refused. A call that isn't said to
+/// change the state leaves it as it was, and so does each that is interrupted.
 ///
 /// A file is named by its name in the folder, and looked for in the folder that the handle is of, wherever that stands by now.
-/// No call waits for another process, but for the input and the output.
+/// Each path that is opened is the one folder's. No call waits for another process, but for the input and the output.
 pub trait SystemCalls {
     /// A handle of the folder.
     type Folder: Drop;
@@ -44,9 +53,13 @@ pub trait SystemCalls {
     /// What it holds.
     ghost state: { Self → System };
 
-    /// Opens the folder at this path, to read its entries. `Missing` says that nothing stands there.
+    /// Whether names are looked for in the folder of this handle.
+    ghost finds: { Self.Folder → Bool };
+
+    /// Opens the folder at this path, to read its entries. `Missing` says that nothing stands there, and so no file either.
     fn open_folder(&mut self, path: &str) -> Result<Self::Folder, Refused>
-        ensures told { IsTrue tells → state self.new ≡ state self.old };
+        ensures told { IsTrue tells → state self.new ≡ state self.old }
+        ensures missing { IfErr result (λ error. error ≡ Refused.Missing → IsTrue tells → HasNoBytes (state self.old)) };
 
     /// The number that the system gave to this handle.
     fn number(&self, folder: &Self::Folder) -> i32;
@@ -57,31 +70,23 @@ pub trait SystemCalls {
 
     /// Whether names are looked for in this folder at all.
     fn reaches(&mut self, folder: &Self::Folder) -> Result<bool, Refused>
-        ensures told { IsTrue tells → state self.new ≡ state self.old };
+        ensures told { IsTrue tells → state self.new ≡ state self.old }
+        ensures found { IfOk result (λ reached. IsTrue tells → IsTrue reached → IsTrue (finds folder.now)) };
 
-    /// Opens a file to read and write it. `Missing` says that there is none, which then has no bytes.
+    /// Opens a file. `Missing` says that there is none, which then has no bytes, or that names aren't looked for in the folder.
     fn open(
         &mut self,
         folder: &Self::Folder,
         file: FileId,
         name: &str,
+        access: Access,
     ) -> Result<Self::File, Refused>
         requires { name.now ≡ name_of file }
         ensures told { IsTrue tells → state self.new ≡ state self.old }
         ensures file { IfOk result (λ opened. Self.File.file opened ≡ file) }
-        ensures missing { IfErr result (λ error. error ≡ Refused.Missing → IsTrue tells → ((state self.old).world.disk file).seen ≡ []) };
-
-    /// Opens a file to read it. A pipe that nobody writes to may wait here.
-    fn open_to_read(
-        &mut self,
-        folder: &Self::Folder,
-        file: FileId,
-        name: &str,
-    ) -> Result<Self::File, Refused>
-        requires { name.now ≡ name_of file }
-        ensures told { IsTrue tells → state self.new ≡ state self.old }
-        ensures file { IfOk result (λ opened. Self.File.file opened ≡ file) }
-        ensures missing { IfErr result (λ error. error ≡ Refused.Missing → IsTrue tells → ((state self.old).world.disk file).seen ≡ []) };
+        ensures found { OnOk result (IsTrue tells → IsTrue (finds folder.now)) }
+        ensures missing { IfErr result (λ error. error ≡ Refused.Missing → IsTrue tells → IsTrue (finds folder.now)
+            → ((state self.old).world.disk file).seen ≡ []) };
 
     /// Makes a file that isn't there, and opens it to read and write it. Its entry may be lost in a crash until the folder is
     /// synced. Refused where something has that name.
@@ -92,7 +97,7 @@ pub trait SystemCalls {
         name: &str,
     ) -> Result<Self::File, Refused>
         requires { name.now ≡ name_of file }
-        ensures told { IsTrue tells → Makes file (state self.old) (state self.new) }
+        ensures told { IsTrue tells → MakesFile file (state self.old) (state self.new) }
         ensures file { IfOk result (λ opened. Self.File.file opened ≡ file) };
 
     /// What stands under a name.
@@ -124,8 +129,7 @@ pub trait SystemCalls {
 
     /// Writes some of these bytes, which belong at `at`: those from the place `from` on, of which the ones before have been
     /// written; and answers how many. Until a sync succeeds, a crash may leave any bytes in the whole write's range.
-    /// Where it is refused, but for an interruption, a read may give any bytes there too, unless the write never began. Nothing is
-    /// said of a write behind the file's end.
+    /// Where it is refused, but for an interruption, a read may give any bytes there too, unless the write never began.
     fn write_at(
         &mut self,
         opened: &Self::File,
@@ -135,25 +139,27 @@ pub trait SystemCalls {
     ) -> Result<usize, Refused>
         requires from { from ≤ length bytes.now }
         requires fits { at + length bytes.now < 2 ^ 63 }
+        requires place { IsTrue tells → MayGoOn from at (length bytes.now) ((state self.old).world.disk (Self.File.file opened.now)) }
         ensures bound { IfOk result (λ n. n ≤ length bytes.now - from) }
-        ensures ok { IfOk result (λ n. IsTrue tells → at ≤ length ((state self.old).world.disk (Self.File.file opened.now)).seen
+        ensures ok { IfOk result (λ n. IsTrue tells
             → WritesPart n from (Self.File.file opened.now) at bytes.now (state self.old) (state self.new)) }
-        ensures err { IfErr result (λ error. error ≢ Refused.Interrupted → IsTrue tells → at ≤ length ((state self.old).world.disk (Self.File.file opened.now)).seen
+        ensures err { IfErr result (λ error. error ≢ Refused.Interrupted → IsTrue tells
             → FailsPart from (Self.File.file opened.now) at (length bytes.now) (state self.old) (state self.new)) }
         ensures interrupted { IfErr result (λ error. error ≡ Refused.Interrupted → IsTrue tells → state self.new ≡ state self.old) };
 
-    /// Syncs the folder's entries: after Ok each file that is there is found after a crash. Once one was refused, a later Ok
-    /// says nothing.
+    /// Syncs the folder's entries: after Ok each file that is there is found after a crash. It isn't asked once one was refused:
+    /// a later Ok would say nothing.
     fn sync_folder(&mut self, folder: &Self::Folder) -> Result<(), Refused>
+        requires { IsTrue tells → (state self.old).has_lost ≡ false }
         ensures told { IsTrue tells → EntersAll (is_ok result) (state self.old) (state self.new) };
 
     /// Syncs a file's bytes and length. After Ok a crash leaves what a read gives; after a refusal what was pending is pending
-    /// still. Nothing is said of a file whose entry may be lost, nor of one of which a sync was refused before: the system may have
+    /// still. It isn't asked of a file whose entry may be lost, nor of one of which a sync was refused before: the system may have
     /// dropped what was pending then.
     fn sync_data(&mut self, opened: &Self::File) -> Result<(), Refused>
-        ensures told { IsTrue tells → IsTrue ((state self.old).is_entered (Self.File.file opened.now))
-            → (state self.old).is_doubtful (Self.File.file opened.now) ≡ false
-            → SyncsData (Self.File.file opened.now) (is_ok result) (state self.old) (state self.new) };
+        requires entered { IsTrue tells → IsTrue ((state self.old).is_entered (Self.File.file opened.now)) }
+        requires calm { IsTrue tells → (state self.old).is_doubtful (Self.File.file opened.now) ≡ false }
+        ensures told { IsTrue tells → SyncsData (Self.File.file opened.now) (is_ok result) (state self.old) (state self.new) };
 
     /// Moves the next input bytes into the front of `into` and answers how many. For a slice that isn't empty, 0 means the end.
     fn read_input(&mut self, into: &mut [u8]) -> Result<usize, Refused>
@@ -167,10 +173,14 @@ pub trait SystemCalls {
     fn write_output(&mut self, bytes: &[u8], from: usize) -> Result<usize, Refused>
         requires { from ≤ length bytes.now }
         ensures bound { IfOk result (λ n. n ≤ length bytes.now - from) }
-        ensures ok { IfOk result (λ n. IsTrue tells → PutsOut n from bytes.now (state self.old) (state self.new)) }
+        ensures ok { IfOk result (λ n. IsTrue tells → AppendsPart n from bytes.now (state self.old) (state self.new)) }
         ensures err { OnErr result (IsTrue tells → state self.new ≡ state self.old) };
 
     /// What a read gives is among what a crash may leave.
     ghost seen_may_stay: { (system : Self) (file : FileId) → IsTrue tells
         → MayLeave ((state system).world.disk file) ((state system).world.disk file).seen };
+
+    /// What a crash may leave under a file's name is what the disk model says, also where its entry doesn't last.
+    ghost found_may_stay: { (system : Self) (file : FileId) (bytes : List ℕ) → IsTrue tells → MayBeFound (state system) file bytes
+        → MayLeave ((state system).world.disk file) bytes };
 }

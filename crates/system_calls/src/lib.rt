@@ -1,14 +1,14 @@
 //! The calls that a silo asks of the operating system: on its folder and the files there, and on the standard streams.
 //!
 //! [`SystemCalls`] states what each call does, what a failure leaves, and what a crash leaves of what was done. [`Linux`] makes
-//! them by std, each by one call of std, and tells nothing: that Linux and the disk keep what is stated here is trusted, and
-//! nothing beside it of what the folder's host does.
+//! them by std, each by one call of std, and tells nothing, since std says nothing of what a file holds: that Linux and the disk
+//! keep what is stated here is trusted, and nothing beside it of what the folder's host does.
 #![tactic(auto)]
 
 mod calls;
 mod linux;
 mod refused;
 
-pub use calls::{Handle, Look, SystemCalls};
+pub use calls::{Access, Handle, Look, SystemCalls};
 pub use linux::{InFolder, Linux};
 pub use refused::Refused;

@@ -1,7 +1,7 @@
 // The system's calls by std.
 ghost use Rattle.std.specs.Prelude.{◌≡◌, IfOk};
 
-use crate::calls::{Handle, Look, SystemCalls};
+use crate::calls::{Access, Handle, Look, SystemCalls};
 use crate::refused::Refused;
 use arrayvec::ArrayString;
 use host_trait::FileId;
@@ -102,7 +102,11 @@ impl<'a, R: Read, W: Write> SystemCalls for Linux<'a, R, W> {
 
     ghost state = { λ linux. record { world = empty_world; is_entered = λ file. false; is_doubtful = λ file. false; has_lost = false } };
 
+    ghost finds = { λ folder. false };
+
     ghost seen_may_stay = { λ linux file told. untold told };
+
+    ghost found_may_stay = { λ linux file bytes told found. untold told };
 
     fn open_folder(&mut self, path: &str) -> Result<File, Refused> {
         match fs::open(self.rt, path) {
@@ -130,20 +134,15 @@ impl<'a, R: Read, W: Write> SystemCalls for Linux<'a, R, W> {
         }
     }
 
-    fn open(&mut self, folder: &File, file: FileId, name: &str) -> Result<InFolder, Refused> {
-        let mut how = OpenOptions::new();
-        how.read(true).write(true);
-        self.open_by(&how, folder, file, name)
-    }
-
-    fn open_to_read(
+    fn open(
         &mut self,
         folder: &File,
         file: FileId,
         name: &str,
+        access: Access,
     ) -> Result<InFolder, Refused> {
         let mut how = OpenOptions::new();
-        how.read(true);
+        how.read(true).write(access == Access::Both);
         self.open_by(&how, folder, file, name)
     }
 

@@ -4,5 +4,6 @@ use Rattle.host_files.proofs.claim.Claim.take.Given as goal
 abbrev pub invariant-loop : goal.invariant-loop
 invariant-loop g l = record {
   same : l.self.folder ≡ l.fn.self.folder;
+  missing : l.self.is_missing ≡ l.fn.self.is_missing;
   told : IsTrue g.S.SystemCalls.tells → g.S.SystemCalls.state l.system ≡ g.S.SystemCalls.state l.fn.system;
 }

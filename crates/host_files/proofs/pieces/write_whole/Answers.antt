@@ -1,0 +1,65 @@
+use Rattle.std.proofs.Common.{◌≡◌, ◌≢◌, ◌+◌, ◌<◌, ◌≤◌, ℕ, length, sym, subst, rules}
+use Rattle.system_calls.specs.System.{System}
+use Rattle.system_calls.specs.declared.refused.Refused.{Refused}
+use Rattle.host_files.proofs.Parts.{WroteSome, entries_on, write_more, write_fails, wrote_some, wrote_whole, overwrites, goes_to}
+use Rattle.host_files.proofs.pieces.write_whole.Goals as goal
+use Rattle.host_files.proofs.pieces.write_whole.Goals.{in-Ok+else-done-bytes+else-more-eq0, in-Err-Interrupted}
+
+pub returns-then-done-bytes-clause-told : goal.returns-then-done-bytes-clause-told
+returns-then-done-bytes-clause-told g c = λ told.
+    let all : length c.args.bytes.now ≤ c.loop.done + c.in-Ok.more = search rules in
+    wrote_whole c.loop.done c.in-Ok.more (g.S.File.Handle.file c.args.opened.now) c.args.at c.args.bytes.now
+    (g.S.SystemCalls.state c.args.system.now) (g.S.SystemCalls.state c.loop.system) (g.S.SystemCalls.state c.write_at.new.self)
+    c.loop.invariant.bound (c.requires.place told) (goes_to c.loop.done c.in-Ok.more (length c.args.bytes.now) c.loop.invariant.goes all) all
+    (c.loop.invariant.some told) (c.in-Ok.ensures.ok told)
+
+pub returns-then-done-bytes-clause-ok : goal.returns-then-done-bytes-clause-ok
+returns-then-done-bytes-clause-ok g c = λ told.
+    let all : length c.args.bytes.now ≤ c.loop.done + c.in-Ok.more = search rules in
+    overwrites c.loop.done c.in-Ok.more (g.S.File.Handle.file c.args.opened.now) c.args.at c.args.bytes.now
+    (g.S.SystemCalls.state c.args.system.now) (g.S.SystemCalls.state c.loop.system) (g.S.SystemCalls.state c.write_at.new.self)
+    c.loop.invariant.bound (c.requires.place told) (goes_to c.loop.done c.in-Ok.more (length c.args.bytes.now) c.loop.invariant.goes all) all
+    (c.loop.invariant.some told) (c.in-Ok.ensures.ok told)
+
+pub returns-then-more-eq0-clause-told : goal.returns-then-more-eq0-clause-told
+returns-then-more-eq0-clause-told g c = λ told.
+    let none : c.in-Ok.more ≡ 0 = search rules in
+    let rest : 0 < length c.args.bytes.now = search rules in
+    let file = g.S.File.Handle.file c.args.opened.now in
+    let old = g.S.SystemCalls.state c.args.system.now in
+    wrote_some c.loop.done file c.args.at c.args.bytes.now old (g.S.SystemCalls.state c.write_at.new.self) (c.requires.place told)
+    (subst (λ (s : System). WroteSome c.loop.done file c.args.at c.args.bytes.now old s) (sym ((c.in-Ok.ensures.ok told).none none rest)) (c.loop.invariant.some told))
+
+pub returns-in-Err : goal.returns-in-Err
+returns-in-Err g c =
+    let apart : c.in-Err.error ≢ Refused.Interrupted = search rules in
+    let file = g.S.File.Handle.file c.args.opened.now in
+    let old = g.S.SystemCalls.state c.args.system.now in
+    let now = g.S.SystemCalls.state c.loop.system in
+    let new = g.S.SystemCalls.state c.write_at.new.self in
+    record {
+      told = λ told. write_fails c.loop.done file c.args.at c.args.bytes.now old now new (c.requires.place told) (c.loop.invariant.some told) (c.in-Err.ensures.err apart told);
+      ok = tt;
+      entries = λ told. entries_on old now new (c.loop.invariant.some told).beside.entries (c.in-Err.ensures.err apart told).beside.entries;
+    }
+
+pub loop-preserved : goal.loop-preserved
+loop-preserved g c = elim c.match-write_at.branch [
+  | in-Ok+else-done-bytes+else-more-eq0 w ↦
+      let some : 0 < w.in-Ok.more = search rules in
+      record {
+        bound = search rules;
+        goes = search rules;
+        some = λ told.
+            subst (λ (d : ℕ). WroteSome d (g.S.File.Handle.file c.args.opened.now) c.args.at c.args.bytes.now (g.S.SystemCalls.state c.args.system.now) (g.S.SystemCalls.state c.write_at.new.self)) (sym w.done-is)
+            (write_more c.loop.done w.in-Ok.more (g.S.File.Handle.file c.args.opened.now) c.args.at c.args.bytes.now
+            (g.S.SystemCalls.state c.args.system.now) (g.S.SystemCalls.state c.loop.system) (g.S.SystemCalls.state c.write_at.new.self)
+            c.loop.invariant.bound (c.requires.place told) some (c.loop.invariant.some told) (w.in-Ok.ensures.ok told));
+      }
+  | in-Err-Interrupted w ↦ search rules
+]
+
+pub returns-clause-told : goal.returns-clause-told
+returns-clause-told g c = λ told.
+    wrote_some c.loop.done (g.S.File.Handle.file c.args.opened.now) c.args.at c.args.bytes.now
+    (g.S.SystemCalls.state c.args.system.now) (g.S.SystemCalls.state c.loop.system) (c.requires.place told) (c.loop.invariant.some told)
