@@ -1,7 +1,7 @@
 #!/usr/bin/env python3
 """The wrong bodies: each edit in a crate's must-fail/ can be made, its old text standing once in its file, and docs/WRONG-BODIES.md tells how many
 there are, of how many crates, beside its own rows; each row names a function of its crate that stands there, with the clause as one reads it,
-and a crate with rows has no edits.  checks/edits.py --check. With --write in its place it puts the counts right."""
+where `..` stands for what is left out.  checks/edits.py --check. With --write in its place it puts the counts right."""
 import glob
 import os
 import re
@@ -10,7 +10,7 @@ import sys
 from harness import TOP, Rows
 
 DOCUMENT = os.path.join(TOP, "docs", "WRONG-BODIES.md")
-COUNTS = (r"of (\d+) crates: (\d+) edits", r"(\d+) in the folders `must-fail` of (\d+) crates")
+COUNTS = (r"of (\d+) crates: (\d+) of them", r"(\d+) in the folders `must-fail` of (\d+) crates")
 
 
 def read(path):
@@ -78,14 +78,14 @@ def main(words):
     for pattern, numbers in zip(COUNTS, wanted):
         rows.row(f"the counts of {pattern}", [tuple(map(int, it)) for it in re.findall(pattern, text)], [numbers])
     for crate, paths in found.items():
-        rows.row(f"{crate} has edits, and no rows", [row for row in told if row[0] == crate], [])
         for path in paths:
             rows.row(os.path.relpath(path, TOP), lacks(crate, path), None)
     code = {crate: sources(crate) for crate, _, _ in told}
     for crate, function, clause in told:
         name, clause = function.split("::")[-1], squeezed(clause.replace("\\|", "|"))
         rows.row(f"{crate} has {function}", bool(re.search(rf"fn{name}[<(]", code[crate])), True)
-        rows.row(f"{crate} says of {function}: {clause}", clause in code[crate], True)
+        stands = re.search(".*?".join(map(re.escape, clause.split(".."))), code[crate])
+        rows.row(f"{crate} says of {function}: {clause}", bool(stands), True)
     rows.end()
     return 0
 

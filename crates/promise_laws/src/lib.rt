@@ -7,7 +7,7 @@
 //! fault is counted, or one line at a time is in flight; `gotten` of what units got, `proper` of entries as lines, `batches`
 //! of logs that end where a batch does, and `loads` of loads, beside runs. `Obligations` is what a run has to show, and `shown`
 //! says that it is enough for the whole promise; `answered` parts it in two, and `closing` has what a run's loop carries, from
-//! which it follows. `Journals` is what was settled and what each moment keeps of it, and `steps` says how a journal goes on call
+//! which it follows. `Journals` of `promise_spec` is what was settled and what each moment keeps of it, and `steps` says how a journal goes on call
 //! by call, and that the crash clause follows. `folders` says that each call leaves a sound folder, at each moment too
 //! (`SoundMoments`).
 #![tactic(auto)]

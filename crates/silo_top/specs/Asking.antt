@@ -1,8 +1,9 @@
 -- What the words ask for.
-use Rattle.std.specs.Prelude.{◌<◌, ◌≤◌, ℕ, List, [], Option, None, Some, unwrap_or, ⊤}
+use Rattle.std.specs.Prelude.{◌≡◌, false, ◌<◌, ◌≤◌, ℕ, List, [], Option, None, Some, unwrap_or, ⊤}
+use Rattle.promise_spec.specs.Calls.{Understands}
 use Rattle.promise_spec.specs.Words.{Manner, Command, Init as MakesOne, Run as CarriesLines, Show as TellsStates, History as TellsRecords, Audit as PlaysAgain, Load as CarriesLoad, Check as ChecksCommits}
 use Rattle.command_words.specs.Options.{Chosen}
-use Rattle.silo_top.specs.Answering.{turns_manner, workers_manner}
+use Rattle.silo_top.specs.Answering.{turns_manner, workers_manner, manner_for}
 use Rattle.silo_top.specs.declared.asking.Carriage.{Carriage}
 use Rattle.silo_top.specs.declared.asking.Carriage.TheVariants.{Turns, Workers}
 use Rattle.silo_top.specs.declared.asking.Asked.{Asked}
@@ -53,6 +54,10 @@ MayBeCarried (Load transfers seed how) = IsCarriage how × (transfers ≤ 100000
 MayBeCarried (Check starts seed) = ⊤
 
 -- ---- what is left to workers
+
+-- no command that the words say carries lines by workers
+abbrev pub AskForNoWorkers : List (List ℕ) → Type 0
+AskForNoWorkers words = (c : Command) → Understands words c → (manner_for c).threaded ≡ false
 
 -- the command
 abbrev pub left_command : ByWorkers → Command

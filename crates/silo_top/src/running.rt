@@ -1,12 +1,12 @@
-ghost use Rattle.std.specs.Prelude.{◌≡◌, IsTrue, IfOk, IfErr, OnErr};
+ghost use Rattle.std.specs.Prelude.{◌≡◌, ◌⊎◌, IsTrue, IfOk, IfErr, OnErr};
 ghost use Rattle.host_trait.specs.Files.{StaysReady};
 ghost use Rattle.promise_spec.specs.Words as command;
 ghost use Rattle.promise_spec.specs.Commands.{MakesSilo};
-ghost use Rattle.promise_spec.specs.Endings.{HasFailedAs, BadUse};
+ghost use Rattle.promise_spec.specs.Endings.{HasFailedAs, BadUse, Memory};
 ghost use Rattle.promise_spec.specs.Calls.{Understands, Serves, AnswersAs};
 ghost use Rattle.command_words.specs.CutParts.{texts_of};
 ghost use Rattle.silo_top.specs.Answering.{shown};
-ghost use Rattle.silo_top.specs.Asking.{left_command, MayBeLeft};
+ghost use Rattle.silo_top.specs.Asking.{AskForNoWorkers, left_command, MayBeLeft};
 ghost use Rattle.silo_top.specs.Statuses.{status_ending};
 
 use crate::asking::{Asked, Carriage, read_asked};
@@ -56,8 +56,9 @@ pub enum ByWorkers {
     },
 }
 
-/// Does all that the program does on one thread, and answers how it ended. Words that ask for workers aren't obeyed: the error says
-/// what they ask for, and nothing was done. [`run_silo`] says what each command does.
+/// Does all that the program does on one thread, and answers how it ended. Words that ask for workers aren't obeyed: the error is
+/// what they ask for, and nothing was done. By how many workers is no part of a manner, so no clause ties that to the words.
+/// [`run_silo`] says what each command does.
 ///
 /// It starts no thread and waits for none, as its type says: it takes neither `Threads` nor `Wait`. So it returns, where the calls
 /// of its host and its gate do.
@@ -72,6 +73,9 @@ pub fn run_alone<H: Host, G: Gate>(
 
     // What the counts of faults say of the answer, over every host.
     ensures answers { IfOk result (λ status. AnswersAs (texts_of words.now) (status_ending status) (H.faults host.old) (H.faults host.new)) }
+
+    // It obeys no words that ask for workers.
+    ensures alone { IfOk result (λ answer. (status_ending answer ≡ Memory) ⊎ AskForNoWorkers (texts_of words.now)) }
 
     // Only what the words leave to workers isn't done, and of that nothing.
     ensures left { IfErr result (λ left. Understands (texts_of words.now) (left_command left)) }
@@ -136,7 +140,7 @@ pub fn run_alone<H: Host, G: Gate>(
 /// (`AnswersAs`).
 ///
 /// It is [`run_alone`], and adds the workers. By them it may wait (`Wait`): each clause holds of a call that returns, and none says that
-/// it does. A call whose words ask for no workers returns.
+/// it does. A call whose words ask for no workers returns, where the calls of its host and its gate do.
 pub fn run_silo<Rt: Threads + Wait + Sync, H: Host, G: Gate + Sync>(
     rt: &Rt,
     alloc: Global,

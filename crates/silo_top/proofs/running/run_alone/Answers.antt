@@ -1,12 +1,13 @@
-use Rattle.std.proofs.Common.{◌≡◌, ◌∙◌, ℕ, List, Result, Err, ap, subst}
-use Rattle.promise_spec.specs.Words.{Init, Run, Show, History, Audit, Load, Check}
-use Rattle.promise_spec.specs.Calls.{Understands}
+use Rattle.std.proofs.Common.{◌≡◌, ◌∙◌, inl, inr, ℕ, List, Result, Err, false, refl, ap, absurd, subst}
+use Rattle.promise_spec.specs.Words.{Command, Init, Run, Show, History, Audit, Load, Check}
+use Rattle.promise_spec.specs.Calls.{any_option, Understands}
+use Rattle.promise_spec.proofs.Words.{one_command}
 use Rattle.command_words.specs.CutParts.{texts_of}
 use Rattle.command_words.specs.declared.faults.WordsFault.{WordsFault}
 use Rattle.silo_top.specs.declared.asking.Asked.{Asked}
 use Rattle.silo_top.specs.declared.asking.Carriage.{Carriage}
-use Rattle.silo_top.specs.Answering.{turns_manner, shown}
-use Rattle.silo_top.specs.Asking.{asked_command, MayBeCarried}
+use Rattle.silo_top.specs.Answering.{turns_manner, manner_for, shown}
+use Rattle.silo_top.specs.Asking.{asked_command, AskForNoWorkers, MayBeCarried}
 use Rattle.silo_top.specs.Statuses.{status_ending}
 use Rattle.silo_top.proofs.Calling.{obeyed_serves, exact_answers, run_answers, refused_serves, refused_answers, starved_serves, starved_answers}
 use Rattle.silo_top.proofs.running.run_alone.Goals as goal
@@ -18,6 +19,10 @@ unread e = Err e
 -- what is understood is this command
 understood : (texts : List (List ℕ)) (a b : Asked) → a ≡ b → Understands texts (asked_command a) → Understands texts (asked_command b)
 understood texts a b same u = subst (λ (x : Asked). Understands texts (asked_command x)) same u
+
+-- words that say a command without workers say no other
+without : (texts : List (List ℕ)) (d : Command) → Understands texts d → (manner_for d).threaded ≡ false → AskForNoWorkers texts
+without texts d says alone c u = subst (λ (x : Command). (manner_for x).threaded ≡ false) (one_command any_option texts d c says u) alone
 
 -- a run or a load that is carried so
 run_how : (a : Asked) (how so : Carriage) → a ≡ Asked.Run how → how ≡ so → a ≡ Asked.Run so
@@ -107,3 +112,27 @@ returns-in-Err-Memory-clause-serves g c = λ told. starved_serves (texts_of c.ar
 
 pub returns-in-Err-Memory-clause-answers : goal.returns-in-Err-Memory-clause-answers
 returns-in-Err-Memory-clause-answers g c = starved_answers (texts_of c.args.words.now) (g.H.Host.faults c.args.host.now)
+
+pub returns-in-Ok-Init-clause-alone : goal.returns-in-Ok-Init-clause-alone
+returns-in-Ok-Init-clause-alone g c = inr (without (texts_of c.args.words.now) Init (understood (texts_of c.args.words.now) c.in-Ok-Init.field-0 Asked.Init c.in-Ok-Init.field-0-is c.in-Ok-Init.ensures.asked) refl)
+
+pub returns-in-Ok-Show-clause-alone : goal.returns-in-Ok-Show-clause-alone
+returns-in-Ok-Show-clause-alone g c = inr (without (texts_of c.args.words.now) Show (understood (texts_of c.args.words.now) c.in-Ok-Show.field-0 Asked.Show c.in-Ok-Show.field-0-is c.in-Ok-Show.ensures.asked) refl)
+
+pub returns-in-Ok-History-clause-alone : goal.returns-in-Ok-History-clause-alone
+returns-in-Ok-History-clause-alone g c = inr (without (texts_of c.args.words.now) History (understood (texts_of c.args.words.now) c.in-Ok-History.field-0 Asked.History c.in-Ok-History.field-0-is c.in-Ok-History.ensures.asked) refl)
+
+pub returns-in-Ok-Audit-clause-alone : goal.returns-in-Ok-Audit-clause-alone
+returns-in-Ok-Audit-clause-alone g c = inr (without (texts_of c.args.words.now) Audit (understood (texts_of c.args.words.now) c.in-Ok-Audit.field-0 Asked.Audit c.in-Ok-Audit.field-0-is c.in-Ok-Audit.ensures.asked) refl)
+
+pub returns-in-Ok-Check-clause-alone : goal.returns-in-Ok-Check-clause-alone
+returns-in-Ok-Check-clause-alone g c = inr (without (texts_of c.args.words.now) (Check c.in-Ok-Check.starts c.in-Ok-Check.seed) (understood (texts_of c.args.words.now) c.in-Ok-Check.field-0 (Asked.Check c.in-Ok-Check.starts c.in-Ok-Check.seed) c.in-Ok-Check.field-0-is c.in-Ok-Check.ensures.asked) refl)
+
+pub returns-in-Ok-Run-Turns-clause-alone : goal.returns-in-Ok-Run-Turns-clause-alone
+returns-in-Ok-Run-Turns-clause-alone g c = inr (without (texts_of c.args.words.now) (Run (turns_manner c.in-Ok-Run-Turns.width c.in-Ok-Run-Turns.picks)) (understood (texts_of c.args.words.now) c.in-Ok-Run-Turns.field-0 (Asked.Run (Carriage.Turns c.in-Ok-Run-Turns.width c.in-Ok-Run-Turns.picks)) (run_how c.in-Ok-Run-Turns.field-0 c.in-Ok-Run-Turns.field-0-0 (Carriage.Turns c.in-Ok-Run-Turns.width c.in-Ok-Run-Turns.picks) c.in-Ok-Run-Turns.field-0-is c.in-Ok-Run-Turns.field-0-0-is) c.in-Ok-Run-Turns.ensures.asked) refl)
+
+pub returns-in-Ok-Load-default-default-Turns-clause-alone : goal.returns-in-Ok-Load-default-default-Turns-clause-alone
+returns-in-Ok-Load-default-default-Turns-clause-alone g c = inr (without (texts_of c.args.words.now) (Load c.in-Ok-Load-default-default-Turns.transfers c.in-Ok-Load-default-default-Turns.seed (turns_manner c.in-Ok-Load-default-default-Turns.width c.in-Ok-Load-default-default-Turns.picks)) (understood (texts_of c.args.words.now) c.in-Ok-Load-default-default-Turns.field-0 (Asked.Load c.in-Ok-Load-default-default-Turns.transfers c.in-Ok-Load-default-default-Turns.seed (Carriage.Turns c.in-Ok-Load-default-default-Turns.width c.in-Ok-Load-default-default-Turns.picks)) (load_how c.in-Ok-Load-default-default-Turns.field-0 c.in-Ok-Load-default-default-Turns.transfers c.in-Ok-Load-default-default-Turns.seed c.in-Ok-Load-default-default-Turns.field-0-2 (Carriage.Turns c.in-Ok-Load-default-default-Turns.width c.in-Ok-Load-default-default-Turns.picks) c.in-Ok-Load-default-default-Turns.field-0-is c.in-Ok-Load-default-default-Turns.field-0-2-is) c.in-Ok-Load-default-default-Turns.ensures.asked) refl)
+
+pub returns-in-Err-BadUse-clause-alone : goal.returns-in-Err-BadUse-clause-alone
+returns-in-Err-BadUse-clause-alone g c = inr (λ d u. absurd (c.in-Err-BadUse.ensures.bad_use (ap unread c.in-Err-BadUse.field-0-is) d u))
