@@ -26,8 +26,8 @@ use Rattle.txn_agent.specs.declared.agent.Advanced.{Advanced}
 use Rattle.txn_agent.specs.declared.agent.Advanced.TheVariants as advanced
 use Rattle.unit_carrier.specs.Carrying.{AreCarried, StepsOn, units_carried, went_by, with_child}
 use Rattle.unit_carrier.proofs.Origins.{origin-event}
-use Rattle.interleaver.specs.Flights.{is_flown, is_open, lines_carried, next_line_by}
-use Rattle.interleaver.specs.Looking.{IsLooked, IsLookedAt, IsNow, looked_after}
+use Rattle.interleaver.specs.Flights.{is_flown, is_open_line, lines_carried, next_line_by}
+use Rattle.interleaver.specs.Looking.{IsLooked, IsLastLook, IsNow, looked_after}
 use Rattle.interleaver.specs.UnderWay.{SettlesBy}
 use Rattle.interleaver.proofs.Alone.{own-same, own-told}
 use Rattle.interleaver.proofs.Flying.{told-agent}
@@ -71,10 +71,10 @@ sound-after r [] s all = s
 sound-after r (x ∷ seen) s all = sound-after (with_event r x.event) seen (sound-event r x.event (all x (inl refl)) s) (λ y i. all y (inr i))
 
 -- who is open is looked at still
-open-flies : (w : CoreState) (a : Agent) → is_open w a ≡ true → is_flown w a ≡ true
+open-flies : (w : CoreState) (a : Agent) → is_open_line w a ≡ true → is_flown w a ≡ true
 open-flies w a q = by (not (has_freed_all a.doing))
   where
-    by : (b : Bool) → (b || is_open w a) ≡ true
+    by : (b : Bool) → (b || is_open_line w a) ≡ true
     by true = refl
     by false = q
 
@@ -86,14 +86,14 @@ module _ (types : ProgramTree) (r : Run) (agents : List Agent) (c : AreCarried t
   came = subst (λ (x : Run). AllByRecursion (λ (a : Agent). (ends x).units.origin a.carried.unit ≡ a.carried.origin) agents) (own-run r) c.came
 
   -- all that are open are looked at still
-  pub open-flown : AllByRecursion (λ (a : Agent). is_open (ends r) a ≡ true) agents → agents ≡ filter (is_flown (ends r)) agents
-  open-flown all = sym (all-pass (is_flown (ends r)) agents (member-each (λ (a : Agent). is_open (ends r) a ≡ true) (λ (a : Agent). is_flown (ends r) a ≡ true) agents (λ a m q. open-flies (ends r) a q) all))
+  pub open-flown : AllByRecursion (λ (a : Agent). is_open_line (ends r) a ≡ true) agents → agents ≡ filter (is_flown (ends r)) agents
+  open-flown all = sym (all-pass (is_flown (ends r)) agents (member-each (λ (a : Agent). is_open_line (ends r) a ≡ true) (λ (a : Agent). is_flown (ends r) a ≡ true) agents (λ a m q. open-flies (ends r) a q) all))
 
   -- and so it is known
-  pub open-looked : (ends r).manager.doubt ≡ None → AllByRecursion (λ (a : Agent). is_open (ends r) a ≡ true) agents → IsLookedAt (length (ends r).manager.settled) r (units_carried agents)
+  pub open-looked : (ends r).manager.doubt ≡ None → AllByRecursion (λ (a : Agent). is_open_line (ends r) a ≡ true) agents → IsLastLook (length (ends r).manager.settled) r (units_carried agents)
   open-looked calm all = record {
     lines = of-units (λ (u : UnitNo). is_line ((ends r).units.origin u) ≡ true) agents
-        (both-each (λ (a : Agent). (ends r).units.origin a.carried.unit ≡ a.carried.origin) (λ (a : Agent). is_open (ends r) a ≡ true) (λ (a : Agent). is_line ((ends r).units.origin a.carried.unit) ≡ true) agents
+        (both-each (λ (a : Agent). (ends r).units.origin a.carried.unit ≡ a.carried.origin) (λ (a : Agent). is_open_line (ends r) a ≡ true) (λ (a : Agent). is_line ((ends r).units.origin a.carried.unit) ≡ true) agents
         (λ a from q. ap is_line from ∙ (and_parts (is_line a.carried.origin) (not (is_decided (ends r) a.carried.unit)) q).0) came all);
     fewer = omega arith;
     out = λ e. of-units (λ (u : UnitNo). is_settled (ends r) u ≡ false) agents (outs agents c.known came all);
@@ -104,15 +104,15 @@ module _ (types : ProgramTree) (r : Run) (agents : List Agent) (c : AreCarried t
       not-false false q = refl
 
       outs : (xs : List Agent) → AllByRecursion (Knows types (own_sight r)) xs → AllByRecursion (λ (a : Agent). (ends r).units.origin a.carried.unit ≡ a.carried.origin) xs
-          → AllByRecursion (λ (a : Agent). is_open (ends r) a ≡ true) xs → AllByRecursion (λ (a : Agent). is_settled (ends r) a.carried.unit ≡ false) xs
+          → AllByRecursion (λ (a : Agent). is_open_line (ends r) a ≡ true) xs → AllByRecursion (λ (a : Agent). is_settled (ends r) a.carried.unit ≡ false) xs
       outs [] k f o = tt
       outs (a ∷ xs) k f o =
           let both = and_parts (is_line a.carried.origin) (not (is_decided (ends r) a.carried.unit)) o.0 in
           (sym (told-agent types r legal calm a k.0 f.0 both.0) ∙ not-false (is_decided (ends r) a.carried.unit) both.1, outs xs k.1 f.1 o.1)
 
-  pub now-looked : (now : Option ℕ) → IsNow now r → AllByRecursion (λ (a : Agent). is_open (ends r) a ≡ true) agents → IsLooked now r (units_carried agents)
+  pub now-looked : (now : Option ℕ) → IsNow now r → AllByRecursion (λ (a : Agent). is_open_line (ends r) a ≡ true) agents → IsLooked now r (units_carried agents)
   now-looked None n all = tt
-  now-looked (Some settled) n all = subst (λ (k : ℕ). IsLookedAt k r (units_carried agents)) (sym n.0) (open-looked n.1 all)
+  now-looked (Some settled) n all = subst (λ (k : ℕ). IsLastLook k r (units_carried agents)) (sym n.0) (open-looked n.1 all)
 
   -- the agents are lines'
   lines-of : AllByRecursion (λ (u : UnitNo). is_line ((ends r).units.origin u) ≡ true) (units_carried agents) → AllByRecursion (λ (a : Agent). is_line a.carried.origin ≡ true) agents
@@ -121,17 +121,17 @@ module _ (types : ProgramTree) (r : Run) (agents : List Agent) (c : AreCarried t
       (λ a from q. sym (ap is_line from) ∙ q) came (by-units (λ (u : UnitNo). is_line ((ends r).units.origin u) ≡ true) agents all)
 
   -- as many lines are carried as units
-  pub looked-many : (settled : ℕ) → IsLookedAt settled r (units_carried agents) → length agents ≡ lines_carried agents
+  pub looked-many : (settled : ℕ) → IsLastLook settled r (units_carried agents) → length agents ≡ lines_carried agents
   looked-many settled looked =
       sym (ap length (all-pass (λ (a : Agent). is_line a.carried.origin) agents (lines-of looked.lines))) ∙ length-filter (λ (a : Agent). is_line a.carried.origin) agents
 
   -- where nothing is settled since, all are looked at still
-  pub looked-flown : (settled : ℕ) → IsLookedAt settled r (units_carried agents) → settled ≡ length (ends r).manager.settled → (ends r).manager.doubt ≡ None → agents ≡ filter (is_flown (ends r)) agents
+  pub looked-flown : (settled : ℕ) → IsLastLook settled r (units_carried agents) → settled ≡ length (ends r).manager.settled → (ends r).manager.doubt ≡ None → agents ≡ filter (is_flown (ends r)) agents
   looked-flown settled looked same calm = open-flown (opens agents c.known came (lines-of looked.lines) (by-units (λ (u : UnitNo). is_settled (ends r) u ≡ false) agents (looked.out (sym same))))
     where
       opens : (xs : List Agent) → AllByRecursion (Knows types (own_sight r)) xs → AllByRecursion (λ (a : Agent). (ends r).units.origin a.carried.unit ≡ a.carried.origin) xs
           → AllByRecursion (λ (a : Agent). is_line a.carried.origin ≡ true) xs → AllByRecursion (λ (a : Agent). is_settled (ends r) a.carried.unit ≡ false) xs
-          → AllByRecursion (λ (a : Agent). is_open (ends r) a ≡ true) xs
+          → AllByRecursion (λ (a : Agent). is_open_line (ends r) a ≡ true) xs
       opens [] k f l o = tt
       opens (a ∷ xs) k f l o =
           (ap (λ (b : Bool). b && not (is_decided (ends r) a.carried.unit)) l.0 ∙ ap not (told-agent types r legal calm a k.0 f.0 l.0 ∙ o.0), opens xs k.1 f.1 l.1 o.1)

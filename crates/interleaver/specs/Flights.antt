@@ -20,8 +20,8 @@ abbrev pub is_flown : CoreState → Agent → Bool
 is_flown w a = not (has_freed_all a.doing) || (is_line a.carried.origin && not (is_decided w a.carried.unit))
 
 -- the unit is a line's that isn't decided
-abbrev pub is_open : CoreState → Agent → Bool
-is_open w a = is_line a.carried.origin && not (is_decided w a.carried.unit)
+abbrev pub is_open_line : CoreState → Agent → Bool
+is_open_line w a = is_line a.carried.origin && not (is_decided w a.carried.unit)
 
 -- the units that are to be looked at, or all where something is in doubt
 abbrev pub flown_unless : Bool → CoreState → List Agent → List Agent

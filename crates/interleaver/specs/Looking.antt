@@ -8,7 +8,7 @@ use Rattle.unit_carrier.specs.declared.agents.Went.{Went}
 use Rattle.unit_carrier.specs.declared.agents.Went.TheVariants.{Moved, Granted, Began, Stayed}
 
 -- Each of the units is a line's. No fewer than so many entries are settled; where no more are, none of them is of these units.
-pub record IsLookedAt (settled : ℕ) (r : Run) (units : List UnitNo) : Type 0 where
+pub record IsLastLook (settled : ℕ) (r : Run) (units : List UnitNo) : Type 0 where
   pub lines : AllByRecursion (λ (u : UnitNo). is_line ((ends r).units.origin u) ≡ true) units
   pub fewer : settled ≤ length (ends r).manager.settled
   pub out : length (ends r).manager.settled ≡ settled → AllByRecursion (λ (u : UnitNo). is_settled (ends r) u ≡ false) units
@@ -16,11 +16,11 @@ pub record IsLookedAt (settled : ℕ) (r : Run) (units : List UnitNo) : Type 0 w
 -- that is so, where a look is kept
 abbrev pub IsLooked : Option ℕ → Run → List UnitNo → Type 0
 IsLooked None r units = ⊤
-IsLooked (Some settled) r units = IsLookedAt settled r units
+IsLooked (Some settled) r units = IsLastLook settled r units
 
 -- nothing is settled since, and nothing is in doubt
-abbrev pub IsStill : Option ℕ → Run → Type 0
-IsStill looked r = (looked ≡ Some (length (ends r).manager.settled)) × ((ends r).manager.doubt ≡ None)
+abbrev pub NothingSince : Option ℕ → Run → Type 0
+NothingSince looked r = (looked ≡ Some (length (ends r).manager.settled)) × ((ends r).manager.doubt ≡ None)
 
 -- so many entries are settled, and nothing is in doubt; or nothing is said
 abbrev pub IsNow : Option ℕ → Run → Type 0

@@ -7,8 +7,8 @@ ghost use Rattle.promise_spec.specs.TurnRule.{is_line};
 ghost use Rattle.txn_agent.specs.declared.agent.Agent.{Agent as AnAgent};
 ghost use Rattle.script_tree.specs.Programs.{ProgramTree};
 ghost use Rattle.unit_carrier.specs.Carrying.{AreCarried, units_carried};
-ghost use Rattle.interleaver.specs.Flights.{flown_unless, is_flown, is_open};
-ghost use Rattle.interleaver.specs.Looking.{IsLooked, IsNow, IsStill};
+ghost use Rattle.interleaver.specs.Flights.{flown_unless, is_flown, is_open_line};
+ghost use Rattle.interleaver.specs.Looking.{IsLooked, IsNow, NothingSince};
 
 use history_core::Core;
 use settle_loop::Settler;
@@ -47,22 +47,22 @@ fn drop_settled(agents: &mut Agents, core: &Core)
 }
 
 /// Whether the unit is a line's that isn't decided.
-fn is_open(core: &Core, agent: &Agent) -> bool
-    ensures { result ≡ is_open (ends (run_of core.now)) agent.now }
+fn is_open_line(core: &Core, agent: &Agent) -> bool
+    ensures { result ≡ is_open_line (ends (run_of core.now)) agent.now }
 {
     agent.is_line() && !core.is_decided(agent.unit())
 }
 
 /// Whether each of the units is a line's that isn't decided.
 fn are_open(agents: &Agents, core: &Core) -> bool
-    ensures { result ≡ list_all (is_open (ends (run_of core.now))) agents.now.list.items }
+    ensures { result ≡ list_all (is_open_line (ends (run_of core.now))) agents.now.list.items }
 {
-    agents.list.iter().all(|agent| is_open(core, agent))
+    agents.list.iter().all(|agent| is_open_line(core, agent))
 }
 
 /// Whether so many entries are settled, and nothing is in doubt.
 fn is_still(looked: Option<usize>, core: &Core) -> bool
-    ensures { result ≡ true → IsStill looked (run_of core.now) }
+    ensures { result ≡ true → NothingSince looked (run_of core.now) }
 {
     match looked {
         None => false,

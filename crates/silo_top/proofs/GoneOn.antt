@@ -18,7 +18,7 @@ use Rattle.run_books.specs.declared.faults.RunFault.{RunFault}
 use Rattle.promise_spec.specs.Words.{Manner}
 use Rattle.silo_opening.specs.declared.open.Opened.{Opened}
 use Rattle.silo_top.specs.Carrying.{CarriedLines}
-use Rattle.silo_top.specs.GoingOn.{CanCarry, WentOn}
+use Rattle.silo_top.specs.GoingOn.{CanCarry, WasCarried}
 use Rattle.silo_top.specs.Starting.{IsStartOf}
 use Rattle.silo_top.specs.declared.starting.Started.{Started}
 use Rattle.silo_top.proofs.Beginning.{starts_legal, starts_unloaded}
@@ -38,7 +38,7 @@ can_carry tells x s now start above bounds fits =
 
 -- what was carried, of the program that was opened
 pub of_opened : (tells : Bool) (x : Opened) (s : Started) (lines_by : ProgramTree → List Line) (counts : Channel → ℕ) (now : World) (m : Manner) (settler' : Settler) (after : Channel → ℕ) (new : World) (result : Result Core RunFault) → IsStartOf x s
-    → WentOn tells s (lines_by (program_tree s.checked)) counts now m settler' after new result
+    → WasCarried tells s (lines_by (program_tree s.checked)) counts now m settler' after new result
     → CarriedLines tells m (program_tree x.checked) (lines_by (program_tree x.checked)) (run_of s.core) s.settler settler' counts after now new result
 of_opened tells x s lines_by counts now m settler' after new result start went =
     subst (λ (k : ProgramTree). CarriedLines tells m k (lines_by k) (run_of s.core) s.settler settler' counts after now new result) (ap program_tree start.checked) went.carried

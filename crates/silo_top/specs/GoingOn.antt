@@ -36,7 +36,7 @@ pub record CanCarry (tells : Bool) (s : Started) (now : World) : Type 0 where
   pub fits : IsTrue tells → FitsDisk s.settler.writer now.disk
 
 -- they were, in this manner, and ended so
-pub record WentOn (tells : Bool) (s : Started) (lines : List Line) (counts : Channel → ℕ) (now : World) (m : Manner) (settler' : Settler) (counts' : Channel → ℕ) (now' : World) (result : Result Core RunFault) : Type 0 where
+pub record WasCarried (tells : Bool) (s : Started) (lines : List Line) (counts : Channel → ℕ) (now : World) (m : Manner) (settler' : Settler) (counts' : Channel → ℕ) (now' : World) (result : Result Core RunFault) : Type 0 where
   pub wide : 0 < m.width
   pub carried : CarriedLines tells m (program_tree s.checked) lines (run_of s.core) s.settler settler' counts counts' now now' result
 
@@ -50,14 +50,14 @@ lines_over s input = input_lines (program_tree s.checked) input
 abbrev pub KeepsOn : Bool → Started → List ℕ → (Channel → ℕ) → World → (Channel → ℕ) → World → Type 0
 KeepsOn tells s input before old counts now =
     (m : Manner) (settler' : Settler) (after : Channel → ℕ) (new : World) (result : Result Core RunFault) (status : Status)
-    → WentOn tells s (lines_over s input) counts now m settler' after new result → ReadsMayStay new → length input ≤ input_limit → status_ending status ≡ turns_ending result
+    → WasCarried tells s (lines_over s input) counts now m settler' after new result → ReadsMayStay new → length input ≤ input_limit → status_ending status ≡ turns_ending result
     → Promises m (shown old new before after status (Run m))
 
 -- over any host, what it answers is right
 abbrev pub AnswersOn : Bool → Started → List ℕ → (Channel → ℕ) → (Channel → ℕ) → World → Type 0
 AnswersOn tells s input before counts now =
     (m : Manner) (settler' : Settler) (after : Channel → ℕ) (new : World) (result : Result Core RunFault)
-    → WentOn tells s (lines_over s input) counts now m settler' after new result → AnswersRun (turns_ending result) before after
+    → WasCarried tells s (lines_over s input) counts now m settler' after new result → AnswersRun (turns_ending result) before after
 
 -- ---- a load
 
@@ -76,11 +76,11 @@ LoadSays (Err fault) requests status new last = last ≡ new
 abbrev pub LoadsOn : ℕ → ℕ → Bool → Started → List Line → (Channel → ℕ) → World → (Channel → ℕ) → World → Type 0
 LoadsOn n seed tells s lines before old counts now =
     (m : Manner) (settler' : Settler) (after : Channel → ℕ) (new : World) (result : Result Core RunFault) (requests : ℕ) (status : Status) (final : Channel → ℕ) (last : World)
-    → WentOn tells s lines counts now m settler' after new result → ReadsMayStay new → LoadCounts result status after final → LoadSays result requests status new last
+    → WasCarried tells s lines counts now m settler' after new result → ReadsMayStay new → LoadCounts result status after final → LoadSays result requests status new last
     → requests ≡ length lines → Loads n seed m (shown old last before final status (Load n seed m))
 
 -- over any host, what it answers is right
 abbrev pub LoadAnswersOn : Bool → Started → List Line → (Channel → ℕ) → (Channel → ℕ) → World → Type 0
 LoadAnswersOn tells s lines before counts now =
     (m : Manner) (settler' : Settler) (after : Channel → ℕ) (new : World) (result : Result Core RunFault) (status : Status) (final : Channel → ℕ)
-    → WentOn tells s lines counts now m settler' after new result → LoadCounts result status after final → AnswersRun (status_ending status) before final
+    → WasCarried tells s lines counts now m settler' after new result → LoadCounts result status after final → AnswersRun (status_ending status) before final

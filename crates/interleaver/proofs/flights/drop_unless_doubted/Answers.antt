@@ -3,7 +3,7 @@ use Rattle.std.specs.Prelude.{Option}
 use Rattle.core_model.specs.Legal.{ends}
 use Rattle.history_core.specs.Cores.{run_of}
 use Rattle.unit_carrier.specs.Carrying.{units_carried}
-use Rattle.interleaver.specs.Flights.{flown_unless, is_open}
+use Rattle.interleaver.specs.Flights.{flown_unless, is_open_line}
 use Rattle.interleaver.specs.Looking.{IsLooked}
 use Rattle.interleaver.proofs.Looking.{all-open, looked-flown, now-looked, open-flown}
 use Rattle.interleaver.proofs.flights.drop_unless_doubted.Goals as goal
@@ -22,11 +22,11 @@ returns-then-are_open-clause-flown c =
     let r = run_of c.args.core.now in
     let agents = c.args.agents.now.list.items in
     let calm : c.args.settler.now.doubted ≡ false = sym c.doubted.ensures ∙ c.if-doubted.false in
-    open-flown c.requires.carried.0 r agents c.requires.carried.1 (all-open (is_open (ends r)) agents (sym c.are_open.ensures ∙ c.if-are_open.true))
+    open-flown c.requires.carried.0 r agents c.requires.carried.1 (all-open (is_open_line (ends r)) agents (sym c.are_open.ensures ∙ c.if-are_open.true))
     ∙ ap (λ (d : Bool). flown_unless d (ends r) agents) (sym calm)
 
 pub returns-then-are_open-clause-looked : goal.returns-then-are_open-clause-looked
 returns-then-are_open-clause-looked c =
     let r = run_of c.args.core.now in
     let agents = c.args.agents.now.list.items in
-    now-looked c.requires.carried.0 r agents c.requires.carried.1 c.looked_now.result c.looked_now.ensures (all-open (is_open (ends r)) agents (sym c.are_open.ensures ∙ c.if-are_open.true))
+    now-looked c.requires.carried.0 r agents c.requires.carried.1 c.looked_now.result c.looked_now.ensures (all-open (is_open_line (ends r)) agents (sym c.are_open.ensures ∙ c.if-are_open.true))
