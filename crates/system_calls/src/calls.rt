@@ -36,10 +36,14 @@ pub enum Access {
 ///
 /// A system that tells, says by its state what it holds: what is left of the input, what the output holds, what each file holds
 /// and what a crash may leave of it, which entries of the folder last, and which syncs were refused. A call that isn't said to
-/// change the state leaves it as it was, and so does each that is interrupted.
+/// change the state leaves it as it was, and so does a read or a write that is interrupted; the others are made again by whoever
+/// makes them.
 ///
 /// A file is named by its name in the folder, and looked for in the folder that the handle is of, wherever that stands by now.
-/// Each path that is opened is the one folder's. No call waits for another process, but for the input and the output.
+/// Each path that is opened is the one folder's, whose own name lasts. No two names there are one file, none is a link, and the
+/// input and the output are no files there. A write that a crash cuts short harms no byte outside its range. What was written can
+/// be read until a sync is asked, which says where it was lost, to the handle that wrote. No call waits for another process, but
+/// for the input and the output.
 pub trait SystemCalls {
     /// A handle of the folder.
     type Folder: Drop;
