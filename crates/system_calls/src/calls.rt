@@ -109,8 +109,10 @@ pub trait SystemCalls {
         requires { name.now ≡ name_of file }
         ensures told { IsTrue tells → state self.new ≡ state self.old };
 
-    /// What an open file is.
+    /// What an open file is. Neither this nor a read or a write is asked of a file of which a sync was refused: the system may
+    /// have dropped what was pending then, and gives what it will.
     fn look_at(&mut self, opened: &Self::File) -> Result<Look, Refused>
+        requires calm { IsTrue tells → (state self.old).is_doubtful (Self.File.file opened.now) ≡ false }
         ensures told { IsTrue tells → state self.new ≡ state self.old }
         ensures length { IfOk result (λ look. IsTrue tells → look.length ≡ length ((state self.old).world.disk (Self.File.file opened.now)).seen) };
 
@@ -125,6 +127,7 @@ pub trait SystemCalls {
     ) -> Result<usize, Refused>
         requires from { from ≤ length into.old }
         requires fits { at + from < 2 ^ 64 }
+        requires calm { IsTrue tells → (state self.old).is_doubtful (Self.File.file opened.now) ≡ false }
         ensures told { IsTrue tells → state self.new ≡ state self.old }
         ensures bound { IfOk result (λ n. n ≤ length into.old - from) }
         ensures bytes { IfOk result (λ n. IsTrue tells
@@ -143,6 +146,7 @@ pub trait SystemCalls {
     ) -> Result<usize, Refused>
         requires from { from ≤ length bytes.now }
         requires fits { at + length bytes.now < 2 ^ 63 }
+        requires calm { IsTrue tells → (state self.old).is_doubtful (Self.File.file opened.now) ≡ false }
         requires place { IsTrue tells → MayGoOn from at (length bytes.now) ((state self.old).world.disk (Self.File.file opened.now)) }
         ensures bound { IfOk result (λ n. n ≤ length bytes.now - from) }
         ensures ok { IfOk result (λ n. IsTrue tells
@@ -158,8 +162,8 @@ pub trait SystemCalls {
         ensures told { IsTrue tells → EntersAll (is_ok result) (state self.old) (state self.new) };
 
     /// Syncs a file's bytes and length. After Ok a crash leaves what a read gives; after a refusal what was pending is pending
-    /// still. It isn't asked of a file whose entry may be lost, nor of one of which a sync was refused before: the system may have
-    /// dropped what was pending then.
+    /// still. It isn't asked of a file whose entry may be lost, nor of one of which a sync was refused before: a later Ok would say
+    /// nothing.
     fn sync_data(&mut self, opened: &Self::File) -> Result<(), Refused>
         requires entered { IsTrue tells → IsTrue ((state self.old).is_entered (Self.File.file opened.now)) }
         requires calm { IsTrue tells → (state self.old).is_doubtful (Self.File.file opened.now) ≡ false }
