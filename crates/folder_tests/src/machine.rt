@@ -342,6 +342,8 @@ impl<'a> SystemCalls for OnMachine<'a> {
 
     type Folder = OpenFolder<'a>;
 
+    type Locked = OpenFolder<'a>;
+
     type File = OpenedFile<'a>;
 
     ghost tells = { false };
@@ -367,9 +369,10 @@ impl<'a> SystemCalls for OnMachine<'a> {
         folder.number
     }
 
-    fn lock(&mut self, folder: &OpenFolder<'a>) -> Result<(), Refused> {
+    fn lock(&mut self, folder: OpenFolder<'a>) -> Result<OpenFolder<'a>, Refused> {
         self.0.note(folder.number, "lock")?;
-        self.0.turn_plain()
+        self.0.turn_plain()?;
+        Ok(folder)
     }
 
     fn reaches(&mut self, folder: &OpenFolder<'a>) -> Result<bool, Refused> {

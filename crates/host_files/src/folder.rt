@@ -43,7 +43,7 @@ pub enum Entries {
 pub struct Folder<S: SystemCalls> {
     system: S,
     path: String,
-    claim: Claim<S::Folder>,
+    claim: Claim<S::Folder, S::Locked>,
     is_reached: bool,
     reader: Option<Kept<S::File>>,
     writer: Option<Kept<S::File>>,
@@ -99,7 +99,7 @@ fn take_kept<T: Handle + Drop>(kept: &mut Option<Kept<T>>, file: FileId) -> Opti
 // needs no other end, and to read alone only regular files are opened.
 fn open_file<S: SystemCalls>(
     system: &mut S,
-    folder: &S::Folder,
+    folder: &S::Locked,
     asked: Asked<'_>,
 ) -> Result<S::File, Refused>
     requires { asked.name.now ≡ name_of asked.file }
@@ -128,7 +128,7 @@ fn open_file<S: SystemCalls>(
 // A name that isn't found in a folder where names aren't looked for says nothing of the file.
 fn refuse_unreached<S: SystemCalls>(
     system: &mut S,
-    folder: &S::Folder,
+    folder: &S::Locked,
     is_reached: bool,
 ) -> Result<(), Refused>
     requires { IsTrue S.tells → IsTrue is_reached → IsTrue (S.finds folder.now) }

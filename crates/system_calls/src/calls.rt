@@ -48,6 +48,9 @@ pub trait SystemCalls {
     /// A handle of the folder.
     type Folder: Drop;
 
+    /// A handle of the folder that has its lock, until it is closed. By no other one are files looked for, made or synced.
+    type Locked: Drop;
+
     /// A handle of an open file.
     type File: Handle + Drop;
 
@@ -58,7 +61,7 @@ pub trait SystemCalls {
     ghost state: { Self → System };
 
     /// Whether names are looked for in the folder of this handle.
-    ghost finds: { Self.Folder → Bool };
+    ghost finds: { Self.Locked → Bool };
 
     /// Opens the folder at this path, to read its entries. `Missing` says that nothing stands there, and so no file either.
     fn open_folder(&mut self, path: &str) -> Result<Self::Folder, Refused>
@@ -68,19 +71,19 @@ pub trait SystemCalls {
     /// The number that the system gave to this handle.
     fn number(&self, folder: &Self::Folder) -> i32;
 
-    /// Takes the folder's lock, which lasts while the handle is open. Refused where another handle has it.
-    fn lock(&mut self, folder: &Self::Folder) -> Result<(), Refused>
+    /// Takes the folder's lock. Refused where another handle has it; this one is closed then.
+    fn lock(&mut self, folder: Self::Folder) -> Result<Self::Locked, Refused>
         ensures told { IsTrue tells → state self.new ≡ state self.old };
 
     /// Whether names are looked for in this folder at all.
-    fn reaches(&mut self, folder: &Self::Folder) -> Result<bool, Refused>
+    fn reaches(&mut self, folder: &Self::Locked) -> Result<bool, Refused>
         ensures told { IsTrue tells → state self.new ≡ state self.old }
         ensures found { IfOk result (λ reached. IsTrue tells → IsTrue reached → IsTrue (finds folder.now)) };
 
     /// Opens a file. `Missing` says that there is none, which then has no bytes, or that names aren't looked for in the folder.
     fn open(
         &mut self,
-        folder: &Self::Folder,
+        folder: &Self::Locked,
         file: FileId,
         name: &str,
         access: Access,
@@ -96,7 +99,7 @@ pub trait SystemCalls {
     /// synced. Refused where something has that name.
     fn make(
         &mut self,
-        folder: &Self::Folder,
+        folder: &Self::Locked,
         file: FileId,
         name: &str,
     ) -> Result<Self::File, Refused>
@@ -105,7 +108,7 @@ pub trait SystemCalls {
         ensures file { IfOk result (λ opened. Self.File.file opened ≡ file) };
 
     /// What stands under a name.
-    fn look(&mut self, folder: &Self::Folder, file: FileId, name: &str) -> Result<Look, Refused>
+    fn look(&mut self, folder: &Self::Locked, file: FileId, name: &str) -> Result<Look, Refused>
         requires { name.now ≡ name_of file }
         ensures told { IsTrue tells → state self.new ≡ state self.old };
 
@@ -157,7 +160,7 @@ pub trait SystemCalls {
 
     /// Syncs the folder's entries: after Ok each file that is there is found after a crash. It isn't asked once one was refused:
     /// a later Ok would say nothing.
-    fn sync_folder(&mut self, folder: &Self::Folder) -> Result<(), Refused>
+    fn sync_folder(&mut self, folder: &Self::Locked) -> Result<(), Refused>
         requires { IsTrue tells → (state self.old).has_lost ≡ false }
         ensures told { IsTrue tells → EntersAll (is_ok result) (state self.old) (state self.new) };
 

@@ -96,6 +96,8 @@ impl<'a, R: Read, W: Write> SystemCalls for Linux<'a, R, W> {
 
     type Folder = File;
 
+    type Locked = File;
+
     type File = InFolder;
 
     ghost tells = { false };
@@ -119,9 +121,9 @@ impl<'a, R: Read, W: Write> SystemCalls for Linux<'a, R, W> {
         folder.as_raw_fd()
     }
 
-    fn lock(&mut self, folder: &File) -> Result<(), Refused> {
+    fn lock(&mut self, folder: File) -> Result<File, Refused> {
         match folder.try_lock() {
-            Ok(()) => Ok(()),
+            Ok(()) => Ok(folder),
             Err(_) => Err(Refused::Failed),
         }
     }

@@ -27,6 +27,10 @@ pub enum Fault {
 #[derive(Clone, Copy, Drop)]
 pub struct MemoryFolder;
 
+/// A handle that has its lock.
+#[derive(Clone, Copy, Drop)]
+pub struct MemoryLocked;
+
 /// A handle of a file.
 #[derive(Drop)]
 pub struct MemoryFile {
@@ -149,6 +153,8 @@ impl SystemCalls for MemorySystem {
 
     type Folder = MemoryFolder;
 
+    type Locked = MemoryLocked;
+
     type File = MemoryFile;
 
     ghost tells = { true };
@@ -172,14 +178,14 @@ impl SystemCalls for MemorySystem {
         3
     }
 
-    fn lock(&mut self, _folder: &MemoryFolder) -> Result<(), Refused> {
+    fn lock(&mut self, _folder: MemoryFolder) -> Result<MemoryLocked, Refused> {
         if self.plan.is_refused() {
             return Err(Refused::Failed);
         }
-        Ok(())
+        Ok(MemoryLocked)
     }
 
-    fn reaches(&mut self, _folder: &MemoryFolder) -> Result<bool, Refused> {
+    fn reaches(&mut self, _folder: &MemoryLocked) -> Result<bool, Refused> {
         if self.plan.is_refused() {
             return Err(Refused::Failed);
         }
@@ -188,7 +194,7 @@ impl SystemCalls for MemorySystem {
 
     fn open(
         &mut self,
-        _folder: &MemoryFolder,
+        _folder: &MemoryLocked,
         file: FileId,
         _name: &str,
         _access: Access,
@@ -208,7 +214,7 @@ impl SystemCalls for MemorySystem {
 
     fn make(
         &mut self,
-        _folder: &MemoryFolder,
+        _folder: &MemoryLocked,
         file: FileId,
         _name: &str,
     ) -> Result<MemoryFile, Refused> {
@@ -225,7 +231,7 @@ impl SystemCalls for MemorySystem {
         }
     }
 
-    fn look(&mut self, _folder: &MemoryFolder, file: FileId, _name: &str) -> Result<Look, Refused> {
+    fn look(&mut self, _folder: &MemoryLocked, file: FileId, _name: &str) -> Result<Look, Refused> {
         if self.plan.is_refused() {
             return Err(Refused::Failed);
         }
@@ -299,7 +305,7 @@ impl SystemCalls for MemorySystem {
         }
     }
 
-    fn sync_folder(&mut self, _folder: &MemoryFolder) -> Result<(), Refused> {
+    fn sync_folder(&mut self, _folder: &MemoryLocked) -> Result<(), Refused> {
         if self.plan.is_refused() {
             let _ = note_lost(&mut self.events);
             return Err(Refused::Failed);
