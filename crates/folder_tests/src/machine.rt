@@ -337,7 +337,7 @@ fn moved(fault: Fault, count: usize) -> usize
 }
 
 impl<'a> SystemCalls for OnMachine<'a> {
-    ghost use Rattle.std.specs.Prelude.{false};
+    ghost use Rattle.std.specs.Prelude.{false, []};
     ghost use Rattle.host_trait.specs.World.{empty_world, untold};
 
     type Folder = OpenFolder<'a>;
@@ -349,6 +349,10 @@ impl<'a> SystemCalls for OnMachine<'a> {
     ghost tells = { false };
 
     ghost state = { λ machine. record { world = empty_world; is_entered = λ file. false; is_doubtful = λ file. false; has_lost = false } };
+
+    ghost leads = { [] };
+
+    ghost number_of = { λ folder. 0 };
 
     ghost finds = { λ folder. false };
 
@@ -365,8 +369,8 @@ impl<'a> SystemCalls for OnMachine<'a> {
         Ok(OpenFolder { machine, number })
     }
 
-    fn number(&self, folder: &OpenFolder<'a>) -> i32 {
-        folder.number
+    fn number(&self, folder: &OpenFolder<'a>) -> u32 {
+        u32::try_from(folder.number).unwrap_or(0)
     }
 
     fn lock(&mut self, folder: OpenFolder<'a>) -> Result<OpenFolder<'a>, Refused> {

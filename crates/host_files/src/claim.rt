@@ -1,5 +1,5 @@
 // A process's hold on a folder.
-ghost use Rattle.std.specs.Prelude.{◌≡◌, IfSome, OnErr, IfOk, IsTrue, Some, is_some, false, None};
+ghost use Rattle.std.specs.Prelude.{◌≡◌, ◌<◌, IfSome, OnErr, IfOk, IsTrue, Some, is_some, false, None};
 ghost use Rattle.system_calls.specs.System.{HasNoBytes};
 
 use system_calls::{Refused, SystemCalls};
@@ -49,7 +49,8 @@ impl<T: Drop, L: Drop> Claim<T, L> {
         system: &mut S,
         path: &str,
     ) -> Result<bool, Refused>
-        requires { IsTrue S.tells → IsTrue self.old.is_missing → HasNoBytes (S.state system.old) }
+        requires path { IsTrue S.tells → path.now ≡ S.leads }
+        requires absent { IsTrue S.tells → IsTrue self.old.is_missing → HasNoBytes (S.state system.old) }
         ensures taken { IfOk result (λ there. IsTrue there → IsTrue (is_some self.new.folder)) }
         ensures missing { IfOk result (λ there. there ≡ false → IsTrue self.new.is_missing) }
         ensures stays { OnErr result (self.new.folder ≡ self.old.folder) }

@@ -1,5 +1,5 @@
 // The system's calls on the files of a folder.
-ghost use Rattle.std.specs.Prelude.{◌≡◌, ◌≢◌, ◌+◌, ◌^◌, ◌<◌, ◌≤◌, ℕ, [], length, IsTrue, IsErr, IsNone, is_some, is_ok, true, false, IfOk, IfErr, IfSome, OnOk, OnErr};
+ghost use Rattle.std.specs.Prelude.{◌≡◌, ◌≢◌, ◌+◌, ◌^◌, ◌<◌, ◌≤◌, ℕ, [], length, IsTrue, IsErr, IsNone, is_some, is_ok, true, false, IfOk, IfErr, IfSome, OnOk, OnErr, string_bytes};
 ghost use Rattle.std.specs.Option.{ForSome};
 ghost use Rattle.host_trait.specs.Files.{name_of, same_file};
 ghost use Rattle.host_trait.specs.Disk.{Overwrote};
@@ -48,6 +48,7 @@ pub struct Folder<S: SystemCalls> {
     reader: Option<Kept<S::File>>,
     writer: Option<Kept<S::File>>,
     entries: Entries,
+    ghost leads: { IsTrue S.tells → string_bytes path ≡ S.leads },
     ghost absent: { IsTrue S.tells → IsTrue claim.is_missing → HasNoBytes (S.state system) },
     ghost reached: { IsTrue S.tells → IsTrue is_reached → ForSome claim.folder (λ folder. IsTrue (S.finds folder)) },
     ghost opened: { IsTrue is_reached → IsTrue (is_some claim.folder) },
@@ -169,7 +170,8 @@ fn refuse_gone(had_bytes: bool) -> Result<(), Refused>
 impl<S: SystemCalls + Drop> Folder<S> {
     /// The folder at this path. Its own entries count as not yet synced. Nothing is opened.
     pub fn new(system: S, path: String) -> Folder<S>
-        requires { IsTrue S.tells → NoSyncRefused (S.state system) }
+        requires calm { IsTrue S.tells → NoSyncRefused (S.state system) }
+        requires path { IsTrue S.tells → string_bytes path ≡ S.leads }
         ensures entries { result.entries ≡ Entries.Pending }
         ensures system { result.system ≡ system }
     {

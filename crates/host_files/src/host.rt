@@ -1,7 +1,8 @@
-ghost use Rattle.std.specs.Prelude.{◌≡◌, IsTrue, IfOk};
+ghost use Rattle.std.specs.Prelude.{◌≡◌, IsTrue, IfOk, string_bytes};
 ghost use Rattle.host_trait.specs.declared.channels.FileId.{FileId};
 ghost use Rattle.host_trait.specs.declared.channels.Channel.{Channel};
 ghost use Rattle.system_calls.specs.System.{NoSyncRefused};
+ghost use Rattle.host_files.specs.Path.{path_of};
 ghost use Rattle.host_files.specs.Table.{is_lost, counts_of};
 
 use crate::folder::Folder;
@@ -34,22 +35,29 @@ pub struct FolderHost<S: SystemCalls> {
     ghost doubts: { IsTrue S.tells → (file : FileId) → IsTrue ((S.state folder.system).is_doubtful file) → IsTrue (is_lost table.files file) },
 }
 
+// The path by which a folder is opened. Only a folder is found by it, so that no pipe is waited for.
+fn path_to(alloc: Global, folder: &str) -> Result<String, AllocError>
+    ensures { IfOk result (λ path. string_bytes path ≡ path_of folder.now) }
+{
+    let name = if folder.is_empty() { "." } else { folder };
+    format!(in alloc; "{name}/.")
+}
+
 impl<S: SystemCalls + Drop> FolderHost<S> {
     /// A host over this system, whose files stand in the folder at this path. The empty text is the folder in which the program
     /// runs. Nothing is read or made, and no call has failed. What an earlier refusal of a sync has left, the system may have
     /// dropped, so that there was none is asked.
     pub fn new(alloc: Global, system: S, folder: &str) -> Result<FolderHost<S>, AllocError>
-        requires { IsTrue S.tells → NoSyncRefused (S.state system) }
+        requires calm { IsTrue S.tells → NoSyncRefused (S.state system) }
+        requires path { IsTrue S.tells → S.leads ≡ path_of folder.now }
         ensures system { IfOk result (λ host. host.folder.system ≡ system) }
         ensures faults { IfOk result (λ host. (channel : Channel)
             → counts_of host.input_faults host.output_faults host.table.files channel ≡ 0) }
     {
-        let path = if folder.is_empty() { "." } else { folder };
         let table = Table::new(alloc)?;
-        // Only a folder can be opened by this path, so that no pipe is waited for.
-        let itself = format!(in alloc; "{path}/.")?;
+        let path = path_to(alloc, folder)?;
         Ok(FolderHost {
-            folder: Folder::new(system, itself),
+            folder: Folder::new(system, path),
             table,
             input_faults: 0,
             output_faults: 0,

@@ -40,9 +40,10 @@ pub enum Access {
 /// makes them.
 ///
 /// A file is named by its name in the folder, and looked for in the folder that the handle is of, wherever that stands by now.
-/// Each path that is opened is the one folder's, whose own name lasts. No two names there are one file, none is a link, and the
+/// The folder's own name lasts. No two names there are one file, none is a link, and the
 /// input and the output are no files there. A write that a crash cuts short harms no byte outside its range. What was written can
-/// be read until a sync is asked, which says where it was lost, to the handle that wrote. No call waits for another process, but
+/// be read until a sync is asked, which says where it was lost, to the handle that wrote. What is said of a file's bytes is said
+/// of a regular file: of a device the length tells nothing. No call waits for another process, but
 /// for the input and the output.
 pub trait SystemCalls {
     /// A handle of the folder.
@@ -60,19 +61,29 @@ pub trait SystemCalls {
     /// What it holds.
     ghost state: { Self → System };
 
+    /// The path of the folder whose files these are.
+    ghost leads: { List ℕ };
+
+    /// The number of a handle.
+    ghost number_of: { Self.Folder → ℕ };
+
     /// Whether names are looked for in the folder of this handle.
     ghost finds: { Self.Locked → Bool };
 
-    /// Opens the folder at this path, to read its entries. `Missing` says that nothing stands there, and so no file either.
+    /// Opens the folder at its path, to read its entries. `Missing` says that nothing stands there, and so no file either.
     fn open_folder(&mut self, path: &str) -> Result<Self::Folder, Refused>
+        requires { IsTrue tells → path.now ≡ leads }
         ensures told { IsTrue tells → state self.new ≡ state self.old }
         ensures missing { IfErr result (λ error. error ≡ Refused.Missing → IsTrue tells → HasNoBytes (state self.old)) };
 
-    /// The number that the system gave to this handle.
-    fn number(&self, folder: &Self::Folder) -> i32;
+    /// The number that the system gave to this handle: the least that was free.
+    fn number(&self, folder: &Self::Folder) -> u32
+        ensures { IsTrue tells → result ≡ number_of folder.now };
 
-    /// Takes the folder's lock. Refused where another handle has it; this one is closed then.
+    /// Takes the folder's lock. Refused where another handle has it; this one is closed then. Where it has the number of a
+    /// standard stream, a file of the folder may get that of another one, so it isn't asked of such a handle.
     fn lock(&mut self, folder: Self::Folder) -> Result<Self::Locked, Refused>
+        requires { IsTrue tells → 2 < number_of folder }
         ensures told { IsTrue tells → state self.new ≡ state self.old };
 
     /// Whether names are looked for in this folder at all.
@@ -95,7 +106,7 @@ pub trait SystemCalls {
         ensures missing { IfErr result (λ error. error ≡ Refused.Missing → IsTrue tells → IsTrue (finds folder.now)
             → ((state self.old).world.disk file).seen ≡ []) };
 
-    /// Makes a file that isn't there, and opens it to read and write it. Its entry may be lost in a crash until the folder is
+    /// Makes a file that isn't there, and so has no bytes, and opens it to read and write it. Its entry may be lost in a crash until the folder is
     /// synced. Refused where something has that name.
     fn make(
         &mut self,
@@ -105,6 +116,7 @@ pub trait SystemCalls {
     ) -> Result<Self::File, Refused>
         requires { name.now ≡ name_of file }
         ensures told { IsTrue tells → MakesFile file (state self.old) (state self.new) }
+        ensures empty { OnOk result (IsTrue tells → ((state self.old).world.disk file).seen ≡ []) }
         ensures file { IfOk result (λ opened. Self.File.file opened ≡ file) };
 
     /// What stands under a name.

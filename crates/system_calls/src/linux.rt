@@ -91,7 +91,7 @@ impl<'a, R: Read, W: Write> Linux<'a, R, W> {
 }
 
 impl<'a, R: Read, W: Write> SystemCalls for Linux<'a, R, W> {
-    ghost use Rattle.std.specs.Prelude.{false};
+    ghost use Rattle.std.specs.Prelude.{false, []};
     ghost use Rattle.host_trait.specs.World.{empty_world, untold};
 
     type Folder = File;
@@ -103,6 +103,10 @@ impl<'a, R: Read, W: Write> SystemCalls for Linux<'a, R, W> {
     ghost tells = { false };
 
     ghost state = { λ linux. record { world = empty_world; is_entered = λ file. false; is_doubtful = λ file. false; has_lost = false } };
+
+    ghost leads = { [] };
+
+    ghost number_of = { λ folder. 0 };
 
     ghost finds = { λ folder. false };
 
@@ -117,8 +121,8 @@ impl<'a, R: Read, W: Write> SystemCalls for Linux<'a, R, W> {
         }
     }
 
-    fn number(&self, folder: &File) -> i32 {
-        folder.as_raw_fd()
+    fn number(&self, folder: &File) -> u32 {
+        u32::try_from(folder.as_raw_fd()).unwrap_or(0)
     }
 
     fn lock(&mut self, folder: File) -> Result<File, Refused> {

@@ -64,7 +64,7 @@ impl Plan {
     }
 }
 
-/// A folder, an input and an output in memory. Want of memory is a refusal.
+/// A folder `f`, an input and an output in memory. Want of memory is a refusal.
 #[derive(Drop)]
 pub struct MemorySystem {
     alloc: Global,
@@ -146,7 +146,7 @@ impl MemorySystem {
 }
 
 impl SystemCalls for MemorySystem {
-    ghost use Rattle.std.specs.Prelude.{true, drop};
+    ghost use Rattle.std.specs.Prelude.{true, drop, codes};
     ghost use Rattle.system_memory.specs.Shown.{state_in};
     ghost use Rattle.system_memory.specs.Laws.{found_stays};
     ghost use Rattle.system_memory.specs.Held.{held_of};
@@ -161,6 +161,10 @@ impl SystemCalls for MemorySystem {
 
     ghost state = { state_in };
 
+    ghost leads = { codes "f/." };
+
+    ghost number_of = { λ folder. 3 };
+
     ghost finds = { λ folder. true };
 
     ghost seen_may_stay = { λ s file told. s.stays file };
@@ -174,7 +178,7 @@ impl SystemCalls for MemorySystem {
         Ok(MemoryFolder)
     }
 
-    fn number(&self, _folder: &MemoryFolder) -> i32 {
+    fn number(&self, _folder: &MemoryFolder) -> u32 {
         3
     }
 
