@@ -337,16 +337,22 @@ fn moved(fault: Fault, count: usize) -> usize
 }
 
 impl<'a> SystemCalls for OnMachine<'a> {
-    ghost use Rattle.std.specs.Prelude.{false};
+    ghost use Rattle.std.specs.Prelude.{false, []};
     ghost use Rattle.host_trait.specs.World.{empty_world, untold};
 
     type Folder = OpenFolder<'a>;
+
+    type Locked = OpenFolder<'a>;
 
     type File = OpenedFile<'a>;
 
     ghost tells = { false };
 
     ghost state = { λ machine. record { world = empty_world; is_entered = λ file. false; is_doubtful = λ file. false; has_lost = false } };
+
+    ghost leads = { [] };
+
+    ghost number_of = { λ folder. 0 };
 
     ghost finds = { λ folder. false };
 
@@ -363,13 +369,14 @@ impl<'a> SystemCalls for OnMachine<'a> {
         Ok(OpenFolder { machine, number })
     }
 
-    fn number(&self, folder: &OpenFolder<'a>) -> i32 {
-        folder.number
+    fn number(&self, folder: &OpenFolder<'a>) -> u32 {
+        u32::try_from(folder.number).unwrap_or(0)
     }
 
-    fn lock(&mut self, folder: &OpenFolder<'a>) -> Result<(), Refused> {
+    fn lock(&mut self, folder: OpenFolder<'a>) -> Result<OpenFolder<'a>, Refused> {
         self.0.note(folder.number, "lock")?;
-        self.0.turn_plain()
+        self.0.turn_plain()?;
+        Ok(folder)
     }
 
     fn reaches(&mut self, folder: &OpenFolder<'a>) -> Result<bool, Refused> {

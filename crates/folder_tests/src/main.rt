@@ -11,7 +11,7 @@
 //! | `fail N FAULT` | the nth call there is answered so from here on, and each one where n is 0: `refused`, `interrupted`, `short`, `read-only`, `unreached`, or `well` |
 //! | `gone FILE`, `there FILE`, `pipe FILE` | takes a file of it away; puts one of three bytes there; puts a pipe there |
 //! | `sweep FAULT` | makes a run of writes and syncs again and again, so that each of its calls fails once, and tells how often a host answered wrongly, or a crash left other bytes than were synced |
-//! | `told FAULT` | asks a host over another system in memory, which tells what it holds, for a write, a read, a sync, a read, a pull and an emit, once for each of its first 15 calls, which is answered so; of each of the six it tells whether it failed (`f`), did what it should (`.`), or did otherwise (`!`) |
+//! | `told FAULT` | asks a host over another system in memory, which tells what it holds, for a write, a read, a sync, a read, a pull and an emit, once for each of its first 15 calls, which is answered so; of each of the six it tells whether it failed (`f`) or not (`.`), and of the reads and the pull whether they gave something else than they should (`!`) |
 //! | `first FOLDER`, `second FOLDER` | takes a new host over a real folder, in place of the one before |
 //! | `on first`, `second` or `machine` | says which host is asked from here on |
 //! | `length FILE`, `read FILE AT LEN`, `write FILE AT BYTES`, `sync FILE` | asks it |

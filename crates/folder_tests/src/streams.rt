@@ -1,6 +1,7 @@
 // What the host does with its input and its output.
-ghost use Rattle.std.specs.Prelude.{IsTrue};
+ghost use Rattle.std.specs.Prelude.{◌≡◌, IsTrue};
 ghost use Rattle.system_calls.specs.System.{NoSyncRefused};
+ghost use Rattle.host_files.specs.Path.{path_of};
 
 use crate::machine::{Machine, OnMachine};
 use host_files::FolderHost;
@@ -32,11 +33,13 @@ fn add_answers<S: SystemCalls + Drop>(
 fn add_over<S: SystemCalls + Drop>(
     alloc: Global,
     system: S,
+    folder: &str,
     out: &mut String,
 ) -> Result<(), AllocError>
-    requires { IsTrue S.tells → NoSyncRefused (S.state system) }
+    requires calm { IsTrue S.tells → NoSyncRefused (S.state system) }
+    requires path { IsTrue S.tells → S.leads ≡ path_of folder.now }
 {
-    let mut host = FolderHost::new(alloc, system, "f")?;
+    let mut host = FolderHost::new(alloc, system, folder)?;
     add_answers(out, &mut host)
 }
 
@@ -46,7 +49,7 @@ pub fn add_machine_streams(
     machine: &Machine,
     out: &mut String,
 ) -> Result<(), AllocError> {
-    add_over(rt.alloc(), OnMachine(machine), out)?;
+    add_over(rt.alloc(), OnMachine(machine), "f", out)?;
     out.push_str(machine.taken().as_str())
 }
 
@@ -54,7 +57,7 @@ pub fn add_machine_streams(
 pub fn add_streams(rt: &HostRuntime, out: &mut String) -> io::Result<()> {
     let mut output = Vec::new(rt.alloc());
     let linux = Linux::new(rt, b"input".as_slice(), &mut output);
-    add_over(rt.alloc(), linux, out)?;
+    add_over(rt.alloc(), linux, "f", out)?;
     write!(out, ": {output:?}")?;
     Ok(())
 }

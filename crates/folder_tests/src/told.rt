@@ -22,7 +22,7 @@ fn host_on(alloc: Global, nth: u64, fault: Fault) -> Result<FolderHost<MemorySys
     FolderHost::new(alloc, system, "f")
 }
 
-// One letter for each call of the host: it failed, it did what it should, or it said so and did otherwise.
+// One letter for each call of the host: it failed, it didn't, or it gave something else than it should.
 fn letter_of(is_ok: bool, is_true: bool) -> char {
     match (is_ok, is_true) {
         (false, _) => 'f',

@@ -1,5 +1,5 @@
 // A process's hold on a folder.
-ghost use Rattle.std.specs.Prelude.{◌≡◌, IfSome, OnErr, IfOk, IsTrue, Some, is_some, false, None};
+ghost use Rattle.std.specs.Prelude.{◌≡◌, ◌<◌, IfSome, OnErr, IfOk, IsTrue, Some, is_some, false, None};
 ghost use Rattle.system_calls.specs.System.{HasNoBytes};
 
 use system_calls::{Refused, SystemCalls};
@@ -10,18 +10,18 @@ use system_calls::{Refused, SystemCalls};
 /// is meant for the stream would land in that file. So before any file of the folder is opened, each of the numbers 0, 1 and 2
 /// that is free goes to a handle of the folder. A read of a folder fails, and so does a write.
 #[derive(Drop)]
-pub struct Claim<T> {
+pub struct Claim<T, L> {
     for_input: Option<T>,
     for_output: Option<T>,
     for_errors: Option<T>,
-    folder: Option<T>,
+    folder: Option<L>,
     is_missing: bool,
     ghost held: { IsTrue (is_some folder) → is_missing ≡ false },
 }
 
-impl<T: Drop> Claim<T> {
+impl<T: Drop, L: Drop> Claim<T, L> {
     /// A hold on nothing yet.
-    pub fn new() -> Claim<T>
+    pub fn new() -> Claim<T, L>
         ensures folder { result.folder ≡ None }
         ensures missing { result.is_missing ≡ false }
     {
@@ -35,7 +35,7 @@ impl<T: Drop> Claim<T> {
     }
 
     /// The handle of the folder, where it is taken.
-    pub fn folder(&self) -> Option<&T>
+    pub fn folder(&self) -> Option<&L>
         ensures { IfSome result (λ folder. self.now.folder ≡ Some folder.now) }
     {
         self.folder.as_ref()
@@ -44,12 +44,13 @@ impl<T: Drop> Claim<T> {
     /// Takes the folder at this path, unless it is taken, and answers whether it is there. Refused where another handle has its
     /// lock; no file of it may be opened then. A folder that wasn't there once isn't looked for again: what comes to stand at its
     /// path is another one.
-    pub fn take<S: SystemCalls<Folder = T>>(
+    pub fn take<S: SystemCalls<Folder = T, Locked = L>>(
         &mut self,
         system: &mut S,
         path: &str,
     ) -> Result<bool, Refused>
-        requires { IsTrue S.tells → IsTrue self.old.is_missing → HasNoBytes (S.state system.old) }
+        requires path { IsTrue S.tells → path.now ≡ S.leads }
+        requires absent { IsTrue S.tells → IsTrue self.old.is_missing → HasNoBytes (S.state system.old) }
         ensures taken { IfOk result (λ there. IsTrue there → IsTrue (is_some self.new.folder)) }
         ensures missing { IfOk result (λ there. there ≡ false → IsTrue self.new.is_missing) }
         ensures stays { OnErr result (self.new.folder ≡ self.old.folder) }
@@ -77,8 +78,8 @@ impl<T: Drop> Claim<T> {
                 1 => self.for_output = Some(opened),
                 2 => self.for_errors = Some(opened),
                 _ => {
-                    system.lock(&opened)?;
-                    self.folder = Some(opened);
+                    let locked = system.lock(opened)?;
+                    self.folder = Some(locked);
                     return Ok(true);
                 }
             }

@@ -1,5 +1,5 @@
 // The system's calls on the files of a folder.
-ghost use Rattle.std.specs.Prelude.{◌≡◌, ◌≢◌, ◌+◌, ◌^◌, ◌<◌, ◌≤◌, ℕ, [], length, IsTrue, IsErr, IsNone, is_some, is_ok, true, false, IfOk, IfErr, IfSome, OnOk, OnErr};
+ghost use Rattle.std.specs.Prelude.{◌≡◌, ◌≢◌, ◌+◌, ◌^◌, ◌<◌, ◌≤◌, ℕ, [], length, IsTrue, IsErr, IsNone, is_some, is_ok, true, false, IfOk, IfErr, IfSome, OnOk, OnErr, string_bytes};
 ghost use Rattle.std.specs.Option.{ForSome};
 ghost use Rattle.host_trait.specs.Files.{name_of, same_file};
 ghost use Rattle.host_trait.specs.Disk.{Overwrote};
@@ -43,11 +43,12 @@ pub enum Entries {
 pub struct Folder<S: SystemCalls> {
     system: S,
     path: String,
-    claim: Claim<S::Folder>,
+    claim: Claim<S::Folder, S::Locked>,
     is_reached: bool,
     reader: Option<Kept<S::File>>,
     writer: Option<Kept<S::File>>,
     entries: Entries,
+    ghost leads: { IsTrue S.tells → string_bytes path ≡ S.leads },
     ghost absent: { IsTrue S.tells → IsTrue claim.is_missing → HasNoBytes (S.state system) },
     ghost reached: { IsTrue S.tells → IsTrue is_reached → ForSome claim.folder (λ folder. IsTrue (S.finds folder)) },
     ghost opened: { IsTrue is_reached → IsTrue (is_some claim.folder) },
@@ -99,7 +100,7 @@ fn take_kept<T: Handle + Drop>(kept: &mut Option<Kept<T>>, file: FileId) -> Opti
 // needs no other end, and to read alone only regular files are opened.
 fn open_file<S: SystemCalls>(
     system: &mut S,
-    folder: &S::Folder,
+    folder: &S::Locked,
     asked: Asked<'_>,
 ) -> Result<S::File, Refused>
     requires { asked.name.now ≡ name_of asked.file }
@@ -128,7 +129,7 @@ fn open_file<S: SystemCalls>(
 // A name that isn't found in a folder where names aren't looked for says nothing of the file.
 fn refuse_unreached<S: SystemCalls>(
     system: &mut S,
-    folder: &S::Folder,
+    folder: &S::Locked,
     is_reached: bool,
 ) -> Result<(), Refused>
     requires { IsTrue S.tells → IsTrue is_reached → IsTrue (S.finds folder.now) }
@@ -169,7 +170,8 @@ fn refuse_gone(had_bytes: bool) -> Result<(), Refused>
 impl<S: SystemCalls + Drop> Folder<S> {
     /// The folder at this path. Its own entries count as not yet synced. Nothing is opened.
     pub fn new(system: S, path: String) -> Folder<S>
-        requires { IsTrue S.tells → NoSyncRefused (S.state system) }
+        requires calm { IsTrue S.tells → NoSyncRefused (S.state system) }
+        requires path { IsTrue S.tells → string_bytes path ≡ S.leads }
         ensures entries { result.entries ≡ Entries.Pending }
         ensures system { result.system ≡ system }
     {
@@ -212,7 +214,6 @@ impl<S: SystemCalls + Drop> Folder<S> {
         ensures file { IfOk result (λ found. IfSome found (λ opened. S.File.file opened ≡ asked.entry.file)) }
         ensures absent { IfOk result (λ found. IsNone found → IsTrue S.tells → ((S.state self.old.system).world.disk asked.entry.file).seen ≡ []) }
         ensures taken { IfOk result (λ found. IfSome found (λ opened. IsTrue (is_some self.new.claim.folder))) }
-        ensures entries { self.new.entries ≡ self.old.entries }
     {
         if !self.claim.take(&mut self.system, self.path.as_str())? {
             refuse_gone(asked.had_bytes)?;
@@ -238,12 +239,12 @@ impl<S: SystemCalls + Drop> Folder<S> {
 
     // As `find`, and only a regular file is taken. One that had bytes was seen to be regular.
     fn find_regular(&mut self, asked: Asked<'_>) -> Result<Option<S::File>, Refused>
-        requires { asked.name.now ≡ name_of asked.file }
+        requires name { asked.name.now ≡ name_of asked.file }
+        requires calm { IsTrue S.tells → (S.state self.old.system).is_doubtful asked.file ≡ false }
         ensures told { IsTrue S.tells → S.state self.new.system ≡ S.state self.old.system }
         ensures file { IfOk result (λ found. IfSome found (λ opened. S.File.file opened ≡ asked.entry.file)) }
         ensures absent { IfOk result (λ found. IsNone found → IsTrue S.tells → ((S.state self.old.system).world.disk asked.entry.file).seen ≡ []) }
         ensures taken { IfOk result (λ found. IfSome found (λ opened. IsTrue (is_some self.new.claim.folder))) }
-        ensures entries { self.new.entries ≡ self.old.entries }
     {
         let Some(opened) = self.find(asked)? else {
             return Ok(None);
@@ -257,12 +258,11 @@ impl<S: SystemCalls + Drop> Folder<S> {
     /// How many bytes a file has; 0 where there is none. Anything there but a regular file is refused, and so is a length of
     /// 2 to the 63 or more.
     pub fn length(&mut self, asked: Asked<'_>) -> Result<u64, Refused>
-        requires { asked.name.now ≡ name_of asked.file }
+        requires name { asked.name.now ≡ name_of asked.file }
+        requires calm { IsTrue S.tells → asked.is_lost ≡ false → (S.state self.old.system).is_doubtful asked.file ≡ false }
         ensures told { IsTrue S.tells → S.state self.new.system ≡ S.state self.old.system }
         ensures len { IfOk result (λ count. IsTrue S.tells → count ≡ length ((S.state self.old.system).world.disk asked.entry.file).seen) }
         ensures bound { IfOk result (λ count. count < 2 ^ 63) }
-        ensures lost { IsTrue asked.entry.is_lost → IsErr result }
-        ensures entries { self.new.entries ≡ self.old.entries }
     {
         refuse_lost(asked.is_lost)?;
         let opened = match take_kept(&mut self.reader, asked.file) {
@@ -288,11 +288,11 @@ impl<S: SystemCalls + Drop> Folder<S> {
 
     // The handle that last read the file, or a new one. None where there is no file.
     fn take_reader(&mut self, asked: Asked<'_>) -> Result<Option<S::File>, Refused>
-        requires { asked.name.now ≡ name_of asked.file }
+        requires name { asked.name.now ≡ name_of asked.file }
+        requires calm { IsTrue S.tells → (S.state self.old.system).is_doubtful asked.file ≡ false }
         ensures told { IsTrue S.tells → S.state self.new.system ≡ S.state self.old.system }
         ensures file { IfOk result (λ found. IfSome found (λ opened. S.File.file opened ≡ asked.entry.file)) }
         ensures absent { IfOk result (λ found. IsNone found → IsTrue S.tells → ((S.state self.old.system).world.disk asked.entry.file).seen ≡ []) }
-        ensures entries { self.new.entries ≡ self.old.entries }
     {
         if let Some(opened) = take_kept(&mut self.reader, asked.file) {
             return Ok(Some(opened));
@@ -303,12 +303,11 @@ impl<S: SystemCalls + Drop> Folder<S> {
 
     /// Reads from there on, until the slice is full or the file ends. A file that isn't there has no bytes.
     pub fn read_at(&mut self, asked: Asked<'_>, at: u64, into: &mut [u8]) -> Result<usize, Refused>
-        requires { asked.name.now ≡ name_of asked.file }
+        requires name { asked.name.now ≡ name_of asked.file }
+        requires calm { IsTrue S.tells → asked.is_lost ≡ false → (S.state self.old.system).is_doubtful asked.file ≡ false }
         ensures told { IsTrue S.tells → S.state self.new.system ≡ S.state self.old.system }
         ensures bytes { IfOk result (λ count. IsTrue S.tells → Filled count at ((S.state self.old.system).world.disk asked.entry.file).seen into.old into.new) }
         ensures bound { IfOk result (λ count. count ≤ length into.old) }
-        ensures lost { IsTrue asked.entry.is_lost → IsErr result }
-        ensures entries { self.new.entries ≡ self.old.entries }
     {
         refuse_lost(asked.is_lost)?;
         let Some(opened) = self.take_reader(asked)? else {
@@ -329,8 +328,6 @@ impl<S: SystemCalls + Drop> Folder<S> {
         ensures told { IsTrue S.tells → SameButEntries (S.state self.old.system) (S.state self.new.system) }
         ensures file { IfOk result (λ opened. S.File.file opened ≡ asked.entry.file) }
         ensures taken { OnOk result (IsTrue (is_some self.new.claim.folder)) }
-        ensures lost { self.old.entries ≡ Entries.Lost → self.new.entries ≡ Entries.Lost }
-        ensures pending { OnOk result (self.new.entries ≡ Entries.Synced → ⊥) }
     {
         let Some(folder) = self.claim.folder() else {
             return Err(Refused::Missing);
@@ -344,11 +341,11 @@ impl<S: SystemCalls + Drop> Folder<S> {
 
     // The handle that last wrote the file, or a new one. The file is made where it isn't there.
     fn take_writer(&mut self, asked: Asked<'_>) -> Result<S::File, Refused>
-        requires { asked.name.now ≡ name_of asked.file }
+        requires name { asked.name.now ≡ name_of asked.file }
+        requires calm { IsTrue S.tells → (S.state self.old.system).is_doubtful asked.file ≡ false }
         ensures told { IsTrue S.tells → SameButEntries (S.state self.old.system) (S.state self.new.system) }
         ensures file { IfOk result (λ opened. S.File.file opened ≡ asked.entry.file) }
         ensures taken { OnOk result (IsTrue (is_some self.new.claim.folder)) }
-        ensures lost { self.old.entries ≡ Entries.Lost → self.new.entries ≡ Entries.Lost }
     {
         if let Some(opened) = take_kept(&mut self.writer, asked.file) {
             return Ok(opened);
@@ -363,14 +360,13 @@ impl<S: SystemCalls + Drop> Folder<S> {
     /// Writes from there on, and makes the file where it isn't there. A range that doesn't end below 2 to the 63 is refused.
     pub fn write_at(&mut self, asked: Asked<'_>, at: u64, bytes: &[u8]) -> Result<(), Refused>
         requires name { asked.name.now ≡ name_of asked.file }
+        requires calm { IsTrue S.tells → asked.is_lost ≡ false → (S.state self.old.system).is_doubtful asked.file ≡ false }
         requires place { IsTrue S.tells → at ≤ length ((S.state self.old.system).world.disk asked.file).seen }
         ensures told { IsTrue S.tells → Written asked.entry.file at (length bytes.now) (S.state self.old.system).world (S.state self.new.system).world }
         ensures ok { OnOk result (IsTrue S.tells
             → Overwrote at bytes.now ((S.state self.old.system).world.disk asked.entry.file) ((S.state self.new.system).world.disk asked.entry.file)) }
         ensures doubts { IsTrue S.tells → (S.state self.new.system).is_doubtful ≡ (S.state self.old.system).is_doubtful }
         ensures bound { OnOk result (at + length bytes.now < 2 ^ 63) }
-        ensures lost { IsTrue asked.entry.is_lost → IsErr result }
-        ensures entries { self.old.entries ≡ Entries.Lost → self.new.entries ≡ Entries.Lost }
     {
         refuse_lost(asked.is_lost)?;
         let count = bytes.len() as u64;
@@ -393,8 +389,6 @@ impl<S: SystemCalls + Drop> Folder<S> {
             × ((S.state self.new.system).is_doubtful ≡ (S.state self.old.system).is_doubtful) }
         ensures folder { self.new.claim ≡ self.old.claim }
         ensures ok { OnOk result (self.new.entries ≡ Entries.Synced) }
-        ensures err { OnErr result (self.new.entries ≡ Entries.Lost) }
-        ensures lost { self.old.entries ≡ Entries.Lost → IsErr result }
     {
         match self.entries {
             Entries::Synced => Ok(()),
@@ -417,9 +411,6 @@ impl<S: SystemCalls + Drop> Folder<S> {
         requires name { asked.name.now ≡ name_of asked.file }
         requires calm { IsTrue S.tells → asked.is_lost ≡ false → (S.state self.old.system).is_doubtful asked.file ≡ false }
         ensures told { IsTrue S.tells → SyncsFile asked.entry.file (is_ok result) (S.state self.old.system) (S.state self.new.system) }
-        ensures lost { IsTrue asked.entry.is_lost → IsErr result }
-        ensures entered { OnOk result (self.new.entries ≡ Entries.Synced) }
-        ensures believed { self.old.entries ≡ Entries.Lost → IsErr result }
     {
         refuse_lost(asked.is_lost)?;
         let opened = self.take_writer(asked)?;

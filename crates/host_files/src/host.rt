@@ -1,13 +1,9 @@
-ghost use Rattle.std.specs.Prelude.{◌≡◌, ◌+◌, ◌^◌, ◌<◌, ◌≤◌, length, is_ok, IsTrue, IsErr, IfOk, OnOk, OnErr};
-ghost use Rattle.host_trait.specs.Disk.{Overwrote};
-ghost use Rattle.host_trait.specs.World.{Asked, Filled, Written, Synced};
+ghost use Rattle.std.specs.Prelude.{◌≡◌, IsTrue, IfOk, string_bytes};
 ghost use Rattle.host_trait.specs.declared.channels.FileId.{FileId};
-ghost use Rattle.system_calls.specs.System.{NoSyncRefused};
-ghost use Rattle.host_files.specs.Table.{is_named, is_lost, counts_of, StayLost};
-ghost use Rattle.host_trait.specs.Faults.{Counted};
-ghost use Rattle.host_trait.specs.Files.{MayAsk, StaysReady};
 ghost use Rattle.host_trait.specs.declared.channels.Channel.{Channel};
-ghost use Rattle.host_trait.specs.declared.channels.Channel.TheVariants.{File};
+ghost use Rattle.system_calls.specs.System.{NoSyncRefused};
+ghost use Rattle.host_files.specs.Path.{path_of};
+ghost use Rattle.host_files.specs.Table.{is_lost, counts_of};
 
 use crate::folder::Folder;
 use crate::table::Table;
@@ -39,22 +35,29 @@ pub struct FolderHost<S: SystemCalls> {
     ghost doubts: { IsTrue S.tells → (file : FileId) → IsTrue ((S.state folder.system).is_doubtful file) → IsTrue (is_lost table.files file) },
 }
 
+// The path by which a folder is opened. Only a folder is found by it, so that no pipe is waited for.
+fn path_to(alloc: Global, folder: &str) -> Result<String, AllocError>
+    ensures { IfOk result (λ path. string_bytes path ≡ path_of folder.now) }
+{
+    let name = if folder.is_empty() { "." } else { folder };
+    format!(in alloc; "{name}/.")
+}
+
 impl<S: SystemCalls + Drop> FolderHost<S> {
     /// A host over this system, whose files stand in the folder at this path. The empty text is the folder in which the program
     /// runs. Nothing is read or made, and no call has failed. What an earlier refusal of a sync has left, the system may have
     /// dropped, so that there was none is asked.
     pub fn new(alloc: Global, system: S, folder: &str) -> Result<FolderHost<S>, AllocError>
-        requires { IsTrue S.tells → NoSyncRefused (S.state system) }
+        requires calm { IsTrue S.tells → NoSyncRefused (S.state system) }
+        requires path { IsTrue S.tells → S.leads ≡ path_of folder.now }
         ensures system { IfOk result (λ host. host.folder.system ≡ system) }
         ensures faults { IfOk result (λ host. (channel : Channel)
             → counts_of host.input_faults host.output_faults host.table.files channel ≡ 0) }
     {
-        let path = if folder.is_empty() { "." } else { folder };
         let table = Table::new(alloc)?;
-        // Only a folder can be opened by this path, so that no pipe is waited for.
-        let itself = format!(in alloc; "{path}/.")?;
+        let path = path_to(alloc, folder)?;
         Ok(FolderHost {
-            folder: Folder::new(system, itself),
+            folder: Folder::new(system, path),
             table,
             input_faults: 0,
             output_faults: 0,
@@ -107,55 +110,21 @@ impl<S: SystemCalls + Drop> Host for FolderHost<S> {
         }
     }
 
-    fn length(&mut self, file: FileId) -> Result<u64, Failed>
-        requires { MayAsk (is_named self.old.table.files) file }
-        ensures told { IsTrue S.tells → Asked (S.state self.old.folder.system).world (S.state self.new.folder.system).world }
-        ensures len { IfOk result (λ n. IsTrue S.tells → n ≡ length ((S.state self.old.folder.system).world.disk file).seen) }
-        ensures bound { IfOk result (λ n. n < 2 ^ 63) }
-        ensures faults { Counted (File file) result
-            (counts_of self.old.input_faults self.old.output_faults self.old.table.files)
-            (counts_of self.new.input_faults self.new.output_faults self.new.table.files) }
-        ensures ready { StaysReady (is_named self.old.table.files) (is_named self.new.table.files) }
-        ensures refused { IsTrue (is_lost self.old.table.files file) → IsErr result }
-        ensures stay { StayLost self.old.table.files self.new.table.files }
-    {
+    fn length(&mut self, file: FileId) -> Result<u64, Failed> {
         let answer = self.folder.length(self.table.asked(file));
         let has_bytes = answer.unwrap_or(0) > 0;
         let count = self.table.count(file, answer, has_bytes)?;
         Ok(count)
     }
 
-    fn read_at(&mut self, file: FileId, at: u64, into: &mut [u8]) -> Result<usize, Failed>
-        requires { MayAsk (is_named self.old.table.files) file }
-        ensures told { IsTrue S.tells → Asked (S.state self.old.folder.system).world (S.state self.new.folder.system).world }
-        ensures bytes { IfOk result (λ n. IsTrue S.tells → Filled n at ((S.state self.old.folder.system).world.disk file).seen into.old into.new) }
-        ensures bound { IfOk result (λ n. n ≤ length into.old) }
-        ensures faults { Counted (File file) result
-            (counts_of self.old.input_faults self.old.output_faults self.old.table.files)
-            (counts_of self.new.input_faults self.new.output_faults self.new.table.files) }
-        ensures ready { StaysReady (is_named self.old.table.files) (is_named self.new.table.files) }
-        ensures refused { IsTrue (is_lost self.old.table.files file) → IsErr result }
-        ensures stay { StayLost self.old.table.files self.new.table.files }
-    {
+    fn read_at(&mut self, file: FileId, at: u64, into: &mut [u8]) -> Result<usize, Failed> {
         let answer = self.folder.read_at(self.table.asked(file), at, into);
         let has_bytes = answer.unwrap_or(0) > 0;
         let count = self.table.count(file, answer, has_bytes)?;
         Ok(count)
     }
 
-    fn write_at(&mut self, file: FileId, at: u64, bytes: &[u8]) -> Result<(), Failed>
-        requires file { MayAsk (is_named self.old.table.files) file }
-        requires place { IsTrue S.tells → at ≤ length ((S.state self.old.folder.system).world.disk file).seen }
-        ensures told { IsTrue S.tells → Written file at (length bytes.now) (S.state self.old.folder.system).world (S.state self.new.folder.system).world }
-        ensures ok { OnOk result (IsTrue S.tells → Overwrote at bytes.now ((S.state self.old.folder.system).world.disk file) ((S.state self.new.folder.system).world.disk file)) }
-        ensures bound { OnOk result (at + length bytes.now < 2 ^ 63) }
-        ensures faults { Counted (File file) result
-            (counts_of self.old.input_faults self.old.output_faults self.old.table.files)
-            (counts_of self.new.input_faults self.new.output_faults self.new.table.files) }
-        ensures ready { StaysReady (is_named self.old.table.files) (is_named self.new.table.files) }
-        ensures refused { IsTrue (is_lost self.old.table.files file) → IsErr result }
-        ensures stay { StayLost self.old.table.files self.new.table.files }
-    {
+    fn write_at(&mut self, file: FileId, at: u64, bytes: &[u8]) -> Result<(), Failed> {
         let answer = self.folder.write_at(self.table.asked(file), at, bytes);
         self.table.count(file, answer, !bytes.is_empty())?;
         Ok(())
@@ -166,18 +135,7 @@ impl<S: SystemCalls + Drop> Host for FolderHost<S> {
         Ok(())
     }
 
-    fn sync(&mut self, file: FileId) -> Result<(), Failed>
-        requires { MayAsk (is_named self.old.table.files) file }
-        ensures told { IsTrue S.tells → Synced file (is_ok result) (S.state self.old.folder.system).world (S.state self.new.folder.system).world }
-        ensures count { OnOk result (IsTrue S.tells → (S.state self.new.folder.system).world.syncs ≡ (S.state self.old.folder.system).world.syncs + 1) }
-        ensures faults { Counted (File file) result
-            (counts_of self.old.input_faults self.old.output_faults self.old.table.files)
-            (counts_of self.new.input_faults self.new.output_faults self.new.table.files) }
-        ensures ready { StaysReady (is_named self.old.table.files) (is_named self.new.table.files) }
-        ensures refused { IsTrue (is_lost self.old.table.files file) → IsErr result }
-        ensures stay { StayLost self.old.table.files self.new.table.files }
-        ensures lost { OnErr result (IsTrue (is_lost self.new.table.files file)) }
-    {
+    fn sync(&mut self, file: FileId) -> Result<(), Failed> {
         let answer = self.folder.sync(self.table.asked(file));
         self.table.count_sync(file, answer)?;
         Ok(())

@@ -1,5 +1,5 @@
 // Whole reads and writes by calls that move some bytes each.
-ghost use Rattle.std.specs.Prelude.{◌≡◌, ◌+◌, ◌^◌, ◌<◌, ◌≤◌, ℕ, length, IsTrue, IfOk, OnOk, OnErr};
+ghost use Rattle.std.specs.Prelude.{◌≡◌, ◌+◌, ◌^◌, ◌<◌, ◌≤◌, ℕ, false, length, IsTrue, IfOk, OnOk, OnErr};
 ghost use Rattle.host_trait.specs.Disk.{Overwrote};
 ghost use Rattle.host_trait.specs.World.{Pulled, Emitted, Filled, Written};
 ghost use Rattle.system_calls.specs.System.{SameEntries};
@@ -13,6 +13,7 @@ pub fn read_whole<S: SystemCalls>(
     at: u64,
     into: &mut [u8],
 ) -> Result<usize, Refused>
+    requires calm { IsTrue S.tells → (S.state system.old).is_doubtful (S.File.file opened.now) ≡ false }
     ensures told { IsTrue S.tells → S.state system.new ≡ S.state system.old }
     ensures bound { IfOk result (λ count. count ≤ length into.old) }
     ensures bytes { IfOk result (λ count. IsTrue S.tells
@@ -45,6 +46,7 @@ pub fn write_whole<S: SystemCalls>(
     bytes: &[u8],
 ) -> Result<(), Refused>
     requires fits { at + length bytes.now < 2 ^ 63 }
+    requires calm { IsTrue S.tells → (S.state system.old).is_doubtful (S.File.file opened.now) ≡ false }
     requires place { IsTrue S.tells → at ≤ length ((S.state system.old).world.disk (S.File.file opened.now)).seen }
     ensures told { IsTrue S.tells
         → Written (S.File.file opened.now) at (length bytes.now) (S.state system.old).world (S.state system.new).world }

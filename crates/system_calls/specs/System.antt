@@ -31,7 +31,7 @@ pub record SameEntries (old new : System) : Type 0 where
   pub doubtful : new.is_doubtful ≡ old.is_doubtful
   pub lost : new.has_lost ≡ old.has_lost
 
--- This file may have been made, so that its entry may not last. It has no bytes.
+-- this file may have been made, so that its entry may not last
 pub record MakesFile (file : FileId) (old new : System) : Type 0 where
   pub world : new.world ≡ old.world
   pub others : (f : FileId) → f ≢ file → new.is_entered f ≡ old.is_entered f
@@ -104,12 +104,16 @@ abbrev pub PendsFrom : ℕ → ℕ → ℕ → FileState → FileState → Type 
 PendsFrom zero at size old new = Pends at size old new
 PendsFrom (suc from) at size old new = (new.base ≡ old.base) × (new.ranges ≡ old.ranges) × (new.longest ≡ old.longest)
 
--- Of this write n more bytes were written, those from this place on. A write of no bytes begins too.
+-- a part of this length begins a write of these bytes: one of no bytes does so where there are none
+abbrev pub Begins : ℕ → List ℕ → Type 0
+Begins n bytes = n ≡ 0 → length bytes ≡ 0
+
+-- of this write n more bytes were written, those from this place on
 pub record WritesPart (n from : ℕ) (file : FileId) (at : ℕ) (bytes : List ℕ) (old new : System) : Type 0 where
   pub beside : SameBeside file old new
-  pub pends : (n ≡ 0 → length bytes ≡ 0) → PendsFrom from at (length bytes) (old.world.disk file) (new.world.disk file)
+  pub pends : Begins n bytes → PendsFrom from at (length bytes) (old.world.disk file) (new.world.disk file)
   pub seen : (new.world.disk file).seen ≡ overlaid (old.world.disk file).seen (at + from) (take n (drop from bytes))
-  pub past : (n ≡ 0 → length bytes ≡ 0) → KeepsTime from old.world new.world
+  pub past : Begins n bytes → KeepsTime from old.world new.world
   pub none : n ≡ 0 → 0 < length bytes → new ≡ old
 
 -- Of a write that goes on, some part failed: any bytes may be seen in its range. One that begins has failed, or never began.

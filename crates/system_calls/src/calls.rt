@@ -36,13 +36,21 @@ pub enum Access {
 ///
 /// A system that tells, says by its state what it holds: what is left of the input, what the output holds, what each file holds
 /// and what a crash may leave of it, which entries of the folder last, and which syncs were refused. A call that isn't said to
-/// change the state leaves it as it was, and so does each that is interrupted.
+/// change the state leaves it as it was, and so does a read or a write that is interrupted; the others are made again by whoever
+/// makes them.
 ///
 /// A file is named by its name in the folder, and looked for in the folder that the handle is of, wherever that stands by now.
-/// Each path that is opened is the one folder's. No call waits for another process, but for the input and the output.
+/// The folder's own name lasts. No two names there are one file, none is a link, and the
+/// input and the output are no files there. A write that a crash cuts short harms no byte outside its range. What was written can
+/// be read until a sync is asked, which says where it was lost, to the handle that wrote. What is said of a file's bytes is said
+/// of a regular file: of a device the length tells nothing. No call waits for another process, but
+/// for the input and the output.
 pub trait SystemCalls {
     /// A handle of the folder.
     type Folder: Drop;
+
+    /// A handle of the folder that has its lock, until it is closed. By no other one are files looked for, made or synced.
+    type Locked: Drop;
 
     /// A handle of an open file.
     type File: Handle + Drop;
@@ -53,30 +61,40 @@ pub trait SystemCalls {
     /// What it holds.
     ghost state: { Self → System };
 
-    /// Whether names are looked for in the folder of this handle.
-    ghost finds: { Self.Folder → Bool };
+    /// The path of the folder whose files these are.
+    ghost leads: { List ℕ };
 
-    /// Opens the folder at this path, to read its entries. `Missing` says that nothing stands there, and so no file either.
+    /// The number of a handle.
+    ghost number_of: { Self.Folder → ℕ };
+
+    /// Whether names are looked for in the folder of this handle.
+    ghost finds: { Self.Locked → Bool };
+
+    /// Opens the folder at its path, to read its entries. `Missing` says that nothing stands there, and so no file either.
     fn open_folder(&mut self, path: &str) -> Result<Self::Folder, Refused>
+        requires { IsTrue tells → path.now ≡ leads }
         ensures told { IsTrue tells → state self.new ≡ state self.old }
         ensures missing { IfErr result (λ error. error ≡ Refused.Missing → IsTrue tells → HasNoBytes (state self.old)) };
 
-    /// The number that the system gave to this handle.
-    fn number(&self, folder: &Self::Folder) -> i32;
+    /// The number that the system gave to this handle: the least that was free.
+    fn number(&self, folder: &Self::Folder) -> u32
+        ensures { IsTrue tells → result ≡ number_of folder.now };
 
-    /// Takes the folder's lock, which lasts while the handle is open. Refused where another handle has it.
-    fn lock(&mut self, folder: &Self::Folder) -> Result<(), Refused>
+    /// Takes the folder's lock. Refused where another handle has it; this one is closed then. Where it has the number of a
+    /// standard stream, a file of the folder may get that of another one, so it isn't asked of such a handle.
+    fn lock(&mut self, folder: Self::Folder) -> Result<Self::Locked, Refused>
+        requires { IsTrue tells → 2 < number_of folder }
         ensures told { IsTrue tells → state self.new ≡ state self.old };
 
     /// Whether names are looked for in this folder at all.
-    fn reaches(&mut self, folder: &Self::Folder) -> Result<bool, Refused>
+    fn reaches(&mut self, folder: &Self::Locked) -> Result<bool, Refused>
         ensures told { IsTrue tells → state self.new ≡ state self.old }
         ensures found { IfOk result (λ reached. IsTrue tells → IsTrue reached → IsTrue (finds folder.now)) };
 
     /// Opens a file. `Missing` says that there is none, which then has no bytes, or that names aren't looked for in the folder.
     fn open(
         &mut self,
-        folder: &Self::Folder,
+        folder: &Self::Locked,
         file: FileId,
         name: &str,
         access: Access,
@@ -88,25 +106,28 @@ pub trait SystemCalls {
         ensures missing { IfErr result (λ error. error ≡ Refused.Missing → IsTrue tells → IsTrue (finds folder.now)
             → ((state self.old).world.disk file).seen ≡ []) };
 
-    /// Makes a file that isn't there, and opens it to read and write it. Its entry may be lost in a crash until the folder is
+    /// Makes a file that isn't there, and so has no bytes, and opens it to read and write it. Its entry may be lost in a crash until the folder is
     /// synced. Refused where something has that name.
     fn make(
         &mut self,
-        folder: &Self::Folder,
+        folder: &Self::Locked,
         file: FileId,
         name: &str,
     ) -> Result<Self::File, Refused>
         requires { name.now ≡ name_of file }
         ensures told { IsTrue tells → MakesFile file (state self.old) (state self.new) }
+        ensures empty { OnOk result (IsTrue tells → ((state self.old).world.disk file).seen ≡ []) }
         ensures file { IfOk result (λ opened. Self.File.file opened ≡ file) };
 
     /// What stands under a name.
-    fn look(&mut self, folder: &Self::Folder, file: FileId, name: &str) -> Result<Look, Refused>
+    fn look(&mut self, folder: &Self::Locked, file: FileId, name: &str) -> Result<Look, Refused>
         requires { name.now ≡ name_of file }
         ensures told { IsTrue tells → state self.new ≡ state self.old };
 
-    /// What an open file is.
+    /// What an open file is. Neither this nor a read or a write is asked of a file of which a sync was refused: the system may
+    /// have dropped what was pending then, and gives what it will.
     fn look_at(&mut self, opened: &Self::File) -> Result<Look, Refused>
+        requires calm { IsTrue tells → (state self.old).is_doubtful (Self.File.file opened.now) ≡ false }
         ensures told { IsTrue tells → state self.new ≡ state self.old }
         ensures length { IfOk result (λ look. IsTrue tells → look.length ≡ length ((state self.old).world.disk (Self.File.file opened.now)).seen) };
 
@@ -121,6 +142,7 @@ pub trait SystemCalls {
     ) -> Result<usize, Refused>
         requires from { from ≤ length into.old }
         requires fits { at + from < 2 ^ 64 }
+        requires calm { IsTrue tells → (state self.old).is_doubtful (Self.File.file opened.now) ≡ false }
         ensures told { IsTrue tells → state self.new ≡ state self.old }
         ensures bound { IfOk result (λ n. n ≤ length into.old - from) }
         ensures bytes { IfOk result (λ n. IsTrue tells
@@ -139,6 +161,7 @@ pub trait SystemCalls {
     ) -> Result<usize, Refused>
         requires from { from ≤ length bytes.now }
         requires fits { at + length bytes.now < 2 ^ 63 }
+        requires calm { IsTrue tells → (state self.old).is_doubtful (Self.File.file opened.now) ≡ false }
         requires place { IsTrue tells → MayGoOn from at (length bytes.now) ((state self.old).world.disk (Self.File.file opened.now)) }
         ensures bound { IfOk result (λ n. n ≤ length bytes.now - from) }
         ensures ok { IfOk result (λ n. IsTrue tells
@@ -149,13 +172,13 @@ pub trait SystemCalls {
 
     /// Syncs the folder's entries: after Ok each file that is there is found after a crash. It isn't asked once one was refused:
     /// a later Ok would say nothing.
-    fn sync_folder(&mut self, folder: &Self::Folder) -> Result<(), Refused>
+    fn sync_folder(&mut self, folder: &Self::Locked) -> Result<(), Refused>
         requires { IsTrue tells → (state self.old).has_lost ≡ false }
         ensures told { IsTrue tells → EntersAll (is_ok result) (state self.old) (state self.new) };
 
     /// Syncs a file's bytes and length. After Ok a crash leaves what a read gives; after a refusal what was pending is pending
-    /// still. It isn't asked of a file whose entry may be lost, nor of one of which a sync was refused before: the system may have
-    /// dropped what was pending then.
+    /// still. It isn't asked of a file whose entry may be lost, nor of one of which a sync was refused before: a later Ok would say
+    /// nothing.
     fn sync_data(&mut self, opened: &Self::File) -> Result<(), Refused>
         requires entered { IsTrue tells → IsTrue ((state self.old).is_entered (Self.File.file opened.now)) }
         requires calm { IsTrue tells → (state self.old).is_doubtful (Self.File.file opened.now) ≡ false }

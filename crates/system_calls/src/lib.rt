@@ -2,7 +2,7 @@
 //!
 //! [`SystemCalls`] states what each call does, what a failure leaves, and what a crash leaves of what was done. [`Linux`] makes
 //! them by std, each by one call of std, and tells nothing, since std says nothing of what a file holds: that Linux and the disk
-//! keep what is stated here is trusted, and nothing beside it of what the folder's host does.
+//! keep what is stated here is trusted, and so is, by reading, that these bodies ask it of them.
 #![tactic(auto)]
 
 mod calls;

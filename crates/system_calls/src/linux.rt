@@ -91,16 +91,22 @@ impl<'a, R: Read, W: Write> Linux<'a, R, W> {
 }
 
 impl<'a, R: Read, W: Write> SystemCalls for Linux<'a, R, W> {
-    ghost use Rattle.std.specs.Prelude.{false};
+    ghost use Rattle.std.specs.Prelude.{false, []};
     ghost use Rattle.host_trait.specs.World.{empty_world, untold};
 
     type Folder = File;
+
+    type Locked = File;
 
     type File = InFolder;
 
     ghost tells = { false };
 
     ghost state = { λ linux. record { world = empty_world; is_entered = λ file. false; is_doubtful = λ file. false; has_lost = false } };
+
+    ghost leads = { [] };
+
+    ghost number_of = { λ folder. 0 };
 
     ghost finds = { λ folder. false };
 
@@ -115,13 +121,13 @@ impl<'a, R: Read, W: Write> SystemCalls for Linux<'a, R, W> {
         }
     }
 
-    fn number(&self, folder: &File) -> i32 {
-        folder.as_raw_fd()
+    fn number(&self, folder: &File) -> u32 {
+        u32::try_from(folder.as_raw_fd()).unwrap_or(0)
     }
 
-    fn lock(&mut self, folder: &File) -> Result<(), Refused> {
+    fn lock(&mut self, folder: File) -> Result<File, Refused> {
         match folder.try_lock() {
-            Ok(()) => Ok(()),
+            Ok(()) => Ok(folder),
             Err(_) => Err(Refused::Failed),
         }
     }

@@ -8,4 +8,4 @@ mod events;
 mod replay;
 mod system;
 
-pub use system::{Fault, MemoryFile, MemoryFolder, MemorySystem};
+pub use system::{Fault, MemoryFile, MemoryFolder, MemoryLocked, MemorySystem};

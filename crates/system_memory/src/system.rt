@@ -27,6 +27,10 @@ pub enum Fault {
 #[derive(Clone, Copy, Drop)]
 pub struct MemoryFolder;
 
+/// A handle that has its lock.
+#[derive(Clone, Copy, Drop)]
+pub struct MemoryLocked;
+
 /// A handle of a file.
 #[derive(Drop)]
 pub struct MemoryFile {
@@ -60,7 +64,7 @@ impl Plan {
     }
 }
 
-/// A folder, an input and an output in memory. Want of memory is a refusal.
+/// A folder `f`, an input and an output in memory. Want of memory is a refusal.
 #[derive(Drop)]
 pub struct MemorySystem {
     alloc: Global,
@@ -142,18 +146,24 @@ impl MemorySystem {
 }
 
 impl SystemCalls for MemorySystem {
-    ghost use Rattle.std.specs.Prelude.{true, drop};
+    ghost use Rattle.std.specs.Prelude.{true, drop, codes};
     ghost use Rattle.system_memory.specs.Shown.{state_in};
     ghost use Rattle.system_memory.specs.Laws.{found_stays};
     ghost use Rattle.system_memory.specs.Held.{held_of};
 
     type Folder = MemoryFolder;
 
+    type Locked = MemoryLocked;
+
     type File = MemoryFile;
 
     ghost tells = { true };
 
     ghost state = { state_in };
+
+    ghost leads = { codes "f/." };
+
+    ghost number_of = { λ folder. 3 };
 
     ghost finds = { λ folder. true };
 
@@ -168,18 +178,18 @@ impl SystemCalls for MemorySystem {
         Ok(MemoryFolder)
     }
 
-    fn number(&self, _folder: &MemoryFolder) -> i32 {
+    fn number(&self, _folder: &MemoryFolder) -> u32 {
         3
     }
 
-    fn lock(&mut self, _folder: &MemoryFolder) -> Result<(), Refused> {
+    fn lock(&mut self, _folder: MemoryFolder) -> Result<MemoryLocked, Refused> {
         if self.plan.is_refused() {
             return Err(Refused::Failed);
         }
-        Ok(())
+        Ok(MemoryLocked)
     }
 
-    fn reaches(&mut self, _folder: &MemoryFolder) -> Result<bool, Refused> {
+    fn reaches(&mut self, _folder: &MemoryLocked) -> Result<bool, Refused> {
         if self.plan.is_refused() {
             return Err(Refused::Failed);
         }
@@ -188,7 +198,7 @@ impl SystemCalls for MemorySystem {
 
     fn open(
         &mut self,
-        _folder: &MemoryFolder,
+        _folder: &MemoryLocked,
         file: FileId,
         _name: &str,
         _access: Access,
@@ -208,7 +218,7 @@ impl SystemCalls for MemorySystem {
 
     fn make(
         &mut self,
-        _folder: &MemoryFolder,
+        _folder: &MemoryLocked,
         file: FileId,
         _name: &str,
     ) -> Result<MemoryFile, Refused> {
@@ -225,7 +235,7 @@ impl SystemCalls for MemorySystem {
         }
     }
 
-    fn look(&mut self, _folder: &MemoryFolder, file: FileId, _name: &str) -> Result<Look, Refused> {
+    fn look(&mut self, _folder: &MemoryLocked, file: FileId, _name: &str) -> Result<Look, Refused> {
         if self.plan.is_refused() {
             return Err(Refused::Failed);
         }
@@ -299,7 +309,7 @@ impl SystemCalls for MemorySystem {
         }
     }
 
-    fn sync_folder(&mut self, _folder: &MemoryFolder) -> Result<(), Refused> {
+    fn sync_folder(&mut self, _folder: &MemoryLocked) -> Result<(), Refused> {
         if self.plan.is_refused() {
             let _ = note_lost(&mut self.events);
             return Err(Refused::Failed);

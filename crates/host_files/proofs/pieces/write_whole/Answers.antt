@@ -1,9 +1,14 @@
-use Rattle.std.proofs.Common.{◌≡◌, ◌≢◌, ◌+◌, ◌<◌, ◌≤◌, ℕ, length, sym, subst, rules}
+use Rattle.std.proofs.Common.{◌≡◌, ◌≢◌, ◌+◌, ◌<◌, ◌≤◌, ℕ, Bool, length, sym, ◌∙◌, ap, subst, rules}
+use Rattle.host_trait.specs.declared.channels.FileId.{FileId}
 use Rattle.system_calls.specs.System.{System}
 use Rattle.system_calls.specs.declared.refused.Refused.{Refused}
 use Rattle.host_files.proofs.Parts.{WroteSome, entries_on, write_more, write_fails, wrote_some, wrote_whole, overwrites, goes_to}
 use Rattle.host_files.proofs.pieces.write_whole.Goals as goal
 use Rattle.host_files.proofs.pieces.write_whole.Goals.{in-Ok+else-done-bytes+else-more-eq0, in-Err-Interrupted}
+
+pub write_at-requires-clause-calm : goal.write_at-requires-clause-calm
+write_at-requires-clause-calm g c = λ told.
+    ap (λ (doubtful : FileId → Bool). doubtful (g.S.File.Handle.file c.args.opened.now)) (c.loop.invariant.some told).beside.entries.doubtful ∙ c.requires.calm told
 
 pub returns-then-done-bytes-clause-told : goal.returns-then-done-bytes-clause-told
 returns-then-done-bytes-clause-told g c = λ told.
