@@ -20,7 +20,7 @@ def crates():
     """The names of the crates in the order of crates.txt, those of tests left out."""
     with open(os.path.join(TOP, "crates.txt")) as file:
         names = [line.split(":")[0].split()[0] for line in file if ":" in line and not line.startswith("#")]
-    return [name for name in names if not name.endswith("_tests") and name != "test_cases"]
+    return [name for name in names if not name.endswith("_tests") and name not in ("test_cases", "system_machine", "folder_runs")]
 
 
 def files_of(crate, kind):

@@ -1,7 +1,6 @@
 ghost use Rattle.std.specs.Prelude.{ℕ, ◌≤◌, IsTrue};
 ghost use Rattle.host_trait.specs.Files.{HasSlot};
 
-use crate::machine::{Fault, Machine, OnMachine};
 use crate::steps::{Step, add_answer, bytes_of, file_of};
 use crate::streams::{add_machine_streams, add_standard, add_streams};
 use crate::sweep::add_sweep;
@@ -11,6 +10,7 @@ use host_trait::{Channel, FileId};
 use std::alloc::{AllocError, Global};
 use std::{fs, io};
 use system_calls::{Linux, SystemCalls};
+use system_machine::{Fault, Machine, OnMachine};
 
 type Machined<'a> = FolderHost<OnMachine<'a>>;
 

@@ -22,15 +22,14 @@
 #![tactic(auto)]
 
 mod bench;
-mod machine;
 mod steps;
 mod streams;
 mod sweep;
 mod told;
 
 use crate::bench::Bench;
-use crate::machine::Machine;
 use std::io;
+use system_machine::Machine;
 
 fn main(rt: HostRuntime) -> io::Result<()> {
     let machine = Machine::new(rt.alloc());

@@ -3,12 +3,12 @@ ghost use Rattle.std.specs.Prelude.{◌≡◌, IsTrue};
 ghost use Rattle.system_calls.specs.System.{NoSyncRefused};
 ghost use Rattle.host_files.specs.Path.{path_of};
 
-use crate::machine::{Machine, OnMachine};
 use host_files::FolderHost;
 use host_trait::{Channel, Host};
 use std::alloc::{AllocError, Global};
 use std::io;
 use system_calls::{Linux, SystemCalls};
+use system_machine::{Machine, OnMachine};
 
 // Writes what a host answers that pulls twice and emits a line twice, and how many faults of each it counts then.
 fn add_answers<S: SystemCalls + Drop>(
@@ -43,12 +43,13 @@ fn add_over<S: SystemCalls + Drop>(
     add_answers(out, &mut host)
 }
 
-/// Writes what a host answers over the system in memory, as that answers, and the calls that it made.
+/// Writes what a host answers over the system in memory, whose input is sevens, and the calls that it made.
 pub fn add_machine_streams(
     rt: &HostRuntime,
     machine: &Machine,
     out: &mut String,
 ) -> Result<(), AllocError> {
+    machine.give(&[7; 32])?;
     add_over(rt.alloc(), OnMachine(machine), "f", out)?;
     out.push_str(machine.taken().as_str())
 }

@@ -2,11 +2,11 @@
 ghost use Rattle.std.specs.Prelude.{◌≤◌};
 ghost use Rattle.host_trait.specs.Files.{HasSlot};
 
-use crate::machine::{Fault, Machine, OnMachine};
 use crate::steps::{GRAIN, MANAGER};
 use host_files::FolderHost;
 use host_trait::{Channel, FileId, Host};
 use std::alloc::{AllocError, Global};
+use system_machine::{Fault, Machine, OnMachine};
 
 // What one run found wrong.
 #[derive(Clone, Copy)]

@@ -1,5 +1,5 @@
-// A system in memory, which records the calls that are made, fails where it is told to, and forgets at a crash what doesn't last.
-ghost use Rattle.std.specs.Prelude.{◌≡◌, ◌≤◌, IfOk};
+// The machine: its files, its streams, the calls so far, and which of them fails.
+ghost use Rattle.std.specs.Prelude.{◌≡◌, ◌≤◌, length, IfOk};
 
 use host_trait::FileId;
 use std::alloc::{AllocError, Global};
@@ -17,13 +17,24 @@ pub enum Fault {
     Interrupted,
     /// It moves half of the bytes.
     Short,
+    /// It is refused, and so is each later call. Nothing is done.
+    Dead,
+    /// There is no room: no file is made, nothing is written or put out, and no sync succeeds.
+    Full,
     /// Nothing may be written.
     ReadOnly,
     /// Names aren't looked for in the folder.
     Unreached,
 }
 
-/// A file: what a read gives, what a crash leaves of it, and whether its entry lasts.
+/// A file and its bytes.
+#[derive(Drop)]
+pub struct HeldFile {
+    pub file: FileId,
+    pub bytes: Vec<u8>,
+}
+
+// A file: what a read gives, what a crash leaves of it, and whether its entry lasts.
 #[derive(Drop)]
 struct Stored {
     file: FileId,
@@ -33,12 +44,15 @@ struct Stored {
     is_pipe: bool,
 }
 
-/// The files, the calls so far as one text, each behind the end of a line, and which call fails.
+/// A folder and streams in memory, the calls so far as one text, each behind the end of a line, and which call fails.
 #[derive(Drop)]
 pub struct Machine {
     alloc: Global,
     text: RefCell<String>,
     files: RefCell<Vec<Stored>>,
+    input: RefCell<Vec<u8>>,
+    pulled: Cell<usize>,
+    output: RefCell<Vec<u8>>,
     next: Cell<i32>,
     calls: Cell<u64>,
     failing: Cell<u64>,
@@ -74,12 +88,15 @@ fn put(bytes: &mut Vec<u8>, at: usize, given: &[u8]) -> Result<(), AllocError> {
 }
 
 impl Machine {
-    /// An empty folder, and no call yet.
+    /// An empty folder, no input, and no call yet.
     pub fn new(alloc: Global) -> Machine {
         Machine {
             alloc,
             text: RefCell::new(String::new(alloc)),
             files: RefCell::new(Vec::new(alloc)),
+            input: RefCell::new(Vec::new(alloc)),
+            pulled: Cell::new(0),
+            output: RefCell::new(Vec::new(alloc)),
             next: Cell::new(3),
             calls: Cell::new(0),
             failing: Cell::new(0),
@@ -112,8 +129,10 @@ impl Machine {
         let count = self.calls.get().saturating_add(1);
         self.calls.set(count);
         let failing = self.failing.get();
-        if failing == 0 || failing == count {
-            return self.fault.get();
+        let fault = self.fault.get();
+        let goes_on = fault == Fault::Dead && failing < count;
+        if failing == 0 || failing == count || goes_on {
+            return fault;
         }
         Fault::None
     }
@@ -121,7 +140,15 @@ impl Machine {
     // Whether this call is refused.
     fn turn_plain(&self) -> Result<(), Refused> {
         match self.turn() {
-            Fault::Refused => Err(Refused::Failed),
+            Fault::Refused | Fault::Dead => Err(Refused::Failed),
+            _ => Ok(()),
+        }
+    }
+
+    // Whether this call, which needs room, is refused.
+    fn turn_with_room(&self) -> Result<(), Refused> {
+        match self.turn() {
+            Fault::Refused | Fault::Dead | Fault::Full => Err(Refused::Failed),
             _ => Ok(()),
         }
     }
@@ -139,6 +166,46 @@ impl Machine {
         match self.text.try_replace(String::new(self.alloc)) {
             Ok(text) => text,
             Err(_) => String::new(self.alloc),
+        }
+    }
+
+    /// This is the input from here on, and nothing was put out.
+    pub fn give(&self, input: &[u8]) -> Result<(), AllocError> {
+        self.pulled.set(0);
+        let given = input.to_vec(self.alloc)?;
+        let _ = self.input.try_replace(given);
+        let _ = self.output.try_replace(Vec::new(self.alloc));
+        Ok(())
+    }
+
+    /// What was put out since the input was given.
+    pub fn put_out(&self) -> Result<Vec<u8>, AllocError> {
+        match self.output.try_borrow() {
+            Ok(output) => output.to_vec(self.alloc),
+            Err(_) => Err(AllocError),
+        }
+    }
+
+    // Moves the next bytes of the input, or half of those that there is room for.
+    fn pull(&self, fault: Fault, into: &mut [u8]) -> Result<usize, Refused>
+        ensures { IfOk result (λ n. n ≤ length into.old) }
+    {
+        let Ok(input) = self.input.try_borrow() else {
+            return Err(Refused::Failed);
+        };
+        let from = self.pulled.get();
+        let rest = input.get(from..).unwrap_or(&[]);
+        let count = moved(fault, rest.len().min(into.len()));
+        into[..count].copy_from_slice(&rest[..count]);
+        self.pulled.set(from.wrapping_add(count));
+        Ok(count)
+    }
+
+    // Puts some bytes out.
+    fn emit(&self, bytes: &[u8]) -> Result<(), Refused> {
+        match self.output.try_borrow_mut() {
+            Ok(mut output) => { output.extend_from_slice(bytes).map_err(|_| Refused::Failed) }
+            Err(_) => Err(Refused::Failed),
         }
     }
 
@@ -184,6 +251,33 @@ impl Machine {
             if stored.is_entered {
                 self.lay(stored.file, &stored.lasting, stored.is_pipe)?;
             }
+        }
+        Ok(())
+    }
+
+    /// The regular files of the folder, with their bytes.
+    pub fn held(&self) -> Result<Vec<HeldFile>, AllocError> {
+        let Ok(files) = self.files.try_borrow() else {
+            return Err(AllocError);
+        };
+        let mut held = Vec::new(self.alloc);
+        for stored in files.iter() {
+            if !stored.is_pipe {
+                let bytes = stored.bytes.to_vec(self.alloc)?;
+                held.push(HeldFile {
+                    file: stored.file,
+                    bytes,
+                })?;
+            }
+        }
+        Ok(held)
+    }
+
+    /// The folder has these files and no others, and all of them last. No call from here on.
+    pub fn hold(&self, held: &[HeldFile]) -> Result<(), AllocError> {
+        self.restart(3);
+        for one in held {
+            self.lay(one.file, &one.bytes, false)?;
         }
         Ok(())
     }
@@ -306,7 +400,7 @@ impl<'a> Handle for OpenedFile<'a> {
     ghost file = { λ handle. handle.file };
 }
 
-/// The calls of a machine. Its input and its output fail where the machine is told to.
+/// The calls of a machine, which tell nothing.
 #[derive(Clone, Copy)]
 pub struct OnMachine<'a>(pub &'a Machine);
 
@@ -382,7 +476,7 @@ impl<'a> SystemCalls for OnMachine<'a> {
     fn reaches(&mut self, folder: &OpenFolder<'a>) -> Result<bool, Refused> {
         self.0.note(folder.number, "reaches")?;
         match self.0.turn() {
-            Fault::Refused => Err(Refused::Failed),
+            Fault::Refused | Fault::Dead => Err(Refused::Failed),
             Fault::Unreached => Ok(false),
             _ => Ok(true),
         }
@@ -399,13 +493,12 @@ impl<'a> SystemCalls for OnMachine<'a> {
         if access == Access::Both && fault == Fault::Unreached {
             return Err(Refused::Missing);
         }
-        if access == Access::Read && fault == Fault::Refused {
+        if fault == Fault::Refused || fault == Fault::Dead {
             return Err(Refused::Failed);
         }
         self.0.look(file)?;
         match (access, fault) {
             (Access::Read, _) => self.opened(file, "open to read", name),
-            (Access::Both, Fault::Refused) => Err(Refused::Failed),
             (Access::Both, Fault::ReadOnly) => Err(Refused::ReadOnly),
             (Access::Both, _) => self.opened(file, "open", name),
         }
@@ -418,7 +511,7 @@ impl<'a> SystemCalls for OnMachine<'a> {
         name: &str,
     ) -> Result<OpenedFile<'a>, Refused> {
         match self.0.turn() {
-            Fault::Refused => Err(Refused::Failed),
+            Fault::Refused | Fault::Dead | Fault::Full => Err(Refused::Failed),
             Fault::ReadOnly => Err(Refused::ReadOnly),
             _ => {
                 self.0.make(file)?;
@@ -461,7 +554,7 @@ impl<'a> SystemCalls for OnMachine<'a> {
         machine.note(opened.number, line.as_str())?;
         let fault = machine.turn();
         match fault {
-            Fault::Refused => return Err(Refused::Failed),
+            Fault::Refused | Fault::Dead => return Err(Refused::Failed),
             Fault::Interrupted => return Err(Refused::Interrupted),
             _ => {}
         }
@@ -487,8 +580,10 @@ impl<'a> SystemCalls for OnMachine<'a> {
         )?;
         machine.note(opened.number, line.as_str())?;
         let fault = machine.turn();
-        if fault == Fault::Interrupted {
-            return Err(Refused::Interrupted);
+        match fault {
+            Fault::Interrupted => return Err(Refused::Interrupted),
+            Fault::Dead | Fault::Full => return Err(Refused::Failed),
+            _ => {}
         }
         let count = moved(fault, rest.len());
         machine.write(opened.file, there, &rest[..count])?;
@@ -500,25 +595,24 @@ impl<'a> SystemCalls for OnMachine<'a> {
 
     fn sync_folder(&mut self, folder: &OpenFolder<'a>) -> Result<(), Refused> {
         self.0.note(folder.number, "sync folder")?;
-        self.0.turn_plain()?;
+        self.0.turn_with_room()?;
         self.0.enter_all()
     }
 
     fn sync_data(&mut self, opened: &OpenedFile<'a>) -> Result<(), Refused> {
         self.0.note(opened.number, "sync")?;
-        self.0.turn_plain()?;
+        self.0.turn_with_room()?;
         self.0.settle(opened.file)
     }
 
     fn read_input(&mut self, into: &mut [u8]) -> Result<usize, Refused> {
         let fault = self.0.turn();
         match fault {
-            Fault::Refused => return Err(Refused::Failed),
+            Fault::Refused | Fault::Dead => return Err(Refused::Failed),
             Fault::Interrupted => return Err(Refused::Interrupted),
             _ => {}
         }
-        let count = moved(fault, into.len());
-        into[..count].fill(7);
+        let count = self.0.pull(fault, into)?;
         Ok(count)
     }
 
@@ -528,9 +622,12 @@ impl<'a> SystemCalls for OnMachine<'a> {
         self.0.note(1, line.as_str())?;
         let fault = self.0.turn();
         match fault {
-            Fault::Refused => Err(Refused::Failed),
-            Fault::Interrupted => Err(Refused::Interrupted),
-            _ => Ok(moved(fault, rest.len())),
+            Fault::Refused | Fault::Dead | Fault::Full => return Err(Refused::Failed),
+            Fault::Interrupted => return Err(Refused::Interrupted),
+            _ => {}
         }
+        let count = moved(fault, rest.len());
+        self.0.emit(&rest[..count])?;
+        Ok(count)
     }
 }

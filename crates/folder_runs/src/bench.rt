@@ -1,0 +1,85 @@
+use crate::carrying::{Asked, carry};
+use crate::ends::text_of;
+use crate::sweep::add_sweep;
+use std::alloc::{AllocError, Global};
+use system_machine::{Fault, Machine};
+use test_cases::BANK;
+
+/// A machine, and the input of the next command.
+#[derive(Drop)]
+pub struct Bench<'a> {
+    alloc: Global,
+    machine: &'a Machine,
+    input: String,
+}
+
+fn fault_of(word: &str) -> Fault {
+    match word {
+        "refused" => Fault::Refused,
+        "dead" => Fault::Dead,
+        "full" => Fault::Full,
+        "interrupted" => Fault::Interrupted,
+        "short" => Fault::Short,
+        _ => Fault::None,
+    }
+}
+
+impl<'a> Bench<'a> {
+    pub fn new(alloc: Global, machine: &'a Machine) -> Bench<'a> {
+        Bench {
+            alloc,
+            machine,
+            input: String::new(alloc),
+        }
+    }
+
+    /// What is told of a line: nothing of one that only says what cases show, or lays out what they find.
+    pub fn told(&mut self, line: &str) -> Result<String, AllocError> {
+        let mut out = String::new(self.alloc);
+        let (word, rest) = line.split_once(' ').unwrap_or((line, ""));
+        match word {
+            "" | "#" => {}
+            "empty" => {
+                self.machine.hold(&[])?;
+                self.input.clear();
+            }
+            "bank" => self.input = String::from_str(self.alloc, BANK)?,
+            "<" => {
+                self.input.push_str(rest)?;
+                self.input.push_str("\n")?;
+            }
+            "silo" => self.add_command(&mut out, rest)?,
+            "fails" => self.add_fails(&mut out, rest)?,
+            _ => out.push_str(" -> no such case")?,
+        }
+        Ok(out)
+    }
+
+    // Carries a command, and writes its end.
+    fn add_command(&mut self, out: &mut String, words: &str) -> Result<(), AllocError> {
+        let input = self.input.as_str();
+        let ended = carry(self.alloc, self.machine, Asked { words, input })?;
+        self.input.clear();
+        let text = text_of(self.alloc, &ended)?;
+        let calls = ended.calls;
+        write!(out, " -> {text}, {calls} calls")?;
+        for line in ended.output.lines() {
+            write!(out, "\n{line}")?;
+        }
+        Ok(())
+    }
+
+    // Writes how a command ends where each of its calls fails in turn.
+    fn add_fails(&self, out: &mut String, rest: &str) -> Result<(), AllocError> {
+        let (word, words) = rest.split_once(' ').unwrap_or((rest, ""));
+        let input = self.input.as_str();
+        out.push_str(" -> ")?;
+        add_sweep(
+            self.alloc,
+            self.machine,
+            Asked { words, input },
+            fault_of(word),
+            out,
+        )
+    }
+}

@@ -1,0 +1,82 @@
+// A command by a host over the machine, and how it ends.
+use host_files::FolderHost;
+use silo_top::{Gate, GatePlace, Status, run_alone};
+use std::alloc::{AllocError, Global};
+use system_machine::{Fault, Machine, OnMachine};
+
+#[derive(Drop)]
+struct OpenGate;
+
+impl Gate for OpenGate {
+    fn reach(&self, _place: GatePlace) {}
+}
+
+/// A command's words, and its input.
+#[derive(Clone, Copy)]
+pub struct Asked<'a> {
+    pub words: &'a str,
+    pub input: &'a str,
+}
+
+/// How a command ended, what it put out, and how many calls of the system it made.
+#[derive(Drop)]
+pub struct Ended {
+    pub status: Status,
+    pub output: String,
+    pub calls: u64,
+}
+
+fn words_of(alloc: Global, list: &str) -> Result<Vec<String>, AllocError> {
+    let mut words = Vec::new(alloc);
+    for word in list.split_whitespace() {
+        words.push(String::from_str(alloc, word)?)?;
+    }
+    Ok(words)
+}
+
+// What was put out, as text.
+fn output_of(alloc: Global, machine: &Machine) -> Result<String, AllocError> {
+    let bytes = machine.put_out()?;
+    String::from_str(alloc, std::str::from_utf8(&bytes).unwrap_or("?"))
+}
+
+// Carries the command by a new host. Words that ask for workers are bad use here.
+fn carry_by_host(alloc: Global, machine: &Machine, words: &[String]) -> Result<Status, AllocError> {
+    let mut host = FolderHost::new(alloc, OnMachine(machine), "f")?;
+    match run_alone(alloc, words, &mut host, &OpenGate) {
+        Ok(status) => Ok(status),
+        Err(_) => Ok(Status::BadUse),
+    }
+}
+
+/// Carries a command whose nth call of the system is answered so, and where n is 0 each one.
+pub fn carry_with(
+    alloc: Global,
+    machine: &Machine,
+    asked: Asked<'_>,
+    nth: u64,
+    fault: Fault,
+) -> Result<Ended, AllocError> {
+    let words = words_of(alloc, asked.words)?;
+    machine.give(asked.input.as_bytes())?;
+    machine.fail(nth, fault);
+    let status = carry_by_host(alloc, machine, words.as_slice())?;
+    let calls = machine.calls();
+    let _ = machine.taken();
+    let output = output_of(alloc, machine)?;
+    Ok(Ended {
+        status,
+        output,
+        calls,
+    })
+}
+
+/// Carries a command, and no call fails.
+pub fn carry(alloc: Global, machine: &Machine, asked: Asked<'_>) -> Result<Ended, AllocError> {
+    carry_with(alloc, machine, asked, 0, Fault::None)
+}
+
+/// How many lines a text has.
+pub fn count_lines(text: &str) -> usize {
+    text.lines().count()
+}

@@ -1,0 +1,153 @@
+// A command over copies of a folder, in each of which another call of the system fails.
+use crate::carrying::{Asked, Ended, carry, carry_with, count_lines};
+use crate::ends::{Kind, are_same, is_same, kind_of, text_of, untruth_of_end};
+use crate::folders::{untruth_of_making, untruth_of_silo};
+use crate::records::Said;
+use crate::tally::Tally;
+use std::alloc::{AllocError, Global};
+use system_machine::{Fault, HeldFile, Machine};
+
+// What stays the same for all copies.
+#[derive(Drop)]
+struct Sweep<'a> {
+    alloc: Global,
+    machine: &'a Machine,
+    asked: Asked<'a>,
+    fault: Fault,
+    before: Vec<HeldFile>,
+    history: String,
+    whole: Ended,
+}
+
+// How the copies ended.
+#[derive(Drop)]
+struct Found {
+    ends: Tally,
+    same: u64,
+    untruths: String,
+}
+
+impl Found {
+    // Notes an untruth, where there is one.
+    fn note(&mut self, nth: u64, left: &str, untruth: Option<&str>) -> Result<(), AllocError> {
+        match untruth {
+            Some(untruth) => {
+                let untruths = &mut self.untruths;
+                write!(untruths, "\n  call {nth}, {left}: {untruth}")
+            }
+            None => Ok(()),
+        }
+    }
+}
+
+impl<'a> Sweep<'a> {
+    // What is untrue of the folder as it stands.
+    fn untruth_of_folder(&self, ended: &Ended) -> Result<Option<&'static str>, AllocError> {
+        let alloc = self.alloc;
+        let replies = match kind_of(self.asked.words) {
+            Kind::Makes => {
+                let input = self.asked.input;
+                return untruth_of_making(alloc, self.machine, input, ended.status);
+            }
+            Kind::Runs => ended.output.as_str(),
+            Kind::Reports => "",
+        };
+        let said = Said {
+            before: self.history.as_str(),
+            replies,
+            lines: count_lines(self.asked.input) as u64,
+        };
+        untruth_of_silo(alloc, self.machine, said)
+    }
+
+    // Opens the folder as it stands, and after a crash.
+    fn open_again(&self, found: &mut Found, nth: u64, ended: &Ended) -> Result<(), AllocError> {
+        let left = self.machine.held()?;
+        if kind_of(self.asked.words) == Kind::Reports && !are_same(&left, &self.before) {
+            found.note(nth, "at its end", Some("a report that changes a file"))?;
+        }
+        self.machine.crash()?;
+        let untruth = self.untruth_of_folder(ended)?;
+        found.note(nth, "all lost", untruth)?;
+        self.machine.hold(&left)?;
+        let untruth = self.untruth_of_folder(ended)?;
+        found.note(nth, "all kept", untruth)
+    }
+
+    // Has the nth call of a copy fail.
+    fn try_one(&self, found: &mut Found, nth: u64) -> Result<(), AllocError> {
+        self.machine.hold(&self.before)?;
+        let ended = carry_with(self.alloc, self.machine, self.asked, nth, self.fault)?;
+        let text = text_of(self.alloc, &ended)?;
+        found.ends.add(text.as_str())?;
+        if is_same(&ended, &self.whole) {
+            found.same = found.same.saturating_add(1);
+        }
+        let untruth = untruth_of_end(self.asked, self.fault, &ended, &self.whole);
+        found.note(nth, "at its end", untruth)?;
+        self.open_again(found, nth, &ended)
+    }
+
+    fn try_all(&self) -> Result<Found, AllocError> {
+        let mut found = Found {
+            ends: Tally::new(self.alloc),
+            same: 0,
+            untruths: String::new(self.alloc),
+        };
+        for call in 0..self.whole.calls {
+            self.try_one(&mut found, call.saturating_add(1))?;
+        }
+        Ok(found)
+    }
+}
+
+// The records of the folder as it stands, none where it is no silo.
+fn history_of(alloc: Global, machine: &Machine) -> Result<String, AllocError> {
+    let asked = Asked {
+        words: "history",
+        input: "",
+    };
+    Ok(carry(alloc, machine, asked)?.output)
+}
+
+fn sweep_of<'a>(
+    alloc: Global,
+    machine: &'a Machine,
+    asked: Asked<'a>,
+    fault: Fault,
+) -> Result<Sweep<'a>, AllocError> {
+    let before = machine.held()?;
+    let history = history_of(alloc, machine)?;
+    let whole = carry(alloc, machine, asked)?;
+    Ok(Sweep {
+        alloc,
+        machine,
+        asked,
+        fault,
+        before,
+        history,
+        whole,
+    })
+}
+
+/// Writes how the command ends where each of its calls fails in turn. The folder is as it was.
+pub fn add_sweep(
+    alloc: Global,
+    machine: &Machine,
+    asked: Asked<'_>,
+    fault: Fault,
+    out: &mut String,
+) -> Result<(), AllocError> {
+    let sweep = sweep_of(alloc, machine, asked, fault)?;
+    let found = sweep.try_all()?;
+    machine.hold(&sweep.before)?;
+    let calls = sweep.whole.calls;
+    let same = found.same;
+    write!(out, "{calls} calls: ")?;
+    found.ends.write(out)?;
+    write!(out, "; {same} as without a fault")?;
+    if found.untruths.is_empty() {
+        return out.push_str("; no untruth");
+    }
+    out.push_str(found.untruths.as_str())
+}
