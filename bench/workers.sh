@@ -5,7 +5,7 @@
 # they cost nothing. Prints for each the transfers a second, the processor time that the run spent, and how many were aborted.
 # Fails where a run doesn't end with 0, leaves a line without a reply, or makes or loses money.
 # Wanted where syncs are free: 2 workers at least 1.3 times as many a second as 1, on four processors; and no run with more than 1.5
-# times the processor time of the run on one thread. Of seven runs one gave the first, none the second (docs/OPERATIONS.md): all
+# times the processor time of the run on one thread. Of seven runs none gave either (docs/OPERATIONS.md): all
 # threads reach the core by one turn, which settling one unit takes about 16 times. By a profile of 2 workers there, of all samples
 # 36 % wait for the turn (17 % look again at once, 19 % give the processor away), and 30 % are of the thread that settles. More threads
 # wait more, and waiting takes processors.
