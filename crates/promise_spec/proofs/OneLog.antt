@@ -1,5 +1,5 @@
 -- An image has at most one log.
-use Rattle.std.proofs.Common.{◌≡◌, ◌≤◌, List, [], ◌∷◌, ◌++◌, length, map, refl, sym, ap, subst, ◌∙◌}
+use Rattle.std.proofs.Common.{◌≡◌, ℕ, ◌≤◌, List, [], ◌∷◌, ◌++◌, length, map, refl, sym, ap, subst, ◌∙◌}
 use Rattle.std.specs.List.{flat_map, AllByRecursion}
 use Rattle.std.proofs.lemmas.List.{length-map}
 use Rattle.base_types.specs.declared.calls.UnitNo.{UnitNo}
@@ -7,6 +7,7 @@ use Rattle.base_types.specs.declared.calls.Value.{Value}
 use Rattle.base_types.specs.declared.shapes.Shape.{Shape}
 use Rattle.base_types.specs.declared.stores.Version.{Version}
 use Rattle.host_trait.specs.World.{Image}
+use Rattle.host_trait.specs.declared.channels.FileId.TheVariants.{Manager}
 use Rattle.field_codec.specs.Spelling.{spelling_of_version, VersionFits}
 use Rattle.field_codec.specs.Fields.{version_at}
 use Rattle.field_codec.proofs.Readers.{apart}
@@ -19,19 +20,19 @@ use Rattle.commit_log.specs.Spelling.{spelling_of_body}
 use Rattle.commit_log.specs.Bodies.{IsRecordIn}
 use Rattle.commit_log.specs.Fields.{records_in}
 use Rattle.commit_log.proofs.Fields.{records_reads}
-use Rattle.silo_spec.specs.Silos.{manager}
 use Rattle.promise_spec.specs.Records.{Commit}
-use Rattle.promise_spec.specs.Logs.{WriteStands, WritesStand, IsKept, body_of, IsLog, live_slot}
+use Rattle.promise_spec.specs.Logs.{magic, WriteStands, WritesStand, IsKept, body_of, IsLog}
+use Rattle.silo_spec.specs.Slots.{IsLive}
 use Rattle.promise_spec.proofs.Lists.{head_of, tail_of, none_is, parts_of}
 
 versions_same : (v w : Version) → VersionFits v → VersionFits w → spelling_of_version v ≡ spelling_of_version w → v ≡ w
 versions_same v w first second e = (apart spelling_of_version VersionFits version_at (version_reads 0) v w [] [] first second (ap (λ l. l ++ []) e)).0
 
-module _ (shape : Shape) (image : Image) where
-  state_same : (unit : UnitNo) (w : Written) (s t : List Value) → WriteStands live_slot shape image unit w s → WriteStands live_slot shape image unit w t → s ≡ t
+module _ (live : ℕ) (shape : Shape) (image : Image) where
+  state_same : (unit : UnitNo) (w : Written) (s t : List Value) → WriteStands live shape image unit w s → WriteStands live shape image unit w t → s ≡ t
   state_same unit w s t a b = ap (λ (v : Version). v.state) (versions_same _ _ a.version.version_is.fits b.version.version_is.fits (sym a.version.here ∙ b.version.here))
 
-  states_same : (unit : UnitNo) (ws : List Written) (s t : List (List Value)) → WritesStand live_slot shape image unit ws s → WritesStand live_slot shape image unit ws t → s ≡ t
+  states_same : (unit : UnitNo) (ws : List Written) (s t : List (List Value)) → WritesStand live shape image unit ws s → WritesStand live shape image unit ws t → s ≡ t
   states_same unit [] [] [] a b = refl
   states_same unit [] [] (y ∷ t) a b = absurd b
   states_same unit [] (x ∷ s) t a b = absurd a
@@ -42,13 +43,13 @@ module _ (shape : Shape) (image : Image) where
       let more : s ≡ t = states_same unit ws s t a.1 b.1 in
       λ i. one i ∷ more i
 
-  commit_same : (c d : Commit) → IsKept live_slot shape image c → IsKept live_slot shape image d → c.logged ≡ d.logged → c ≡ d
+  commit_same : (c d : Commit) → IsKept live shape image c → IsKept live shape image d → c.logged ≡ d.logged → c ≡ d
   commit_same c d a b e =
-      let there : WritesStand live_slot shape image d.logged.unit d.logged.writes c.states = subst (λ (r : CommitRecord). WritesStand live_slot shape image r.unit r.writes c.states) e a.whole in
+      let there : WritesStand live shape image d.logged.unit d.logged.writes c.states = subst (λ (r : CommitRecord). WritesStand live shape image r.unit r.writes c.states) e a.whole in
       let states : c.states ≡ d.states = states_same d.logged.unit d.logged.writes c.states d.states there b.whole in
       λ i. record { logged = e i; states = states i }
 
-  commits_same : (cs ds : List Commit) → AllByRecursion (IsKept live_slot shape image) cs → AllByRecursion (IsKept live_slot shape image) ds → map (λ c. c.logged) cs ≡ map (λ c. c.logged) ds → cs ≡ ds
+  commits_same : (cs ds : List Commit) → AllByRecursion (IsKept live shape image) cs → AllByRecursion (IsKept live shape image) ds → map (λ c. c.logged) cs ≡ map (λ c. c.logged) ds → cs ≡ ds
   commits_same [] [] a b e = refl
   commits_same [] (d ∷ ds) a b e = absurd (none_is d.logged (map (λ c. c.logged) ds) (sym e))
   commits_same (c ∷ cs) [] a b e = absurd (none_is c.logged (map (λ c. c.logged) cs) e)
@@ -57,14 +58,14 @@ module _ (shape : Shape) (image : Image) where
       let more : cs ≡ ds = commits_same cs ds a.1 b.1 (tail_of c.logged d.logged (map (λ c. c.logged) cs) (map (λ c. c.logged) ds) e) in
       λ i. one i ∷ more i
 
-  fit_of : (cs : List Commit) → AllByRecursion (IsKept live_slot shape image) cs → AllByRecursion (IsRecordIn Logged shape) (map (λ c. c.logged) cs)
+  fit_of : (cs : List Commit) → AllByRecursion (IsKept live shape image) cs → AllByRecursion (IsRecordIn Logged shape) (map (λ c. c.logged) cs)
   fit_of [] all = tt
   fit_of (c ∷ cs) all = (all.0.fits, fit_of cs all.1)
 
   length_of : (cs : List Commit) → length (map (λ (c : Commit). c.logged) cs) ≡ length cs
   length_of cs = length-map cs (λ c. c.logged)
 
-  batch_same : (cs ds : List Commit) → length cs ≤ 64 → length ds ≤ 64 → AllByRecursion (IsKept live_slot shape image) cs → AllByRecursion (IsKept live_slot shape image) ds → body_of cs ≡ body_of ds → cs ≡ ds
+  batch_same : (cs ds : List Commit) → length cs ≤ 64 → length ds ≤ 64 → AllByRecursion (IsKept live shape image) cs → AllByRecursion (IsKept live shape image) ds → body_of cs ≡ body_of ds → cs ≡ ds
   batch_same cs ds few few_too a b e =
       let low : length (map (λ (c : Commit). c.logged) cs) ≤ 64 = subst (λ n. n ≤ 64) (sym (length_of cs)) few in
       let low_too : length (map (λ (c : Commit). c.logged) ds) ≤ 64 = subst (λ n. n ≤ 64) (sym (length_of ds)) few_too in
@@ -72,20 +73,29 @@ module _ (shape : Shape) (image : Image) where
       (apart spelling_of_body (λ rs. (length rs ≤ 64) × AllByRecursion (IsRecordIn Logged shape) rs) (records_in Logged shape) (records_reads Logged shape 0) (map (λ c. c.logged) cs) (map (λ c. c.logged) ds) [] [] (low, fit_of cs a) (low_too, fit_of ds b) (ap (λ l. l ++ []) e)).0
 
   batches_same : (xs ys : List (List Commit)) → AllByRecursion (λ batch. length batch ≤ 64) xs → AllByRecursion (λ batch. length batch ≤ 64) ys
-      → AllByRecursion (IsKept live_slot shape image) (flat_map (λ batch. batch) xs) → AllByRecursion (IsKept live_slot shape image) (flat_map (λ batch. batch) ys) → map body_of xs ≡ map body_of ys → xs ≡ ys
+      → AllByRecursion (IsKept live shape image) (flat_map (λ batch. batch) xs) → AllByRecursion (IsKept live shape image) (flat_map (λ batch. batch) ys) → map body_of xs ≡ map body_of ys → xs ≡ ys
   batches_same [] [] few few_too a b e = refl
   batches_same [] (y ∷ ys) few few_too a b e = absurd (none_is (body_of y) (map body_of ys) (sym e))
   batches_same (x ∷ xs) [] few few_too a b e = absurd (none_is (body_of x) (map body_of xs) e)
   batches_same (x ∷ xs) (y ∷ ys) few few_too a b e =
-      let p = parts_of (IsKept live_slot shape image) x (flat_map (λ batch. batch) xs) a in
-      let q = parts_of (IsKept live_slot shape image) y (flat_map (λ batch. batch) ys) b in
+      let p = parts_of (IsKept live shape image) x (flat_map (λ batch. batch) xs) a in
+      let q = parts_of (IsKept live shape image) y (flat_map (λ batch. batch) ys) b in
       let one : x ≡ y = batch_same x y few.0 few_too.0 p.0 q.0 (head_of (body_of x) (body_of y) (map body_of xs) (map body_of ys) e) in
       let more : xs ≡ ys = batches_same xs ys few.1 few_too.1 p.1 q.1 (tail_of (body_of x) (body_of y) (map body_of xs) (map body_of ys) e) in
       λ i. one i ∷ more i
 
-  pub one_log : (a b : List Commit) → IsLog live_slot shape image a → IsLog live_slot shape image b → a ≡ b
-  one_log a b x y =
-      let bodies : map body_of x.batches ≡ map body_of y.batches = (blocks.one_log (map body_of x.batches) (map body_of y.batches) x.gate y.gate (image manager) x.blocks y.blocks).0 in
-      let all = subst (λ (l : List Commit). AllByRecursion (IsKept live_slot shape image) l) x.commits x.kept in
-      let all_too = subst (λ (l : List Commit). AllByRecursion (IsKept live_slot shape image) l) y.commits y.kept in
+  one_in : (a b : List Commit) → IsLog live shape image a → IsLog live shape image b → a ≡ b
+  one_in a b x y =
+      let bodies : map body_of x.batches ≡ map body_of y.batches = (blocks.one_log (map body_of x.batches) (map body_of y.batches) x.gate y.gate (image (Manager live)) x.blocks y.blocks).0 in
+      let all = subst (λ (l : List Commit). AllByRecursion (IsKept live shape image) l) x.commits x.kept in
+      let all_too = subst (λ (l : List Commit). AllByRecursion (IsKept live shape image) l) y.commits y.kept in
       x.commits ∙ ap (flat_map (λ batch. batch)) (batches_same x.batches y.batches x.sizes y.sizes all all_too bodies) ∙ sym y.commits
+
+-- One slot of an image is live.
+pub one_slot : (one other : ℕ) (image : Image) → IsLive magic one image → IsLive magic other image → one ≡ other
+one_slot one other image is too = is.slot ∙ sym too.slot
+
+-- An image has one log, whichever slots are said to be live.
+pub one_log : (one other : ℕ) (shape : Shape) (image : Image) (a b : List Commit) → IsLog one shape image a → IsLog other shape image b → a ≡ b
+one_log one other shape image a b x y =
+    one_in other shape image a b (subst (λ (live : ℕ). IsLog live shape image a) (one_slot one other image x.is_live y.is_live) x) y

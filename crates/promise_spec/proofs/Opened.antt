@@ -1,5 +1,4 @@
 -- A run that keeps its six clauses keeps what is promised over any folder.
-use Rattle.promise_spec.specs.Logs.{live_slot}
 use Rattle.std.proofs.Common.{◌≡◌, inl, inr, List, [], sym, ap, subst}
 use Rattle.base_types.specs.declared.entries.Entry.{Entry}
 use Rattle.core_model.specs.declared.events.CoreEvent.{CoreEvent}
@@ -29,7 +28,7 @@ module _ (p : Program) (r : Observed) (c : Course) where
       subst (λ (x : List Entry). Member e x) settled_is (in_settled e keeps there)
 
   -- what it keeps over any folder that reads as its log
-  pub kept_anywhere : Keeps p r c → opened_as live_slot (seen_at_entry r) ≡ Reads p c.opening → KeepsAnywhere p r c
+  pub kept_anywhere : Keeps p r c → opened_as (seen_at_entry r) ≡ Reads c.live p c.opening → KeepsAnywhere p r c
   kept_anywhere keeps reads = record {
     reads = reads;
     output = keeps.headline.replies.output;

@@ -3,7 +3,6 @@ use Rattle.promise_spec.specs.Programs.{Program}
 use Rattle.promise_spec.specs.Records.{log_start}
 use Rattle.promise_spec.specs.Serial.{IsSerial}
 use Rattle.promise_spec.specs.Images.{IsWholeSilo, IsSound, IsWholeIfSilo, IsSoundIfSilo, IsWholeFolder, IsSoundFolder}
-use Rattle.promise_spec.specs.Logs.{live_slot}
 use Rattle.host_trait.specs.World.{World, Image}
 use Rattle.std.specs.Prelude.{ℕ}
 
@@ -13,8 +12,8 @@ whole_image live p image s = record { log = s.log; is = s.is; program = s.progra
 pub serial_image : (live : ℕ) (p : Program) (image : Image) → (w : IsWholeSilo live p image) → IsSerial p.types (log_start p.types).states w.log → IsSound live p image
 serial_image live p image w serial = record { log = w.log; is = w.is; program = w.program; serial = serial; numbered = w.numbered }
 
-pub whole_if : (live : ℕ) (p : Program) (image : Image) → IsSoundIfSilo live p image → IsWholeIfSilo live p image
-whole_if live p image sound silo = whole_image live p image (sound silo)
+pub whole_if : (p : Program) (image : Image) → IsSoundIfSilo p image → IsWholeIfSilo p image
+whole_if p image sound live is = whole_image live p image (sound live is)
 
 pub whole_folder : (p : Program) (w : World) → IsSoundFolder p w → IsWholeFolder p w
-whole_folder p w sound = record { chain = sound.chain; whole = λ image left. whole_if live_slot p image (sound.sound image left) }
+whole_folder p w sound = record { chain = sound.chain; whole = λ image left. whole_if p image (sound.sound image left) }

@@ -1,6 +1,7 @@
 -- What the commands promise that carry no lines.
 use Rattle.std.specs.Prelude.{◌≡◌, ◌≢◌, ◌⊎◌, ℕ, ◌<◌, ◌≤◌, List, [], ◌∷◌, ◌++◌, length, Option, Some, None, Ok, Err, ⊤}
 use Rattle.host_trait.specs.declared.channels.FileId.{FileId}
+use Rattle.host_trait.specs.declared.channels.FileId.TheVariants.{Manager}
 use Rattle.host_trait.specs.World.{World, Moment, Image, IsImage, Passes, moment_of}
 use Rattle.silo_spec.specs.Silos.{manager, IsSilo, IsNewSilo}
 use Rattle.silo_spec.specs.Moments.{IsUntouched}
@@ -9,7 +10,7 @@ use Rattle.script_tree.specs.Programs.{ProgramTree}
 use Rattle.promise_spec.specs.Programs.{Program, ProgramFault, text_limit, program_in}
 use Rattle.promise_spec.specs.Records.{Commit, log_start}
 use Rattle.promise_spec.specs.Serial.{IsSerial, Replays}
-use Rattle.promise_spec.specs.Logs.{magic, IsPrefix, live_slot}
+use Rattle.promise_spec.specs.Logs.{magic, IsPrefix}
 use Rattle.promise_spec.specs.Openings.{Reads, opened_as}
 use Rattle.promise_spec.specs.Endings.{Ending, Done, Memory, ReadFault, WriteFault, DiskFault, AlreadyASilo, BadProgram, InputTooLong, HasRisen}
 use Rattle.promise_spec.specs.Family.{states_after}
@@ -82,23 +83,24 @@ pub record Prints (text : List ℕ) (r : Observed) : Type 0 where
   pub whole : r.ending ≡ Done → added ≡ text
   pub none : (added ≡ []) ⊎ ((r.ending ≡ Done) ⊎ MayCut r.ending)
 
--- Each outcome of a crash at this moment is one of those at entry; once anything was written, it has the manager file as it
--- reads, so that what a report tells lasts.
-abbrev pub LeavesAsBefore : World → Moment → Type 0
-LeavesAsBefore old m = (image : Image) → IsImage m.disk image →
-    IsImage old.disk image × (m.output ≢ old.output → image manager ≡ (old.disk manager).seen)
+-- Each outcome of a crash at this moment is one of those at entry; once anything was written, it has the live manager file as
+-- it reads, so that what a report tells lasts.
+abbrev pub LeavesAsBefore : ℕ → World → Moment → Type 0
+LeavesAsBefore live old m = (image : Image) → IsImage m.disk image →
+    IsImage old.disk image × (m.output ≢ old.output → image (Manager live) ≡ (old.disk (Manager live)).seen)
 
 -- A report of the folder: it prints the text of the log as the folder reads at entry, and nothing of the folder
 -- changes, nor is any input read. It is done, or there was no memory, or the output or a file failed, which the count
 -- shows.
 pub record IsReported (text : Program → List Commit → List ℕ) (r : Observed) : Type 0 where
+  pub live : ℕ
   pub program : Program
   pub log : List Commit
-  pub reads : opened_as live_slot (seen_at_entry r) ≡ Reads program log
+  pub reads : opened_as (seen_at_entry r) ≡ Reads live program log
   pub prints : Prints (text program log) r
   pub unread : r.new.input ≡ r.old.input
-  pub moments : Passes (LeavesAsBefore r.old) r.old.past r.new.past
-  pub now : LeavesAsBefore r.old (moment_of r.new)
+  pub moments : Passes (LeavesAsBefore live r.old) r.old.past r.new.past
+  pub now : LeavesAsBefore live r.old (moment_of r.new)
   pub seen : (file : FileId) → (r.new.disk file).seen ≡ (r.old.disk file).seen
   pub ending : (r.ending ≡ Done) ⊎ MayCut r.ending
   pub risen : HasRisen r.ending r.faults_before r.faults_after

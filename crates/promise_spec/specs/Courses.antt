@@ -25,10 +25,11 @@ pub record Observed : Type 0 where
   pub faults_after : Channel → ℕ
   pub ending : Ending
 
--- What there is where a run opened the folder: the log that it opened with, the records that it added, the moments up
--- to the one at which the opening's last sync returned and those after it, the core's events, and the entries that
--- were written, with a rest that is none.
+-- What there is where a run opened the folder: the live slot, the log that it opened with, the records that it added, the
+-- moments up to the one at which the opening's last sync returned and those after it, the core's events, and the entries
+-- that were written, with a rest that is none.
 pub record Course : Type 0 where
+  pub live : ℕ
   pub opening : List Commit
   pub added : List Commit
   pub early : List Moment

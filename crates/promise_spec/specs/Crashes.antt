@@ -9,7 +9,7 @@ use Rattle.host_trait.specs.declared.channels.FileId.{FileId}
 use Rattle.host_trait.specs.declared.channels.FileId.TheVariants.{Program as ProgramFile, Manager, Grain}
 use Rattle.host_trait.specs.World.{Moment, Image, IsImage}
 use Rattle.promise_spec.specs.Records.{Commit}
-use Rattle.promise_spec.specs.Logs.{live_slot, IsLog, IsPrefix}
+use Rattle.promise_spec.specs.Logs.{IsLog, IsPrefix}
 use Rattle.promise_spec.specs.Programs.{Program, shape_in}
 use Rattle.promise_spec.specs.Images.{AreChained, IsWholeIfSilo, IsSoundIfSilo}
 use Rattle.promise_spec.specs.Moments.{IsImageOf}
@@ -38,13 +38,13 @@ pub record Holds (p : Program) (r : Observed) (c : Course) (m : Moment) (image :
   pub output : Grew (shape_in p) r.old.output m.output written rest
   pub front : IsPrefix written c.entries
   pub log : List Commit
-  pub is : IsLog live_slot (shape_in p) image log
+  pub is : IsLog c.live (shape_in p) image log
   pub has : (e : Entry) (l : Commit) → Member e written → Member l c.added → Acknowledges e l → Member l log
 
 -- the image has a log that begins with the opening log
 pub record KeepsOpening (p : Program) (c : Course) (image : Image) : Type 0 where
   pub log : List Commit
-  pub is : IsLog live_slot (shape_in p) image log
+  pub is : IsLog c.live (shape_in p) image log
   pub longer : IsPrefix c.opening log
 
 -- a file that a run leaves alone, where the live files are of this slot: one of another slot, and the program's
@@ -65,14 +65,14 @@ pub record SurvivesCrashes (p : Program) (r : Observed) (c : Course) : Type 0 wh
   pub past : r.new.past ≡ r.old.past ++ (c.early ++ c.late)
   pub quiet : (m : Moment) → Member m c.early → m.output ≡ r.old.output
   pub before : (image : Image) → IsImageOf c.early image → IsImage r.old.disk image
-  pub chain : (one other : Image) → IsImageOf (moments r c) one → IsImageOf (moments r c) other → AreChained live_slot p one other
-  pub whole : (image : Image) → IsImageOf (moments r c) image → IsWholeIfSilo live_slot p image
+  pub chain : (one other : Image) → IsImageOf (moments r c) one → IsImageOf (moments r c) other → AreChained p one other
+  pub whole : (image : Image) → IsImageOf (moments r c) image → IsWholeIfSilo p image
   pub keeps : (image : Image) → IsImageOf (moments r c) image → KeepsOpening p c image
-  pub alone : (m : Moment) → Member m (moments r c) → LeavesAlone live_slot r m
+  pub alone : (m : Moment) → Member m (moments r c) → LeavesAlone c.live r m
 
 -- and each image of each moment that is a silo is sound
 abbrev pub StaySound : Program → Observed → Course → Type 0
-StaySound p r c = (image : Image) → IsImageOf (moments r c) image → IsSoundIfSilo live_slot p image
+StaySound p r c = (image : Image) → IsImageOf (moments r c) image → IsSoundIfSilo p image
 
 -- and each image of each moment holds what the output by then acknowledges
 abbrev pub HoldsReplies : Program → Observed → Course → Type 0

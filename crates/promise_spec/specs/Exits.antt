@@ -12,7 +12,7 @@ use Rattle.host_trait.specs.declared.channels.FileId.TheVariants.{Manager}
 use Rattle.host_trait.specs.Faults.{Rose}
 use Rattle.host_trait.specs.World.{Image, IsImage}
 use Rattle.promise_spec.specs.Records.{Commit, AreRecordsOf}
-use Rattle.promise_spec.specs.Logs.{live_slot, IsLog, body_of}
+use Rattle.promise_spec.specs.Logs.{IsLog, body_of}
 use Rattle.promise_spec.specs.Programs.{Program, shape_in}
 use Rattle.promise_spec.specs.Endings.{EndingMayDoubt}
 use Rattle.promise_spec.specs.Cores.{how_many}
@@ -39,7 +39,7 @@ pub record LogLacksDoubt (c : Course) (w : CoreState) (log : List Commit) : Type
 -- the image has the whole order as its log, or the order without the records of the batch in doubt
 pub record HasLogAtExit (p : Program) (c : Course) (w : CoreState) (image : Image) : Type 0 where
   pub log : List Commit
-  pub is : IsLog live_slot (shape_in p) image log
+  pub is : IsLog c.live (shape_in p) image log
   pub which : (log ≡ order c) ⊎ LogLacksDoubt c w log
 
 -- Where images have different logs the live manager file's count of faults rose, the ending is one of three, and each
@@ -50,9 +50,9 @@ pub record ImagesMayDiffer (live : ℕ) (r : Observed) (c : Course) (w : CoreSta
   pub told : (e : Entry) → Member e c.entries → Member e.unit (units_in_doubt w) → e.what ≡ InDoubt
 
 -- no image at the exit has a record of the unit
-abbrev pub IsNowhere : Program → Observed → UnitNo → Type 0
-IsNowhere p r u =
-    (image : Image) (log : List Commit) (l : Commit) → IsImage r.new.disk image → IsLog live_slot (shape_in p) image log →
+abbrev pub IsNowhere : ℕ → Program → Observed → UnitNo → Type 0
+IsNowhere live p r u =
+    (image : Image) (log : List Commit) (l : Commit) → IsImage r.new.disk image → IsLog live (shape_in p) image log →
     Member l log → l.logged.unit ≢ u
 
 -- the whole block of a batch stands behind a gate of the live manager file, which is open or not
@@ -89,7 +89,7 @@ EndsAsRead live r image = drop (gate_of (image (Manager live)) + 1) (image (Mana
 pub record IsExit (p : Program) (r : Observed) (c : Course) : Type 0 where
   pub logs : (image : Image) → IsImage r.new.disk image → HasLogAtExit p c (core_end p c) image
   pub doubt : (one other : Image) (a b : List Commit) → IsImage r.new.disk one → IsImage r.new.disk other →
-      IsLog live_slot (shape_in p) one a → IsLog live_slot (shape_in p) other b → a ≢ b → ImagesMayDiffer live_slot r c (core_end p c)
-  pub nowhere : (e : Entry) → Member e c.entries → e.what ≡ InDoubt → IsNowhere p r e.unit → HasNoRecord c e.unit
-  pub block : RunHasDoubt (core_run p c) → BlockInDoubt live_slot r c (core_end p c)
-  pub behind : how_many is_unsealed (core_run p c) ≡ 0 → (image : Image) → IsImage r.new.disk image → EndsAsRead live_slot r image
+      IsLog c.live (shape_in p) one a → IsLog c.live (shape_in p) other b → a ≢ b → ImagesMayDiffer c.live r c (core_end p c)
+  pub nowhere : (e : Entry) → Member e c.entries → e.what ≡ InDoubt → IsNowhere c.live p r e.unit → HasNoRecord c e.unit
+  pub block : RunHasDoubt (core_run p c) → BlockInDoubt c.live r c (core_end p c)
+  pub behind : how_many is_unsealed (core_run p c) ≡ 0 → (image : Image) → IsImage r.new.disk image → EndsAsRead c.live r image

@@ -10,7 +10,7 @@ use Rattle.host_trait.specs.declared.channels.FileId.{FileId}
 use Rattle.host_trait.specs.declared.channels.FileId.TheVariants.{Manager, Grain}
 use Rattle.host_trait.specs.World.{Moment, Image}
 use Rattle.promise_spec.specs.Records.{Commit, AreRecordsOf}
-use Rattle.promise_spec.specs.Logs.{live_slot, IsLog, IsPrefix}
+use Rattle.promise_spec.specs.Logs.{IsLog, IsPrefix}
 use Rattle.request_wire.specs.Reply.{reply_line}
 use Rattle.promise_spec.specs.Programs.{Program, shape_in}
 use Rattle.promise_spec.specs.Endings.{DiskFault, IsAllWritten, IsDiskFault, EndingMayDoubt}
@@ -38,7 +38,7 @@ AreAdded w added = AreRecordsOf (committed w) added ⊎ RecordsInDoubt w added
 -- each image's log is the opening log and whole batches behind it.
 pub record ComeOfEvents (p : Program) (r : Observed) (c : Course) : Type 0 where
   pub family : IsFamily p.types (lines r) (core_end p c) (opening_standing p c).states (order c) c.added
-  pub whole : (image : Image) (log : List Commit) → IsImageOf (moments r c) image → IsLog live_slot (shape_in p) image log →
+  pub whole : (image : Image) (log : List Commit) → IsImageOf (moments r c) image → IsLog c.live (shape_in p) image log →
       EndsABatch (core_end p c) c.opening log
 
 -- all that is settled has been written, or the run ended with a batch in doubt
@@ -75,7 +75,7 @@ pub record IsExplained (p : Program) (r : Observed) (c : Course) : Type 0 where
   pub units : KeepsUnitRule (basis p r c) (core_run p c)
   pub turns : r.manner.threaded ≡ false → KeepsTurnRule p.types (length (lines r)) r.manner.width r.manner.picks (core_run p c)
   pub caused : AreCaused (core_run p c)
-  pub faults : AreFaults live_slot (core_run p c) r.faults_before r.faults_after
-  pub doubted : (file : FileId) → r.ending ≡ DiskFault file → FileMayEndInDoubt live_slot (core_run p c) file
+  pub faults : AreFaults c.live (core_run p c) r.faults_before r.faults_after
+  pub doubted : (file : FileId) → r.ending ≡ DiskFault file → FileMayEndInDoubt c.live (core_run p c) file
   pub doubt_ends : RunHasDoubt (core_run p c) → EndingMayDoubt r.ending
-  pub unvoted : LeavesUnvoted live_slot p r c
+  pub unvoted : LeavesUnvoted c.live p r c

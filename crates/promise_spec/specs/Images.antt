@@ -4,12 +4,13 @@ use Rattle.std.specs.List.{AllByRecursion}
 use Rattle.base_types.specs.declared.calls.Origin.{Origin}
 use Rattle.base_types.specs.declared.calls.Origin.TheVariants.{Line, Child}
 use Rattle.host_trait.specs.World.{World, Image, IsImage}
-use Rattle.host_trait.specs.declared.channels.FileId.TheVariants.{Manager, Program as ProgramFile}
-use Rattle.silo_spec.specs.Silos.{IsSilo, HasProgram}
+use Rattle.host_trait.specs.declared.channels.FileId.TheVariants.{Program as ProgramFile}
+use Rattle.silo_spec.specs.Silos.{HasProgram}
+use Rattle.silo_spec.specs.Slots.{IsLive}
 use Rattle.promise_spec.specs.Programs.{Program, shape_in}
 use Rattle.promise_spec.specs.Records.{Commit, log_start}
 use Rattle.promise_spec.specs.Serial.{IsSerial}
-use Rattle.promise_spec.specs.Logs.{live_slot, magic, IsLog, HasLog, IsPrefix}
+use Rattle.promise_spec.specs.Logs.{magic, IsLog, HasLog, IsPrefix}
 
 -- a child is above its parent
 abbrev pub IsAboveParent : Origin → ℕ → Type 0
@@ -23,7 +24,8 @@ AreNumbered first (c ∷ later) =
     (first ≤ c.logged.unit.0) × IsAboveParent c.logged.origin c.logged.unit.0
     × AllByRecursion (λ d. d.logged.unit ≢ c.logged.unit) later × AreNumbered first later
 
--- The image is a silo of this program. All that it names is in the format and whole, and its records' units are numbered.
+-- The image is a silo of this program, with this live slot. All that it names is in the format and whole, and its records'
+-- units are numbered.
 pub record IsWholeSilo (live : ℕ) (p : Program) (image : Image) : Type 0 where
   pub log : List Commit
   pub is : IsLog live (shape_in p) image log
@@ -39,24 +41,24 @@ pub record IsSound (live : ℕ) (p : Program) (image : Image) : Type 0 where
   pub numbered : AreNumbered (log_start p.types).next log
 
 -- an image that is a silo is whole
-abbrev pub IsWholeIfSilo : ℕ → Program → Image → Type 0
-IsWholeIfSilo live p image = IsSilo magic (image (Manager live)) → IsWholeSilo live p image
+abbrev pub IsWholeIfSilo : Program → Image → Type 0
+IsWholeIfSilo p image = (live : ℕ) → IsLive magic live image → IsWholeSilo live p image
 
 -- an image that is a silo is sound
-abbrev pub IsSoundIfSilo : ℕ → Program → Image → Type 0
-IsSoundIfSilo live p image = IsSilo magic (image (Manager live)) → IsSound live p image
+abbrev pub IsSoundIfSilo : Program → Image → Type 0
+IsSoundIfSilo p image = (live : ℕ) → IsLive magic live image → IsSound live p image
 
 -- Of the logs of the two, one is a prefix of the other, with equal states. An image that is no silo counts as before
 -- every log.
-abbrev pub AreChained : ℕ → Program → Image → Image → Type 0
-AreChained live p one other = HasLog live (shape_in p) one (λ a. HasLog live (shape_in p) other (λ b. IsPrefix a b ⊎ IsPrefix b a))
+abbrev pub AreChained : Program → Image → Image → Type 0
+AreChained p one other = HasLog (shape_in p) one (λ a. HasLog (shape_in p) other (λ b. IsPrefix a b ⊎ IsPrefix b a))
 
 -- the images of a crash are a chain, and each that is a silo is whole
 pub record IsWholeFolder (p : Program) (w : World) : Type 0 where
-  pub chain : (one other : Image) → IsImage w.disk one → IsImage w.disk other → AreChained live_slot p one other
-  pub whole : (image : Image) → IsImage w.disk image → IsWholeIfSilo live_slot p image
+  pub chain : (one other : Image) → IsImage w.disk one → IsImage w.disk other → AreChained p one other
+  pub whole : (image : Image) → IsImage w.disk image → IsWholeIfSilo p image
 
 -- they are a chain, and each that is a silo is sound
 pub record IsSoundFolder (p : Program) (w : World) : Type 0 where
-  pub chain : (one other : Image) → IsImage w.disk one → IsImage w.disk other → AreChained live_slot p one other
-  pub sound : (image : Image) → IsImage w.disk image → IsSoundIfSilo live_slot p image
+  pub chain : (one other : Image) → IsImage w.disk one → IsImage w.disk other → AreChained p one other
+  pub sound : (image : Image) → IsImage w.disk image → IsSoundIfSilo p image

@@ -16,7 +16,7 @@ use Rattle.silo_spec.specs.Making.{StaysBeside, IsNewAt, FromFirstSync, CameThis
 use Rattle.script_tree.specs.Programs.{ProgramTree}
 use Rattle.promise_spec.specs.Programs.{Program, IsChecked, shape_in}
 use Rattle.promise_spec.specs.Records.{States, standing_of}
-use Rattle.promise_spec.specs.Logs.{magic, IsLog, live_slot}
+use Rattle.promise_spec.specs.Logs.{magic, IsLog}
 use Rattle.promise_spec.specs.Lines.{IsLineCall}
 use Rattle.promise_spec.specs.Kinds.{kind_of}
 use Rattle.promise_spec.specs.Causes.{NoneRose, RunHasDoubt, syncs_of, most_syncs_of}
@@ -150,7 +150,7 @@ pub record KeepsLoad (p : Program) (n seed : ℕ) (r : Observed) (c : Course) : 
   pub explained : IsExplained p r c
   pub output : Prints (summary_text p r c) r
   pub lasting : (m : Moment) (image : Image) → Member m (moments r c) → IsImage m.disk image → m.output ≢ r.old.output →
-      IsLog live_slot (shape_in p) image (order c)
+      IsLog c.live (shape_in p) image (order c)
   pub silent : r.ending ≢ ending.Done → r.ending ≢ ending.WriteFault → r.new.output ≡ r.old.output
   pub ended : HasLoaded p r c
 

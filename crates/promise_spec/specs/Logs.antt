@@ -7,7 +7,6 @@ use Rattle.host_trait.specs.declared.channels.FileId.TheVariants.{Manager, Grain
 use Rattle.host_trait.specs.World.{Image}
 use Rattle.gate_block.specs.Log.{LogsUpTo}
 use Rattle.base_types.specs.declared.shapes.Shape.{Shape}
-pub use Rattle.log_reading.specs.Steps.{live_slot}
 use Rattle.grain_log.specs.Places.{IsVersionAt}
 use Rattle.grain_log.specs.Reads.{fields_of}
 use Rattle.field_codec.specs.declared.units.Numbers.TheVariants.{Logged}
@@ -15,7 +14,7 @@ use Rattle.commit_log.specs.declared.records.Written.{Written}
 use Rattle.commit_log.specs.Spelling.{spelling_of_body}
 use Rattle.commit_log.specs.Bodies.{IsRecordIn}
 use Rattle.log_reading.specs.Blocks.{header_damage}
-use Rattle.silo_spec.specs.Silos.{IsSilo}
+use Rattle.silo_spec.specs.Slots.{IsLive}
 use Rattle.promise_spec.specs.Records.{Commit}
 
 -- the eight bytes after the header gate that name a silo
@@ -46,11 +45,11 @@ pub record IsKept (live : ℕ) (shape : Shape) (image : Image) (c : Commit) : Ty
 abbrev pub body_of : List Commit → List ℕ
 body_of batch = spelling_of_body (map (λ c. c.logged) batch)
 
--- The log of an image under a program's shape, where the live files are of this slot: a silo's manager file has zeros at
--- bytes 13 and 14, and from byte 15 on the open blocks of these batches, up to a closed gate. A batch has at most 64
--- records. Each record is kept whole.
+-- The log of an image under a program's shape, where this slot is live: its manager file has zeros at bytes 13 and 14, and
+-- from byte 15 on the open blocks of these batches, up to a closed gate. A batch has at most 64 records. Each record is
+-- kept whole.
 pub record IsLog (live : ℕ) (shape : Shape) (image : Image) (log : List Commit) : Type 0 where
-  pub silo : IsSilo magic (image (Manager live))
+  pub is_live : IsLive magic live image
   pub header : header_damage (image (Manager live)) ≡ None
   pub batches : List (List Commit)
   pub gate : ℕ
@@ -59,9 +58,9 @@ pub record IsLog (live : ℕ) (shape : Shape) (image : Image) (log : List Commit
   pub commits : log ≡ flat_map (λ batch. batch) batches
   pub kept : AllByRecursion (IsKept live shape image) log
 
--- an image that is a silo has a log, of which this holds
-abbrev pub HasLog : ℕ → Shape → Image → (List Commit → Type 0) → Type 0
-HasLog live shape image Holds = IsSilo magic (image (Manager live)) → (log : List Commit) × IsLog live shape image log × Holds log
+-- an image that is a silo has a log in its live slot, of which this holds
+abbrev pub HasLog : Shape → Image → (List Commit → Type 0) → Type 0
+HasLog shape image Holds = (live : ℕ) → IsLive magic live image → (log : List Commit) × IsLog live shape image log × Holds log
 
 -- one list is a first part of the other
 abbrev pub IsPrefix : {A : Type 0} → List A → List A → Type 0

@@ -17,11 +17,11 @@ pub use Rattle.commit_log.specs.declared.records.Named.{Named}
 pub use Rattle.grain_log.specs.Reads.{is_owned}
 pub use Rattle.log_reading.specs.Versions.{named_by, named_by_grain, version_named, missing_or, first_missing, state_of}
 
--- what a folder reads as
+-- what a folder reads as; a silo with the slot that is live
 pub data Reading : Type 0 where
   NoSilo : Reading
   DamagedAt : FileId → ℕ → Reading
-  Reads : Program → List Commit → Reading
+  Reads : ℕ → Program → List Commit → Reading
 
 -- ---- the manager file's header
 
@@ -39,7 +39,7 @@ commit_of live shape image r = record {
 -- ---- the folder
 
 abbrev pub with_versions : ℕ → Program → Image → List CommitRecord → Option (FileId × ℕ) → Reading
-with_versions live p image records None = Reads p (map (commit_of live (shape_in p) image) records)
+with_versions live p image records None = Reads live p (map (commit_of live (shape_in p) image) records)
 with_versions live p image records (Some missing) = DamagedAt missing.0 missing.1
 
 abbrev pub with_log : ℕ → Program → Image → Result (List CommitRecord) ℕ → Reading
@@ -50,7 +50,16 @@ abbrev pub with_program : ℕ → Image → Result Program ℕ → Reading
 with_program live image (Ok p) = with_log live p image (records_in_file (shape_in p) (image (Manager live)))
 with_program live image (Err place) = DamagedAt (ProgramFile live) place
 
--- What a folder reads as, where the live files are of this slot. The first damage counts: in the program file, then in the
--- manager file's header and block by block, then version by version in the grains' files.
-abbrev pub opened_as : ℕ → Image → Reading
-opened_as live image = if is_silo (image (Manager live)) then with_program live image (program_in_file (image (ProgramFile live))) else NoSilo
+-- the live slot, by the manager files
+abbrev pub live_in : Image → Option ℕ
+live_in image = if is_silo (image (Manager 0)) then Some 0 else None
+
+-- what a folder reads as by the files of its live slot
+abbrev pub with_slot : Image → Option ℕ → Reading
+with_slot image None = NoSilo
+with_slot image (Some live) = with_program live image (program_in_file (image (ProgramFile live)))
+
+-- What a folder reads as. The first damage counts: in the live slot's program file, then in its manager file's header and
+-- block by block, then version by version in its grains' files.
+abbrev pub opened_as : Image → Reading
+opened_as image = with_slot image (live_in image)

@@ -1,5 +1,4 @@
 -- The whole promise of a run.
-use Rattle.promise_spec.specs.Logs.{live_slot}
 use Rattle.std.specs.Prelude.{◌≡◌, ◌≢◌, ◌⊎◌, ℕ, ◌+◌, ◌≤◌, not, false, [], length}
 use Rattle.base_types.specs.declared.calls.Call.{Call}
 use Rattle.base_types.specs.declared.calls.Origin.TheVariants.{Child}
@@ -97,7 +96,7 @@ pub record Keeps (p : Program) (r : Observed) (c : Course) : Type 0 where
 -- those that the core's events settle and explain, and the run ends as the third of these says. Where the opening log's units are
 -- numbered, the entries are true and the records a family.
 pub record KeepsAnywhere (p : Program) (r : Observed) (c : Course) : Type 0 where
-  pub reads : opened_as live_slot (seen_at_entry r) ≡ Reads p c.opening
+  pub reads : opened_as (seen_at_entry r) ≡ Reads c.live p c.opening
   pub output : Grew (shape_in p) r.old.output r.new.output c.entries c.rest
   pub whole : r.ending ≢ WriteFault → c.rest ≡ []
   pub within : (e : Entry) → Member e c.entries → (1 ≤ e.line) × (e.line ≤ length (lines r))

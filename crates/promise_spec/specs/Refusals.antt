@@ -1,9 +1,8 @@
 -- What a command answers that doesn't open the folder.
-use Rattle.promise_spec.specs.Logs.{live_slot}
-use Rattle.std.specs.Prelude.{◌≡◌, ◌⊎◌, ◌+◌, ◌≤◌, false, List, map, Ok, ⊤}
+use Rattle.std.specs.Prelude.{◌≡◌, ◌⊎◌, ℕ, ◌+◌, ◌≤◌, false, List, map, Ok, ⊤}
 use Rattle.base_types.specs.declared.calls.GrainId.{GrainId}
 use Rattle.host_trait.specs.declared.channels.FileId.{FileId}
-use Rattle.host_trait.specs.declared.channels.FileId.TheVariants.{Grain}
+use Rattle.host_trait.specs.declared.channels.FileId.TheVariants.{Manager, Program as ProgramFile, Grain}
 use Rattle.host_trait.specs.World.{Image}
 use Rattle.commit_log.specs.declared.records.CommitRecord.{CommitRecord}
 use Rattle.core_model.specs.CoreState.{Member}
@@ -19,29 +18,29 @@ use Rattle.promise_spec.specs.Courses.{Observed, seen_at_entry}
 abbrev pub IsHead : FileId → Type 0
 IsHead file = (file ≡ manager) ⊎ (file ≡ program_file)
 
--- a record of the manager file names the grain
-pub record IsNamedIn (image : Image) (grain : GrainId) : Type 0 where
+-- a record of the manager file of this slot names the grain
+pub record IsNamedIn (live : ℕ) (image : Image) (grain : GrainId) : Type 0 where
   pub program : Program
   pub records : List CommitRecord
-  pub first : program_in_file (image program_file) ≡ Ok program
-  pub then_log : records_in_file (shape_in program) (image manager) ≡ Ok records
+  pub first : program_in_file (image (ProgramFile live)) ≡ Ok program
+  pub then_log : records_in_file (shape_in program) (image (Manager live)) ≡ Ok records
   pub named : Member grain (map (λ n. n.written.grain) (named_by records))
 
--- the file is the manager file, the program's, or that of a grain that a record names
-abbrev pub IsReadFor : Image → FileId → Type 0
-IsReadFor image file = IsHead file ⊎ ((grain : GrainId) × (file ≡ Grain live_slot grain) × IsNamedIn image grain)
+-- the file is the manager file, the program's, or that of a grain of this slot that a record names
+abbrev pub IsReadFor : ℕ → Image → FileId → Type 0
+IsReadFor live image file = IsHead file ⊎ ((grain : GrainId) × (file ≡ Grain live grain) × IsNamedIn live image grain)
 
 -- such files have to be read where the first damage is in this one: of the grains' files those of grains that aren't behind
 abbrev pub IsReadBefore : Image → FileId → FileId → Type 0
 IsReadBefore image (Grain slot last) file =
-    IsHead file ⊎ ((grain : GrainId) × (file ≡ Grain live_slot grain) × IsNamedIn image grain × (is_before last grain ≡ false))
+    IsHead file ⊎ ((grain : GrainId) × (file ≡ Grain slot grain) × IsNamedIn slot image grain × (is_before last grain ≡ false))
 IsReadBefore image _ file = IsHead file
 
 -- the file has to be read to see that the folder reads so
 abbrev pub MustBeRead : Image → Reading → FileId → Type 0
 MustBeRead image NoSilo file = file ≡ manager
 MustBeRead image (DamagedAt last place) file = IsReadBefore image last file
-MustBeRead image (Reads p log) file = IsReadFor image file
+MustBeRead image (Reads live p log) file = IsReadFor live image file
 
 -- A folder that reads so may be refused so: for want of memory always, for a fault of a file that has to be read, as no
 -- silo exactly where it reads as none, and as damaged exactly where and at the place at which it first is.
@@ -59,5 +58,5 @@ pub record IsUnopened (r : Observed) : Type 0 where
   pub untouched : IsUntouched r.old r.new
   pub unread : r.new.input ≡ r.old.input
   pub syncs : r.new.syncs ≤ r.old.syncs + 1
-  pub refused : IsRefusedBy (seen_at_entry r) (opened_as live_slot (seen_at_entry r)) r.ending
+  pub refused : IsRefusedBy (seen_at_entry r) (opened_as (seen_at_entry r)) r.ending
   pub failed : HasFailedAs r.ending r.faults_before r.faults_after

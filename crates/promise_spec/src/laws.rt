@@ -1,16 +1,18 @@
-ghost use Rattle.std.specs.Prelude.{◌≡◌, ◌⊎◌, ◌↔◌, ◌++◌, ◌+◌, ◌≤◌, max, fold, ℕ, Bool, true, false, List, [], ◌∷◌, length, codes, Ok};
+ghost use Rattle.std.specs.Prelude.{◌≡◌, ◌⊎◌, ◌↔◌, ◌++◌, ◌+◌, ◌≤◌, max, fold, ℕ, Bool, true, false, List, [], ◌∷◌, length, codes, Some, Ok};
 ghost use Rattle.base_types.specs.declared.shapes.Shape.{Shape};
 ghost use Rattle.base_types.specs.declared.entries.Entry.{Entry};
 ghost use Rattle.host_trait.specs.World.{Image};
 ghost use Rattle.host_trait.specs.declared.channels.FileId.{FileId};
+ghost use Rattle.host_trait.specs.declared.channels.FileId.TheVariants.{Program as ProgramFile};
 ghost use Rattle.field_codec.specs.Reading.{AreBytes};
 ghost use Rattle.script_tree.specs.Programs.{ProgramTree};
-ghost use Rattle.silo_spec.specs.Silos.{manager, program_file, IsSilo, HasProgram};
+ghost use Rattle.silo_spec.specs.Silos.{HasProgram};
+ghost use Rattle.silo_spec.specs.Slots.{IsLive};
 ghost use Rattle.promise_spec.specs.Programs.{Program, IsChecked, text_limit, shape_in, program_in};
 ghost use Rattle.promise_spec.specs.Records.{Commit, Standing, after_writes, after_records};
-ghost use Rattle.promise_spec.specs.Logs.{magic, IsLog, IsPrefix, live_slot};
+ghost use Rattle.promise_spec.specs.Logs.{magic, IsLog, IsPrefix};
 ghost use Rattle.promise_spec.specs.Images.{AreChained, IsSound, IsWholeFolder};
-ghost use Rattle.promise_spec.specs.Openings.{NoSilo, Reads, opened_as};
+ghost use Rattle.promise_spec.specs.Openings.{NoSilo, Reads, live_in, opened_as};
 ghost use Rattle.promise_spec.specs.Words.{GivenOption, Manner, plain_manner, Command, Run, Load, Check, Say};
 ghost use Rattle.request_wire.specs.Reply.{reply_line};
 ghost use Rattle.promise_spec.specs.Outputs.{HavePlainNames, IsProper, Grew};
@@ -27,10 +29,10 @@ pub fn promises_keep_the_headline()
     ensures call { (m : Manner) (p : Program) (r : Observed) → IsChecked p → Promises m r → IsWholeFolder p r.old → HasHeadline p r }
 {}
 
-/// An image has at most one log under a program's shape: the records and their states are the bytes'. So where a
-/// definition says that an image has a log, it is the log.
+/// An image has at most one log under a program's shape, whichever slots are said to be live: the records and their states are
+/// the bytes'. So where a definition says that an image has a log, it is the log.
 pub fn one_log()
-    ensures { (shape : Shape) (image : Image) (a b : List Commit) → IsLog live_slot shape image a → IsLog live_slot shape image b → a ≡ b }
+    ensures { (one other : ℕ) (shape : Shape) (image : Image) (a b : List Commit) → IsLog one shape image a → IsLog other shape image b → a ≡ b }
 {}
 
 /// The line of an entry determines the entry, where types are known by their names.
@@ -53,8 +55,8 @@ pub fn checked_programs_have_plain_names()
 
 /// Of whatever logs two chained images have, one is a first part of the other.
 pub fn chains_compare()
-    ensures { (p : Program) (one other : Image) (a b : List Commit) → AreChained live_slot p one other
-        → IsLog live_slot (shape_in p) one a → IsLog live_slot (shape_in p) other b → IsPrefix a b ⊎ IsPrefix b a }
+    ensures { (s t : ℕ) (p : Program) (one other : Image) (a b : List Commit) → AreChained p one other
+        → IsLog s (shape_in p) one a → IsLog t (shape_in p) other b → IsPrefix a b ⊎ IsPrefix b a }
 {}
 
 /// What a log stands for is three folds over its records, each by itself: their count, the number after the greatest unit, and the
@@ -83,16 +85,17 @@ pub fn programs_are_read()
         → IsChecked (record { text = text; types = types }) }
 {}
 
-/// A folder reads as a silo with a program and a log exactly where its program file has that program and it has that log; it
-/// reads as no silo exactly where it is none. So one that is sound for a checked program is opened with its log, and
-/// is neither called damaged nor no silo.
+/// A folder reads as a silo with a live slot, a program and a log exactly where that slot's program file has that program and it has
+/// that log; it reads as no silo exactly where no slot is live. So one that is sound for a checked program is opened with its log,
+/// and is neither called damaged nor no silo.
 pub fn folders_are_read()
-    ensures reads { (image : Image) (p : Program) (log : List Commit) → ((file : FileId) → AreBytes (image file)) → opened_as live_slot image ≡ Reads p log
-        → IsChecked p × HasProgram p.text (image program_file) × IsLog live_slot (shape_in p) image log }
-    ensures read { (image : Image) (p : Program) (log : List Commit) → IsChecked p → HasProgram p.text (image program_file)
-        → IsLog live_slot (shape_in p) image log → opened_as live_slot image ≡ Reads p log }
-    ensures no_silo { (image : Image) → (opened_as live_slot image ≡ NoSilo) ↔ (IsSilo magic (image manager) → ⊥) }
-    ensures sound { (p : Program) (image : Image) → IsChecked p → (s : IsSound live_slot p image) → opened_as live_slot image ≡ Reads p s.log }
+    ensures slot { (image : Image) (live : ℕ) → (live_in image ≡ Some live) ↔ IsLive magic live image }
+    ensures reads { (image : Image) (live : ℕ) (p : Program) (log : List Commit) → ((file : FileId) → AreBytes (image file))
+        → opened_as image ≡ Reads live p log → IsChecked p × HasProgram p.text (image (ProgramFile live)) × IsLog live (shape_in p) image log }
+    ensures read { (image : Image) (live : ℕ) (p : Program) (log : List Commit) → IsChecked p → HasProgram p.text (image (ProgramFile live))
+        → IsLog live (shape_in p) image log → opened_as image ≡ Reads live p log }
+    ensures no_silo { (image : Image) → (opened_as image ≡ NoSilo) ↔ ((live : ℕ) → IsLive magic live image → ⊥) }
+    ensures sound { (live : ℕ) (p : Program) (image : Image) → IsChecked p → (s : IsSound live p image) → opened_as image ≡ Reads live p s.log }
 {}
 
 /// The words of a command say one thing: one manner of a run, one number of transfers, seed and manner of a load, and one number

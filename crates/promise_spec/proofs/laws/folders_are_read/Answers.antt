@@ -1,5 +1,8 @@
-use Rattle.promise_spec.proofs.Openings.{reads_is_log, log_is_read, no_silo_is_read, sound_is_read}
+use Rattle.promise_spec.proofs.Openings.{reads_is_log, log_is_read, no_silo_is_read, sound_is_read, slot_is_read}
 use Rattle.promise_spec.proofs.laws.folders_are_read.Goals as goal
+
+pub returns-clause-slot : goal.returns-clause-slot
+returns-clause-slot c = slot_is_read
 
 pub returns-clause-reads : goal.returns-clause-reads
 returns-clause-reads c = reads_is_log
