@@ -6,7 +6,7 @@ use crate::folder::Folder;
 use crate::printing::add_bytes;
 use crate::records::{add_records, block_of, records_in};
 use base_types::{GrainId, List, Place, Shape, State, Text, TypeShape, UnitNo, Value, Version};
-use commit_log::{MANAGER, seal};
+use commit_log::seal;
 use field_codec::get_state;
 use gate_block::{append_closed, open_gate, read_block};
 use grain_log::{read_version, write_versions};
