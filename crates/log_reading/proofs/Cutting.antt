@@ -8,14 +8,13 @@ use Rattle.base_types.specs.declared.stores.Place.{Place}
 use Rattle.grain_log.specs.Reads.{IsTextAt}
 use Rattle.commit_log.specs.declared.records.Named.{Named}
 use Rattle.log_reading.specs.declared.pieces.Piece.{Piece}
-use Rattle.log_reading.specs.Steps.{live_slot}
 use Rattle.log_reading.specs.Pieces.{AreIn, IsPieceOf, IsTextIn}
 
 -- where the files stay, a piece of them is one still
-pub still_piece : (tells : Bool) (old new : Image) (piece : Piece) → (IsTrue tells → old ≡ new) → IsPieceOf tells old piece → IsPieceOf tells new piece
-still_piece tells old new piece same is = record {
+pub still_piece : (tells : Bool) (live : ℕ) (old new : Image) (piece : Piece) → (IsTrue tells → old ≡ new) → IsPieceOf tells live old piece → IsPieceOf tells live new piece
+still_piece tells live old new piece same is = record {
   low = is.low;
-  here = λ told. subst (λ (image : Image). AreIn (image (Grain live_slot piece.grain)) piece.start piece.bytes.items) (same told) (is.here told);
+  here = λ told. subst (λ (image : Image). AreIn (image (Grain live piece.grain)) piece.start piece.bytes.items) (same told) (is.here told);
 }
 
 -- no bytes are in every file
@@ -59,10 +58,10 @@ text_stands file piece named text are is =
       bytes = is.same ∙ cut_in file piece.bytes.items piece.start (place.offset - piece.start) place.len are within ∙ ap (λ (n : ℕ). take place.len (drop n file)) sum;
     }
 
-pub text_in_image : (tells : Bool) (image : Image) (piece : Piece) (named : Named) (text : List ℕ) → IsPieceOf tells image piece → IsTextIn piece named text → IsTrue tells
-    → IsTextAt named.written.place (image (Grain live_slot named.written.grain)) text
-text_in_image tells image piece named text of is told =
-    subst (λ (g : GrainId). IsTextAt named.written.place (image (Grain live_slot g)) text) (sym is.grain) (text_stands (image (Grain live_slot piece.grain)) piece named text (of.here told) is)
+pub text_in_image : (tells : Bool) (live : ℕ) (image : Image) (piece : Piece) (named : Named) (text : List ℕ) → IsPieceOf tells live image piece → IsTextIn piece named text → IsTrue tells
+    → IsTextAt named.written.place (image (Grain live named.written.grain)) text
+text_in_image tells live image piece named text of is told =
+    subst (λ (g : GrainId). IsTextAt named.written.place (image (Grain live g)) text) (sym is.grain) (text_stands (image (Grain live piece.grain)) piece named text (of.here told) is)
 
 -- what is so of each value is so of an answer's
 pub weaker_ok : {A E : Type 0} (P Q : A → Type 0) (result : Result A E) → ((x : A) → P x → Q x) → IfOk result P → IfOk result Q

@@ -2,9 +2,9 @@
 use Rattle.std.specs.Prelude.{ℕ, ◌+◌, Option, Some, None}
 use Rattle.host_trait.specs.declared.channels.Channel.{Channel}
 use Rattle.host_trait.specs.declared.channels.Channel.TheVariants.{File}
+use Rattle.host_trait.specs.declared.channels.FileId.TheVariants.{Manager}
 use Rattle.host_trait.specs.Faults.{NoneFailed, FailedOn}
 use Rattle.log_reading.specs.declared.faults.FolderFault.{FolderFault}
-use Rattle.log_reading.specs.Steps.{manager}
 
 -- a call on the file failed where `Failed` is answered, and none did where another fault is
 abbrev pub ReadFaulted : FolderFault → (Channel → ℕ) → (Channel → ℕ) → Type 0
@@ -12,7 +12,7 @@ ReadFaulted (FolderFault.Damaged file place) old new = NoneFailed old new
 ReadFaulted (FolderFault.Failed file) old new = FailedOn (File file) old new
 ReadFaulted FolderFault.Memory old new = NoneFailed old new
 
--- the fault of a text that stands at an offset of the manager file
-abbrev pub damage_in : ℕ → Option ℕ → FolderFault
-damage_in start None = FolderFault.Memory
-damage_in start (Some place) = FolderFault.Damaged manager (start + place)
+-- the fault of a text that stands at an offset of a slot's manager file
+abbrev pub damage_in : ℕ → ℕ → Option ℕ → FolderFault
+damage_in slot start None = FolderFault.Memory
+damage_in slot start (Some place) = FolderFault.Damaged (Manager slot) (start + place)

@@ -6,17 +6,16 @@ use Rattle.host_trait.specs.World.{Image}
 use Rattle.host_trait.specs.declared.channels.FileId.TheVariants.{Grain}
 use Rattle.commit_log.specs.declared.records.Named.{Named}
 use Rattle.log_reading.specs.declared.pieces.Piece.{Piece}
-use Rattle.log_reading.specs.Steps.{live_slot}
 
 -- these bytes stand in a file from an offset on
 pub record AreIn (file : List ℕ) (start : ℕ) (bytes : List ℕ) : Type 0 where
   pub within : length bytes ≤ length file - start
   pub same : bytes ≡ take (length bytes) (drop start file)
 
--- A piece ends below 2 to the 63, and where the files are told it stands in its grain's.
-pub record IsPieceOf (tells : Bool) (image : Image) (piece : Piece) : Type 0 where
+-- A piece ends below 2 to the 63, and where the files are told it stands in its grain's live one.
+pub record IsPieceOf (tells : Bool) (live : ℕ) (image : Image) (piece : Piece) : Type 0 where
   pub low : piece.start + length piece.bytes.items < 2 ^ 63
-  pub here : IsTrue tells → AreIn (image (Grain live_slot piece.grain)) piece.start piece.bytes.items
+  pub here : IsTrue tells → AreIn (image (Grain live piece.grain)) piece.start piece.bytes.items
 
 -- the bytes of a piece at a named place, which lies in it
 pub record IsTextIn (piece : Piece) (named : Named) (text : List ℕ) : Type 0 where

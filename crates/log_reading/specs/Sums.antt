@@ -1,5 +1,4 @@
 -- What is kept of the records and versions that are read.
-use Rattle.log_reading.specs.Steps.{live_slot}
 use Rattle.std.specs.Prelude.{◌≡◌, ℕ, ◌+◌, ◌<◌, ◌^◌, max, Bool, IsTrue, if◌then◌else◌, List, [], ◌∷◌, ◌++◌, length, fold, Option, Some, None, unwrap_or, Ok}
 use Rattle.std.specs.List.{AllByRecursion}
 use Rattle.base_types.specs.declared.calls.GrainId.{GrainId}
@@ -38,10 +37,10 @@ pub record IsReadAs (tells : Bool) (shape : Shape) (file : List ℕ) (l : ReadLo
   pub closed : IsTrue tells → found_at l.gate_at file ≡ shut
 
 -- a grain's state after these versions, from one of before
-abbrev pub state_after : Shape → Image → Option (List Value) → List Named → GrainId → Option (List Value)
-state_after shape image state [] grain = state
-state_after shape image state (n ∷ named) grain =
-    state_after shape image (if same_grain n.written.grain grain then Some (state_of (version_named live_slot shape image n)) else state) named grain
+abbrev pub state_after : ℕ → Shape → Image → Option (List Value) → List Named → GrainId → Option (List Value)
+state_after live shape image state [] grain = state
+state_after live shape image state (n ∷ named) grain =
+    state_after live shape image (if same_grain n.written.grain grain then Some (state_of (version_named live shape image n)) else state) named grain
 
 -- the greater of an end and one that may be missing
 abbrev pub greater_end : Option ℕ → ℕ → Option ℕ
@@ -59,10 +58,10 @@ abbrev pub AreNear : Ends → Type 0
 AreNear ends = (grain : GrainId) → unwrap_or (end_in ends grain) 0 < 2 ^ 63
 
 -- A version couldn't be read for a fault of its grain's file, and all before it are there.
-pub record StopsAt (shape : Shape) (image : Image) (named : List Named) (file : FileId) : Type 0 where
+pub record StopsAt (live : ℕ) (shape : Shape) (image : Image) (named : List Named) (file : FileId) : Type 0 where
   pub front : List Named
   pub here : Named
   pub back : List Named
   pub are : named ≡ front ++ (here ∷ back)
-  pub whole : first_missing live_slot shape image front ≡ None
-  pub is : file ≡ Grain 0 here.written.grain
+  pub whole : first_missing live shape image front ≡ None
+  pub is : file ≡ Grain live here.written.grain

@@ -25,23 +25,25 @@ pub struct Contents {
     pub ends: Ends,
 }
 
-/// Reads the log, block by block, and then each version that a record names, once, grain by grain and those of a grain in the
-/// log's order. `Damaged` names the first damage in this order.
+/// Reads the log of a slot's files, block by block, and then each version that a record names, once, grain by grain and those of
+/// a grain in the log's order. `Damaged` names the first damage in this order.
 pub fn read_contents<H: Host>(
     alloc: Global,
     host: &mut H,
+    slot: u8,
     shape: &Shape,
 ) -> Result<Contents, FolderFault>
-    ensures opened { IfOk result (λ o. IsTrue H.tells → HasContents shape.now (seen_in (H.world host.old).disk) o) }
+    requires slot { slot ≤ 1 }
+    ensures opened { IfOk result (λ o. IsTrue H.tells → HasContents slot shape.now (seen_in (H.world host.old).disk) o) }
     ensures bound { IfOk result (λ o. (o.gate_at < 2 ^ 63) × ((0 < o.next_unit.0) × (o.next_unit.0 ≤ 2 ^ 63))) }
     ensures near { IfOk result (λ o. AreNear o.ends) }
-    ensures refused { IfErr result (λ e. IsTrue H.tells → IsUnread shape.now (seen_in (H.world host.old).disk) e) }
+    ensures refused { IfErr result (λ e. IsTrue H.tells → IsUnread slot shape.now (seen_in (H.world host.old).disk) e) }
     ensures asked { IsTrue H.tells → OnlyAsked (H.world host.old) (H.world host.new) }
     ensures calm { OnOk result (NoneFailed (H.faults host.old) (H.faults host.new)) }
     ensures fault { IfErr result (λ e. ReadFaulted e (H.faults host.old) (H.faults host.new)) }
     ensures ready { StaysReady (H.is_ready host.old) (H.is_ready host.new) }
 {
-    let log = match read_log(alloc, host, shape) {
+    let log = match read_log(alloc, host, slot, shape) {
         Ok(log) => log,
         Err(fault) => return Err(fault),
     };
@@ -52,7 +54,15 @@ pub fn read_contents<H: Host>(
     }
     let mut store = Store::new(alloc);
     let mut ends = Ends::new(alloc);
-    match read_versions(alloc, host, shape, named.as_slice(), &mut store, &mut ends) {
+    match read_versions(
+        alloc,
+        host,
+        slot,
+        shape,
+        named.as_slice(),
+        &mut store,
+        &mut ends,
+    ) {
         Ok(()) => Ok(Contents {
             count: log.count,
             next_unit: log.next_unit,

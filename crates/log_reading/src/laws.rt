@@ -1,4 +1,3 @@
-ghost use Rattle.log_reading.specs.Steps.{live_slot};
 ghost use Rattle.std.specs.Prelude.{◌≡◌, List, Some, false, ℕ};
 ghost use Rattle.base_types.specs.declared.calls.GrainId.{GrainId};
 ghost use Rattle.base_types.specs.declared.shapes.Shape.{Shape};
@@ -11,6 +10,6 @@ ghost use Rattle.log_reading.specs.Sums.{StopsAt};
 
 /// Where reading stopped for a fault of a grain's file, the first version that is missing is of no grain before it.
 pub fn faults_in_order()
-    ensures { (shape : Shape) (image : Image) (named : List Named) (file : FileId) → (s : StopsAt shape image (named_by_grain named) file)
-        → (last : GrainId) (place : ℕ) → first_missing live_slot shape image (named_by_grain named) ≡ Some (Grain 0 last, place) → is_before last s.here.written.grain ≡ false }
+    ensures { (live : ℕ) (shape : Shape) (image : Image) (named : List Named) (file : FileId) → (s : StopsAt live shape image (named_by_grain named) file)
+        → (last : GrainId) (place : ℕ) → first_missing live shape image (named_by_grain named) ≡ Some (Grain live last, place) → is_before last s.here.written.grain ≡ false }
 {}

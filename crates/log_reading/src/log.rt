@@ -4,11 +4,11 @@ ghost use Rattle.host_trait.specs.Files.{StaysReady};
 ghost use Rattle.host_trait.specs.Faults.{NoneFailed};
 ghost use Rattle.host_trait.specs.Runs.{OnlyAsked};
 ghost use Rattle.host_trait.specs.declared.channels.FileId.{FileId};
+ghost use Rattle.host_trait.specs.declared.channels.FileId.TheVariants.{Manager};
 ghost use Rattle.field_codec.specs.declared.units.Numbers.TheVariants.{Logged};
 ghost use Rattle.commit_log.specs.Bodies.{IsRecordIn};
 ghost use Rattle.log_reading.specs.declared.faults.FolderFault.{FolderFault};
 ghost use Rattle.log_reading.specs.Counts.{ReadFaulted};
-ghost use Rattle.log_reading.specs.Steps.{manager};
 ghost use Rattle.log_reading.specs.Blocks.{records_in_file};
 ghost use Rattle.log_reading.specs.Versions.{named_by, named_by_grain};
 ghost use Rattle.log_reading.specs.Sums.{next_after, IsReadAs};
@@ -77,21 +77,27 @@ fn add_records(
     Ok(after)
 }
 
-/// Reads the log of the manager file, block by block behind the header, and keeps what opening needs of it. `Damaged` names the
-/// first place that is damaged, and `Failed` the manager file, a call on which failed.
-pub fn read_log<H: Host>(alloc: Global, host: &mut H, shape: &Shape) -> Result<ReadLog, FolderFault>
-    ensures log { IfOk result (λ l. IsReadAs H.tells shape.now ((H.world host.old).disk manager).seen l) }
+/// Reads the log of a slot's manager file, block by block behind the header, and keeps what opening needs of it. `Damaged` names
+/// the first place that is damaged, and `Failed` that file, a call on which failed.
+pub fn read_log<H: Host>(
+    alloc: Global,
+    host: &mut H,
+    slot: u8,
+    shape: &Shape,
+) -> Result<ReadLog, FolderFault>
+    requires slot { slot ≤ 1 }
+    ensures log { IfOk result (λ l. IsReadAs H.tells shape.now ((H.world host.old).disk (Manager slot)).seen l) }
     ensures bound { IfOk result (λ l. (l.gate_at < 2 ^ 63) × ((0 < l.next_unit.0) × (l.next_unit.0 ≤ 2 ^ 63))) }
     ensures damaged { (file : FileId) (place : ℕ) → IsErrOf result (FolderFault.Damaged file place) → IsTrue H.tells
-        → records_in_file shape.now ((H.world host.old).disk manager).seen ≡ Err place }
-    ensures file { (file : FileId) (place : ℕ) → IsErrOf result (FolderFault.Damaged file place) → file ≡ manager }
-    ensures failed { (file : FileId) → IsErrOf result (FolderFault.Failed file) → file ≡ manager }
+        → records_in_file shape.now ((H.world host.old).disk (Manager slot)).seen ≡ Err place }
+    ensures file { (file : FileId) (place : ℕ) → IsErrOf result (FolderFault.Damaged file place) → file ≡ Manager slot }
+    ensures failed { (file : FileId) → IsErrOf result (FolderFault.Failed file) → file ≡ Manager slot }
     ensures asked { IsTrue H.tells → OnlyAsked (H.world host.old) (H.world host.new) }
     ensures calm { OnOk result (NoneFailed (H.faults host.old) (H.faults host.new)) }
     ensures fault { IfErr result (λ e. ReadFaulted e (H.faults host.old) (H.faults host.new)) }
     ensures ready { StaysReady (H.is_ready host.old) (H.is_ready host.new) }
 {
-    match check_header(host) {
+    match check_header(host, slot) {
         Ok(()) => {}
         Err(fault) => return Err(fault),
     }
@@ -99,7 +105,7 @@ pub fn read_log<H: Host>(alloc: Global, host: &mut H, shape: &Shape) -> Result<R
     let mut count = 0;
     let mut next = 1;
     let mut gate_at = 15;
-    while let Some((records, behind)) = next_block(alloc, host, shape, gate_at)? {
+    while let Some((records, behind)) = next_block(alloc, host, slot, shape, gate_at)? {
         next = add_records(&mut named, next, records.as_slice())?;
         count += records.len() as u64;
         gate_at = behind;

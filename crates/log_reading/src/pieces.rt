@@ -7,7 +7,7 @@ ghost use Rattle.host_trait.specs.declared.channels.FileId.{FileId};
 ghost use Rattle.host_trait.specs.declared.channels.FileId.TheVariants.{Grain};
 ghost use Rattle.log_reading.specs.declared.faults.FolderFault.{FolderFault};
 ghost use Rattle.log_reading.specs.Counts.{ReadFaulted};
-ghost use Rattle.log_reading.specs.Steps.{seen_in, live_slot};
+ghost use Rattle.log_reading.specs.Steps.{seen_in};
 ghost use Rattle.log_reading.specs.Versions.{version_named};
 ghost use Rattle.grain_log.specs.Reads.{IsTextAt};
 ghost use Rattle.log_reading.specs.Pieces.{IsPieceOf, IsTextIn, continues_piece};
@@ -29,7 +29,7 @@ pub struct Piece {
 
 /// A piece without bytes. Takes no memory.
 pub fn no_piece(alloc: Global) -> Piece
-    ensures { (tells : Bool) (image : Image) → IsPieceOf tells image result }
+    ensures { (tells : Bool) (live : ℕ) (image : Image) → IsPieceOf tells live image result }
 {
     Piece {
         grain: GrainId { kind: 0, key: 0 },
@@ -64,22 +64,23 @@ pub fn text_in(piece: &Piece, named: Named) -> Option<&[u8]>
     Some(&rest[..place.len as usize])
 }
 
-/// The version that is named, from the bytes that stand at its place.
+/// The version that is named in a slot's files, from the bytes that stand at its place.
 pub fn version_of(
     alloc: Global,
+    slot: u8,
     shape: &Shape,
     named: Named,
     text: &[u8],
 ) -> Result<Version, FolderFault>
     requires size { length text.now ≡ named.written.place.len }
-    ensures found { IfOk result (λ version. (image : Image) → IsTextAt named.written.place (image (Grain 0 named.written.grain)) text.now → version_named live_slot shape.now image named ≡ Ok version) }
+    ensures found { IfOk result (λ version. (image : Image) → IsTextAt named.written.place (image (Grain slot named.written.grain)) text.now → version_named slot shape.now image named ≡ Ok version) }
     ensures damaged { (file : FileId) (place : ℕ) → IsErrOf result (FolderFault.Damaged file place)
-        → (image : Image) → IsTextAt named.written.place (image (Grain 0 named.written.grain)) text.now → version_named live_slot shape.now image named ≡ Err place }
-    ensures file { (file : FileId) (place : ℕ) → IsErrOf result (FolderFault.Damaged file place) → file ≡ Grain 0 named.written.grain }
+        → (image : Image) → IsTextAt named.written.place (image (Grain slot named.written.grain)) text.now → version_named slot shape.now image named ≡ Err place }
+    ensures file { (file : FileId) (place : ℕ) → IsErrOf result (FolderFault.Damaged file place) → file ≡ Grain slot named.written.grain }
     ensures quiet { (file : FileId) → IsErrOf result (FolderFault.Failed file) → ⊥ }
 {
     let grain = named.written.grain;
-    let file = FileId::Grain { slot: 0, grain };
+    let file = FileId::Grain { slot, grain };
     match named_in(alloc, text, file, named.unit, named.written.place, shape) {
         Ok(version) => Ok(version),
         Err(VersionFault::Damaged { place }) => Err(FolderFault::Damaged { file, place }),
@@ -116,24 +117,26 @@ fn run_of(grain: GrainId, start: u64, named: &[Named]) -> usize
     size
 }
 
-// Reads so many bytes from an offset of a grain's file on, or as many as it has there.
+// Reads so many bytes from an offset of a grain's file in a slot on, or as many as it has there.
 fn read_piece<H: Host>(
     alloc: Global,
     host: &mut H,
+    slot: u8,
     grain: GrainId,
     start: u64,
     size: usize,
 ) -> Result<Piece, FolderFault>
-    requires { start + size < 2 ^ 63 }
-    ensures piece { IfOk result (λ piece. IsPieceOf H.tells (seen_in (H.world host.old).disk) piece) }
-    ensures failed { (file : FileId) → IsErrOf result (FolderFault.Failed file) → file ≡ Grain 0 grain }
+    requires slot { slot ≤ 1 }
+    requires size { start + size < 2 ^ 63 }
+    ensures piece { IfOk result (λ piece. IsPieceOf H.tells slot (seen_in (H.world host.old).disk) piece) }
+    ensures failed { (file : FileId) → IsErrOf result (FolderFault.Failed file) → file ≡ Grain slot grain }
     ensures quiet { (file : FileId) (place : ℕ) → IsErrOf result (FolderFault.Damaged file place) → ⊥ }
     ensures asked { IsTrue H.tells → OnlyAsked (H.world host.old) (H.world host.new) }
     ensures calm { OnOk result (NoneFailed (H.faults host.old) (H.faults host.new)) }
     ensures fault { IfErr result (λ e. ReadFaulted e (H.faults host.old) (H.faults host.new)) }
     ensures ready { StaysReady (H.is_ready host.old) (H.is_ready host.new) }
 {
-    let file = FileId::Grain { slot: 0, grain };
+    let file = FileId::Grain { slot, grain };
     let mut bytes = vec![in alloc; 0u8; size]?;
     host.ready(file)?;
     match host.read_at(file, start, &mut bytes) {
@@ -149,18 +152,20 @@ fn read_piece<H: Host>(
     }
 }
 
-/// Reads the piece that begins with the first of these versions, where that one isn't in the piece at hand: it and those behind it, as
-/// far as they stand one behind the other in its grain's file, at most 65,536 bytes. Nothing is read but named versions.
+/// Reads the piece that begins with the first of these versions, where that one isn't in the piece at hand: it and those behind it,
+/// as far as they stand one behind the other in its grain's file in the slot, at most 65,536 bytes. Nothing is read but named versions.
 pub fn refill<H: Host>(
     alloc: Global,
     host: &mut H,
+    slot: u8,
     piece: &mut Piece,
     first: Named,
     named: &[Named],
 ) -> Result<(), FolderFault>
-    requires { IsPieceOf H.tells (seen_in (H.world host.old).disk) piece.old }
-    ensures piece { OnOk result (IsPieceOf H.tells (seen_in (H.world host.old).disk) piece.new) }
-    ensures failed { (file : FileId) → IsErrOf result (FolderFault.Failed file) → file ≡ Grain 0 first.written.grain }
+    requires slot { slot ≤ 1 }
+    requires piece { IsPieceOf H.tells slot (seen_in (H.world host.old).disk) piece.old }
+    ensures piece { OnOk result (IsPieceOf H.tells slot (seen_in (H.world host.old).disk) piece.new) }
+    ensures failed { (file : FileId) → IsErrOf result (FolderFault.Failed file) → file ≡ Grain slot first.written.grain }
     ensures quiet { (file : FileId) (place : ℕ) → IsErrOf result (FolderFault.Damaged file place) → ⊥ }
     ensures asked { IsTrue H.tells → OnlyAsked (H.world host.old) (H.world host.new) }
     ensures calm { OnOk result (NoneFailed (H.faults host.old) (H.faults host.new)) }
@@ -176,6 +181,6 @@ pub fn refill<H: Host>(
         return Ok(());
     }
     let size = run_of(grain, start, named);
-    *piece = read_piece(alloc, host, grain, start, size)?;
+    *piece = read_piece(alloc, host, slot, grain, start, size)?;
     Ok(())
 }

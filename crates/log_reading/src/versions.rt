@@ -10,7 +10,7 @@ ghost use Rattle.host_trait.specs.declared.channels.FileId.TheVariants.{Grain};
 ghost use Rattle.host_trait.specs.declared.channels.Channel.TheVariants.{File};
 ghost use Rattle.log_reading.specs.declared.faults.FolderFault.{FolderFault};
 ghost use Rattle.log_reading.specs.Counts.{ReadFaulted};
-ghost use Rattle.log_reading.specs.Steps.{seen_in, live_slot};
+ghost use Rattle.log_reading.specs.Steps.{seen_in};
 ghost use Rattle.host_trait.specs.Files.{same_grain};
 ghost use Rattle.log_reading.specs.Pieces.{IsPieceOf};
 ghost use Rattle.log_reading.specs.Versions.{version_named, first_missing};
@@ -24,26 +24,29 @@ use grain_log::{VersionFault, read_named};
 use host_trait::{FileId, Host};
 use std::alloc::Global;
 
-/// The version that is named, or the first place at which its file is damaged: it is the unit's, and has its type's fields.
+/// The version that is named in a slot's files, or the first place at which its file is damaged: it is the unit's, and has its
+/// type's fields.
 pub fn named_version<H: Host>(
     alloc: Global,
     host: &mut H,
+    slot: u8,
     shape: &Shape,
     named: Named,
 ) -> Result<Version, FolderFault>
-    ensures found { IfOk result (λ version. IsTrue H.tells → version_named live_slot shape.now (seen_in (H.world host.old).disk) named ≡ Ok version) }
+    requires slot { slot ≤ 1 }
+    ensures found { IfOk result (λ version. IsTrue H.tells → version_named slot shape.now (seen_in (H.world host.old).disk) named ≡ Ok version) }
     ensures near { OnOk result (named.written.place.offset + named.written.place.len < 2 ^ 63) }
     ensures damaged { (file : FileId) (place : ℕ) → IsErrOf result (FolderFault.Damaged file place) → IsTrue H.tells
-        → version_named live_slot shape.now (seen_in (H.world host.old).disk) named ≡ Err place }
-    ensures file { (file : FileId) (place : ℕ) → IsErrOf result (FolderFault.Damaged file place) → file ≡ Grain 0 named.written.grain }
-    ensures failed { (file : FileId) → IsErrOf result (FolderFault.Failed file) → file ≡ Grain 0 named.written.grain }
+        → version_named slot shape.now (seen_in (H.world host.old).disk) named ≡ Err place }
+    ensures file { (file : FileId) (place : ℕ) → IsErrOf result (FolderFault.Damaged file place) → file ≡ Grain slot named.written.grain }
+    ensures failed { (file : FileId) → IsErrOf result (FolderFault.Failed file) → file ≡ Grain slot named.written.grain }
     ensures asked { IsTrue H.tells → OnlyAsked (H.world host.old) (H.world host.new) }
     ensures calm { OnOk result (NoneFailed (H.faults host.old) (H.faults host.new)) }
     ensures fault { IfErr result (λ e. ReadFaulted e (H.faults host.old) (H.faults host.new)) }
     ensures ready { StaysReady (H.is_ready host.old) (H.is_ready host.new) }
 {
     let grain = named.written.grain;
-    let file = FileId::Grain { slot: 0, grain };
+    let file = FileId::Grain { slot, grain };
     match read_named(alloc, host, file, named.unit, named.written.place, shape) {
         Ok(version) => Ok(version),
         Err(VersionFault::Damaged { place }) => Err(FolderFault::Damaged { file, place }),
@@ -57,25 +60,27 @@ pub fn named_version<H: Host>(
 fn next_version<H: Host>(
     alloc: Global,
     host: &mut H,
+    slot: u8,
     shape: &Shape,
     piece: &Piece,
     named: Named,
 ) -> Result<Version, FolderFault>
-    requires { IsPieceOf H.tells (seen_in (H.world host.old).disk) piece.now }
-    ensures found { IfOk result (λ version. IsTrue H.tells → version_named live_slot shape.now (seen_in (H.world host.old).disk) named ≡ Ok version) }
+    requires slot { slot ≤ 1 }
+    requires piece { IsPieceOf H.tells slot (seen_in (H.world host.old).disk) piece.now }
+    ensures found { IfOk result (λ version. IsTrue H.tells → version_named slot shape.now (seen_in (H.world host.old).disk) named ≡ Ok version) }
     ensures near { OnOk result (named.written.place.offset + named.written.place.len < 2 ^ 63) }
     ensures damaged { (file : FileId) (place : ℕ) → IsErrOf result (FolderFault.Damaged file place) → IsTrue H.tells
-        → version_named live_slot shape.now (seen_in (H.world host.old).disk) named ≡ Err place }
-    ensures file { (file : FileId) (place : ℕ) → IsErrOf result (FolderFault.Damaged file place) → file ≡ Grain 0 named.written.grain }
-    ensures failed { (file : FileId) → IsErrOf result (FolderFault.Failed file) → file ≡ Grain 0 named.written.grain }
+        → version_named slot shape.now (seen_in (H.world host.old).disk) named ≡ Err place }
+    ensures file { (file : FileId) (place : ℕ) → IsErrOf result (FolderFault.Damaged file place) → file ≡ Grain slot named.written.grain }
+    ensures failed { (file : FileId) → IsErrOf result (FolderFault.Failed file) → file ≡ Grain slot named.written.grain }
     ensures asked { IsTrue H.tells → OnlyAsked (H.world host.old) (H.world host.new) }
     ensures calm { OnOk result (NoneFailed (H.faults host.old) (H.faults host.new)) }
     ensures fault { IfErr result (λ e. ReadFaulted e (H.faults host.old) (H.faults host.new)) }
     ensures ready { StaysReady (H.is_ready host.old) (H.is_ready host.new) }
 {
     match text_in(piece, named) {
-        Some(text) => version_of(alloc, shape, named, text),
-        None => named_version(alloc, host, shape, named),
+        Some(text) => version_of(alloc, slot, shape, named, text),
+        None => named_version(alloc, host, slot, shape, named),
     }
 }
 
@@ -109,24 +114,26 @@ fn keep(
     Ok(())
 }
 
-/// Reads these versions one by one, in pieces of their grains' files, and keeps the last state of each grain and the greatest end
+/// Reads these versions one by one, in pieces of a slot's files, and keeps the last state of each grain and the greatest end
 /// in its file, which lies below 2^63. `Damaged` names the first that isn't there.
 pub fn read_versions<H: Host>(
     alloc: Global,
     host: &mut H,
+    slot: u8,
     shape: &Shape,
     named: &[Named],
     store: &mut Store,
     ends: &mut Ends,
 ) -> Result<(), FolderFault>
-    ensures found { OnOk result (IsTrue H.tells → first_missing live_slot shape.now (seen_in (H.world host.old).disk) named.now ≡ None) }
-    ensures states { OnOk result (IsTrue H.tells → (grain : GrainId) → state_in store.new grain ≡ state_after shape.now (seen_in (H.world host.old).disk) (state_in store.old grain) named.now grain) }
+    requires slot { slot ≤ 1 }
+    ensures found { OnOk result (IsTrue H.tells → first_missing slot shape.now (seen_in (H.world host.old).disk) named.now ≡ None) }
+    ensures states { OnOk result (IsTrue H.tells → (grain : GrainId) → state_in store.new grain ≡ state_after slot shape.now (seen_in (H.world host.old).disk) (state_in store.old grain) named.now grain) }
     ensures ends { OnOk result ((grain : GrainId) → end_in ends.new grain ≡ end_after (end_in ends.old grain) named.now grain) }
     ensures near { OnOk result (AreNear ends.old → AreNear ends.new) }
     ensures damaged { (file : FileId) (place : ℕ) → IsErrOf result (FolderFault.Damaged file place) → IsTrue H.tells
-        → first_missing live_slot shape.now (seen_in (H.world host.old).disk) named.now ≡ Some (file, place) }
+        → first_missing slot shape.now (seen_in (H.world host.old).disk) named.now ≡ Some (file, place) }
     ensures failed { (file : FileId) → IsErrOf result (FolderFault.Failed file) → IsTrue H.tells
-        → StopsAt shape.now (seen_in (H.world host.old).disk) named.now file }
+        → StopsAt slot shape.now (seen_in (H.world host.old).disk) named.now file }
     ensures asked { IsTrue H.tells → OnlyAsked (H.world host.old) (H.world host.new) }
     ensures calm { OnOk result (NoneFailed (H.faults host.old) (H.faults host.new)) }
     ensures fault { IfErr result (λ e. ReadFaulted e (H.faults host.old) (H.faults host.new)) }
@@ -135,8 +142,8 @@ pub fn read_versions<H: Host>(
     let mut piece = no_piece(alloc);
     let mut at = 0;
     for one in named {
-        refill(alloc, host, &mut piece, *one, &named[at..])?;
-        let version = next_version(alloc, host, shape, &piece, *one)?;
+        refill(alloc, host, slot, &mut piece, *one, &named[at..])?;
+        let version = next_version(alloc, host, slot, shape, &piece, *one)?;
         keep(store, ends, *one, version)?;
         at += 1;
     }

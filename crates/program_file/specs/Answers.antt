@@ -13,7 +13,7 @@ use Rattle.program_file.specs.declared.faults.ProgramFault.{ProgramFault}
 use Rattle.program_file.specs.declared.faults.ProgramFault.TheVariants.{Unparsed, Unchecked}
 use Rattle.program_file.specs.declared.faults.ProgramFileFault.{ProgramFileFault}
 use Rattle.program_file.specs.Programs.{parse_place, check_place, program_in}
-use Rattle.program_file.specs.Files.{program_file}
+use Rattle.host_trait.specs.declared.channels.FileId.TheVariants.{Program as ProgramFile}
 
 -- the place that a parse names, none where memory ran out
 abbrev pub parse_named : ParseFault → Option ℕ
@@ -53,8 +53,8 @@ abbrev pub damage : Option ℕ → ProgramFileFault
 damage None = ProgramFileFault.Memory
 damage (Some place) = ProgramFileFault.Damaged (4 + place)
 
--- a call on the file failed where `Failed` is answered, and none did where another fault is
-abbrev pub FileFaulted : ProgramFileFault → (Channel → ℕ) → (Channel → ℕ) → Type 0
-FileFaulted (ProgramFileFault.Damaged place) old new = NoneFailed old new
-FileFaulted ProgramFileFault.Failed old new = FailedOn (File program_file) old new
-FileFaulted ProgramFileFault.Memory old new = NoneFailed old new
+-- a call on the slot's program file failed where `Failed` is answered, and none did where another fault is
+abbrev pub FileFaulted : ℕ → ProgramFileFault → (Channel → ℕ) → (Channel → ℕ) → Type 0
+FileFaulted slot (ProgramFileFault.Damaged place) old new = NoneFailed old new
+FileFaulted slot ProgramFileFault.Failed old new = FailedOn (File (ProgramFile slot)) old new
+FileFaulted slot ProgramFileFault.Memory old new = NoneFailed old new

@@ -1,7 +1,6 @@
 -- The program of a program file, or where the file is damaged.
 use Rattle.std.specs.Prelude.{ℕ, ◌+◌, nat_lt, if◌then◌else◌, List, length, take, drop, Result, Ok, Err}
 use Rattle.std.specs.Int.{w32, from_le_bytes}
-pub use Rattle.host_trait.specs.Files.{program_file}
 use Rattle.script_tree.specs.Programs.{ProgramTree}
 use Rattle.program_file.specs.declared.faults.ProgramFault.{ProgramFault}
 use Rattle.program_file.specs.Programs.{Program, text_limit, program_in, fault_place}

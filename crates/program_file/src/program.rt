@@ -5,7 +5,8 @@ ghost use Rattle.host_trait.specs.Runs.{OnlyAsked};
 ghost use Rattle.script_tree.specs.Programs.{program_tree};
 ghost use Rattle.program_file.specs.declared.faults.ProgramFileFault.{ProgramFileFault as Fault};
 ghost use Rattle.program_file.specs.Programs.{program_in};
-ghost use Rattle.program_file.specs.Files.{program_file, program_in_file, with_types};
+ghost use Rattle.host_trait.specs.declared.channels.FileId.TheVariants.{Program as ProgramFile};
+ghost use Rattle.program_file.specs.Files.{program_in_file, with_types};
 ghost use Rattle.program_file.specs.Answers.{parse_named, check_named, program_fault_place, damage, Accepts, FileFaulted};
 
 use crate::faults::{ProgramFault, ProgramFileFault};
@@ -94,22 +95,28 @@ fn accept_text(alloc: Global, text: &[u8]) -> Result<Checked, ProgramFileFault>
     }
 }
 
-/// Reads the program file, and changes no file. `Damaged` names the first place that is damaged.
-pub fn read_program<H: Host>(alloc: Global, host: &mut H) -> Result<Checked, ProgramFileFault>
+/// Reads a slot's program file, and changes no file. `Damaged` names the first place that is damaged.
+pub fn read_program<H: Host>(
+    alloc: Global,
+    host: &mut H,
+    slot: u8,
+) -> Result<Checked, ProgramFileFault>
+    requires slot { slot ≤ 1 }
+
     // The program is the file's, and else the first damage is named.
     ensures found { IfOk result (λ checked. IsTrue H.tells
-        → (text : List ℕ) × (program_in_file ((H.world host.old).disk program_file).seen ≡ Ok (record { text = text; types = program_tree checked }))) }
+        → (text : List ℕ) × (program_in_file ((H.world host.old).disk (ProgramFile slot)).seen ≡ Ok (record { text = text; types = program_tree checked }))) }
     ensures damaged { (place : ℕ) → IsErrOf result (Fault.Damaged place) → IsTrue H.tells
-        → program_in_file ((H.world host.old).disk program_file).seen ≡ Err place }
+        → program_in_file ((H.world host.old).disk (ProgramFile slot)).seen ≡ Err place }
 
     ensures asked { IsTrue H.tells → OnlyAsked (H.world host.old) (H.world host.new) }
 
     // No count changes unless the answer is `Failed`; then the program file's rose, and no other changed.
     ensures calm { OnOk result (NoneFailed (H.faults host.old) (H.faults host.new)) }
-    ensures fault { IfErr result (λ e. FileFaulted e (H.faults host.old) (H.faults host.new)) }
+    ensures fault { IfErr result (λ e. FileFaulted slot e (H.faults host.old) (H.faults host.new)) }
     ensures ready { StaysReady (H.is_ready host.old) (H.is_ready host.new) }
 {
-    let text = read_text(alloc, host)?;
+    let text = read_text(alloc, host, slot)?;
     match accept_text(alloc, &text) {
         Ok(checked) => Ok(checked),
         Err(fault) => Err(fault),

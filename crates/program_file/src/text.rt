@@ -4,16 +4,14 @@ ghost use Rattle.host_trait.specs.Files.{StaysReady};
 ghost use Rattle.host_trait.specs.Faults.{Counted, NoneFailed};
 ghost use Rattle.host_trait.specs.Runs.{OnlyAsked};
 ghost use Rattle.host_trait.specs.declared.channels.Channel.TheVariants.{File};
+ghost use Rattle.host_trait.specs.declared.channels.FileId.TheVariants.{Program as ProgramFile};
 ghost use Rattle.program_file.specs.declared.faults.ProgramFileFault.{ProgramFileFault as Fault};
-ghost use Rattle.program_file.specs.Files.{program_file, text_in_file, sized};
+ghost use Rattle.program_file.specs.Files.{text_in_file, sized};
 ghost use Rattle.program_file.specs.Answers.{FileFaulted};
 
 use crate::faults::ProgramFileFault;
 use host_trait::{Failed, FileId, Host, read_full};
 use std::alloc::Global;
-
-// The file of the program.
-const PROGRAM: FileId = FileId::Program { slot: 0 };
 
 // The number that a length field spells.
 fn number(field: [u8; 4]) -> u32
@@ -22,29 +20,31 @@ fn number(field: [u8; 4]) -> u32
     u32::from_le_bytes(field)
 }
 
-// The number that the length field says, none where the file ends before it does.
-fn read_size<H: Host>(host: &mut H) -> Result<Option<u32>, Failed>
-    ensures some { IfOk result (λ found. IsTrue H.tells → IfSome found (λ size. size ≡ from_le_bytes w32 (take 4 ((H.world host.old).disk program_file).seen))) }
-    ensures none { IfOk result (λ found. IsTrue H.tells → IfNone found (length ((H.world host.old).disk program_file).seen < 4)) }
+// The number that the length field of a slot's program file says, none where the file ends before it does.
+fn read_size<H: Host>(host: &mut H, slot: u8) -> Result<Option<u32>, Failed>
+    requires slot { slot ≤ 1 }
+    ensures some { IfOk result (λ found. IsTrue H.tells → IfSome found (λ size. size ≡ from_le_bytes w32 (take 4 ((H.world host.old).disk (ProgramFile slot)).seen))) }
+    ensures none { IfOk result (λ found. IsTrue H.tells → IfNone found (length ((H.world host.old).disk (ProgramFile slot)).seen < 4)) }
     ensures asked { IsTrue H.tells → OnlyAsked (H.world host.old) (H.world host.new) }
-    ensures faults { Counted (File program_file) result (H.faults host.old) (H.faults host.new) }
+    ensures faults { Counted (File (ProgramFile slot)) result (H.faults host.old) (H.faults host.new) }
     ensures ready { StaysReady (H.is_ready host.old) (H.is_ready host.new) }
 {
     let mut field = [0; 4];
-    if !read_full(host, PROGRAM, 0, &mut field)? {
+    if !read_full(host, FileId::Program { slot }, 0, &mut field)? {
         return Ok(None);
     }
     Ok(Some(number(field)))
 }
 
-// How long the file is.
-fn read_length<H: Host>(host: &mut H) -> Result<u64, Failed>
-    ensures len { IfOk result (λ n. IsTrue H.tells → n ≡ length ((H.world host.old).disk program_file).seen) }
+// How long a slot's program file is.
+fn read_length<H: Host>(host: &mut H, slot: u8) -> Result<u64, Failed>
+    requires slot { slot ≤ 1 }
+    ensures len { IfOk result (λ n. IsTrue H.tells → n ≡ length ((H.world host.old).disk (ProgramFile slot)).seen) }
     ensures asked { IsTrue H.tells → OnlyAsked (H.world host.old) (H.world host.new) }
-    ensures faults { Counted (File program_file) result (H.faults host.old) (H.faults host.new) }
+    ensures faults { Counted (File (ProgramFile slot)) result (H.faults host.old) (H.faults host.new) }
     ensures ready { StaysReady (H.is_ready host.old) (H.is_ready host.new) }
 {
-    let n = host.length(PROGRAM)?;
+    let n = host.length(FileId::Program { slot })?;
     Ok(n)
 }
 
@@ -63,23 +63,28 @@ fn text_size(end: u64, size: u32) -> Result<u32, u64>
     Ok(size)
 }
 
-/// The text of the program file, of at most 262,144 bytes, or where the file is damaged.
-pub fn read_text<H: Host>(alloc: Global, host: &mut H) -> Result<Vec<u8>, ProgramFileFault>
-    ensures found { IfOk result (λ text. IsTrue H.tells → text_in_file ((H.world host.old).disk program_file).seen ≡ Ok text.items) }
+/// The text of a slot's program file, of at most 262,144 bytes, or where the file is damaged.
+pub fn read_text<H: Host>(
+    alloc: Global,
+    host: &mut H,
+    slot: u8,
+) -> Result<Vec<u8>, ProgramFileFault>
+    requires slot { slot ≤ 1 }
+    ensures found { IfOk result (λ text. IsTrue H.tells → text_in_file ((H.world host.old).disk (ProgramFile slot)).seen ≡ Ok text.items) }
     ensures small { IfOk result (λ text. length text.items ≤ 262144) }
     ensures damaged { (place : ℕ) → IsErrOf result (Fault.Damaged place) → IsTrue H.tells
-        → text_in_file ((H.world host.old).disk program_file).seen ≡ Err place }
+        → text_in_file ((H.world host.old).disk (ProgramFile slot)).seen ≡ Err place }
     ensures asked { IsTrue H.tells → OnlyAsked (H.world host.old) (H.world host.new) }
     ensures calm { OnOk result (NoneFailed (H.faults host.old) (H.faults host.new)) }
-    ensures fault { IfErr result (λ e. FileFaulted e (H.faults host.old) (H.faults host.new)) }
+    ensures fault { IfErr result (λ e. FileFaulted slot e (H.faults host.old) (H.faults host.new)) }
     ensures ready { StaysReady (H.is_ready host.old) (H.is_ready host.new) }
 {
-    let end = read_length(host)?;
+    let end = read_length(host, slot)?;
     let damaged = ProgramFileFault::Damaged { place: end };
     if end < 4 {
         return Err(damaged);
     }
-    let Some(size) = read_size(host)? else {
+    let Some(size) = read_size(host, slot)? else {
         return Err(damaged);
     };
     let size = match text_size(end, size) {
@@ -87,7 +92,7 @@ pub fn read_text<H: Host>(alloc: Global, host: &mut H) -> Result<Vec<u8>, Progra
         Err(place) => return Err(ProgramFileFault::Damaged { place }),
     };
     let mut text = vec![in alloc; 0u8; size as usize]?;
-    if !read_full(host, PROGRAM, 4, &mut text)? {
+    if !read_full(host, FileId::Program { slot }, 4, &mut text)? {
         return Err(damaged);
     }
     Ok(text)

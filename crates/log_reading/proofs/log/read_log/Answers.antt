@@ -2,6 +2,7 @@ use Rattle.std.proofs.Common.{rules, arith, ◌≡◌, ◌+◌, ◌^◌, ◌<◌
 use Rattle.std.specs.List.{AllByRecursion}
 use Rattle.std.proofs.lemmas.Result.{err_from_is_err_and}
 use Rattle.host_trait.specs.World.{Disk}
+use Rattle.host_trait.specs.declared.channels.FileId.TheVariants.{Manager}
 use Rattle.host_trait.proofs.Runs.{asked_then}
 use Rattle.host_trait.proofs.Counts.{none_then}
 use Rattle.field_codec.specs.declared.units.Numbers.TheVariants.{Logged}
@@ -10,7 +11,7 @@ use Rattle.commit_log.specs.Bodies.{IsRecordIn}
 use Rattle.log_reading.specs.declared.faults.FolderFault.{FolderFault}
 use Rattle.commit_log.specs.declared.records.Named.{Named}
 use Rattle.log_reading.specs.Versions.{named_by}
-use Rattle.log_reading.specs.Steps.{manager, next_in}
+use Rattle.log_reading.specs.Steps.{next_in}
 use Rattle.log_reading.specs.Sums.{next_after}
 use Rattle.log_reading.proofs.Errors.{other_value}
 use Rattle.log_reading.proofs.Summing.{weaker_all, low_unit, low_next, high_next}
@@ -23,7 +24,7 @@ loop-named-init g c = record {
   few = omega arith;
   high = omega arith;
   low = omega arith;
-  read = has_begun g.H.Host.tells c.args.shape.now ((g.H.Host.world c.args.host.now).disk manager).seen c.new-named.result c.new-named.ensures c.in-Ok.ensures.whole;
+  read = has_begun g.H.Host.tells c.args.shape.now ((g.H.Host.world c.args.host.now).disk (Manager c.args.slot)).seen c.new-named.result c.new-named.ensures c.in-Ok.ensures.whole;
   asked = c.check_header.ensures.asked;
   calm = c.in-Ok.ensures.calm;
   ready = c.check_header.ensures.ready;
@@ -37,7 +38,7 @@ returns-in_err-records-clause-damaged g c =
     let gate = c.loop-named.gate_at in
     rw (p.1, p.2) λ file place is told.
     let here = c.in_err-records.ensures.damaged file place (other_value _ (FolderFault.Damaged file place) is) told in
-    let there : next_in shape gate ((g.H.Host.world c.args.host.now).disk manager).seen ≡ Err place = subst (λ (d : Disk). next_in shape gate (d manager).seen ≡ Err place) (inv.asked told).disk here in
+    let there : next_in shape gate ((g.H.Host.world c.args.host.now).disk (Manager c.args.slot)).seen ≡ Err place = subst (λ (d : Disk). next_in shape gate (d (Manager c.args.slot)).seen ≡ Err place) (inv.asked told).disk here in
     has_broken g.H.Host.tells shape _ _ _ gate _ inv.read told place there
 
 pub returns-in_err-records-clause-asked : goal.returns-in_err-records-clause-asked
@@ -61,7 +62,7 @@ loop-named-preserved g c =
     let more = c.in-Some.records in
     let behind = c.in-Some.behind in
     let old = c.loop-named.next in
-    let seen = ((g.H.Host.world c.args.host.now).disk manager).seen in
+    let seen = ((g.H.Host.world c.args.host.now).disk (Manager c.args.slot)).seen in
     let fit : AllByRecursion (IsRecordIn Logged shape) more = search rules in
     let units : AllByRecursion (λ (r : CommitRecord). r.unit.0 < 2 ^ 63) more = weaker_all _ (λ r. r.unit.0 < 2 ^ 63) (low_unit shape) more fit in
     let far : (gate + 5 + length more ≤ behind) × (behind < 2 ^ 63) = search rules in
@@ -74,8 +75,8 @@ loop-named-preserved g c =
       high = subst (λ (n : ℕ). 0 < n) (sym next) (high_next old more inv.high);
       low = subst (λ (n : ℕ). n ≤ 2 ^ 63) (sym next) (low_next old more inv.low units);
       read = has_more g.H.Host.tells shape seen _ _ gate _ inv.read more fit _ _ behind _ (ap (λ (n : ℕ). c.loop-named.count + n) size) next names (λ told.
-          let here : next_in shape gate ((g.H.Host.world c.loop-named.host).disk manager).seen ≡ Ok (Some (more, behind)) = search rules in
-          subst (λ (d : Disk). next_in shape gate (d manager).seen ≡ Ok (Some (more, behind))) (inv.asked told).disk here);
+          let here : next_in shape gate ((g.H.Host.world c.loop-named.host).disk (Manager c.args.slot)).seen ≡ Ok (Some (more, behind)) = search rules in
+          subst (λ (d : Disk). next_in shape gate (d (Manager c.args.slot)).seen ≡ Ok (Some (more, behind))) (inv.asked told).disk here);
       asked = λ told. asked_then _ _ _ (inv.asked told) (c.next_block.ensures.asked told);
       calm = none_then _ _ _ inv.calm c.in_ok-records.ensures.calm;
       ready = λ file was. c.next_block.ensures.ready file (inv.ready file was);
@@ -86,10 +87,10 @@ returns-clause-log g c =
     let inv = c.loop-named.invariant in
     let shape = c.args.shape.now in
     let gate = c.loop-named.gate_at in
-    let seen = ((g.H.Host.world c.args.host.now).disk manager).seen in
+    let seen = ((g.H.Host.world c.args.host.now).disk (Manager c.args.slot)).seen in
     has_ended g.H.Host.tells shape seen _ inv.read (λ told.
-    let here : next_in shape gate ((g.H.Host.world c.loop-named.host).disk manager).seen ≡ Ok None = search rules in
-    subst (λ (d : Disk). next_in shape gate (d manager).seen ≡ Ok None) (inv.asked told).disk here)
+    let here : next_in shape gate ((g.H.Host.world c.loop-named.host).disk (Manager c.args.slot)).seen ≡ Ok None = search rules in
+    subst (λ (d : Disk). next_in shape gate (d (Manager c.args.slot)).seen ≡ Ok None) (inv.asked told).disk here)
 
 pub returns-clause-asked : goal.returns-clause-asked
 returns-clause-asked g c told = asked_then _ _ _ (c.loop-named.invariant.asked told) (c.next_block.ensures.asked told)
