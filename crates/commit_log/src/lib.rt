@@ -2,7 +2,7 @@
 //!
 //! [`encode_block`] spells a batch's block, and [`decode_body`] and [`read_records`] read a body back, by the tables of
 //! `docs/FORMATS.md`.
-//! [`seal`] puts a block behind the log's closed gate and opens that gate.
+//! [`seal`] puts a block behind the closed gate of a slot's log and opens that gate.
 #![tactic(auto)]
 
 mod bodies;
@@ -15,6 +15,6 @@ mod writes;
 
 pub use bodies::{decode_body, read_records};
 pub use encoding::encode_block;
-pub use gate::{MANAGER, Sealing, seal};
+pub use gate::{Sealing, seal};
 pub use laws::{first_deposit_is_spelled, readings_agree, spellings_are_apart};
 pub use records::{CommitRecord, Named, Written};
