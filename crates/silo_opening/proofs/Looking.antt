@@ -84,7 +84,7 @@ looks_synced old mid new ok asked synced =
     }
 
 -- a file that has bytes was synced
-pub synced_for : (front : Front) → front ≢ Empty → (old new : World) → SyncsOnce old new → SyncsFor front old new
+pub synced_for : (front : Front) → front ≢ Empty → (old new : World) → SyncsOnce 0 old new → SyncsFor front old new
 synced_for Empty some old new once = absurd (some refl)
 synced_for Silo some old new once = once
 synced_for Open some old new once = once

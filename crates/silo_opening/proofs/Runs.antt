@@ -24,12 +24,12 @@ run_only_asked file R most old mid new run asked = record {
 }
 
 -- the length was asked
-pub run_length : (old new : World) → Asked old new → RunsOnFile manager Stays 1 old new
-run_length old new asked = run_more_syncs manager Stays 0 1 old new (omega arith) (run_asked manager Stays 0 old old new (run_started manager Stays old (λ d. refl)) asked)
+pub run_length : (file : FileId) (old new : World) → Asked old new → RunsOnFile file Stays 1 old new
+run_length file old new asked = run_more_syncs file Stays 0 1 old new (omega arith) (run_asked file Stays 0 old old new (run_started file Stays old (λ d. refl)) asked)
 
 -- and then the file was synced
-pub run_settled : (old mid new : World) (ok : Bool) → Asked old mid → Synced manager ok mid new → MayLeave (mid.disk manager) (mid.disk manager).seen → RunsOnFile manager Stays 1 old new
-run_settled old mid new ok asked synced here = run_synced manager Stays 0 old mid new (run_asked manager Stays 0 old old mid (run_started manager Stays old (λ d. refl)) asked) ok synced here
+pub run_settled : (file : FileId) (old mid new : World) (ok : Bool) → Asked old mid → Synced file ok mid new → MayLeave (mid.disk file) (mid.disk file).seen → RunsOnFile file Stays 1 old new
+run_settled file old mid new ok asked synced here = run_synced file Stays 0 old mid new (run_asked file Stays 0 old old mid (run_started file Stays old (λ d. refl)) asked) ok synced here
 
 -- at each moment of such a run each image is one of those at its start
 as_at_entry : (old : World) (m : Moment) → ChangesFile manager Stays old m → IsAsAtEntry old m

@@ -1,5 +1,4 @@
 -- The ends that are kept lie in their files.
-use Rattle.promise_spec.specs.Logs.{live_slot}
 use Rattle.std.proofs.Common.{◌≡◌, inl, inr, ℕ, ◌+◌, ◌-◌, ◌≤◌, ◌<◌, max, Bool, true, false, ltb, if◌then◌else◌, Option, Some, None, List, [], ◌∷◌, length, drop, take, Result, Ok, Err, refl, sym, ◌∙◌, ap, subst, arith, slice_get}
 use Rattle.std.proofs.lemmas.Bool.{ltb-false}
 use Rattle.std.proofs.lemmas.List.{length-take, length-drop}
@@ -37,11 +36,11 @@ within_by (Some fields) place file v e =
     let two = past (ltb (length file - place.offset) place.len) place.offset (in_file place.offset (version_of fields (take place.len (drop place.offset file)))) v one.1 in
     ltb-false _ _ two.0
 
-module _ (shape : Shape) (image : Image) where
+module _ (live : ℕ) (shape : Shape) (image : Image) where
   -- the version that is named ends in its file
-  named_lies : (n : Named) (v : Version) → version_named live_slot shape image n ≡ Ok v → n.written.place.offset + n.written.place.len ≤ length (image (Grain 0 n.written.grain))
+  named_lies : (n : Named) (v : Version) → version_named live shape image n ≡ Ok v → n.written.place.offset + n.written.place.len ≤ length (image (Grain live n.written.grain))
   named_lies n v e =
-      let file = image (Grain 0 n.written.grain) in
+      let file = image (Grain live n.written.grain) in
       let place = n.written.place in
       let found = own_place (is_owned n.unit place file) place.offset (version_at_place (fields_of (slice_get shape.types n.written.grain.kind)) place file) v e in
       let own = (bytes_eq-Decides (take 8 (drop place.offset file)) (to_le_bytes w64 n.unit.0)).0 found.0 in
@@ -49,7 +48,7 @@ module _ (shape : Shape) (image : Image) where
       let short = within_by (fields_of (slice_get shape.types n.written.grain.kind)) place file v found.1 in
       omega (arith, eight, short, wide64.len n.unit.0, length-take 8 (drop place.offset file), length-drop place.offset file)
 
-  there_by : (g : GrainId) (r : Result Version ℕ) (later : Option (FileId × ℕ)) → missing_or live_slot g r later ≡ None → ((v : Version) × (r ≡ Ok v)) × (later ≡ None)
+  there_by : (g : GrainId) (r : Result Version ℕ) (later : Option (FileId × ℕ)) → missing_or live g r later ≡ None → ((v : Version) × (r ≡ Ok v)) × (later ≡ None)
   there_by g (Ok v) later e = ((v, refl), e)
   there_by g (Err place) later e = absurd cc
 
@@ -62,14 +61,14 @@ module _ (shape : Shape) (image : Image) where
   one_lies size end e false here lies = lies
 
   -- so does each end that is kept of versions that are there
-  pub ends_lie : (named : List Named) → first_missing live_slot shape image named ≡ None → (g : GrainId) (e : Option ℕ) → LiesIn (length (image (Grain 0 g))) e → LiesIn (length (image (Grain 0 g))) (end_after e named g)
+  pub ends_lie : (named : List Named) → first_missing live shape image named ≡ None → (g : GrainId) (e : Option ℕ) → LiesIn (length (image (Grain live g))) e → LiesIn (length (image (Grain live g))) (end_after e named g)
   ends_lie [] whole g e lies = lies
   ends_lie (n ∷ named) whole g e lies =
-      let t = there_by n.written.grain (version_named live_slot shape image n) (first_missing live_slot shape image named) whole in
+      let t = there_by n.written.grain (version_named live shape image n) (first_missing live shape image named) whole in
       let end = n.written.place.offset + n.written.place.len in
-      let here : same_grain n.written.grain g ≡ true → end ≤ length (image (Grain 0 g)) = λ same.
-      subst (λ (h : GrainId). end ≤ length (image (Grain 0 h))) (same_grain-true n.written.grain g same) (named_lies n t.0.0 t.0.1) in
-      ends_lie named t.1 g (if same_grain n.written.grain g then greater_end e end else e) (one_lies (length (image (Grain 0 g))) end e (same_grain n.written.grain g) here lies)
+      let here : same_grain n.written.grain g ≡ true → end ≤ length (image (Grain live g)) = λ same.
+      subst (λ (h : GrainId). end ≤ length (image (Grain live h))) (same_grain-true n.written.grain g same) (named_lies n t.0.0 t.0.1) in
+      ends_lie named t.1 g (if same_grain n.written.grain g then greater_end e end else e) (one_lies (length (image (Grain live g))) end e (same_grain n.written.grain g) here lies)
 
 -- an end that is there
 pub end_lies : (size end : ℕ) (e kept : Option ℕ) → kept ≡ e → LiesIn size e → kept ≡ Some end → end ≤ size

@@ -2,7 +2,7 @@
 use Rattle.std.specs.Prelude.{◌≡◌, ℕ, ◌≤◌, Bool, ◌&&◌, ◌==◌, List, length, map, take, drop, slice_index, bytes_eq, unwrap_or, Some, None}
 use Rattle.base_types.specs.declared.calls.GrainId.{GrainId}
 use Rattle.base_types.specs.Stores.{state_in, end_in}
-use Rattle.host_trait.specs.declared.channels.FileId.TheVariants.{Grain}
+use Rattle.host_trait.specs.declared.channels.FileId.TheVariants.{Manager, Program as ProgramFile, Grain}
 use Rattle.host_trait.specs.World.{Image}
 use Rattle.gate_block.specs.Gates.{IsClosedAt}
 use Rattle.gate_block.specs.Log.{gate_of}
@@ -11,9 +11,8 @@ use Rattle.log_reading.specs.Versions.{named_by, named_by_grain}
 use Rattle.log_reading.specs.Sums.{end_after}
 use Rattle.program_file.specs.declared.faults.ProgramFileFault.{ProgramFileFault}
 use Rattle.script_tree.specs.Programs.{program_tree}
-use Rattle.silo_spec.specs.Silos.{manager, program_file}
 use Rattle.promise_spec.specs.Records.{Commit, new_silo, standing_of}
-use Rattle.promise_spec.specs.Logs.{magic, live_slot}
+use Rattle.promise_spec.specs.Logs.{magic}
 use Rattle.promise_spec.specs.Openings.{Reads, opened_as}
 use Rattle.promise_spec.specs.Endings as ending
 use Rattle.silo_opening.specs.declared.faults.OpenFault.{OpenFault}
@@ -27,26 +26,27 @@ Stays old new = new ≡ old
 abbrev pub is_header : List ℕ → Bool
 is_header file = (slice_index file 0 == 1) && bytes_eq (take 8 (drop 1 file)) magic
 
--- The folder reads as a silo with this program and a log. The log's standing is kept: how many records there are, the number of
--- the next unit, and each grain's state, which is its type's initial fields where it isn't kept. The ends are the greatest of
--- the places that the log names in each grain's file, and lie in the file. The gate is that at which the log ends, and closed.
+-- The folder reads as a silo with this live slot, this program and a log. The log's standing is kept: how many records there are,
+-- the number of the next unit, and each grain's state, which is its type's initial fields where it isn't kept. The ends are the
+-- greatest of the places that the log names in each grain's file, and lie in the file. The gate is that at which the log ends, and
+-- closed.
 pub record IsOpenedFrom (image : Image) (o : Opened) : Type 0 where
   pub text : List ℕ
   pub log : List Commit
-  pub reads : opened_as live_slot image ≡ Reads (record { text = text; types = program_tree o.checked }) log
+  pub reads : opened_as image ≡ Reads o.slot (record { text = text; types = program_tree o.checked }) log
   pub count : o.count ≡ (standing_of (program_tree o.checked) log).count
   pub next : o.next_unit.0 ≡ (standing_of (program_tree o.checked) log).next
   pub states : (grain : GrainId) → unwrap_or (state_in o.store grain) ((new_silo (program_tree o.checked)).states grain) ≡ (standing_of (program_tree o.checked) log).states grain
   pub ends : (grain : GrainId) → end_in o.ends grain ≡ end_after None (named_by_grain (named_by (map (λ c. c.logged) log))) grain
-  pub within : (grain : GrainId) (end : ℕ) → end_in o.ends grain ≡ Some end → end ≤ length (image (Grain 0 grain))
-  pub gate : gate_of (image manager) ≡ o.gate_at
-  pub closed : IsClosedAt o.gate_at (image manager)
+  pub within : (grain : GrainId) (end : ℕ) → end_in o.ends grain ≡ Some end → end ≤ length (image (Grain o.slot grain))
+  pub gate : gate_of (image (Manager o.slot)) ≡ o.gate_at
+  pub closed : IsClosedAt o.gate_at (image (Manager o.slot))
 
--- the fault of a program file that gave no program
-abbrev pub in_program_file : ProgramFileFault → OpenFault
-in_program_file (ProgramFileFault.Damaged place) = OpenFault.Damaged program_file place
-in_program_file ProgramFileFault.Failed = OpenFault.DiskFault program_file
-in_program_file ProgramFileFault.Memory = OpenFault.Memory
+-- the fault of a slot's program file that gave no program
+abbrev pub in_program_file : ℕ → ProgramFileFault → OpenFault
+in_program_file slot (ProgramFileFault.Damaged place) = OpenFault.Damaged (ProgramFile slot) place
+in_program_file slot ProgramFileFault.Failed = OpenFault.DiskFault (ProgramFile slot)
+in_program_file slot ProgramFileFault.Memory = OpenFault.Memory
 
 -- the fault of a log, or of a version that it names
 abbrev pub in_folder : FolderFault → OpenFault

@@ -1,6 +1,7 @@
 -- The steps of `create`.
 use Rattle.std.specs.Prelude.{◌≡◌, ◌≢◌, ◌⊎◌, ℕ, ◌<◌, Bool, true, List, [], length, take, drop, slice_index}
 use Rattle.host_trait.specs.declared.channels.FileId.{FileId}
+use Rattle.host_trait.specs.declared.channels.FileId.TheVariants.{Manager}
 use Rattle.host_trait.specs.Disk.{FileState, Tears, settled}
 use Rattle.host_trait.specs.World.{World, Moment, Image, IsImage, Passes, Written, Synced, moment_of}
 use Rattle.host_trait.specs.Runs.{RunsOnFile, OnlyAsked}
@@ -35,20 +36,20 @@ pub record Looks (old new : World) : Type 0 where
   pub moments : Passes (IsLooking old) old.past new.past
   pub now : IsLooking old (moment_of new)
 
--- the manager file was synced once, and beside that there was nothing but asking
-pub record SyncsOnce (old new : World) : Type 0 where
+-- a slot's manager file was synced once, and beside that there was nothing but asking
+pub record SyncsOnce (slot : ℕ) (old new : World) : Type 0 where
   pub before : World
   pub after : World
   pub asked : OnlyAsked old before
-  pub sync : Synced manager true before after
+  pub sync : Synced (Manager slot) true before after
   pub more : OnlyAsked after new
 
--- whether the file had to be synced before it was read
+-- whether slot 0's file had to be synced before it was read
 abbrev pub SyncsFor : Front → World → World → Type 0
 SyncsFor Empty old new = OnlyAsked old new
-SyncsFor Silo old new = SyncsOnce old new
-SyncsFor Open old new = SyncsOnce old new
-SyncsFor Closed old new = SyncsOnce old new
+SyncsFor Silo old new = SyncsOnce 0 old new
+SyncsFor Open old new = SyncsOnce 0 old new
+SyncsFor Closed old new = SyncsOnce 0 old new
 
 -- byte 0 of the manager file was written, and then the file was synced, which succeeded or not
 pub record ClosesBy (ok : Bool) (old new : World) : Type 0 where

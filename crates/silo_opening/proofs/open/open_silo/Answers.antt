@@ -1,5 +1,4 @@
-use Rattle.promise_spec.specs.Logs.{live_slot}
-use Rattle.std.proofs.Common.{rules, ◌≡◌, ℕ, true, List, Ok, Err, sym, ◌∙◌, ap, subst}
+use Rattle.std.proofs.Common.{rules, ◌≡◌, ℕ, Bool, true, if◌then◌else◌, List, None, Some, Ok, Err, sym, ◌∙◌, ap, subst}
 use Rattle.base_types.specs.declared.shapes.Shape.{Shape}
 use Rattle.host_trait.specs.declared.channels.FileId.{FileId}
 use Rattle.host_trait.specs.World.{Image}
@@ -8,7 +7,7 @@ use Rattle.log_reading.specs.Contents.{HasContents, IsUnread}
 use Rattle.script_tree.specs.Programs.{program_tree}
 use Rattle.silo_spec.specs.Silos.{manager, program_file}
 use Rattle.promise_spec.specs.Programs.{Program, shape_in}
-use Rattle.promise_spec.specs.Openings.{is_silo, program_in_file, opened_as}
+use Rattle.promise_spec.specs.Openings.{is_silo, program_in_file, live_in, opened_as}
 use Rattle.promise_spec.specs.Refusals.{IsRefusedBy}
 use Rattle.silo_opening.specs.declared.faults.OpenFault.{OpenFault}
 use Rattle.silo_opening.specs.Opened.{ending_of}
@@ -35,24 +34,26 @@ returns-in-Err-clause-refused g c told =
     let image = seen_in (g.H.Host.world c.args.host.now).disk in
     let is : c.in-Ok.is' ≡ true = search rules in
     let silo : is_silo (image manager) ≡ true = sym (c.in-Ok.ensures.told told) ∙ is in
+    let live : live_in image ≡ Some 0 = ap (λ (b : Bool). if b then Some 0 else None) silo in
     let same : seen_in (g.H.Host.world c.is_silo.new.host).disk ≡ image = c.is_silo.ensures.seen told in
-    subst (λ (e : OpenFault). IsRefusedBy image (opened_as live_slot image) (ending_of e)) (sym c.program_fault.ensures)
-    (program_refused image silo c.in-Err.fault (λ place e. ap (λ (im : Image). program_in_file (im program_file)) (sym same) ∙ c.in-Err.ensures.damaged place e told))
+    subst (λ (e : OpenFault). IsRefusedBy image (opened_as image) (ending_of e)) (sym c.program_fault.ensures)
+    (program_refused image 0 live c.in-Err.fault (λ place e. ap (λ (im : Image). program_in_file (im program_file)) (sym same) ∙ c.in-Err.ensures.damaged place e told))
 
 pub returns-in-Err-read_contents-clause-refused : goal.returns-in-Err-read_contents-clause-refused
 returns-in-Err-read_contents-clause-refused g c told =
     let image = seen_in (g.H.Host.world c.args.host.now).disk in
     let is : c.in-Ok.is' ≡ true = search rules in
     let silo : is_silo (image manager) ≡ true = sym (c.in-Ok.ensures.told told) ∙ is in
+    let live : live_in image ≡ Some 0 = ap (λ (b : Bool). if b then Some 0 else None) silo in
     let first : seen_in (g.H.Host.world c.is_silo.new.host).disk ≡ image = c.is_silo.ensures.seen told in
     let same : seen_in (g.H.Host.world c.read_program.new.host).disk ≡ image = ap seen_in (c.read_program.ensures.asked told).disk ∙ first in
     let found = c.in-Ok-read_program.ensures.found told in
     let p : Program = record { text = found.0; types = program_tree c.in-Ok-read_program.checked } in
     let program : program_in_file (image program_file) ≡ Ok p = ap (λ (im : Image). program_in_file (im program_file)) (sym first) ∙ found.1 in
     let shape : c.in-Ok-shape.shape ≡ shape_in p = (λ i. record { types = c.in-Ok-shape.ensures i }) in
-    subst (λ (e : OpenFault). IsRefusedBy image (opened_as live_slot image) (ending_of e)) (sym c.folder_fault.ensures)
-    (log_refused image p silo program c.in-Err-read_contents.fault (subst (λ (im : Image). IsUnread (shape_in p) im c.in-Err-read_contents.fault) same
-    (subst (λ (s : Shape). IsUnread s (seen_in (g.H.Host.world c.read_program.new.host).disk) c.in-Err-read_contents.fault) shape (c.in-Err-read_contents.ensures.refused told))))
+    subst (λ (e : OpenFault). IsRefusedBy image (opened_as image) (ending_of e)) (sym c.folder_fault.ensures)
+    (log_refused image 0 live p program c.in-Err-read_contents.fault (subst (λ (im : Image). IsUnread 0 (shape_in p) im c.in-Err-read_contents.fault) same
+    (subst (λ (s : Shape). IsUnread 0 s (seen_in (g.H.Host.world c.read_program.new.host).disk) c.in-Err-read_contents.fault) shape (c.in-Err-read_contents.ensures.refused told))))
 
 pub returns-in-Ok-read_contents-clause-opened : goal.returns-in-Ok-read_contents-clause-opened
 returns-in-Ok-read_contents-clause-opened g c told =
@@ -60,19 +61,20 @@ returns-in-Ok-read_contents-clause-opened g c told =
     let o = c.in-Ok-read_contents.contents in
     let is : c.in-Ok.is' ≡ true = search rules in
     let silo : is_silo (image manager) ≡ true = sym (c.in-Ok.ensures.told told) ∙ is in
+    let live : live_in image ≡ Some 0 = ap (λ (b : Bool). if b then Some 0 else None) silo in
     let first : seen_in (g.H.Host.world c.is_silo.new.host).disk ≡ image = c.is_silo.ensures.seen told in
     let same : seen_in (g.H.Host.world c.read_program.new.host).disk ≡ image = ap seen_in (c.read_program.ensures.asked told).disk ∙ first in
     let found = c.in-Ok-read_program.ensures.found told in
     let p : Program = record { text = found.0; types = program_tree c.in-Ok-read_program.checked } in
     let program : program_in_file (image program_file) ≡ Ok p = ap (λ (im : Image). program_in_file (im program_file)) (sym first) ∙ found.1 in
     let shape : c.in-Ok-shape.shape ≡ shape_in p = (λ i. record { types = c.in-Ok-shape.ensures i }) in
-    is_opened image found.0 (record { checked = c.in-Ok-read_program.checked; count = o.count; store = o.store; ends = o.ends; next_unit = o.next_unit; gate_at = o.gate_at }) silo program
-    (subst (λ (im : Image). HasContents (shape_in p) im o) same (subst (λ (s : Shape). HasContents s (seen_in (g.H.Host.world c.read_program.new.host).disk) o) shape (c.in-Ok-read_contents.ensures.opened told)))
+    is_opened image found.0 (record { slot = 0; checked = c.in-Ok-read_program.checked; count = o.count; store = o.store; ends = o.ends; next_unit = o.next_unit; gate_at = o.gate_at }) live silo program
+    (subst (λ (im : Image). HasContents 0 (shape_in p) im o) same (subst (λ (s : Shape). HasContents 0 s (seen_in (g.H.Host.world c.read_program.new.host).disk) o) shape (c.in-Ok-read_contents.ensures.opened told)))
 
 pub returns-in-Ok-read_contents-clause-once : goal.returns-in-Ok-read_contents-clause-once
 returns-in-Ok-read_contents-clause-once g c told =
     let is : c.in-Ok.is' ≡ true = search rules in
-    once_more _ _ _ (once_more _ _ _ (c.in-Ok.ensures.once told is) (c.read_program.ensures.asked told)) (c.read_contents.ensures.asked told)
+    once_more _ _ _ _ (once_more _ _ _ _ (c.in-Ok.ensures.once told is) (c.read_program.ensures.asked told)) (c.read_contents.ensures.asked told)
 
 pub returns-in-Ok-read_contents-clause-count : goal.returns-in-Ok-read_contents-clause-count
 returns-in-Ok-read_contents-clause-count g c told =
