@@ -19,7 +19,7 @@ use Rattle.core_model.specs.Events.{applies, can, is_allowed, is_after_halt}
 use Rattle.core_model.specs.Laws.{extended}
 use Rattle.core_model.specs.Legal.{Run, ends}
 use Rattle.core_model.specs.Lines.{EntriesAreOnce}
-use Rattle.core_model.specs.Settler.{Step, Votes, Decides, Seals as SealStep, Learns, Writes, Takes, Rests, MakesEvent, settler_step}
+use Rattle.core_model.specs.Settler.{versions_to_write, Step, Votes, Decides, Seals as SealStep, Learns, Writes, Takes, Rests, MakesEvent, settler_step}
 use Rattle.core_laws.proofs.Lined.{once-ends}
 use Rattle.core_laws.proofs.Replied.{reply-tells}
 use Rattle.core_laws.proofs.Stepped.{step-applies}
