@@ -14,7 +14,7 @@ use Rattle.program_file.specs.Programs.{program_in}
 use Rattle.silo_spec.specs.Silos.{manager, IsSilo}
 use Rattle.silo_spec.specs.Moments.{IsUntouched}
 use Rattle.silo_spec.specs.Making.{IsMade, StaysBeside, CameThisFar, FromFirstSync, IsNewAt}
-use Rattle.promise_spec.specs.Logs.{magic, live_slot}
+use Rattle.promise_spec.specs.Logs.{magic}
 use Rattle.promise_spec.specs.Openings.{opened_as}
 use Rattle.promise_spec.specs.Refusals.{IsRefusedBy}
 use Rattle.promise_spec.specs.Words.{Manner}
@@ -120,7 +120,7 @@ made_loads n seed m asked old made new before between after status is none carri
 -- ---- it wasn't opened
 
 pub unopened_carries : (n seed : ℕ) (m : Manner) (asked : List (List ℕ)) (bank : Tree) (old new : World) (before after : Channel → ℕ) (e : OpenFault) (status : Status) → program_in bank_text ≡ Ok (program_tree bank) → status_ending status ≡ ending_of e
-    → RunsOnFile manager Stays 1 old new → IsRefusedBy (seen_in old.disk) (opened_as live_slot (seen_in old.disk)) (ending_of e) → OpenFaulted e before after → CarriesLoad n seed (observed_call m asked old new before after status)
+    → RunsOnFile manager Stays 1 old new → IsRefusedBy (seen_in old.disk) (opened_as (seen_in old.disk)) (ending_of e) → OpenFaulted e before after → CarriesLoad n seed (observed_call m asked old new before after status)
 unopened_carries n seed m asked bank old new before after e status reads is run refused faulted = record {
   program = bank_of (program_tree bank);
   checked = bank_checked (program_tree bank) reads;
@@ -138,11 +138,11 @@ starved_carries n seed m asked x old mid before after reads is none = record {
   program = bank_of (program_tree x.checked);
   checked = bank_checked (program_tree x.checked) reads;
   text = refl;
-  carried = inl (record { untouched = asked_untouched old mid is.run; unread = is.run.input; syncs = is.run.syncs; refused = tt; failed = none });
+  carried = inl (record { untouched = asked_untouched x.slot old mid is.run; unread = is.run.input; syncs = is.run.syncs; refused = tt; failed = none });
 }
 
 -- what was opened lies in the files as they read behind the opening
 pub lies_within : (x : Opened) (bank : Tree) (old mid : World) → IsBehindOpening old mid x → LiesWithin (seen_in mid.disk) (with_checked x bank)
 lies_within x bank old mid is =
-    subst (λ (image : Image). LiesWithin image (with_checked x bank)) (λ i file. sym ((asked_untouched old mid is.run).seen file) i)
+    subst (λ (image : Image). LiesWithin image (with_checked x bank)) (λ i file. sym ((asked_untouched x.slot old mid is.run).seen file) i)
     (record { within = is.opened.within; closed = is.opened.closed })
