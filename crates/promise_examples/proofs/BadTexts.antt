@@ -1,5 +1,4 @@
 -- What a folder reads as whose program file has a text that is no program.
-use Rattle.promise_spec.specs.Logs.{live_slot}
 use Rattle.std.proofs.Common.{◌≡◌, ℕ, true, List, take, length, Err, refl, ◌∙◌, ap, arith}
 use Rattle.std.specs.Prelude.{codes}
 use Rattle.std.specs.Str.Lossy.{utf8_valid_len}
@@ -34,14 +33,14 @@ text_lexed text ascii =
 
 -- what a program file of such a text reads as
 abbrev of_tokens : List ℕ → TokensAndStop → Reading
-of_tokens text found = with_program live_slot (program_folder (program_with text)) (with_types text (checked_in (program_over found.1 found.0)))
+of_tokens text found = with_program 0 (program_folder (program_with text)) (with_types text (checked_in (program_over found.1 found.0)))
 
 -- what the texts read as
 pub record Texts : Type 0 where
-  pub bad_token : opened_as live_slot (program_folder (program_with (codes "type A { }"))) ≡ DamagedAt program_file 9
-  pub unexpected : opened_as live_slot (program_folder (program_with (codes "type a { field x = 01; }"))) ≡ DamagedAt program_file 24
-  pub ended : opened_as live_slot (program_folder (program_with (codes "type a {"))) ≡ DamagedAt program_file 12
-  pub twice : opened_as live_slot (program_folder (program_with (codes "type a { } type a { }"))) ≡ DamagedAt program_file 20
+  pub bad_token : opened_as (program_folder (program_with (codes "type A { }"))) ≡ DamagedAt program_file 9
+  pub unexpected : opened_as (program_folder (program_with (codes "type a { field x = 01; }"))) ≡ DamagedAt program_file 24
+  pub ended : opened_as (program_folder (program_with (codes "type a {"))) ≡ DamagedAt program_file 12
+  pub twice : opened_as (program_folder (program_with (codes "type a { } type a { }"))) ≡ DamagedAt program_file 20
 
 pub texts_read : Texts
 unfolding lex lexeme name_lexeme number_lexeme text_lexeme symbol_lexeme program_over repeated type_at field_at initial_at method_at option_at kind_at params_at listed block statements statement_over set_at return_at expression operand expression_over tiers operand_chain operator_at expected name_at taken taken_word program_fault each_fault expression_fault statement_fault block_fault

@@ -19,7 +19,7 @@ use Rattle.host_trait.specs.World.{Moment, Image, IsImage, moment_of}
 use Rattle.silo_spec.specs.Silos.{manager, program_file, HasProgram}
 use Rattle.promise_spec.specs.Programs.{shape_in}
 use Rattle.promise_spec.specs.Records.{Commit}
-use Rattle.promise_spec.specs.Logs.{live_slot, IsLog, IsPrefix}
+use Rattle.promise_spec.specs.Logs.{IsLog, IsPrefix}
 use Rattle.promise_spec.specs.Moments.{IsImageOf}
 use Rattle.promise_spec.specs.Outputs.{IsProper, Grew, reply_lines}
 use Rattle.promise_spec.specs.Cores.{HasBegun, applied_in, how_many}
@@ -127,15 +127,15 @@ module _ (r : Observed) (opened : Moment) (sealing : List Moment) (run : IsDepos
 
   -- what a moment keeps of the journal, where the entries that it says are a first part of the run's
   abbrev KeepsAt : Moment → Image → Type 0
-  KeepsAt m image = (k : KeepsJournal account_program [] r.old.output journal m image) × IsPrefix (entries_of k.said) (first_entry ∷ [])
+  KeepsAt m image = (k : KeepsJournal 0 account_program [] r.old.output journal m image) × IsPrefix (entries_of k.said) (first_entry ∷ [])
 
-  unsaid_at : (m : Moment) (image : Image) → m.output ≡ r.old.output → IsLog live_slot (shape_in account_program) image [] → KeepsAt m image
+  unsaid_at : (m : Moment) (image : Image) → m.output ≡ r.old.output → IsLog 0 (shape_in account_program) image [] → KeepsAt m image
   unsaid_at m image quiet log = (
     record { said = []; unsaid = []; later = journal; rest = []; split = refl; log = log; output = record { output = quiet ∙ sym (append-nil r.old.output); unended = tt; proper = tt } },
     (first_entry ∷ [], refl),
   )
 
-  sealed_at : (m : Moment) (image : Image) → m.output ≡ r.old.output → IsLog live_slot (shape_in account_program) image (first_commit ∷ []) → KeepsAt m image
+  sealed_at : (m : Moment) (image : Image) → m.output ≡ r.old.output → IsLog 0 (shape_in account_program) image (first_commit ∷ []) → KeepsAt m image
   sealed_at m image quiet log = (
     record { said = []; unsaid = journal; later = []; rest = []; split = refl; log = log; output = record { output = quiet ∙ sym (append-nil r.old.output); unended = tt; proper = tt } },
     (first_entry ∷ [], refl),
@@ -144,7 +144,7 @@ module _ (r : Observed) (opened : Moment) (sealing : List Moment) (run : IsDepos
   grew : Grew (shape_in account_program) r.old.output r.new.output (first_entry ∷ []) []
   grew = record { output = run.output ∙ ap (λ (l : List ℕ). r.old.output ++ l) (sym (append-nil (reply_lines (shape_in account_program) (first_entry ∷ [])))); unended = tt; proper = (proper, tt) }
 
-  said_at : (image : Image) → IsLog live_slot (shape_in account_program) image (first_commit ∷ []) → KeepsAt (moment_of r.new) image
+  said_at : (image : Image) → IsLog 0 (shape_in account_program) image (first_commit ∷ []) → KeepsAt (moment_of r.new) image
   said_at image log = (record { said = journal; unsaid = []; later = []; rest = []; split = refl; log = log; output = grew }, ([], refl))
 
   abbrev Known : Moment → Type 0
@@ -165,7 +165,7 @@ module _ (r : Observed) (opened : Moment) (sealing : List Moment) (run : IsDepos
   known : (m : Moment) → Member m (moments r course) → Known m
   known = at_each Known opened sealing (moment_of r.new) at_opened (all_less (IsBetween r r.old.output MayHaveDeposit) Known sealing at_sealing run.sealed) at_exit
 
-  keeps_at : (image : Image) (is : IsImageOf (moments r course) image) → KeepsJournal account_program [] r.old.output journal is.moment image
+  keeps_at : (image : Image) (is : IsImageOf (moments r course) image) → KeepsJournal 0 account_program [] r.old.output journal is.moment image
   keeps_at image is = (known is.moment is.member image is.left).0.0
 
   begun : HasBegun (core_end account_program course) (unit_no 1)
@@ -205,10 +205,10 @@ module _ (r : Observed) (opened : Moment) (sealing : List Moment) (run : IsDepos
   }
 
   -- at each moment other files and the header are as they were
-  alone : (m : Moment) → Member m (moments r course) → LeavesAlone live_slot r m
+  alone : (m : Moment) → Member m (moments r course) → LeavesAlone 0 r m
   alone =
-      at_each (LeavesAlone live_slot r) opened sealing (moment_of r.new) run.alone.0
-      (all_less (IsBetween r r.old.output MayHaveDeposit) (LeavesAlone live_slot r) sealing (λ m is. is.alone) run.sealed) run.alone.1
+      at_each (LeavesAlone 0 r) opened sealing (moment_of r.new) run.alone.0
+      (all_less (IsBetween r r.old.output MayHaveDeposit) (LeavesAlone 0 r) sealing (λ m is. is.alone) run.sealed) run.alone.1
 
   -- each image of each moment has the deposit or not
   may_have : (m : Moment) → Member m (moments r course) → (image : Image) → IsImage m.disk image → MayHaveDeposit image
@@ -221,11 +221,11 @@ module _ (r : Observed) (opened : Moment) (sealing : List Moment) (run : IsDepos
   unfolding put put_grain
   one_batch = record { batches = 1; more = first_commit ∷ []; split = refl; records = (record { unit = refl; origin = refl; call = refl; answers = refl; result = refl; writes = refl }, tt) }
 
-  whole_batches : (image : Image) (log : List Commit) → MayHaveDeposit image → IsLog live_slot (shape_in account_program) image log → EndsABatch (core_end account_program course) [] log
+  whole_batches : (image : Image) (log : List Commit) → MayHaveDeposit image → IsLog 0 (shape_in account_program) image log → EndsABatch (core_end account_program course) [] log
   whole_batches image log (inl none) is =
-      subst (EndsABatch (core_end account_program course) []) (one_log (shape_in account_program) image [] log none.0 is) (no_batch (core_end account_program course) [])
+      subst (EndsABatch (core_end account_program course) []) (one_log 0 0 (shape_in account_program) image [] log none.0 is) (no_batch (core_end account_program course) [])
   whole_batches image log (inr has) is =
-      subst (EndsABatch (core_end account_program course) []) (one_log (shape_in account_program) image (first_commit ∷ []) log has.0 is) one_batch
+      subst (EndsABatch (core_end account_program course) []) (one_log 0 0 (shape_in account_program) image (first_commit ∷ []) log has.0 is) one_batch
 
   crashes : SurvivesCrashes account_program r course
   crashes = record {
@@ -261,8 +261,8 @@ module _ (r : Observed) (opened : Moment) (sealing : List Moment) (run : IsDepos
   exit = record {
     logs = λ image left. record { log = first_commit ∷ []; is = (run.logged image left).0; which = inl refl };
     doubt = λ one other a b is_one is_other log_a log_b differ.
-        absurd (differ (one_log (shape_in account_program) one a (first_commit ∷ []) log_a (run.logged one is_one).0 ∙ sym (one_log (shape_in account_program) other b (first_commit ∷ []) log_b (run.logged other is_other).0)));
-    nowhere = λ e there. only (λ (d : Entry). d.what ≡ settled.InDoubt → IsNowhere account_program r d.unit → HasNoRecord course d.unit) first_entry e (λ is. absurd (cc is)) there;
+        absurd (differ (one_log 0 0 (shape_in account_program) one a (first_commit ∷ []) log_a (run.logged one is_one).0 ∙ sym (one_log 0 0 (shape_in account_program) other b (first_commit ∷ []) log_b (run.logged other is_other).0)));
+    nowhere = λ e there. only (λ (d : Entry). d.what ≡ settled.InDoubt → IsNowhere 0 account_program r d.unit → HasNoRecord course d.unit) first_entry e (λ is. absurd (cc is)) there;
     block = λ doubt. absurd (no_doubt doubt);
     behind = λ none. run.behind;
   }

@@ -25,7 +25,7 @@ use Rattle.host_trait.specs.World.{Moment, Image, IsImage, moment_of}
 use Rattle.silo_spec.specs.Silos.{manager, program_file, HasProgram}
 use Rattle.promise_spec.specs.Programs.{shape_in}
 use Rattle.promise_spec.specs.Records.{Commit, AreRecordsOf}
-use Rattle.promise_spec.specs.Logs.{live_slot, IsLog, IsPrefix}
+use Rattle.promise_spec.specs.Logs.{IsLog, IsPrefix}
 use Rattle.promise_spec.specs.Moments.{IsImageOf}
 use Rattle.promise_spec.specs.Outputs.{IsProper, reply_lines}
 use Rattle.promise_spec.specs.Cores.{HasBegun, applied_in, how_many}
@@ -168,7 +168,7 @@ module _ (r : Observed) (opened : Moment) (told doubting : List Moment) (run : I
   course = doubt_course opened told doubting r
 
   abbrev KeepsAt : Moment → Image → Type 0
-  KeepsAt m image = (k : KeepsJournal account_program [] r.old.output journal m image) × IsPrefix (entries_of k.said) conflict_entries
+  KeepsAt m image = (k : KeepsJournal 0 account_program [] r.old.output journal m image) × IsPrefix (entries_of k.said) conflict_entries
 
   abbrev Known : Moment → Type 0
   Known m = (image : Image) → IsImage m.disk image → KeepsAt m image × HasProgram account_program.text (image program_file)
@@ -215,7 +215,7 @@ module _ (r : Observed) (opened : Moment) (told doubting : List Moment) (run : I
   known : (m : Moment) → Member m (moments r course) → Known m
   known = at_each Known opened (told ++ doubting) (moment_of r.new) at_opened between at_exit
 
-  keeps_at : (image : Image) (is : IsImageOf (moments r course) image) → KeepsJournal account_program [] r.old.output journal is.moment image
+  keeps_at : (image : Image) (is : IsImageOf (moments r course) image) → KeepsJournal 0 account_program [] r.old.output journal is.moment image
   keeps_at image is = (known is.moment is.member image is.left).0.0
 
   begun : HasBegun (core_end account_program course) (unit_no 1)
@@ -257,11 +257,11 @@ module _ (r : Observed) (opened : Moment) (told doubting : List Moment) (run : I
   }
 
   -- at each moment other files and the header are as they were
-  alone : (m : Moment) → Member m (moments r course) → LeavesAlone live_slot r m
+  alone : (m : Moment) → Member m (moments r course) → LeavesAlone 0 r m
   alone =
-      at_each (LeavesAlone live_slot r) opened (told ++ doubting) (moment_of r.new) run.alone.0
-      (both_parts (LeavesAlone live_slot r) told doubting (all_less (IsBetween r (first_told r) HasNone) (LeavesAlone live_slot r) told (λ m is. is.alone) run.none)
-      (all_less (IsBetween r (first_told r) MayHaveDeposit) (LeavesAlone live_slot r) doubting (λ m is. is.alone) run.either))
+      at_each (LeavesAlone 0 r) opened (told ++ doubting) (moment_of r.new) run.alone.0
+      (both_parts (LeavesAlone 0 r) told doubting (all_less (IsBetween r (first_told r) HasNone) (LeavesAlone 0 r) told (λ m is. is.alone) run.none)
+      (all_less (IsBetween r (first_told r) MayHaveDeposit) (LeavesAlone 0 r) doubting (λ m is. is.alone) run.either))
       run.alone.1
 
   -- each image of each moment has the deposit or not
@@ -277,11 +277,11 @@ module _ (r : Observed) (opened : Moment) (told doubting : List Moment) (run : I
   unfolding put put_grain
   one_batch = record { batches = 1; more = first_commit ∷ []; split = refl; records = (record { unit = refl; origin = refl; call = refl; answers = refl; result = refl; writes = refl }, tt) }
 
-  whole_batches : (image : Image) (log : List Commit) → MayHaveDeposit image → IsLog live_slot (shape_in account_program) image log → EndsABatch (core_end account_program course) [] log
+  whole_batches : (image : Image) (log : List Commit) → MayHaveDeposit image → IsLog 0 (shape_in account_program) image log → EndsABatch (core_end account_program course) [] log
   whole_batches image log (inl none) is =
-      subst (EndsABatch (core_end account_program course) []) (one_log (shape_in account_program) image [] log none.0 is) (no_batch (core_end account_program course) [])
+      subst (EndsABatch (core_end account_program course) []) (one_log 0 0 (shape_in account_program) image [] log none.0 is) (no_batch (core_end account_program course) [])
   whole_batches image log (inr has) is =
-      subst (EndsABatch (core_end account_program course) []) (one_log (shape_in account_program) image (first_commit ∷ []) log has.0 is) one_batch
+      subst (EndsABatch (core_end account_program course) []) (one_log 0 0 (shape_in account_program) image (first_commit ∷ []) log has.0 is) one_batch
 
   sound_all : StaySound account_program r course
   sound_all image is = sound account_program [] r.old.output journal is.moment image (keeps_at image is) (known is.moment is.member image is.left).1 serial numbered
@@ -323,7 +323,7 @@ module _ (r : Observed) (opened : Moment) (told doubting : List Moment) (run : I
   may_doubt : ending.EndingMayDoubt r.ending
   may_doubt = subst ending.EndingMayDoubt (sym run.ending) tt
 
-  is_doubt : ImagesMayDiffer live_slot r course (core_end account_program course)
+  is_doubt : ImagesMayDiffer 0 r course (core_end account_program course)
   is_doubt = record {
     rose = rose;
     ending = may_doubt;
@@ -353,7 +353,7 @@ module _ (r : Observed) (opened : Moment) (told doubting : List Moment) (run : I
     logs = λ image left. ends_with image (run.exit image left);
     doubt = λ one other a b is_one is_other log_a log_b differ. is_doubt;
     nowhere = λ e there.
-        either_of (λ (d : Entry). d.what ≡ settled.InDoubt → IsNowhere account_program r d.unit → HasNoRecord course d.unit) locked_entry doubt_entry e
+        either_of (λ (d : Entry). d.what ≡ settled.InDoubt → IsNowhere 0 account_program r d.unit → HasNoRecord course d.unit) locked_entry doubt_entry e
         (λ is. absurd (cc is))
         (λ is nowhere. absurd (nowhere run.some (first_commit ∷ []) first_commit run.possible run.there.0 (inl refl) refl)) there;
     block = λ doubt. record {

@@ -8,7 +8,7 @@ use Rattle.host_trait.specs.declared.channels.FileId.TheVariants.{Grain}
 use Rattle.request_wire.specs.Lines.{lines_of}
 use Rattle.promise_spec.specs.Programs.{Program, shape_in}
 use Rattle.promise_spec.specs.Records.{Commit}
-use Rattle.promise_spec.specs.Logs.{live_slot, IsLog}
+use Rattle.promise_spec.specs.Logs.{magic, IsLog}
 use Rattle.promise_spec.specs.Moments.{IsImageOf}
 use Rattle.promise_spec.specs.Causes.{RoseBy}
 use Rattle.promise_spec.specs.Endings.{Done, DiskFault, HasRisen, IsCarried, HasLength, IsCalm}
@@ -22,6 +22,7 @@ use Rattle.promise_spec.proofs.OneLog.{one_log}
 use Rattle.promise_examples.proofs.FirstFamily.{no_family}
 use Rattle.promise_examples.proofs.WholeBatches.{no_batch}
 use Rattle.promise_examples.specs.EmptyRuns.{IsEmptyRun, empty_course}
+use Rattle.silo_spec.specs.Slots.{IsLive}
 
 module _ (p : Program) (r : Observed) (opening : List Commit) (run : IsEmptyRun p r opening) where
   -- the two moments that count are the exit's
@@ -34,8 +35,11 @@ module _ (p : Program) (r : Observed) (opening : List Commit) (run : IsEmptyRun 
     ]
   ]
 
-  whole : (image : Image) → IsImage r.new.disk image → IsLog live_slot (shape_in p) image (opening ++ [])
-  whole image is = subst (λ (l : List Commit). IsLog live_slot (shape_in p) image l) (sym (append-nil opening)) (run.logs image is)
+  whole : (image : Image) → IsImage r.new.disk image → IsLog 0 (shape_in p) image (opening ++ [])
+  whole image is = subst (λ (l : List Commit). IsLog 0 (shape_in p) image l) (sym (append-nil opening)) (run.logs image is)
+
+  moved : (image : Image) → IsLog 0 (shape_in p) image (opening ++ []) → (live : ℕ) → IsLive magic live image → IsLog live (shape_in p) image (opening ++ [])
+  moved image is live is_live = subst (λ (slot : ℕ). IsLog slot (shape_in p) image (opening ++ [])) (sym is_live.slot) is
 
   same_output : (m : Moment) → Member m (moments r (empty_course r opening)) → m.output ≡ r.old.output
   same_output m there = elim there [
@@ -67,7 +71,7 @@ module _ (p : Program) (r : Observed) (opening : List Commit) (run : IsEmptyRun 
           image = run.some;
           left = record { moment = moment_of r.new; member = inl refl; left = run.possible };
           log = whole run.some run.possible;
-          longest = λ other is silo. (opening ++ [], whole other (at_exit other is), ([], sym (append-nil (opening ++ []))));
+          longest = λ other is live is_live. (opening ++ [], moved other (whole other (at_exit other is)) live is_live, ([], sym (append-nil (opening ++ []))));
         };
         serial = tt;
       };
@@ -83,12 +87,12 @@ module _ (p : Program) (r : Observed) (opening : List Commit) (run : IsEmptyRun 
         past = run.synced;
         quiet = λ m there. elim there [ inl same ↦ ap (λ (n : Moment). n.output) same ∙ run.output | inr none ↦ absurd none ];
         before = λ image is. elim is.member [ inl same ↦ run.entry image (subst (λ (m : Moment). IsImage m.disk image) same is.left) | inr none ↦ absurd none ];
-        chain = λ one other a b silo. (opening ++ [], whole one (at_exit one a), λ silo_too. (opening ++ [], whole other (at_exit other b), inl ([], sym (append-nil (opening ++ [])))));
-        whole = λ image is. whole_if live_slot p image (run.sound image (at_exit image is));
+        chain = λ one other a b live is_live. (opening ++ [], moved one (whole one (at_exit one a)) live is_live, λ too is_too. (opening ++ [], moved other (whole other (at_exit other b)) too is_too, inl ([], sym (append-nil (opening ++ [])))));
+        whole = λ image is. whole_if p image (run.sound image (at_exit image is));
         keeps = λ image is. record { log = opening; is = run.logs image (at_exit image is); longer = ([], sym (append-nil opening)) };
         alone = λ m there. elim there [
-          | inl same ↦ subst (LeavesAlone live_slot r) (sym same) run.alone
-          | inr more ↦ elim more [ inl same ↦ subst (LeavesAlone live_slot r) (sym same) run.alone | inr none ↦ absurd none ]
+          | inl same ↦ subst (LeavesAlone 0 r) (sym same) run.alone
+          | inr more ↦ elim more [ inl same ↦ subst (LeavesAlone 0 r) (sym same) run.alone | inr none ↦ absurd none ]
         ];
       };
       sound = λ folder image is. run.sound image (at_exit image is);
@@ -104,7 +108,7 @@ module _ (p : Program) (r : Observed) (opening : List Commit) (run : IsEmptyRun 
     };
     traced = record {
       family = no_family p.types (lines r) _ _ _;
-      whole = λ image log is log_is. subst (EndsABatch (core_end p (empty_course r opening)) opening) (one_log (shape_in p) image opening log (run.logs image (at_exit image is)) log_is) (no_batch (core_end p (empty_course r opening)) opening);
+      whole = λ image log is log_is. subst (EndsABatch (core_end p (empty_course r opening)) opening) (one_log 0 0 (shape_in p) image opening log (run.logs image (at_exit image is)) log_is) (no_batch (core_end p (empty_course r opening)) opening);
     };
     settled = record {
       entries = ([], refl);
@@ -121,13 +125,13 @@ module _ (p : Program) (r : Observed) (opening : List Commit) (run : IsEmptyRun 
       doubted = λ file is. absurd (let e : Done ≡ DiskFault file = sym run.ending ∙ is in cc e);
       doubt_ends = λ doubt. absurd (none_at doubt.at _ doubt.doubt.there);
       unvoted = λ g m none there. elim there [
-        | inl same ↦ ap (λ (n : Moment). n.disk (Grain live_slot g)) same ∙ run.unwritten g
-        | inr more ↦ elim more [ inl same ↦ ap (λ (n : Moment). n.disk (Grain live_slot g)) same ∙ run.unwritten g | inr never ↦ absurd never ]
+        | inl same ↦ ap (λ (n : Moment). n.disk (Grain 0 g)) same ∙ run.unwritten g
+        | inr more ↦ elim more [ inl same ↦ ap (λ (n : Moment). n.disk (Grain 0 g)) same ∙ run.unwritten g | inr never ↦ absurd never ]
       ];
     };
     exit = record {
       logs = λ image is. record { log = opening ++ []; is = whole image is; which = inl refl };
-      doubt = λ one other a b is_one is_other log_a log_b differ. absurd (differ (one_log (shape_in p) one a (opening ++ []) log_a (whole one is_one) ∙ sym (one_log (shape_in p) other b (opening ++ []) log_b (whole other is_other))));
+      doubt = λ one other a b is_one is_other log_a log_b differ. absurd (differ (one_log 0 0 (shape_in p) one a (opening ++ []) log_a (whole one is_one) ∙ sym (one_log 0 0 (shape_in p) other b (opening ++ []) log_b (whole other is_other))));
       nowhere = λ e none. absurd none;
       block = λ doubt. absurd (none_at doubt.at _ doubt.doubt.there);
       behind = λ none. run.behind;

@@ -12,7 +12,7 @@ use Rattle.script_meaning.specs.Play.{unit, play_over}
 use Rattle.promise_spec.specs.Programs.{shape_in}
 use Rattle.promise_spec.specs.Records.{Commit, new_silo, standing_of}
 use Rattle.promise_spec.specs.Serial.{IsSerial}
-use Rattle.promise_spec.specs.Logs.{IsLog, IsKept, body_of, live_slot}
+use Rattle.promise_spec.specs.Logs.{IsLog, IsKept, body_of}
 use Rattle.base_types.specs.declared.calls.Value.{Value}
 use Rattle.gate_block.specs.Log.{gate_of, LogsUpTo}
 use Rattle.gate_block.proofs.Logs as blocks
@@ -33,9 +33,9 @@ pub five : FitsSigned w64 (pos 5)
 five = fits_signed_from_abs w64 (pos 5) (lit< tt)
 
 -- the image's log is that one record
-pub logged : IsLog live_slot (shape_in account_program) (folder 1 grain_bytes) (first_commit ∷ [])
+pub logged : IsLog 0 (shape_in account_program) (folder 1 grain_bytes) (first_commit ∷ [])
 logged = record {
-  silo = record { long = omega arith; gate = refl; named = refl };
+  is_live = record { slot = refl; silo = record { long = omega arith; gate = refl; named = refl } };
   header = refl;
   batches = (first_commit ∷ []) ∷ [];
   gate = 88;
@@ -71,9 +71,9 @@ pub ends_last : LogsUpTo (map body_of ((first_commit ∷ []) ∷ [])) 88 (manage
 ends_last = record { blocks = record { small = (omega arith, tt); at = refl; within = omega arith; blocks = refl }; closed = λ e. cc e }
 
 -- where the block's gate is closed, the log is empty
-pub closed_gate : IsLog live_slot (shape_in account_program) (folder 0 grain_bytes) []
+pub closed_gate : IsLog 0 (shape_in account_program) (folder 0 grain_bytes) []
 closed_gate = record {
-  silo = record { long = omega arith; gate = refl; named = refl };
+  is_live = record { slot = refl; silo = record { long = omega arith; gate = refl; named = refl } };
   header = refl;
   batches = [];
   gate = 15;
@@ -103,13 +103,13 @@ unfolding unit play_over
 not_serial s = cc s.1.0.result
 
 -- where the block is cut the folder has no log
-pub torn : (log : List Commit) → IsLog live_slot (shape_in account_program) (torn_folder 80) log → ⊥
+pub torn : (log : List Commit) → IsLog 0 (shape_in account_program) (torn_folder 80) log → ⊥
 torn log is =
     let whole : found_at (gate_of (take 80 (manager_bytes 1))) (take 80 (manager_bytes 1)) ≡ shut = (blocks.logged (map body_of is.batches) is.gate (take 80 (manager_bytes 1)) is.blocks).2 in
     absurd (cc whole)
 
 -- where the grain's file is cut within the version, the record isn't kept, whatever its states
-pub cut : (states : List (List Value)) → IsKept live_slot (shape_in account_program) (folder 1 (take 10 grain_bytes)) (record { logged = deposit; states = states }) → ⊥
+pub cut : (states : List (List Value)) → IsKept 0 (shape_in account_program) (folder 1 (take 10 grain_bytes)) (record { logged = deposit; states = states }) → ⊥
 cut [] kept = kept.whole
 cut (state ∷ states) kept =
     let v = kept.whole.0.version in

@@ -7,7 +7,7 @@ use Rattle.core_model.specs.CoreState.{Member}
 use Rattle.host_trait.specs.World.{Moment, Image, IsImage}
 use Rattle.script_meaning.specs.Worked.{at, int, call}
 use Rattle.promise_spec.specs.Programs.{Program, shape_in}
-use Rattle.promise_spec.specs.Logs.{IsLog, live_slot}
+use Rattle.promise_spec.specs.Logs.{IsLog}
 use Rattle.promise_spec.specs.Causes.{RunHasDoubt, NoneRose, syncs_of}
 use Rattle.promise_spec.specs.Endings as ending
 use Rattle.promise_spec.specs.Courses.{Observed, Course, order, moments, lines, core_run}
@@ -38,7 +38,7 @@ module _ (p : Program) (n seed : ℕ) (r : Observed) (c : Course) where
   pub fault_in_doubt : KeepsLoad p n seed r c → RunHasDoubt (core_run p c) → r.ending ≡ ending.WriteFault → ⊥
   fault_in_doubt keeps doubt is = keeps.ended.undoubted is doubt
 
-  pub told_too_soon : (m : Moment) (image : Image) → KeepsLoad p n seed r c → Member m (moments r c) → IsImage m.disk image → (IsLog live_slot (shape_in p) image (order c) → ⊥) → m.output ≢ r.old.output → ⊥
+  pub told_too_soon : (m : Moment) (image : Image) → KeepsLoad p n seed r c → Member m (moments r c) → IsImage m.disk image → (IsLog c.live (shape_in p) image (order c) → ⊥) → m.output ≢ r.old.output → ⊥
   told_too_soon m image keeps there left lacks said = lacks (keeps.lasting m image there left said)
 
   pub other_syncs : KeepsLoad p n seed r c → NoneRose r.faults_before r.faults_after → r.ending ≡ ending.Done → r.new.syncs ≢ r.old.syncs + syncs_of (core_run p c) → ⊥

@@ -28,7 +28,7 @@ use Rattle.request_wire.specs.Request.{shape_of, grain_of, method_of, args_of, p
 use Rattle.request_wire.proofs.Arguments.{json_of-read}
 use Rattle.promise_spec.specs.Programs.{ProgramFault, program_in}
 use Rattle.promise_spec.specs.Openings.{with_types, program_in_file}
-use Rattle.promise_spec.specs.Logs.{live_slot, magic, body_of}
+use Rattle.promise_spec.specs.Logs.{magic, body_of}
 use Rattle.promise_spec.specs.Crashes.{IsAside}
 use Rattle.promise_spec.specs.Promise.{IsSoundFolder}
 use Rattle.promise_examples.specs.Examples.{account_text, accounts, account_program, program_bytes, account_1, deposit_of, read_call, first_version, grain_bytes, block_bytes, manager_of, manager_bytes}
@@ -36,6 +36,7 @@ use Rattle.promise_examples.specs.DepositRuns.{HasNone, HasDeposit}
 use Rattle.promise_examples.specs.WrittenRun.{new_manager, disk_of, new_disk, pending_gate, sealing_disk, sealed_disk}
 use Rattle.promise_examples.proofs.FirstDeposit.{logged}
 use Rattle.promise_examples.proofs.AccountText.{account_is_checked}
+use Rattle.promise_spec.proofs.Slots.{first_live}
 
 -- ---- what images have
 
@@ -50,7 +51,7 @@ module _ (image : Image) (program_is : image program_file ≡ program_bytes) whe
   pub has_none : (file : List ℕ) → IsSilo magic file → header_damage file ≡ None → LogsUpTo [] 15 file → image manager ≡ file → HasNone image
   has_none file silo header blocks is = (
     record {
-      silo = subst (λ (f : List ℕ). IsSilo magic f) (sym is) silo;
+      is_live = first_live image (subst (λ (f : List ℕ). IsSilo magic f) (sym is) silo);
       header = ap header_damage is ∙ header;
       batches = [];
       gate = 15;
@@ -67,7 +68,7 @@ module _ (image : Image) (program_is : image program_file ≡ program_bytes) whe
   has_deposit is grain_is =
       let stands = logged.kept.0.whole.0 in (
         record {
-          silo = subst (λ (f : List ℕ). IsSilo magic f) (sym is) logged.silo;
+          is_live = first_live image (subst (λ (f : List ℕ). IsSilo magic f) (sym is) logged.is_live.silo);
           header = ap header_damage is ∙ logged.header;
           batches = logged.batches;
           gate = logged.gate;
@@ -179,7 +180,7 @@ ends_there bodies gate c file was is up long short =
     ap (λ (n : ℕ). drop (n + 1) c) at ∙ drop_all (gate + 1) c (omega (arith, size)) ∙ sym (drop_all (gate + 1) was short) ∙ ap (λ (n : ℕ). drop (n + 1) was) (sym at)
 
 -- files of other slots, and the program's, are the same on both disks
-pub same_aside : (log grain later_log later_grain : FileState) (file : FileId) → IsAside live_slot file → disk_of later_log later_grain file ≡ disk_of log grain file
+pub same_aside : (log grain later_log later_grain : FileState) (file : FileId) → IsAside 0 file → disk_of later_log later_grain file ≡ disk_of log grain file
 same_aside log grain later_log later_grain (ProgramFile zero) is = refl
 same_aside log grain later_log later_grain (ProgramFile (suc slot)) is = refl
 same_aside log grain later_log later_grain (Manager zero) is = absurd (is refl)

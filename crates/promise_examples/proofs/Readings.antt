@@ -1,5 +1,5 @@
 -- What the folders like that of the first deposit read as.
-use Rattle.std.proofs.Common.{◌≡◌, ◌≢◌, ℕ, Bool, true, false, if◌then◌else◌, Option, Some, List, [], ◌∷◌, ◌++◌, length, take, drop, Result, refl, sym, ◌∙◌, ap}
+use Rattle.std.proofs.Common.{◌≡◌, ◌≢◌, ℕ, Bool, true, false, if◌then◌else◌, Option, Some, None, List, [], ◌∷◌, ◌++◌, length, take, drop, Result, refl, sym, ◌∙◌, ap}
 use Rattle.std.proofs.lemmas.Bool.{ne_eqb}
 use Rattle.std.proofs.lemmas.List.{take_at}
 use Rattle.host_trait.specs.declared.channels.FileId.TheVariants.{Grain}
@@ -12,145 +12,148 @@ use Rattle.commit_log.specs.Fields.{grain_in, call_in, write_in, writes_in, reco
 use Rattle.grain_log.specs.Reads.{version_in}
 use Rattle.silo_spec.specs.Silos.{manager, program_file}
 use Rattle.promise_spec.specs.Programs.{Program, shape_in}
-use Rattle.promise_spec.specs.Logs.{magic, live_slot}
-use Rattle.promise_spec.specs.Openings.{NoSilo, DamagedAt, Reads, is_silo, program_in_file, header_damage, behind_header, records_behind, no_more, with_program, with_log, opened_as}
+use Rattle.promise_spec.specs.Logs.{magic}
+use Rattle.promise_spec.specs.Openings.{NoSilo, DamagedAt, Reads, is_silo, header_damage, behind_header, records_behind, no_more, with_program, with_slot, with_log, opened_as}
 use Rattle.promise_spec.proofs.Openings.{no_silo_is_read}
 use Rattle.promise_examples.specs.Examples.{account_program, account_1, account_2, first_commit, program_bytes, grain_bytes, manager_bytes, folder, torn_folder}
 use Rattle.promise_examples.specs.Readings.{changed, folder_of, program_folder, log_folder, log_changed, grain_folder, two_writes, same_account, version_by, two_folder}
 use Rattle.promise_examples.proofs.NewSilo.{file_is_read}
+use Rattle.promise_spec.proofs.Slots.{first_silo}
 
 -- ---- folders whose program file is the accounts'
 
 -- what the manager files read as
 pub record Logs : Type 0 where
-  pub deposit : opened_as live_slot (folder 1 grain_bytes) ≡ Reads account_program (first_commit ∷ [])
-  pub closed : opened_as live_slot (folder 0 grain_bytes) ≡ Reads account_program []
-  pub torn : opened_as live_slot (torn_folder 80) ≡ DamagedAt manager 16
-  pub cut : opened_as live_slot (torn_folder 16) ≡ DamagedAt manager 16
-  pub count : opened_as live_slot (log_changed 20 65) ≡ DamagedAt manager 20
-  pub origin : opened_as live_slot (log_changed 32 2) ≡ DamagedAt manager 32
-  pub argument : opened_as live_slot (log_changed 47 2) ≡ DamagedAt manager 47
-  pub result : opened_as live_slot (log_changed 58 0) ≡ DamagedAt manager 58
-  pub value : opened_as live_slot (log_changed 59 2) ≡ DamagedAt manager 59
-  pub unit : opened_as live_slot (log_changed 24 0) ≡ DamagedAt manager 24
-  pub type : opened_as live_slot (log_changed 37 1) ≡ DamagedAt manager 37
-  pub method : opened_as live_slot (log_changed 43 2) ≡ DamagedAt manager 43
-  pub params : opened_as live_slot (log_changed 45 2) ≡ DamagedAt manager 45
-  pub great_unit : opened_as live_slot (log_changed 31 128) ≡ DamagedAt manager 24
-  pub arguments : opened_as live_slot (log_changed 45 9) ≡ DamagedAt manager 45
-  pub written_type : opened_as live_slot (log_changed 70 1) ≡ DamagedAt manager 70
-  pub order : opened_as live_slot (log_folder two_writes) ≡ DamagedAt manager 88
-  pub short : opened_as live_slot (log_changed 16 67) ≡ DamagedAt manager 84
-  pub trailing : opened_as live_slot (log_folder (changed 16 69 (manager_bytes 1) ++ 0 ∷ [])) ≡ DamagedAt manager 88
-  pub later : opened_as live_slot (log_folder (changed 93 65 same_account)) ≡ DamagedAt manager 93
-  pub earlier : opened_as live_slot (log_folder (changed 24 0 (changed 93 65 same_account))) ≡ DamagedAt manager 24
+  pub deposit : opened_as (folder 1 grain_bytes) ≡ Reads 0 account_program (first_commit ∷ [])
+  pub closed : opened_as (folder 0 grain_bytes) ≡ Reads 0 account_program []
+  pub torn : opened_as (torn_folder 80) ≡ DamagedAt manager 16
+  pub cut : opened_as (torn_folder 16) ≡ DamagedAt manager 16
+  pub count : opened_as (log_changed 20 65) ≡ DamagedAt manager 20
+  pub origin : opened_as (log_changed 32 2) ≡ DamagedAt manager 32
+  pub argument : opened_as (log_changed 47 2) ≡ DamagedAt manager 47
+  pub result : opened_as (log_changed 58 0) ≡ DamagedAt manager 58
+  pub value : opened_as (log_changed 59 2) ≡ DamagedAt manager 59
+  pub unit : opened_as (log_changed 24 0) ≡ DamagedAt manager 24
+  pub type : opened_as (log_changed 37 1) ≡ DamagedAt manager 37
+  pub method : opened_as (log_changed 43 2) ≡ DamagedAt manager 43
+  pub params : opened_as (log_changed 45 2) ≡ DamagedAt manager 45
+  pub great_unit : opened_as (log_changed 31 128) ≡ DamagedAt manager 24
+  pub arguments : opened_as (log_changed 45 9) ≡ DamagedAt manager 45
+  pub written_type : opened_as (log_changed 70 1) ≡ DamagedAt manager 70
+  pub order : opened_as (log_folder two_writes) ≡ DamagedAt manager 88
+  pub short : opened_as (log_changed 16 67) ≡ DamagedAt manager 84
+  pub trailing : opened_as (log_folder (changed 16 69 (manager_bytes 1) ++ 0 ∷ [])) ≡ DamagedAt manager 88
+  pub later : opened_as (log_folder (changed 93 65 same_account)) ≡ DamagedAt manager 93
+  pub earlier : opened_as (log_folder (changed 24 0 (changed 93 65 same_account))) ≡ DamagedAt manager 24
 
 pub logs_read : Logs
 unfolding whole refused field choice when_known chain count_at list_at value_at exactly_at unit_at origin_at answer_at result_at grain_in call_in write_in writes_in record_in version_in
 logs_read = record {
-  deposit = ap (λ (r : Result Program ℕ). with_program live_slot (folder 1 grain_bytes) r) file_is_read;
-  closed = ap (λ (r : Result Program ℕ). with_program live_slot (folder 0 grain_bytes) r) file_is_read;
-  torn = ap (λ (r : Result Program ℕ). with_program live_slot (torn_folder 80) r) file_is_read;
-  cut = ap (λ (r : Result Program ℕ). with_program live_slot (torn_folder 16) r) file_is_read;
-  count = ap (λ (r : Result Program ℕ). with_program live_slot (log_changed 20 65) r) file_is_read;
-  origin = ap (λ (r : Result Program ℕ). with_program live_slot (log_changed 32 2) r) file_is_read;
-  argument = ap (λ (r : Result Program ℕ). with_program live_slot (log_changed 47 2) r) file_is_read;
-  result = ap (λ (r : Result Program ℕ). with_program live_slot (log_changed 58 0) r) file_is_read;
-  value = ap (λ (r : Result Program ℕ). with_program live_slot (log_changed 59 2) r) file_is_read;
-  unit = ap (λ (r : Result Program ℕ). with_program live_slot (log_changed 24 0) r) file_is_read;
-  type = ap (λ (r : Result Program ℕ). with_program live_slot (log_changed 37 1) r) file_is_read;
-  method = ap (λ (r : Result Program ℕ). with_program live_slot (log_changed 43 2) r) file_is_read;
-  params = ap (λ (r : Result Program ℕ). with_program live_slot (log_changed 45 2) r) file_is_read;
-  great_unit = ap (λ (r : Result Program ℕ). with_program live_slot (log_changed 31 128) r) file_is_read;
-  arguments = ap (λ (r : Result Program ℕ). with_program live_slot (log_changed 45 9) r) file_is_read;
-  written_type = ap (λ (r : Result Program ℕ). with_program live_slot (log_changed 70 1) r) file_is_read;
-  order = ap (λ (r : Result Program ℕ). with_program live_slot (log_folder two_writes) r) file_is_read;
-  short = ap (λ (r : Result Program ℕ). with_program live_slot (log_changed 16 67) r) file_is_read;
-  trailing = ap (λ (r : Result Program ℕ). with_program live_slot (log_folder (changed 16 69 (manager_bytes 1) ++ 0 ∷ [])) r) file_is_read;
-  later = ap (λ (r : Result Program ℕ). with_program live_slot (log_folder (changed 93 65 same_account)) r) file_is_read;
-  earlier = ap (λ (r : Result Program ℕ). with_program live_slot (log_folder (changed 24 0 (changed 93 65 same_account))) r) file_is_read;
+  deposit = ap (λ (r : Result Program ℕ). with_program 0 (folder 1 grain_bytes) r) file_is_read;
+  closed = ap (λ (r : Result Program ℕ). with_program 0 (folder 0 grain_bytes) r) file_is_read;
+  torn = ap (λ (r : Result Program ℕ). with_program 0 (torn_folder 80) r) file_is_read;
+  cut = ap (λ (r : Result Program ℕ). with_program 0 (torn_folder 16) r) file_is_read;
+  count = ap (λ (r : Result Program ℕ). with_program 0 (log_changed 20 65) r) file_is_read;
+  origin = ap (λ (r : Result Program ℕ). with_program 0 (log_changed 32 2) r) file_is_read;
+  argument = ap (λ (r : Result Program ℕ). with_program 0 (log_changed 47 2) r) file_is_read;
+  result = ap (λ (r : Result Program ℕ). with_program 0 (log_changed 58 0) r) file_is_read;
+  value = ap (λ (r : Result Program ℕ). with_program 0 (log_changed 59 2) r) file_is_read;
+  unit = ap (λ (r : Result Program ℕ). with_program 0 (log_changed 24 0) r) file_is_read;
+  type = ap (λ (r : Result Program ℕ). with_program 0 (log_changed 37 1) r) file_is_read;
+  method = ap (λ (r : Result Program ℕ). with_program 0 (log_changed 43 2) r) file_is_read;
+  params = ap (λ (r : Result Program ℕ). with_program 0 (log_changed 45 2) r) file_is_read;
+  great_unit = ap (λ (r : Result Program ℕ). with_program 0 (log_changed 31 128) r) file_is_read;
+  arguments = ap (λ (r : Result Program ℕ). with_program 0 (log_changed 45 9) r) file_is_read;
+  written_type = ap (λ (r : Result Program ℕ). with_program 0 (log_changed 70 1) r) file_is_read;
+  order = ap (λ (r : Result Program ℕ). with_program 0 (log_folder two_writes) r) file_is_read;
+  short = ap (λ (r : Result Program ℕ). with_program 0 (log_changed 16 67) r) file_is_read;
+  trailing = ap (λ (r : Result Program ℕ). with_program 0 (log_folder (changed 16 69 (manager_bytes 1) ++ 0 ∷ [])) r) file_is_read;
+  later = ap (λ (r : Result Program ℕ). with_program 0 (log_folder (changed 93 65 same_account)) r) file_is_read;
+  earlier = ap (λ (r : Result Program ℕ). with_program 0 (log_folder (changed 24 0 (changed 93 65 same_account))) r) file_is_read;
 }
 
 -- what the grains' files read as
 pub record Versions : Type 0 where
-  pub cut : opened_as live_slot (grain_folder (take 10 grain_bytes)) ≡ DamagedAt (Grain 0 account_1) 0
-  pub owner : opened_as live_slot (grain_folder (version_by 2)) ≡ DamagedAt (Grain 0 account_1) 0
-  pub tag : opened_as live_slot (grain_folder (changed 10 2 grain_bytes)) ≡ DamagedAt (Grain 0 account_1) 10
-  pub fields : opened_as live_slot (grain_folder (changed 8 2 grain_bytes)) ≡ DamagedAt (Grain 0 account_1) 8
-  pub behind : opened_as live_slot (folder_of program_bytes same_account (version_by 1 ++ changed 10 2 (version_by 2))) ≡ DamagedAt (Grain 0 account_1) 29
-  pub cut_behind : opened_as live_slot (folder_of program_bytes same_account (version_by 1 ++ take 10 (version_by 2))) ≡ DamagedAt (Grain 0 account_1) 19
-  pub earlier : opened_as live_slot (folder_of program_bytes same_account (changed 10 2 (version_by 1))) ≡ DamagedAt (Grain 0 account_1) 10
-  pub lower : opened_as live_slot (two_folder (changed 10 2 (version_by 2)) (take 10 (version_by 1))) ≡ DamagedAt (Grain 0 account_1) 10
-  pub upper : opened_as live_slot (two_folder (version_by 2) (changed 10 2 (version_by 1))) ≡ DamagedAt (Grain 0 account_2) 10
-  pub block_first : opened_as live_slot (folder_of program_bytes (take 80 (manager_bytes 1)) (take 10 grain_bytes)) ≡ DamagedAt manager 16
+  pub cut : opened_as (grain_folder (take 10 grain_bytes)) ≡ DamagedAt (Grain 0 account_1) 0
+  pub owner : opened_as (grain_folder (version_by 2)) ≡ DamagedAt (Grain 0 account_1) 0
+  pub tag : opened_as (grain_folder (changed 10 2 grain_bytes)) ≡ DamagedAt (Grain 0 account_1) 10
+  pub fields : opened_as (grain_folder (changed 8 2 grain_bytes)) ≡ DamagedAt (Grain 0 account_1) 8
+  pub behind : opened_as (folder_of program_bytes same_account (version_by 1 ++ changed 10 2 (version_by 2))) ≡ DamagedAt (Grain 0 account_1) 29
+  pub cut_behind : opened_as (folder_of program_bytes same_account (version_by 1 ++ take 10 (version_by 2))) ≡ DamagedAt (Grain 0 account_1) 19
+  pub earlier : opened_as (folder_of program_bytes same_account (changed 10 2 (version_by 1))) ≡ DamagedAt (Grain 0 account_1) 10
+  pub lower : opened_as (two_folder (changed 10 2 (version_by 2)) (take 10 (version_by 1))) ≡ DamagedAt (Grain 0 account_1) 10
+  pub upper : opened_as (two_folder (version_by 2) (changed 10 2 (version_by 1))) ≡ DamagedAt (Grain 0 account_2) 10
+  pub block_first : opened_as (folder_of program_bytes (take 80 (manager_bytes 1)) (take 10 grain_bytes)) ≡ DamagedAt manager 16
 
 pub versions_read : Versions
 unfolding whole refused field choice when_known chain count_at list_at value_at exactly_at unit_at origin_at answer_at result_at grain_in call_in write_in writes_in record_in version_in
 versions_read = record {
-  cut = ap (λ (r : Result Program ℕ). with_program live_slot (grain_folder (take 10 grain_bytes)) r) file_is_read;
-  owner = ap (λ (r : Result Program ℕ). with_program live_slot (grain_folder (version_by 2)) r) file_is_read;
-  tag = ap (λ (r : Result Program ℕ). with_program live_slot (grain_folder (changed 10 2 grain_bytes)) r) file_is_read;
-  fields = ap (λ (r : Result Program ℕ). with_program live_slot (grain_folder (changed 8 2 grain_bytes)) r) file_is_read;
-  behind = ap (λ (r : Result Program ℕ). with_program live_slot (folder_of program_bytes same_account (version_by 1 ++ changed 10 2 (version_by 2))) r) file_is_read;
-  cut_behind = ap (λ (r : Result Program ℕ). with_program live_slot (folder_of program_bytes same_account (version_by 1 ++ take 10 (version_by 2))) r) file_is_read;
-  earlier = ap (λ (r : Result Program ℕ). with_program live_slot (folder_of program_bytes same_account (changed 10 2 (version_by 1))) r) file_is_read;
-  lower = ap (λ (r : Result Program ℕ). with_program live_slot (two_folder (changed 10 2 (version_by 2)) (take 10 (version_by 1))) r) file_is_read;
-  upper = ap (λ (r : Result Program ℕ). with_program live_slot (two_folder (version_by 2) (changed 10 2 (version_by 1))) r) file_is_read;
-  block_first = ap (λ (r : Result Program ℕ). with_program live_slot (folder_of program_bytes (take 80 (manager_bytes 1)) (take 10 grain_bytes)) r) file_is_read;
+  cut = ap (λ (r : Result Program ℕ). with_program 0 (grain_folder (take 10 grain_bytes)) r) file_is_read;
+  owner = ap (λ (r : Result Program ℕ). with_program 0 (grain_folder (version_by 2)) r) file_is_read;
+  tag = ap (λ (r : Result Program ℕ). with_program 0 (grain_folder (changed 10 2 grain_bytes)) r) file_is_read;
+  fields = ap (λ (r : Result Program ℕ). with_program 0 (grain_folder (changed 8 2 grain_bytes)) r) file_is_read;
+  behind = ap (λ (r : Result Program ℕ). with_program 0 (folder_of program_bytes same_account (version_by 1 ++ changed 10 2 (version_by 2))) r) file_is_read;
+  cut_behind = ap (λ (r : Result Program ℕ). with_program 0 (folder_of program_bytes same_account (version_by 1 ++ take 10 (version_by 2))) r) file_is_read;
+  earlier = ap (λ (r : Result Program ℕ). with_program 0 (folder_of program_bytes same_account (changed 10 2 (version_by 1))) r) file_is_read;
+  lower = ap (λ (r : Result Program ℕ). with_program 0 (two_folder (changed 10 2 (version_by 2)) (take 10 (version_by 1))) r) file_is_read;
+  upper = ap (λ (r : Result Program ℕ). with_program 0 (two_folder (version_by 2) (changed 10 2 (version_by 1))) r) file_is_read;
+  block_first = ap (λ (r : Result Program ℕ). with_program 0 (folder_of program_bytes (take 80 (manager_bytes 1)) (take 10 grain_bytes)) r) file_is_read;
 }
 
 -- ---- folders that are no silo
 
 -- where the manager file isn't a silo's
-no_silo : (image : Image) → is_silo (image manager) ≡ false → opened_as live_slot image ≡ NoSilo
+no_silo : (image : Image) → is_silo (image manager) ≡ false → opened_as image ≡ NoSilo
 no_silo image is = rw is refl
 
-pub short : opened_as live_slot (log_folder (take 15 (manager_bytes 1))) ≡ NoSilo
+pub short : opened_as (log_folder (take 15 (manager_bytes 1))) ≡ NoSilo
 short = no_silo (log_folder (take 15 (manager_bytes 1))) refl
 
-pub header_gate : (byte : ℕ) → byte ≢ 1 → opened_as live_slot (log_changed 0 byte) ≡ NoSilo
+pub header_gate : (byte : ℕ) → byte ≢ 1 → opened_as (log_changed 0 byte) ≡ NoSilo
 header_gate byte other = no_silo (log_changed 0 byte) (rw (ne_eqb byte 1 other) refl)
 
-pub other_magic : (name : List ℕ) → length name ≡ 8 → name ≢ magic → opened_as live_slot (log_folder (1 ∷ (name ++ drop 9 (manager_bytes 1)))) ≡ NoSilo
-other_magic name long other = (no_silo_is_read (log_folder (1 ∷ (name ++ drop 9 (manager_bytes 1))))).1 (λ silo. other (sym (take_at name (drop 9 (manager_bytes 1)) 8 long) ∙ silo.named))
+pub other_magic : (name : List ℕ) → length name ≡ 8 → name ≢ magic → opened_as (log_folder (1 ∷ (name ++ drop 9 (manager_bytes 1)))) ≡ NoSilo
+other_magic name long other = (no_silo_is_read (log_folder (1 ∷ (name ++ drop 9 (manager_bytes 1))))).1 (λ live is.
+    let silo = first_silo live (log_folder (1 ∷ (name ++ drop 9 (manager_bytes 1)))) is in
+    other (sym (take_at name (drop 9 (manager_bytes 1)) 8 long) ∙ silo.named))
 
-pub silo_first : opened_as live_slot (folder_of (take 3 program_bytes) (take 15 (manager_bytes 1)) grain_bytes) ≡ NoSilo
+pub silo_first : opened_as (folder_of (take 3 program_bytes) (take 15 (manager_bytes 1)) grain_bytes) ≡ NoSilo
 silo_first = no_silo (folder_of (take 3 program_bytes) (take 15 (manager_bytes 1)) grain_bytes) refl
 
 -- ---- folders whose manager file's header is damaged
 
 -- where a silo's header is damaged, that is what the folder reads as
-header_damaged : (file : List ℕ) (place : ℕ) → is_silo file ≡ true → header_damage file ≡ Some place → opened_as live_slot (log_folder file) ≡ DamagedAt manager place
+header_damaged : (file : List ℕ) (place : ℕ) → is_silo file ≡ true → header_damage file ≡ Some place → opened_as (log_folder file) ≡ DamagedAt manager place
 header_damaged file place silo damage =
-    ap (λ (b : Bool). if b then with_program live_slot (log_folder file) (program_in_file program_bytes) else NoSilo) silo
-    ∙ ap (λ (r : Result Program ℕ). with_program live_slot (log_folder file) r) file_is_read
-    ∙ ap (λ (d : Option ℕ). with_log live_slot account_program (log_folder file) (behind_header d (records_behind (shape_in account_program) 15 (bodies_of file) (no_more (gate_of file) (found_at (gate_of file) file))))) damage
+    ap (λ (b : Bool). with_slot (log_folder file) (if b then Some 0 else None)) silo
+    ∙ ap (λ (r : Result Program ℕ). with_program 0 (log_folder file) r) file_is_read
+    ∙ ap (λ (d : Option ℕ). with_log 0 account_program (log_folder file) (behind_header d (records_behind (shape_in account_program) 15 (bodies_of file) (no_more (gate_of file) (found_at (gate_of file) file))))) damage
 
-pub header_byte : (byte : ℕ) → byte ≢ 0 → opened_as live_slot (log_changed 13 byte) ≡ DamagedAt manager 13
+pub header_byte : (byte : ℕ) → byte ≢ 0 → opened_as (log_changed 13 byte) ≡ DamagedAt manager 13
 header_byte byte other = header_damaged (changed 13 byte (manager_bytes 1)) 13 refl (rw (ne_eqb byte 0 other) refl)
 
-pub next_header_byte : (byte : ℕ) → byte ≢ 0 → opened_as live_slot (log_changed 14 byte) ≡ DamagedAt manager 14
+pub next_header_byte : (byte : ℕ) → byte ≢ 0 → opened_as (log_changed 14 byte) ≡ DamagedAt manager 14
 next_header_byte byte other = header_damaged (changed 14 byte (manager_bytes 1)) 14 refl (rw (ne_eqb byte 0 other) refl)
 
-pub header_first : opened_as live_slot (log_folder (changed 14 1 (take 80 (manager_bytes 1)))) ≡ DamagedAt manager 14
+pub header_first : opened_as (log_folder (changed 14 1 (take 80 (manager_bytes 1)))) ≡ DamagedAt manager 14
 header_first = header_damaged (changed 14 1 (take 80 (manager_bytes 1))) 14 refl refl
 
 -- ---- folders whose program file is damaged
 
-pub program_short : opened_as live_slot (program_folder (take 3 program_bytes)) ≡ DamagedAt program_file 3
+pub program_short : opened_as (program_folder (take 3 program_bytes)) ≡ DamagedAt program_file 3
 program_short = refl
 
-pub program_cut : opened_as live_slot (program_folder (take 100 program_bytes)) ≡ DamagedAt program_file 100
+pub program_cut : opened_as (program_folder (take 100 program_bytes)) ≡ DamagedAt program_file 100
 program_cut = refl
 
-pub program_less : opened_as live_slot (program_folder (changed 0 180 program_bytes)) ≡ DamagedAt program_file 183
+pub program_less : opened_as (program_folder (changed 0 180 program_bytes)) ≡ DamagedAt program_file 183
 program_less = refl
 
-pub program_long : opened_as live_slot (program_folder (1 ∷ 0 ∷ 4 ∷ 0 ∷ [])) ≡ DamagedAt program_file 0
+pub program_long : opened_as (program_folder (1 ∷ 0 ∷ 4 ∷ 0 ∷ [])) ≡ DamagedAt program_file 0
 program_long = refl
 
-pub program_first : opened_as live_slot (folder_of (take 3 program_bytes) (take 80 (manager_bytes 1)) (take 10 grain_bytes)) ≡ DamagedAt program_file 3
+pub program_first : opened_as (folder_of (take 3 program_bytes) (take 80 (manager_bytes 1)) (take 10 grain_bytes)) ≡ DamagedAt program_file 3
 program_first = refl
 
-pub program_before_header : opened_as live_slot (folder_of (take 3 program_bytes) (changed 13 255 (manager_bytes 1)) grain_bytes) ≡ DamagedAt program_file 3
+pub program_before_header : opened_as (folder_of (take 3 program_bytes) (changed 13 255 (manager_bytes 1)) grain_bytes) ≡ DamagedAt program_file 3
 program_before_header = refl

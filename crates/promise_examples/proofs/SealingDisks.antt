@@ -10,7 +10,7 @@ use Rattle.host_trait.specs.World.{Image, IsImage, Disk, Moment}
 use Rattle.host_trait.proofs.Crashes.{settled_only}
 use Rattle.gate_block.specs.Log.{LogsUpTo}
 use Rattle.silo_spec.specs.Silos.{manager, program_file, IsSilo}
-use Rattle.promise_spec.specs.Logs.{live_slot, magic}
+use Rattle.promise_spec.specs.Logs.{magic}
 use Rattle.promise_spec.specs.Courses.{Observed}
 use Rattle.promise_spec.specs.Crashes.{LeavesAlone}
 use Rattle.promise_examples.specs.Examples.{account_1, program_bytes, grain_bytes, block_bytes, manager_of, manager_bytes}
@@ -82,7 +82,7 @@ sealed_front block gate c left = ap (λ (f : List ℕ). take 15 f) (settled_only
 -- ---- moments of a run in a new silo
 
 module _ (r : Observed) (new : r.old.disk ≡ new_disk) where
-  pub alone_of : (output : List ℕ) (log grain : FileState) → KeepsFront log → LeavesAlone live_slot r (record { output = output; disk = disk_of log grain })
+  pub alone_of : (output : List ℕ) (log grain : FileState) → KeepsFront log → LeavesAlone 0 r (record { output = output; disk = disk_of log grain })
   alone_of output log grain keeps = record {
     aside = λ file is. same_aside (settled new_manager) (settled []) log grain file is ∙ sym (ap (λ (d : Disk). d file) new);
     header = λ image left. keeps (image manager) (left manager) ∙ sym (ap (λ (d : Disk). take 15 (d manager).seen) new);

@@ -12,7 +12,7 @@ use Rattle.script_meaning.specs.Worked.{bank, at, int}
 use Rattle.promise_spec.specs.Programs.{shape_in}
 use Rattle.promise_spec.specs.Records.{written, new_silo, standing_of}
 use Rattle.promise_spec.specs.Serial.{IsSerial}
-use Rattle.promise_spec.specs.Logs.{IsLog, IsKept, body_of, live_slot}
+use Rattle.promise_spec.specs.Logs.{IsLog, IsKept, body_of}
 use Rattle.promise_examples.specs.Transfers.{bank_program, paid_in, moved, balance, version_of_source, version_of_target, transfer_body, bank_folder}
 
 pub source_spelled : spelling_of_version (balance 2 70) ≡ version_of_source
@@ -40,7 +40,7 @@ two : FitsSigned w64 (pos 2)
 two = fits_signed_from_abs w64 (pos 2) (lit< tt)
 
 -- the deposit is kept
-deposit_kept : IsKept live_slot (shape_in bank_program) bank_folder paid_in
+deposit_kept : IsKept 0 (shape_in bank_program) bank_folder paid_in
 deposit_kept = record {
   fits = record {
     units = record { unit = refl; parent = tt };
@@ -62,7 +62,7 @@ deposit_kept = record {
 }
 
 -- and so is the transfer, with both versions at their places
-transfer_kept : IsKept live_slot (shape_in bank_program) bank_folder (moved 70 30)
+transfer_kept : IsKept 0 (shape_in bank_program) bank_folder (moved 70 30)
 transfer_kept = record {
   fits = record {
     units = record { unit = refl; parent = tt };
@@ -87,9 +87,9 @@ transfer_kept = record {
 }
 
 -- the folder's log is both records
-pub logged : IsLog live_slot (shape_in bank_program) bank_folder (paid_in ∷ moved 70 30 ∷ [])
+pub logged : IsLog 0 (shape_in bank_program) bank_folder (paid_in ∷ moved 70 30 ∷ [])
 logged = record {
-  silo = record { long = omega arith; gate = refl; named = refl };
+  is_live = record { slot = refl; silo = record { long = omega arith; gate = refl; named = refl } };
   header = refl;
   batches = (paid_in ∷ []) ∷ (moved 70 30 ∷ []) ∷ [];
   gate = 197;

@@ -23,7 +23,7 @@ use Rattle.host_trait.specs.World.{Moment, Image, IsImage, moment_of}
 use Rattle.silo_spec.specs.Silos.{manager, program_file, HasProgram}
 use Rattle.promise_spec.specs.Programs.{shape_in}
 use Rattle.promise_spec.specs.Records.{AreRecordsOf}
-use Rattle.promise_spec.specs.Logs.{live_slot, IsPrefix}
+use Rattle.promise_spec.specs.Logs.{IsPrefix}
 use Rattle.promise_spec.specs.Moments.{IsImageOf}
 use Rattle.promise_spec.specs.Outputs.{IsProper, Grew, reply_lines}
 use Rattle.promise_spec.specs.Cores.{applied_in, how_many}
@@ -171,7 +171,7 @@ module _ (r : Observed) (opened : Moment) (failing told : List Moment) (run : Is
   course = vote_course opened failing told r
 
   abbrev KeepsAt : Moment → Image → Type 0
-  KeepsAt m image = (k : KeepsJournal account_program [] r.old.output journal m image) × IsPrefix (entries_of k.said) vote_entries
+  KeepsAt m image = (k : KeepsJournal 0 account_program [] r.old.output journal m image) × IsPrefix (entries_of k.said) vote_entries
 
   abbrev Known : Moment → Type 0
   Known m = (image : Image) → IsImage m.disk image → KeepsAt m image × HasProgram account_program.text (image program_file)
@@ -215,7 +215,7 @@ module _ (r : Observed) (opened : Moment) (failing told : List Moment) (run : Is
       (all_less (IsBetween r (r.old.output ++ reply_lines (shape_in account_program) (voted_entry ∷ [])) HasNone) Known told at_told run.first))
       at_exit
 
-  keeps_at : (image : Image) (is : IsImageOf (moments r course) image) → KeepsJournal account_program [] r.old.output journal is.moment image
+  keeps_at : (image : Image) (is : IsImageOf (moments r course) image) → KeepsJournal 0 account_program [] r.old.output journal is.moment image
   keeps_at image is = (known is.moment is.member image is.left).0.0
 
   ordered : IsOrdered account_program r course
@@ -241,11 +241,11 @@ module _ (r : Observed) (opened : Moment) (failing told : List Moment) (run : Is
   }
 
   -- at each moment other files and the header are as they were
-  alone : (m : Moment) → Member m (moments r course) → LeavesAlone live_slot r m
+  alone : (m : Moment) → Member m (moments r course) → LeavesAlone 0 r m
   alone =
-      at_each (LeavesAlone live_slot r) opened (failing ++ told) (moment_of r.new) run.alone.0
-      (both_parts (LeavesAlone live_slot r) failing told (all_less (IsBetween r r.old.output HasNone) (LeavesAlone live_slot r) failing (λ m is. is.alone) run.unsaid)
-      (all_less (IsBetween r (r.old.output ++ reply_lines (shape_in account_program) (voted_entry ∷ [])) HasNone) (LeavesAlone live_slot r) told (λ m is. is.alone) run.first))
+      at_each (LeavesAlone 0 r) opened (failing ++ told) (moment_of r.new) run.alone.0
+      (both_parts (LeavesAlone 0 r) failing told (all_less (IsBetween r r.old.output HasNone) (LeavesAlone 0 r) failing (λ m is. is.alone) run.unsaid)
+      (all_less (IsBetween r (r.old.output ++ reply_lines (shape_in account_program) (voted_entry ∷ [])) HasNone) (LeavesAlone 0 r) told (λ m is. is.alone) run.first))
       run.alone.1
 
   -- no image of any moment has a record
@@ -283,7 +283,7 @@ module _ (r : Observed) (opened : Moment) (failing told : List Moment) (run : Is
   of_events = record {
     family = no_family accounts (lines r) _ _ _;
     whole = λ image log is log_is.
-        subst (EndsABatch (core_end account_program course) []) (one_log (shape_in account_program) image [] log (have_none is.moment is.member image is.left).0 log_is) (no_batch (core_end account_program course) []);
+        subst (EndsABatch (core_end account_program course) []) (one_log 0 0 (shape_in account_program) image [] log (have_none is.moment is.member image is.left).0 log_is) (no_batch (core_end account_program course) []);
   }
 
   replied : HoldsReplies account_program r course
@@ -293,7 +293,7 @@ module _ (r : Observed) (opened : Moment) (failing told : List Moment) (run : Is
   exit = record {
     logs = λ image left. record { log = []; is = (run.exit image left).0; which = inl refl };
     doubt = λ one other a b is_one is_other log_a log_b differ.
-        absurd (differ (one_log (shape_in account_program) one a [] log_a (run.exit one is_one).0 ∙ sym (one_log (shape_in account_program) other b [] log_b (run.exit other is_other).0)));
+        absurd (differ (one_log 0 0 (shape_in account_program) one a [] log_a (run.exit one is_one).0 ∙ sym (one_log 0 0 (shape_in account_program) other b [] log_b (run.exit other is_other).0)));
     nowhere = λ e there is nowhere l none. absurd none;
     block = λ doubt. absurd (no_doubt doubt);
     behind = λ none. run.behind;

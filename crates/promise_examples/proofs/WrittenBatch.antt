@@ -25,7 +25,7 @@ use Rattle.log_reading.specs.Blocks.{header_damage}
 use Rattle.silo_spec.specs.Silos.{manager, program_file, IsSilo}
 use Rattle.promise_spec.specs.Programs.{shape_in}
 use Rattle.promise_spec.specs.Records.{Commit}
-use Rattle.promise_spec.specs.Logs.{live_slot, magic, IsLog, body_of}
+use Rattle.promise_spec.specs.Logs.{magic, IsLog, body_of}
 use Rattle.promise_spec.specs.Outputs.{IsProper, Grew, reply_lines}
 use Rattle.promise_spec.specs.Causes.{RoseBy, most_syncs_of}
 use Rattle.promise_spec.specs.Courses.{moments, core_run, core_end}
@@ -59,6 +59,7 @@ use Rattle.promise_examples.proofs.Between.{at_each, exit_there, all_less}
 use Rattle.promise_examples.proofs.WholeBatches.{no_batch}
 use Rattle.promise_examples.proofs.BatchRules.{batch_unit_rule, batch_turn_rule, settled_is, emitted_is, records_are, both_end, no_doubt, no_votes, no_seals, voted_on, four_most, four_syncs}
 use Rattle.promise_examples.proofs.WrittenDoubt.{asks, sound_at_entry}
+use Rattle.promise_spec.proofs.Slots.{first_live}
 
 -- ---- the bytes
 
@@ -104,7 +105,7 @@ both_blocks = record { blocks = record { small = (lit< tt, tt); at = refl; withi
 
 -- the image's log is both records
 abbrev HasBoth : Image → Type 0
-HasBoth image = IsLog live_slot (shape_in account_program) image both_commits
+HasBoth image = IsLog 0 (shape_in account_program) image both_commits
 
 -- it has both or none
 abbrev MayHaveBoth : Image → Type 0
@@ -113,7 +114,7 @@ MayHaveBoth image = HasNone image ⊎ HasBoth image
 module _ (image : Image) where
   has_both : image manager ≡ manager_of both_block 1 → image (Grain 0 account_1) ≡ both_versions → HasBoth image
   has_both is grain_is = record {
-    silo = subst (λ (f : List ℕ). IsSilo magic f) (sym is) (gate_is_silo both_block 1);
+    is_live = first_live image (subst (λ (f : List ℕ). IsSilo magic f) (sym is) (gate_is_silo both_block 1));
     header = ap header_damage is;
     batches = both_commits ∷ [];
     gate = 152;
@@ -207,7 +208,7 @@ may_have =
     (λ image left. inr (both_images image left))
 
 -- at each moment other files and the header are as they were
-way_alone : (m : Moment) → IsOnWay m → LeavesAlone live_slot batched m
+way_alone : (m : Moment) → IsOnWay m → LeavesAlone 0 batched m
 way_alone m (inl is) = is.alone
 way_alone m (inr is) = is.alone
 
@@ -220,14 +221,14 @@ apart =
     at_each (LeavesOthers batched) opened batching (moment_of batch_after) (at_new batched refl [] (settled [])).apart (all_less IsOnWay (LeavesOthers batched) batching way_apart on_way)
     (apart_of batched refl (reply_text ++ second_text) (settled (manager_of both_block 1)) (settled both_versions))
 
-alone : (m : Moment) → Member m (moments batched batch_course) → LeavesAlone live_slot batched m
+alone : (m : Moment) → Member m (moments batched batch_course) → LeavesAlone 0 batched m
 alone =
-    at_each (LeavesAlone live_slot batched) opened batching (moment_of batch_after) (at_new batched refl [] (settled [])).alone (all_less IsOnWay (LeavesAlone live_slot batched) batching way_alone on_way)
+    at_each (LeavesAlone 0 batched) opened batching (moment_of batch_after) (at_new batched refl [] (settled [])).alone (all_less IsOnWay (LeavesAlone 0 batched) batching way_alone on_way)
     (alone_of batched refl (reply_text ++ second_text) (settled (manager_of both_block 1)) (settled both_versions) (sealed_front both_block 1))
 
-whole_batches : (image : Image) (log : List Commit) → MayHaveBoth image → IsLog live_slot (shape_in account_program) image log → EndsABatch (core_end account_program batch_course) [] log
-whole_batches image log (inl none) is = subst (EndsABatch (core_end account_program batch_course) []) (one_log (shape_in account_program) image [] log none.0 is) (no_batch (core_end account_program batch_course) [])
-whole_batches image log (inr has) is = subst (EndsABatch (core_end account_program batch_course) []) (one_log (shape_in account_program) image both_commits log has is) both_end
+whole_batches : (image : Image) (log : List Commit) → MayHaveBoth image → IsLog 0 (shape_in account_program) image log → EndsABatch (core_end account_program batch_course) [] log
+whole_batches image log (inl none) is = subst (EndsABatch (core_end account_program batch_course) []) (one_log 0 0 (shape_in account_program) image [] log none.0 is) (no_batch (core_end account_program batch_course) [])
+whole_batches image log (inr has) is = subst (EndsABatch (core_end account_program batch_course) []) (one_log 0 0 (shape_in account_program) image both_commits log has is) both_end
 
 -- ---- the journal
 
@@ -386,7 +387,7 @@ leaves : LeavesAtExit account_program batched batch_course
 leaves = record {
   logs = λ image left. record { log = both_commits; is = both_images image left; which = inl refl };
   nowhere = λ e there.
-      either_of (λ (d : Entry). d.what ≡ settled_as.InDoubt → IsNowhere account_program batched d.unit → HasNoRecord batch_course d.unit) first_entry second_entry e (λ is. absurd (cc is)) (λ is. absurd (cc is)) there;
+      either_of (λ (d : Entry). d.what ≡ settled_as.InDoubt → IsNowhere 0 account_program batched d.unit → HasNoRecord batch_course d.unit) first_entry second_entry e (λ is. absurd (cc is)) (λ is. absurd (cc is)) there;
   block = λ doubt. absurd (no_doubt doubt);
   behind = λ none image left. ends_there (map body_of (both_commits ∷ [])) 152 (image manager) (manager_of both_block 1) new_manager (settled_only (manager_of both_block 1) (image manager) (left manager)) both_blocks refl (omega arith);
 }

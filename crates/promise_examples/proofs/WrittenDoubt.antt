@@ -13,7 +13,6 @@ use Rattle.host_trait.specs.World.{Image, IsImage, Moment}
 use Rattle.cell_model.specs.Units.{same_grain}
 use Rattle.gate_block.specs.Log.{HasBlocks}
 use Rattle.silo_spec.specs.Silos.{manager}
-use Rattle.promise_spec.specs.Logs.{live_slot}
 use Rattle.promise_spec.specs.Programs.{shape_in}
 use Rattle.promise_spec.specs.Outputs.{reply_lines}
 use Rattle.promise_spec.specs.Courses.{lines}
@@ -64,7 +63,7 @@ module _ (image : Image) (left : IsImage sealing_disk image) where
   front : HasBlocks [] 15 (image manager)
   front = subst (λ (f : List ℕ). HasBlocks [] 15 f) (sym file_is) (record { small = tt; at = refl; within = omega arith; blocks = refl })
 
-  block : HasBlock live_slot 15 (first_commit ∷ []) image
+  block : HasBlock 0 15 (first_commit ∷ []) image
   block = ap (λ (f : List ℕ). take 73 (drop 16 f)) file_is
 
 differ : (one other : Image) → IsImage sealing_disk one → IsImage sealing_disk other → DifferAt 15 (one manager) (other manager)

@@ -1,5 +1,4 @@
 -- The refusal that is written out keeps the promise.
-use Rattle.promise_spec.specs.Logs.{live_slot}
 use Rattle.std.proofs.Common.{◌≡◌, inl, ℕ, [], ◌∷◌, take, Result, refl, ap, arith}
 use Rattle.host_trait.specs.Disk.{settled}
 use Rattle.silo_spec.specs.Silos.{manager}
@@ -18,8 +17,8 @@ use Rattle.promise_examples.proofs.NewSilo.{file_is_read}
 use Rattle.promise_examples.proofs.HostSteps.{synced_log}
 
 -- the folder reads as damaged there
-pub reads : opened_as live_slot (seen_at_entry refused) ≡ DamagedAt manager 16
-reads = ap (λ (r : Result Program ℕ). with_program live_slot (seen_at_entry refused) r) file_is_read
+pub reads : opened_as (seen_at_entry refused) ≡ DamagedAt manager 16
+reads = ap (λ (r : Result Program ℕ). with_program 0 (seen_at_entry refused) r) file_is_read
 
 -- at each moment all is as at entry
 untouched : IsUntouched torn_before torn_after

@@ -15,7 +15,7 @@ use Rattle.gate_block.specs.Log.{HasBlocks}
 use Rattle.silo_spec.specs.Silos.{manager}
 use Rattle.promise_spec.specs.Programs.{shape_in}
 use Rattle.promise_spec.specs.Records.{Commit, AreRecordsOf}
-use Rattle.promise_spec.specs.Logs.{live_slot, IsLog}
+use Rattle.promise_spec.specs.Logs.{IsLog}
 use Rattle.promise_spec.specs.Outputs.{Grew, reply_lines}
 use Rattle.promise_spec.specs.Causes.{RoseBy, NoneRose, most_syncs_of}
 use Rattle.promise_spec.specs.Endings.{DiskFault}
@@ -84,7 +84,7 @@ none_has : (m : Moment) → Member m (moments unbegun unbegun_course) → AllHav
 none_has = at_each AllHaveNone opened gate_failing (moment_of unbegun_after) (λ image left. new_images image left) (all_less HasNoneAt AllHaveNone gate_failing (λ m is. is.images) on_way) at_exit.images
 
 -- so each log is empty
-pub no_records : (m : Moment) (image : Image) → Member m (moments unbegun unbegun_course) → IsImage m.disk image → IsLog live_slot (shape_in account_program) image []
+pub no_records : (m : Moment) (image : Image) → Member m (moments unbegun unbegun_course) → IsImage m.disk image → IsLog 0 (shape_in account_program) image []
 no_records m image there left = (none_has m there image left).0
 
 -- other files and the header are as they were
@@ -93,15 +93,15 @@ apart =
     at_each (LeavesOthers unbegun) opened gate_failing (moment_of unbegun_after) (at_new unbegun refl [] (settled [])).apart
     (all_less HasNoneAt (LeavesOthers unbegun) gate_failing (λ m is. is.apart) on_way) at_exit.apart
 
-alone : (m : Moment) → Member m (moments unbegun unbegun_course) → LeavesAlone live_slot unbegun m
+alone : (m : Moment) → Member m (moments unbegun unbegun_course) → LeavesAlone 0 unbegun m
 alone =
-    at_each (LeavesAlone live_slot unbegun) opened gate_failing (moment_of unbegun_after) (at_new unbegun refl [] (settled [])).alone
-    (all_less HasNoneAt (LeavesAlone live_slot unbegun) gate_failing (λ m is. is.alone) on_way) at_exit.alone
+    at_each (LeavesAlone 0 unbegun) opened gate_failing (moment_of unbegun_after) (at_new unbegun refl [] (settled [])).alone
+    (all_less HasNoneAt (LeavesAlone 0 unbegun) gate_failing (λ m is. is.alone) on_way) at_exit.alone
 
 -- an empty log ends where a batch does
-whole_batches : (image : Image) (log : List Commit) → HasNone image → IsLog live_slot (shape_in account_program) image log → EndsABatch (core_end account_program unbegun_course) [] log
+whole_batches : (image : Image) (log : List Commit) → HasNone image → IsLog 0 (shape_in account_program) image log → EndsABatch (core_end account_program unbegun_course) [] log
 whole_batches image log none is =
-    subst (EndsABatch (core_end account_program unbegun_course) []) (one_log (shape_in account_program) image [] log none.0 is) (no_batch (core_end account_program unbegun_course) [])
+    subst (EndsABatch (core_end account_program unbegun_course) []) (one_log 0 0 (shape_in account_program) image [] log none.0 is) (no_batch (core_end account_program unbegun_course) [])
 
 -- ---- the journal: both entries, and no record
 
@@ -254,7 +254,7 @@ module _ (image : Image) (left : IsImage staged_disk image) where
   front = subst (λ (f : List ℕ). HasBlocks [] 15 f) (sym staged_is) (record { small = tt; at = refl; within = omega arith; blocks = refl })
 
   -- it is the batch's
-  block : HasBlock live_slot 15 (first_commit ∷ []) image
+  block : HasBlock 0 15 (first_commit ∷ []) image
   block = ap (λ (f : List ℕ). take 73 (drop 16 f)) staged_is
 
 -- the images have one manager file
@@ -264,7 +264,7 @@ one_file one other is_one is_other =
     record { long = ap (λ (f : List ℕ). length f) same; same = λ i elsewhere. ap (λ (f : List ℕ). slice_index f i) same }
 
 -- the block of the batch in doubt
-doubtful_block : BlockInDoubt live_slot unbegun unbegun_course (core_end account_program unbegun_course)
+doubtful_block : BlockInDoubt 0 unbegun unbegun_course (core_end account_program unbegun_course)
 doubtful_block = record {
   gate = 15;
   batch = first_commit ∷ [];

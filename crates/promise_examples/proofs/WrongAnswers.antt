@@ -19,7 +19,7 @@ use Rattle.script_tree.specs.Programs.{ProgramTree}
 use Rattle.silo_spec.specs.Silos.{manager, program_file, IsSilo, HasProgram}
 use Rattle.promise_spec.specs.Programs.{Program, ProgramFault, IsChecked, shape_in, unless_fault, checked_in, program_in}
 use Rattle.promise_spec.specs.Records.{Commit}
-use Rattle.promise_spec.specs.Logs.{magic, IsLog, live_slot}
+use Rattle.promise_spec.specs.Logs.{magic, IsLog}
 use Rattle.promise_spec.specs.Images.{IsSound}
 use Rattle.promise_spec.specs.Openings.{Reading, NoSilo, DamagedAt, Reads, opened_as}
 use Rattle.promise_spec.specs.Outputs.{reply_lines}
@@ -36,20 +36,21 @@ use Rattle.promise_spec.specs.Loads.{IsUnmadeBy, from_there, Loads}
 use Rattle.promise_spec.specs.Checks.{Checks}
 use Rattle.promise_spec.specs.Calls.{Understands, Obeys, Serves, GoesOn, AnswersAs}
 use Rattle.promise_spec.proofs.Lists.{in_append}
-use Rattle.promise_spec.proofs.Openings.{log_is_read, no_silo_is_read, sound_is_read, reads_is}
+use Rattle.promise_spec.proofs.Openings.{log_is_read, no_silo_is_read, sound_is_read, reads_is, reads_is_live}
+use Rattle.silo_spec.specs.Slots.{IsLive}
 
 -- ---- a folder reads in one way
 
-not_two : (reading : Reading) (p : Program) (log : List Commit) (f : FileId) (place : ℕ) → reading ≡ Reads p log → reading ≡ DamagedAt f place → ⊥
-not_two reading p log f place a b = let e : Reads p log ≡ DamagedAt f place = sym a ∙ b in absurd (cc e)
+not_two : (reading : Reading) (live : ℕ) (p : Program) (log : List Commit) (f : FileId) (place : ℕ) → reading ≡ Reads live p log → reading ≡ DamagedAt f place → ⊥
+not_two reading live p log f place a b = let e : Reads live p log ≡ DamagedAt f place = sym a ∙ b in absurd (cc e)
 
-not_none : (reading : Reading) (p : Program) (log : List Commit) → reading ≡ Reads p log → reading ≡ NoSilo → ⊥
-not_none reading p log a b = let e : Reads p log ≡ NoSilo = sym a ∙ b in absurd (cc e)
+not_none : (reading : Reading) (live : ℕ) (p : Program) (log : List Commit) → reading ≡ Reads live p log → reading ≡ NoSilo → ⊥
+not_none reading live p log a b = let e : Reads live p log ≡ NoSilo = sym a ∙ b in absurd (cc e)
 
 -- ---- refusals
 
 pub not_opened : (r : Observed) → IsUnopened r → r.ending ≡ ending.Done → ⊥
-not_opened r unopened is = subst (IsRefusedBy (seen_at_entry r) (opened_as live_slot (seen_at_entry r))) is unopened.refused
+not_opened r unopened is = subst (IsRefusedBy (seen_at_entry r) (opened_as (seen_at_entry r))) is unopened.refused
 
 pub two_syncs : (r : Observed) → IsUnopened r → r.old.syncs + 1 < r.new.syncs → ⊥
 two_syncs r unopened more = let most = unopened.syncs in omega (arith, most, more)
@@ -58,19 +59,21 @@ pub read_unopened : (r : Observed) → IsUnopened r → r.old.input ≢ [] → r
 read_unopened r unopened some all = some (sym unopened.unread ∙ all)
 
 -- a grain's file is not the manager file, nor the program's
-not_manager : (slot : ℕ) (grain : GrainId) → file.Grain slot grain ≡ manager → ⊥
-not_manager slot grain same = absurd (cc same)
+not_manager : (live slot : ℕ) (grain : GrainId) → file.Grain slot grain ≡ file.Manager live → ⊥
+not_manager live slot grain same = absurd (cc same)
 
 no_head : (slot : ℕ) (grain : GrainId) → IsHead (file.Grain slot grain) → ⊥
 no_head slot grain (inl same) = absurd (cc same)
 no_head slot grain (inr same) = absurd (cc same)
 
-same_file : (slot : ℕ) (grain other : GrainId) → file.Grain slot grain ≡ file.Grain 0 other → other ≡ grain
-same_file slot grain other same = cc
+same_file : (live slot : ℕ) (grain other : GrainId) → file.Grain slot grain ≡ file.Grain live other → (live ≡ slot) × (other ≡ grain)
+same_file live slot grain other same = (cc, cc)
 
-named_of_file : (image : Image) (slot : ℕ) (grain : GrainId) → IsReadFor image (file.Grain slot grain) → IsNamedIn image grain
-named_of_file image slot grain (inl head) = absurd (no_head slot grain head)
-named_of_file image slot grain (inr named) = subst (IsNamedIn image) (same_file slot grain named.0 named.1) named.2
+named_of_file : (image : Image) (live slot : ℕ) (grain : GrainId) → IsReadFor live image (file.Grain slot grain) → IsNamedIn slot image grain
+named_of_file image live slot grain (inl head) = absurd (no_head slot grain head)
+named_of_file image live slot grain (inr named) =
+    let same = same_file live slot grain named.0 named.1 in
+    subst (λ (n : ℕ). IsNamedIn n image grain) same.0 (subst (IsNamedIn live image) same.1 named.2)
 
 -- the line of an entry is no empty text
 said_some : (shape : Shape) (entries : List Entry) (e : Entry) → Member e entries → [] ≡ reply_lines shape entries ++ [] → ⊥
@@ -82,88 +85,88 @@ said_some shape (x ∷ entries) e there same =
     absurd (subst (λ (l : List ℕ). Member 10 l) (sym same) (in_append 10 all [] (inl inside)))
 
 -- what a run answers over any folder: it wasn't opened, or it was
-answered : (m : Manner) (r : Observed) → Promises m r → IsUnopened r ⊎ HasOpened live_slot r
+answered : (m : Manner) (r : Observed) → Promises m r → IsUnopened r ⊎ HasOpened r
 answered m r keeps = elim keeps.answers [ inl unopened ↦ inl unopened | inr kept ↦ inr (anywhere_opened kept.0 r kept.1.0 kept.1.1) ]
 
 module _ (m : Manner) (r : Observed) where
-  pub another_place : (f : FileId) (place : ℕ) → Promises m r → r.ending ≡ ending.Damaged f place → opened_as live_slot (seen_at_entry r) ≢ DamagedAt f place → ⊥
+  pub another_place : (f : FileId) (place : ℕ) → Promises m r → r.ending ≡ ending.Damaged f place → opened_as (seen_at_entry r) ≢ DamagedAt f place → ⊥
   another_place f place keeps is other = elim (answered m r keeps) [
-    | inl unopened ↦ other (subst (IsRefusedBy (seen_at_entry r) (opened_as live_slot (seen_at_entry r))) is unopened.refused)
+    | inl unopened ↦ other (subst (IsRefusedBy (seen_at_entry r) (opened_as (seen_at_entry r))) is unopened.refused)
     | inr opened ↦ subst ending.IsCarried is opened.carried
   ]
 
-  pub sound_damaged : (p : Program) (f : FileId) (place : ℕ) → Promises m r → IsChecked p → IsSound live_slot p (seen_at_entry r) → r.ending ≡ ending.Damaged f place → ⊥
-  sound_damaged p f place keeps checked sound is =
-      another_place f place keeps is (not_two (opened_as live_slot (seen_at_entry r)) p sound.log f place (sound_is_read p (seen_at_entry r) checked sound))
+  pub sound_damaged : (live : ℕ) (p : Program) (f : FileId) (place : ℕ) → Promises m r → IsChecked p → IsSound live p (seen_at_entry r) → r.ending ≡ ending.Damaged f place → ⊥
+  sound_damaged live p f place keeps checked sound is =
+      another_place f place keeps is (not_two (opened_as (seen_at_entry r)) live p sound.log f place (sound_is_read live p (seen_at_entry r) checked sound))
 
-  pub silo_called_none : Promises m r → IsSilo magic (seen_at_entry r manager) → r.ending ≡ ending.NotASilo → ⊥
-  silo_called_none keeps silo is = elim (answered m r keeps) [
-    | inl unopened ↦ (no_silo_is_read (seen_at_entry r)).0 (subst (IsRefusedBy (seen_at_entry r) (opened_as live_slot (seen_at_entry r))) is unopened.refused) silo
+  pub silo_called_none : (live : ℕ) → Promises m r → IsLive magic live (seen_at_entry r) → r.ending ≡ ending.NotASilo → ⊥
+  silo_called_none live keeps silo is = elim (answered m r keeps) [
+    | inl unopened ↦ (no_silo_is_read (seen_at_entry r)).0 (subst (IsRefusedBy (seen_at_entry r) (opened_as (seen_at_entry r))) is unopened.refused) live silo
     | inr opened ↦ subst ending.IsCarried is opened.carried
   ]
 
-  pub none_opened : Promises m r → (IsSilo magic (seen_at_entry r manager) → ⊥) → r.ending ≡ ending.Done → ⊥
+  pub none_opened : Promises m r → ((live : ℕ) → IsLive magic live (seen_at_entry r) → ⊥) → r.ending ≡ ending.Done → ⊥
   none_opened keeps none is = elim (answered m r keeps) [
     | inl unopened ↦ not_opened r unopened is
-    | inr opened ↦ not_none (opened_as live_slot (seen_at_entry r)) opened.openable.program opened.openable.log opened.openable.reads ((no_silo_is_read (seen_at_entry r)).1 none)
+    | inr opened ↦ not_none (opened_as (seen_at_entry r)) opened.openable.live opened.openable.program opened.openable.log opened.openable.reads ((no_silo_is_read (seen_at_entry r)).1 none)
   ]
 
-  pub damaged_carried : (f : FileId) (place : ℕ) → Promises m r → opened_as live_slot (seen_at_entry r) ≡ DamagedAt f place → r.new.input ≢ r.old.input → ⊥
+  pub damaged_carried : (f : FileId) (place : ℕ) → Promises m r → opened_as (seen_at_entry r) ≡ DamagedAt f place → r.new.input ≢ r.old.input → ⊥
   damaged_carried f place keeps damaged pulled = elim (answered m r keeps) [
     | inl unopened ↦ pulled unopened.unread
-    | inr opened ↦ not_two (opened_as live_slot (seen_at_entry r)) opened.openable.program opened.openable.log f place opened.openable.reads damaged
+    | inr opened ↦ not_two (opened_as (seen_at_entry r)) opened.openable.live opened.openable.program opened.openable.log f place opened.openable.reads damaged
   ]
 
   pub no_bad_use : Promises m r → r.ending ≡ ending.BadUse → ⊥
   no_bad_use keeps is = elim (answered m r keeps) [
-    | inl unopened ↦ subst (IsRefusedBy (seen_at_entry r) (opened_as live_slot (seen_at_entry r))) is unopened.refused
+    | inl unopened ↦ subst (IsRefusedBy (seen_at_entry r) (opened_as (seen_at_entry r))) is unopened.refused
     | inr opened ↦ subst ending.IsCarried is opened.carried
   ]
 
-  pub grain_blamed : (slot : ℕ) (grain : GrainId) → Promises m r → (IsSilo magic (seen_at_entry r manager) → ⊥) → r.ending ≡ ending.DiskFault (file.Grain slot grain) → ⊥
+  pub grain_blamed : (slot : ℕ) (grain : GrainId) → Promises m r → ((live : ℕ) → IsLive magic live (seen_at_entry r) → ⊥) → r.ending ≡ ending.DiskFault (file.Grain slot grain) → ⊥
   grain_blamed slot grain keeps none is = elim (answered m r keeps) [
     | inl unopened ↦
-        let must : MustBeRead (seen_at_entry r) (opened_as live_slot (seen_at_entry r)) (file.Grain slot grain) = subst (IsRefusedBy (seen_at_entry r) (opened_as live_slot (seen_at_entry r))) is unopened.refused in
+        let must : MustBeRead (seen_at_entry r) (opened_as (seen_at_entry r)) (file.Grain slot grain) = subst (IsRefusedBy (seen_at_entry r) (opened_as (seen_at_entry r))) is unopened.refused in
         let same : file.Grain slot grain ≡ manager = subst (λ (reading : Reading). MustBeRead (seen_at_entry r) reading (file.Grain slot grain)) ((no_silo_is_read (seen_at_entry r)).1 none) must in
         absurd (cc same)
-    | inr opened ↦ not_none (opened_as live_slot (seen_at_entry r)) opened.openable.program opened.openable.log opened.openable.reads ((no_silo_is_read (seen_at_entry r)).1 none)
+    | inr opened ↦ not_none (opened_as (seen_at_entry r)) opened.openable.live opened.openable.program opened.openable.log opened.openable.reads ((no_silo_is_read (seen_at_entry r)).1 none)
   ]
 
   -- where a grain's file is blamed a record names the grain
-  named_of_reading : (image : Image) (reading : Reading) (slot : ℕ) (grain : GrainId) → MustBeRead image reading (file.Grain slot grain) → IsNamedIn image grain
+  named_of_reading : (image : Image) (reading : Reading) (slot : ℕ) (grain : GrainId) → MustBeRead image reading (file.Grain slot grain) → IsNamedIn slot image grain
   named_of_reading image NoSilo slot grain must = absurd (cc must)
   named_of_reading image (DamagedAt (file.Program other) place) slot grain must = absurd (no_head slot grain must)
   named_of_reading image (DamagedAt (file.Manager other) place) slot grain must = absurd (no_head slot grain must)
   named_of_reading image (DamagedAt (file.Grain other last) place) slot grain must = elim must [
     | inl head ↦ absurd (no_head slot grain head)
-    | inr g ↦ named_of_file image slot grain (inr (g.0, g.1, g.2))
+    | inr g ↦ named_of_file image other slot grain (inr (g.0, g.1, g.2))
   ]
-  named_of_reading image (Reads p log) slot grain must = named_of_file image slot grain must
+  named_of_reading image (Reads live p log) slot grain must = named_of_file image live slot grain must
 
-  pub unnamed_blamed : (slot : ℕ) (grain : GrainId) → Promises m r → (IsNamedIn (seen_at_entry r) grain → ⊥) → r.ending ≡ ending.DiskFault (file.Grain slot grain) → ⊥
+  pub unnamed_blamed : (slot : ℕ) (grain : GrainId) → Promises m r → (IsNamedIn slot (seen_at_entry r) grain → ⊥) → r.ending ≡ ending.DiskFault (file.Grain slot grain) → ⊥
   unnamed_blamed slot grain keeps unnamed is = elim (answered m r keeps) [
     | inl unopened ↦
-        unnamed (named_of_reading (seen_at_entry r) (opened_as live_slot (seen_at_entry r)) slot grain (subst (IsRefusedBy (seen_at_entry r) (opened_as live_slot (seen_at_entry r))) is unopened.refused))
-    | inr opened ↦ not_manager slot grain (opened.file (file.Grain slot grain) is)
+        unnamed (named_of_reading (seen_at_entry r) (opened_as (seen_at_entry r)) slot grain (subst (IsRefusedBy (seen_at_entry r) (opened_as (seen_at_entry r))) is unopened.refused))
+    | inr opened ↦ not_manager opened.openable.live slot grain (opened.file (file.Grain slot grain) is)
   ]
 
   -- a grain behind the first damaged one has not to be read
-  not_behind : (last grain : GrainId) (place slot : ℕ) → is_before last grain ≡ true → MustBeRead (seen_at_entry r) (DamagedAt (file.Grain 0 last) place) (file.Grain slot grain) → ⊥
-  not_behind last grain place slot later must = elim must [
+  not_behind : (last grain : GrainId) (live place slot : ℕ) → is_before last grain ≡ true → MustBeRead (seen_at_entry r) (DamagedAt (file.Grain live last) place) (file.Grain slot grain) → ⊥
+  not_behind last grain live place slot later must = elim must [
     | inl head ↦ no_head slot grain head
     | inr g ↦
-        let same : g.0 ≡ grain = same_file slot grain g.0 g.1 in
+        let same : g.0 ≡ grain = (same_file live slot grain g.0 g.1).1 in
         let early : is_before last grain ≡ false = subst (λ (k : GrainId). is_before last k ≡ false) same g.3 in
         let wrong : true ≡ false = sym later ∙ early in
         absurd (cc wrong)
   ]
 
-  pub blamed_behind : (last grain : GrainId) (place slot : ℕ) → Promises m r → opened_as live_slot (seen_at_entry r) ≡ DamagedAt (file.Grain 0 last) place → is_before last grain ≡ true → r.ending ≡ ending.DiskFault (file.Grain slot grain) → ⊥
-  blamed_behind last grain place slot keeps damaged later is = elim (answered m r keeps) [
+  pub blamed_behind : (last grain : GrainId) (live place slot : ℕ) → Promises m r → opened_as (seen_at_entry r) ≡ DamagedAt (file.Grain live last) place → is_before last grain ≡ true → r.ending ≡ ending.DiskFault (file.Grain slot grain) → ⊥
+  blamed_behind last grain live place slot keeps damaged later is = elim (answered m r keeps) [
     | inl unopened ↦
-        let must : MustBeRead (seen_at_entry r) (opened_as live_slot (seen_at_entry r)) (file.Grain slot grain) = subst (IsRefusedBy (seen_at_entry r) (opened_as live_slot (seen_at_entry r))) is unopened.refused in
-        not_behind last grain place slot later (subst (λ (reading : Reading). MustBeRead (seen_at_entry r) reading (file.Grain slot grain)) damaged must)
-    | inr opened ↦ not_two (opened_as live_slot (seen_at_entry r)) opened.openable.program opened.openable.log (file.Grain 0 last) place opened.openable.reads damaged
+        let must : MustBeRead (seen_at_entry r) (opened_as (seen_at_entry r)) (file.Grain slot grain) = subst (IsRefusedBy (seen_at_entry r) (opened_as (seen_at_entry r))) is unopened.refused in
+        not_behind last grain live place slot later (subst (λ (reading : Reading). MustBeRead (seen_at_entry r) reading (file.Grain slot grain)) damaged must)
+    | inr opened ↦ not_two (opened_as (seen_at_entry r)) opened.openable.live opened.openable.program opened.openable.log (file.Grain live last) place opened.openable.reads damaged
   ]
 
   pub done_unread : Promises m r → r.ending ≡ ending.Done → r.new.input ≢ [] → ⊥
@@ -186,7 +189,7 @@ module _ (m : Manner) (r : Observed) where
   pub grain_fault_opened : (slot : ℕ) (grain : GrainId) → Promises m r → r.new.input ≢ r.old.input → r.ending ≡ ending.DiskFault (file.Grain slot grain) → ⊥
   grain_fault_opened slot grain keeps pulled is = elim (answered m r keeps) [
     | inl unopened ↦ pulled unopened.unread
-    | inr opened ↦ not_manager slot grain (opened.file (file.Grain slot grain) is)
+    | inr opened ↦ not_manager opened.openable.live slot grain (opened.file (file.Grain slot grain) is)
   ]
 
   pub said_unbegun : Promises m r → (ending.IsBegun r.ending → ⊥) → r.new.output ≢ r.old.output → ⊥
@@ -200,20 +203,21 @@ module _ (m : Manner) (r : Observed) where
 same_text : (text : Program → List Commit → List ℕ) (p q : Program) (a b : List Commit) → p ≡ q → a ≡ b → text p a ≡ text q b
 same_text text p q a b e f = λ i. text (e i) (f i)
 
-pub another_text : (text : Program → List Commit → List ℕ) (r : Observed) (p : Program) (log : List Commit) → Reports text r → r.ending ≡ ending.Done
-    → IsChecked p → HasProgram p.text (seen_at_entry r program_file) → IsLog live_slot (shape_in p) (seen_at_entry r) log → r.new.output ≢ r.old.output ++ text p log → ⊥
-another_text text r p log (inl unopened) done checked program is differ = not_opened r unopened done
-another_text text r p log (inr reported) done checked program is differ =
-    let e = reads_is reported.program p reported.log log (sym reported.reads ∙ log_is_read (seen_at_entry r) p log checked program is) in
-    differ (reported.prints.output ∙ ap (λ (l : List ℕ). r.old.output ++ l) (reported.prints.whole done ∙ same_text text reported.program p reported.log log e.0 e.1))
+pub another_text : (text : Program → List Commit → List ℕ) (r : Observed) (live : ℕ) (p : Program) (log : List Commit) → Reports text r → r.ending ≡ ending.Done
+    → IsChecked p → HasProgram p.text (seen_at_entry r (file.Program live)) → IsLog live (shape_in p) (seen_at_entry r) log → r.new.output ≢ r.old.output ++ text p log → ⊥
+another_text text r live p log (inl unopened) done checked program is differ = not_opened r unopened done
+another_text text r live p log (inr reported) done checked program is differ =
+    let e = reads_is reported.live live reported.program p reported.log log (sym reported.reads ∙ log_is_read (seen_at_entry r) live p log checked program is) in
+    differ (reported.prints.output ∙ ap (λ (l : List ℕ). r.old.output ++ l) (reported.prints.whole done ∙ same_text text reported.program p reported.log log e.1 e.2))
 
 pub changed_by_report : (text : Program → List Commit → List ℕ) (r : Observed) (image : Image) → Reports text r → IsImage r.new.disk image → (IsImage r.old.disk image → ⊥) → ⊥
 changed_by_report text r image (inl unopened) left new = new (unopened.untouched.now.images image left)
 changed_by_report text r image (inr reported) left new = new (reported.now image left).0
 
-pub told_and_taken : (text : Program → List Commit → List ℕ) (r : Observed) (image : Image) → Reports text r → IsImage r.new.disk image → r.new.output ≢ r.old.output → image manager ≢ seen_at_entry r manager → ⊥
+pub told_and_taken : (text : Program → List Commit → List ℕ) (r : Observed) (image : Image) → Reports text r → IsImage r.new.disk image → r.new.output ≢ r.old.output
+    → ((live : ℕ) → IsLive magic live (seen_at_entry r) → image (file.Manager live) ≢ seen_at_entry r (file.Manager live)) → ⊥
 told_and_taken text r image (inl unopened) left told other = told unopened.untouched.now.quiet
-told_and_taken text r image (inr reported) left told other = other ((reported.now image left).1 told)
+told_and_taken text r image (inr reported) left told other = other reported.live (reads_is_live (seen_at_entry r) reported.live reported.program reported.log reported.reads) ((reported.now image left).1 told)
 
 -- ---- init
 
@@ -256,7 +260,7 @@ module _ (r : Observed) (makes : MakesSilo r) where
 -- ---- words
 
 unopened_bad : (r : Observed) → IsUnopened r → r.ending ≡ ending.BadUse → ⊥
-unopened_bad r unopened is = subst (IsRefusedBy (seen_at_entry r) (opened_as live_slot (seen_at_entry r))) is unopened.refused
+unopened_bad r unopened is = subst (IsRefusedBy (seen_at_entry r) (opened_as (seen_at_entry r))) is unopened.refused
 
 reported_bad : (text : Program → List Commit → List ℕ) (r : Observed) → IsReported text r → r.ending ≡ ending.BadUse → ⊥
 reported_bad text r reported is = elim reported.ending [

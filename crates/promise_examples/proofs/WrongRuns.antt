@@ -38,11 +38,10 @@ use Rattle.request_wire.specs.Request.{call_of}
 use Rattle.request_wire.specs.Reply.{reply_line}
 use Rattle.script_tree.specs.Programs.{ProgramTree}
 use Rattle.script_meaning.specs.Play.{IsTransaction}
-use Rattle.silo_spec.specs.Silos.{manager, IsSilo}
 use Rattle.promise_spec.specs.Programs.{Program, shape_in}
 use Rattle.promise_spec.specs.Records.{Commit, Standing, States, after_writes, AreRecordsOf}
 use Rattle.promise_spec.specs.Serial.{IsSerial, played}
-use Rattle.promise_spec.specs.Logs.{live_slot, magic, IsLog, IsPrefix, body_of}
+use Rattle.promise_spec.specs.Logs.{magic, IsLog, IsPrefix, body_of}
 use Rattle.promise_spec.specs.Moments.{IsImageOf}
 use Rattle.promise_spec.specs.Lines.{ReadsLineAs, IsLineCall}
 use Rattle.promise_spec.specs.Outputs.{reply_lines}
@@ -65,6 +64,7 @@ use Rattle.promise_spec.proofs.CountedSyncs.{long_syncs}
 use Rattle.promise_examples.proofs.WholeBatches.{not_between}
 use Rattle.promise_examples.proofs.Emitting.{emitted_before, nothing_unwritten}
 use Rattle.promise_spec.proofs.OneLog.{one_log}
+use Rattle.silo_spec.specs.Slots.{IsLive}
 
 ok_is : (x y : Result Call BadRequest) (a b : Call) → x ≡ Ok a → y ≡ Ok b → x ≡ y → a ≡ b
 ok_is x y a b is_a is_b same = cc
@@ -111,9 +111,9 @@ many (batch ∷ batches) records sizes long same =
     let same_count : length (map (λ (c : Commit). c.logged) batch) ≡ length records = sym one ∙ ap (λ (l : List ℕ). from_le_bytes w32 (take 4 l)) body ∙ other in
     omega (arith, same_count, size, few, long)
 
-pub too_many : (shape : Shape) (image : Image) (records : List CommitRecord) (gate : ℕ) (log : List Commit) → length records ≡ 65 → LogsUpTo (spelling_of_body records ∷ []) gate (image manager) → IsLog live_slot shape image log → ⊥
-too_many shape image records gate log long blocks_are is =
-    many is.batches records is.sizes long (blocks.one_log (map body_of is.batches) (spelling_of_body records ∷ []) is.gate gate (image manager) is.blocks blocks_are).0
+pub too_many : (live : ℕ) (shape : Shape) (image : Image) (records : List CommitRecord) (gate : ℕ) (log : List Commit) → length records ≡ 65 → LogsUpTo (spelling_of_body records ∷ []) gate (image (file.Manager live)) → IsLog live shape image log → ⊥
+too_many live shape image records gate log long blocks_are is =
+    many is.batches records is.sizes long (blocks.one_log (map body_of is.batches) (spelling_of_body records ∷ []) is.gate gate (image (file.Manager live)) is.blocks blocks_are).0
 
 -- without events no record is added
 nothing_added : (types : ProgramTree) (standing : Standing) (added : List Commit) → AreAdded (ends (core_from types standing [])) added → (l : Commit) → Member l added → ⊥
@@ -122,23 +122,23 @@ nothing_added types standing (x ∷ added) (inl none) l there = absurd none
 nothing_added types standing (x ∷ added) (inr follow) l there = absurd (cc follow.doubt)
 
 module _ (p : Program) (r : Observed) (c : Course) where
-  pub read_at_entry : (log : List Commit) → Keeps p r c → IsLog live_slot (shape_in p) (seen_at_entry r) log → c.opening ≡ log
-  read_at_entry log keeps is = one_log (shape_in p) (seen_at_entry r) c.opening log keeps.headline.ordered.read is
+  pub read_at_entry : (log : List Commit) → Keeps p r c → IsLog c.live (shape_in p) (seen_at_entry r) log → c.opening ≡ log
+  read_at_entry log keeps is = one_log c.live c.live (shape_in p) (seen_at_entry r) c.opening log keeps.headline.ordered.read is
 
-  pub opening_is : (image : Image) (log : List Commit) → Keeps p r c → IsImage (last_of (moment_of r.old) c.early).disk image → IsLog live_slot (shape_in p) image log → c.opening ≡ log
-  opening_is image log keeps left is = one_log (shape_in p) image c.opening log (keeps.headline.ordered.opened image left).log is
+  pub opening_is : (image : Image) (log : List Commit) → Keeps p r c → IsImage (last_of (moment_of r.old) c.early).disk image → IsLog c.live (shape_in p) image log → c.opening ≡ log
+  opening_is image log keeps left is = one_log c.live c.live (shape_in p) image c.opening log (keeps.headline.ordered.opened image left).log is
 
-  pub shorter : (image : Image) (log : List Commit) → Keeps p r c → IsImageOf (moments r c) image → IsLog live_slot (shape_in p) image log → (IsPrefix c.opening log → ⊥) → ⊥
+  pub shorter : (image : Image) (log : List Commit) → Keeps p r c → IsImageOf (moments r c) image → IsLog c.live (shape_in p) image log → (IsPrefix c.opening log → ⊥) → ⊥
   shorter image log keeps left is lost =
       let k = keeps.headline.crashes.keeps image left in
-      lost (subst (λ (l : List Commit). IsPrefix c.opening l) (one_log (shape_in p) image k.log log k.is is) k.longer)
+      lost (subst (λ (l : List Commit). IsPrefix c.opening l) (one_log c.live c.live (shape_in p) image k.log log k.is is) k.longer)
 
-  pub part_of_batch : (image : Image) (more : List Commit) (n : ℕ) → Keeps p r c → IsImageOf (moments r c) image → IsLog live_slot (shape_in p) image (c.opening ++ more)
+  pub part_of_batch : (image : Image) (more : List Commit) (n : ℕ) → Keeps p r c → IsImageOf (moments r c) image → IsLog c.live (shape_in p) image (c.opening ++ more)
       → length (kept_by (core_end p c) n) < length more → length more < length (kept_by (core_end p c) (n + 1)) → ⊥
   part_of_batch image more n keeps left is above below =
       not_between (core_end p c) c.opening more n (keeps.traced.whole image (c.opening ++ more) left is) above below
 
-  pub one_of_two : (image : Image) (l : Commit) → Keeps p r c → IsImageOf (moments r c) image → IsLog live_slot (shape_in p) image (c.opening ++ (l ∷ [])) → 2 ≤ length (kept_by (core_end p c) 1) → ⊥
+  pub one_of_two : (image : Image) (l : Commit) → Keeps p r c → IsImageOf (moments r c) image → IsLog c.live (shape_in p) image (c.opening ++ (l ∷ [])) → 2 ≤ length (kept_by (core_end p c) 1) → ⊥
   one_of_two image l keeps left is two =
       let none : length (kept_by (core_end p c) 0) ≡ 0 = refl in
       let below : length (l ∷ []) < length (kept_by (core_end p c) (0 + 1)) = omega (arith, two) in
@@ -153,16 +153,16 @@ module _ (p : Program) (r : Observed) (c : Course) where
   pub other_long_syncs : (line : ℕ) → Keeps p r c → NoneRose r.faults_before r.faults_after → r.ending ≡ ending.InputTooLong line → r.new.syncs ≢ r.old.syncs + 1 → ⊥
   other_long_syncs line keeps calm is differ = differ (long_syncs p r c line keeps calm is)
 
-  pub closed : (image : Image) → Keeps p r c → IsImage r.new.disk image → (IsSilo magic (image manager) → ⊥) → ⊥
-  closed image keeps left none = none (keeps.exit.logs image left).is.silo
+  pub closed : (image : Image) → Keeps p r c → IsImage r.new.disk image → (IsLive magic c.live image → ⊥) → ⊥
+  closed image keeps left none = none (keeps.exit.logs image left).is.is_live
 
-  pub changed_aside : (m : Moment) (f : FileId) → Keeps p r c → Member m (moments r c) → IsAside live_slot f → m.disk f ≢ r.old.disk f → ⊥
+  pub changed_aside : (m : Moment) (f : FileId) → Keeps p r c → Member m (moments r c) → IsAside c.live f → m.disk f ≢ r.old.disk f → ⊥
   changed_aside m f keeps there aside differ = differ ((keeps.headline.crashes.alone m there).aside f aside)
 
-  pub changed_header : (m : Moment) (image : Image) → Keeps p r c → Member m (moments r c) → IsImage m.disk image → take 15 (image manager) ≢ take 15 (seen_at_entry r manager) → ⊥
+  pub changed_header : (m : Moment) (image : Image) → Keeps p r c → Member m (moments r c) → IsImage m.disk image → take 15 (image (file.Manager c.live)) ≢ take 15 (seen_at_entry r (file.Manager c.live)) → ⊥
   changed_header m image keeps there left differ = differ ((keeps.headline.crashes.alone m there).header image left)
 
-  pub early_reply : (m : Moment) (image : Image) (more : List ℕ) → Keeps p r c → Member m (moments r c) → IsImage m.disk image → IsLog live_slot (shape_in p) image c.opening → m.output ≡ r.old.output ++ more → Member 10 more
+  pub early_reply : (m : Moment) (image : Image) (more : List ℕ) → Keeps p r c → Member m (moments r c) → IsImage m.disk image → IsLog c.live (shape_in p) image c.opening → m.output ≡ r.old.output ++ more → Member 10 more
       → ((e : Entry) → Member e c.entries → (l : Commit) × Member l c.added × Acknowledges e l × (Member l c.opening → ⊥)) → ⊥
   early_reply m image more keeps there left is grew feed backed =
       let h = keeps.headline.holds m image there left in
@@ -170,7 +170,7 @@ module _ (p : Program) (r : Observed) (c : Course) where
       let w = written_some (shape_in p) h.written c.entries h.rest more same h.output.unended feed h.front in
       let b = backed w.0 w.2 in
       let has : Member b.0 h.log = h.has w.0 b.0 w.1 b.1 b.2 in
-      b.3 (subst (λ (l : List Commit). Member b.0 l) (one_log (shape_in p) image h.log c.opening h.is is) has)
+      b.3 (subst (λ (l : List Commit). Member b.0 l) (one_log c.live c.live (shape_in p) image h.log c.opening h.is is) has)
 
   pub untold : Keeps p r c → length c.entries < (core_end p c).manager.emitted → ⊥
   untold keeps more = let told : (core_end p c).manager.emitted ≤ length c.entries = keeps.settled.told in omega arith
@@ -193,23 +193,23 @@ module _ (p : Program) (r : Observed) (c : Course) where
   pub locked_and_logged : (e : Entry) (l : Commit) (by : UnitNo) (grain : GrainId) → Keeps p r c → Member e c.entries → e.what ≡ settled.Lock by grain → Member l c.added → l.logged.unit ≡ e.unit → ⊥
   locked_and_logged e l by grain keeps there is added same = subst (λ (w : Settled). IsTrueOf p r c e w) is (keeps.headline.replies.true_each e there) l added same
 
-  in_order : (image : Image) (log : List Commit) (l : Commit) → Keeps p r c → IsImage r.new.disk image → IsLog live_slot (shape_in p) image log → Member l log → Member l (order c)
+  in_order : (image : Image) (log : List Commit) (l : Commit) → Keeps p r c → IsImage r.new.disk image → IsLog c.live (shape_in p) image log → Member l log → Member l (order c)
   in_order image log l keeps left is there =
       let k = keeps.exit.logs image left in
-      let here : Member l k.log = subst (λ (x : List Commit). Member l x) (one_log (shape_in p) image log k.log is k.is) there in
+      let here : Member l k.log = subst (λ (x : List Commit). Member l x) (one_log c.live c.live (shape_in p) image log k.log is k.is) there in
       elim k.which [
         | inl same ↦ subst (λ (x : List Commit). Member l x) same here
         | inr lacks ↦ subst (λ (x : List Commit). Member l x) (sym lacks.split) (in_append l k.log lacks.last (inl here))
       ]
 
-  pub refused_in_doubt : (e : Entry) (l : Commit) (image : Image) (log : List Commit) → Keeps p r c → Member e c.entries → e.what ≡ settled.Disk → IsImage r.new.disk image → IsLog live_slot (shape_in p) image log → Member l log
+  pub refused_in_doubt : (e : Entry) (l : Commit) (image : Image) (log : List Commit) → Keeps p r c → Member e c.entries → e.what ≡ settled.Disk → IsImage r.new.disk image → IsLog c.live (shape_in p) image log → Member l log
       → (Member l c.opening → ⊥) → l.logged.unit ≡ e.unit → ⊥
   refused_in_doubt e l image log keeps there is left log_is in_log not_old same =
       let none : HasNoRecord c e.unit = subst (λ (w : Settled). IsTrueOf p r c e w) is (keeps.headline.replies.true_each e there) in
       elim (either_in l c.opening c.added (in_order image log l keeps left log_is in_log)) [ inl old ↦ not_old old | inr added ↦ none l added same ]
 
   pub another_block : (image : Image) → Keeps p r c → RunHasDoubt (core_run p c) → IsImage r.new.disk image
-      → ((gate : ℕ) (batch : List Commit) (batches : List (List Commit)) → AreRecordsOf (chosen (core_end p c)) batch → HasBlocks (map body_of batches) gate (image manager) → HasBlock live_slot gate batch image → ⊥) → ⊥
+      → ((gate : ℕ) (batch : List Commit) (batches : List (List Commit)) → AreRecordsOf (chosen (core_end p c)) batch → HasBlocks (map body_of batches) gate (image (file.Manager c.live)) → HasBlock c.live gate batch image → ⊥) → ⊥
   another_block image keeps doubt left none =
       let b = keeps.exit.block doubt in
       none b.gate b.batch b.batches b.records (b.front image left) (b.block image left)
@@ -292,7 +292,7 @@ module _ (p : Program) (r : Observed) (c : Course) where
   pub more_anywhere : KeepsAnywhere p r c → r.old.syncs + most_syncs_of (core_run p c) < r.new.syncs → ⊥
   more_anywhere keeps more = let most = keeps.ended.most in omega (arith, most, more)
 
-  pub written_unvoted : (g : GrainId) (m : Moment) → KeepsAnywhere p r c → how_many (is_vote_of g) (core_run p c) ≡ 0 → Member m (moments r c) → m.disk (file.Grain live_slot g) ≢ r.old.disk (file.Grain live_slot g) → ⊥
+  pub written_unvoted : (g : GrainId) (m : Moment) → KeepsAnywhere p r c → how_many (is_vote_of g) (core_run p c) ≡ 0 → Member m (moments r c) → m.disk (file.Grain c.live g) ≢ r.old.disk (file.Grain c.live g) → ⊥
   written_unvoted g m keeps none there differ = differ (keeps.explained.unvoted g m none there)
 
   pub too_many_syncs : Keeps p r c → r.old.syncs + most_syncs_of (core_run p c) < r.new.syncs → ⊥
@@ -334,15 +334,15 @@ module _ (p : Program) (r : Observed) (c : Course) where
       nothing_added p.types (opening_standing p c) c.added (subst (λ (events : List CoreEvent). AreAdded (ends (core_from p.types (opening_standing p c) events)) c.added) (no_events p r c keeps never) keeps.explained.records) l there
 
   pub grain_fault : (slot : ℕ) (grain : GrainId) → Keeps p r c → r.ending ≡ ending.DiskFault (file.Grain slot grain) → ⊥
-  grain_fault slot grain keeps is = let same : file.Grain slot grain ≡ manager = (keeps.explained.doubted (file.Grain slot grain) is).0 in absurd (cc same)
+  grain_fault slot grain keeps is = let same : file.Grain slot grain ≡ file.Manager c.live = (keeps.explained.doubted (file.Grain slot grain) is).0 in absurd (cc same)
 
   pub done_in_doubt : Keeps p r c → RunHasDoubt (core_run p c) → r.ending ≡ ending.Done → ⊥
   done_in_doubt keeps doubt is = subst ending.EndingMayDoubt is (keeps.explained.doubt_ends doubt)
 
 -- what ends as it read is no longer than its log, where that file wasn't
 pub behind_the_log : (p : Program) (r : Observed) (c : Course) (image : Image) → IsExit p r c → how_many is_unsealed (core_run p c) ≡ 0 → IsImage r.new.disk image
-    → length (seen_at_entry r manager) ≤ gate_of (image manager) + 1 → gate_of (image manager) + 1 < length (image manager) → ⊥
+    → length (seen_at_entry r (file.Manager c.live)) ≤ gate_of (image (file.Manager c.live)) + 1 → gate_of (image (file.Manager c.live)) + 1 < length (image (file.Manager c.live)) → ⊥
 behind_the_log p r c image left none may short long =
-    let n : ℕ = gate_of (image manager) + 1 in
-    let same : length (drop n (image manager)) ≡ length (drop n (seen_at_entry r manager)) = ap length (left.behind none image may) in
-    omega (arith, same, length-drop n (image manager), length-drop n (seen_at_entry r manager), short, long)
+    let n : ℕ = gate_of (image (file.Manager c.live)) + 1 in
+    let same : length (drop n (image (file.Manager c.live))) ≡ length (drop n (seen_at_entry r (file.Manager c.live))) = ap length (left.behind none image may) in
+    omega (arith, same, length-drop n (image (file.Manager c.live)), length-drop n (seen_at_entry r (file.Manager c.live)), short, long)

@@ -8,7 +8,7 @@ use Rattle.host_trait.specs.World.{Moment, Image, IsImage, moment_of}
 use Rattle.silo_spec.specs.Silos.{program_file, HasProgram}
 use Rattle.request_wire.specs.Lines.{lines_of}
 use Rattle.promise_spec.specs.Programs.{shape_in}
-use Rattle.promise_spec.specs.Logs.{live_slot, IsLog}
+use Rattle.promise_spec.specs.Logs.{IsLog}
 use Rattle.promise_spec.specs.Outputs.{reply_lines}
 use Rattle.promise_spec.specs.Lines.{IsLineCall}
 use Rattle.promise_spec.specs.Endings.{Done, input_limit}
@@ -19,22 +19,22 @@ use Rattle.promise_examples.specs.Examples.{accounts, account_program, account_1
 
 -- the image is one of the program, and has an empty log, or the deposit's record
 abbrev pub HasNone : Image → Type 0
-HasNone image = IsLog live_slot (shape_in account_program) image [] × HasProgram account_program.text (image program_file)
+HasNone image = IsLog 0 (shape_in account_program) image [] × HasProgram account_program.text (image program_file)
 
 abbrev pub HasDeposit : Image → Type 0
 HasDeposit image =
-    IsLog live_slot (shape_in account_program) image (first_commit ∷ []) × HasProgram account_program.text (image program_file)
+    IsLog 0 (shape_in account_program) image (first_commit ∷ []) × HasProgram account_program.text (image program_file)
 
 -- the files of all grains but `account/1` are as they were
 abbrev pub LeavesOthers : Observed → Moment → Type 0
-LeavesOthers r m = (g : GrainId) → g ≢ account_1 → m.disk (Grain live_slot g) ≡ r.old.disk (Grain live_slot g)
+LeavesOthers r m = (g : GrainId) → g ≢ account_1 → m.disk (Grain 0 g) ≡ r.old.disk (Grain 0 g)
 
 -- a moment between: what is written by then is this, each image is such a one, and other files and the header are as they
 -- were
 pub record IsBetween (r : Observed) (written : List ℕ) (Has : Image → Type 0) (m : Moment) : Type 0 where
   pub output : m.output ≡ written
   pub images : (image : Image) → IsImage m.disk image → Has image
-  pub alone : LeavesAlone live_slot r m
+  pub alone : LeavesAlone 0 r m
   pub apart : LeavesOthers r m
 
 -- the image has the deposit or not
@@ -53,7 +53,7 @@ pub record IsDepositRun (r : Observed) (opened : Moment) (sealing : List Moment)
   pub given : lines r ≡ lines_of r.old.input
   pub asks : IsLineCall accounts (lines r) 1 deposit_call
   pub left : r.new.input ≡ []
-  pub read : IsLog live_slot (shape_in account_program) (seen_at_entry r) []
+  pub read : IsLog 0 (shape_in account_program) (seen_at_entry r) []
   pub past : r.new.past ≡ r.old.past ++ (opened ∷ (sealing ++ moment_of r.new ∷ []))
   pub quiet : opened.output ≡ r.old.output
   pub output : r.new.output ≡ r.old.output ++ reply_lines (shape_in account_program) (first_entry ∷ [])
@@ -61,8 +61,8 @@ pub record IsDepositRun (r : Observed) (opened : Moment) (sealing : List Moment)
   pub entry : (image : Image) → IsImage opened.disk image → IsImage r.old.disk image × HasNone image
   pub sealed : AllByRecursion (IsBetween r r.old.output MayHaveDeposit) sealing
   pub logged : (image : Image) → IsImage r.new.disk image → HasDeposit image
-  pub behind : (image : Image) → IsImage r.new.disk image → EndsAsRead live_slot r image
-  pub alone : LeavesAlone live_slot r opened × LeavesAlone live_slot r (moment_of r.new)
+  pub behind : (image : Image) → IsImage r.new.disk image → EndsAsRead 0 r image
+  pub alone : LeavesAlone 0 r opened × LeavesAlone 0 r (moment_of r.new)
   pub apart : LeavesOthers r opened × LeavesOthers r (moment_of r.new)
   pub some : Image
   pub possible : IsImage r.new.disk some
@@ -71,6 +71,7 @@ pub record IsDepositRun (r : Observed) (opened : Moment) (sealing : List Moment)
 -- the course of such a run
 abbrev pub deposit_course : Moment → List Moment → Observed → Course
 deposit_course opened sealing r = record {
+  live = 0;
   opening = [];
   added = first_commit ∷ [];
   early = opened ∷ [];

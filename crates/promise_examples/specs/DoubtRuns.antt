@@ -8,7 +8,7 @@ use Rattle.gate_block.specs.Log.{HasBlocks}
 use Rattle.silo_spec.specs.Silos.{manager}
 use Rattle.request_wire.specs.Lines.{lines_of}
 use Rattle.promise_spec.specs.Programs.{shape_in}
-use Rattle.promise_spec.specs.Logs.{live_slot, IsLog}
+use Rattle.promise_spec.specs.Logs.{IsLog}
 use Rattle.promise_spec.specs.Outputs.{reply_lines}
 use Rattle.promise_spec.specs.Endings.{DiskFault, input_limit}
 use Rattle.promise_spec.specs.Crashes.{LeavesAlone}
@@ -33,7 +33,7 @@ pub record IsDoubtRun (r : Observed) (opened : Moment) (told doubting : List Mom
   pub given : lines r ≡ lines_of r.old.input
   pub asks : AskDeposits (lines r)
   pub left : r.new.input ≡ []
-  pub read : IsLog live_slot (shape_in account_program) (seen_at_entry r) []
+  pub read : IsLog 0 (shape_in account_program) (seen_at_entry r) []
   pub past : r.new.past ≡ r.old.past ++ (opened ∷ (told ++ doubting ++ moment_of r.new ∷ []))
   pub quiet : opened.output ≡ r.old.output
   pub output : r.new.output ≡ r.old.output ++ reply_lines (shape_in account_program) conflict_entries
@@ -42,10 +42,10 @@ pub record IsDoubtRun (r : Observed) (opened : Moment) (told doubting : List Mom
   pub either : AllByRecursion (IsBetween r (first_told r) MayHaveDeposit) doubting
   pub exit : (image : Image) → IsImage r.new.disk image → MayHaveDeposit image
   pub front : (image : Image) → IsImage r.new.disk image → HasBlocks [] 15 (image manager)
-  pub block : (image : Image) → IsImage r.new.disk image → HasBlock live_slot 15 (first_commit ∷ []) image
+  pub block : (image : Image) → IsImage r.new.disk image → HasBlock 0 15 (first_commit ∷ []) image
   pub differ : (one other : Image) → IsImage r.new.disk one → IsImage r.new.disk other →
       DifferAt 15 (one manager) (other manager)
-  pub alone : LeavesAlone live_slot r opened × LeavesAlone live_slot r (moment_of r.new)
+  pub alone : LeavesAlone 0 r opened × LeavesAlone 0 r (moment_of r.new)
   pub apart : LeavesOthers r opened × LeavesOthers r (moment_of r.new)
   pub syncs : r.new.syncs ≤ r.old.syncs + 4
   pub some : Image
@@ -57,6 +57,7 @@ pub record IsDoubtRun (r : Observed) (opened : Moment) (told doubting : List Mom
 -- the course of such a run
 abbrev pub doubt_course : Moment → List Moment → List Moment → Observed → Course
 doubt_course opened told doubting r = record {
+  live = 0;
   opening = [];
   added = first_commit ∷ [];
   early = opened ∷ [];

@@ -7,7 +7,7 @@ use Rattle.host_trait.specs.World.{Image, IsImage, moment_of}
 use Rattle.request_wire.specs.Lines.{lines_of}
 use Rattle.promise_spec.specs.Programs.{Program, shape_in}
 use Rattle.promise_spec.specs.Records.{Commit}
-use Rattle.promise_spec.specs.Logs.{live_slot, IsLog}
+use Rattle.promise_spec.specs.Logs.{IsLog}
 use Rattle.promise_spec.specs.Images.{IsSoundIfSilo}
 use Rattle.promise_spec.specs.Endings.{Done}
 use Rattle.promise_spec.specs.Crashes.{LeavesAlone}
@@ -24,14 +24,14 @@ pub record IsEmptyRun (p : Program) (r : Observed) (opening : List Commit) : Typ
   pub left : r.new.input ≡ []
   pub output : r.new.output ≡ r.old.output
   pub syncs : r.new.syncs ≡ r.old.syncs + 1
-  pub read : IsLog live_slot (shape_in p) (seen_at_entry r) opening
+  pub read : IsLog 0 (shape_in p) (seen_at_entry r) opening
   pub synced : r.new.past ≡ r.old.past ++ moment_of r.new ∷ []
   pub entry : (image : Image) → IsImage r.new.disk image → IsImage r.old.disk image
-  pub logs : (image : Image) → IsImage r.new.disk image → IsLog live_slot (shape_in p) image opening
-  pub behind : (image : Image) → IsImage r.new.disk image → EndsAsRead live_slot r image
-  pub sound : (image : Image) → IsImage r.new.disk image → IsSoundIfSilo live_slot p image
-  pub alone : LeavesAlone live_slot r (moment_of r.new)
-  pub unwritten : (g : GrainId) → r.new.disk (Grain live_slot g) ≡ r.old.disk (Grain live_slot g)
+  pub logs : (image : Image) → IsImage r.new.disk image → IsLog 0 (shape_in p) image opening
+  pub behind : (image : Image) → IsImage r.new.disk image → EndsAsRead 0 r image
+  pub sound : (image : Image) → IsImage r.new.disk image → IsSoundIfSilo p image
+  pub alone : LeavesAlone 0 r (moment_of r.new)
+  pub unwritten : (g : GrainId) → r.new.disk (Grain 0 g) ≡ r.old.disk (Grain 0 g)
   pub some : Image
   pub possible : IsImage r.new.disk some
   pub faults : (channel : Channel) → r.faults_after channel ≡ r.faults_before channel
@@ -39,4 +39,4 @@ pub record IsEmptyRun (p : Program) (r : Observed) (opening : List Commit) : Typ
 -- the course of such a run: nothing was added, and no event came
 abbrev pub empty_course : Observed → List Commit → Course
 empty_course r opening =
-    record { opening = opening; added = []; early = moment_of r.new ∷ []; late = []; events = []; entries = []; rest = [] }
+    record { live = 0; opening = opening; added = []; early = moment_of r.new ∷ []; late = []; events = []; entries = []; rest = [] }

@@ -7,7 +7,7 @@ use Rattle.host_trait.specs.declared.channels.FileId.TheVariants.{Grain}
 use Rattle.host_trait.specs.World.{Moment, Image, IsImage, moment_of}
 use Rattle.request_wire.specs.Lines.{lines_of}
 use Rattle.promise_spec.specs.Programs.{shape_in}
-use Rattle.promise_spec.specs.Logs.{live_slot, IsLog}
+use Rattle.promise_spec.specs.Logs.{IsLog}
 use Rattle.promise_spec.specs.Outputs.{reply_lines}
 use Rattle.promise_spec.specs.Endings.{Done, input_limit}
 use Rattle.promise_spec.specs.Crashes.{LeavesAlone}
@@ -27,7 +27,7 @@ pub record IsVoteRun (r : Observed) (opened : Moment) (failing told : List Momen
   pub given : lines r ≡ lines_of r.old.input
   pub asks : AskBoth (lines r)
   pub left : r.new.input ≡ []
-  pub read : IsLog live_slot (shape_in account_program) (seen_at_entry r) []
+  pub read : IsLog 0 (shape_in account_program) (seen_at_entry r) []
   pub past : r.new.past ≡ r.old.past ++ (opened ∷ (failing ++ told ++ moment_of r.new ∷ []))
   pub quiet : opened.output ≡ r.old.output
   pub output : r.new.output ≡ r.old.output ++ reply_lines (shape_in account_program) vote_entries
@@ -35,8 +35,8 @@ pub record IsVoteRun (r : Observed) (opened : Moment) (failing told : List Momen
   pub unsaid : AllByRecursion (IsBetween r r.old.output HasNone) failing
   pub first : AllByRecursion (IsBetween r (r.old.output ++ reply_lines (shape_in account_program) (voted_entry ∷ [])) HasNone) told
   pub exit : (image : Image) → IsImage r.new.disk image → HasNone image
-  pub behind : (image : Image) → IsImage r.new.disk image → EndsAsRead live_slot r image
-  pub alone : LeavesAlone live_slot r opened × LeavesAlone live_slot r (moment_of r.new)
+  pub behind : (image : Image) → IsImage r.new.disk image → EndsAsRead 0 r image
+  pub alone : LeavesAlone 0 r opened × LeavesAlone 0 r (moment_of r.new)
   pub apart : LeavesOthers r opened × LeavesOthers r (moment_of r.new)
   pub syncs : r.new.syncs ≤ r.old.syncs + 2
   pub some : Image
@@ -47,6 +47,7 @@ pub record IsVoteRun (r : Observed) (opened : Moment) (failing told : List Momen
 -- the course of such a run
 abbrev pub vote_course : Moment → List Moment → List Moment → Observed → Course
 vote_course opened failing told r = record {
+  live = 0;
   opening = [];
   added = [];
   early = opened ∷ [];

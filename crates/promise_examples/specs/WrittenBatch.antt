@@ -117,6 +117,7 @@ batched = record {
 -- its course
 abbrev pub batch_course : Course
 batch_course = record {
+  live = 0;
   opening = [];
   added = both_commits;
   early = opened ∷ [];

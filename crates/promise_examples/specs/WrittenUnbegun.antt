@@ -44,6 +44,7 @@ unbegun = record {
 -- its course: no record is added
 abbrev pub unbegun_course : Course
 unbegun_course = record {
+  live = 0;
   opening = [];
   added = [];
   early = opened ∷ [];

@@ -8,7 +8,7 @@ ghost use Rattle.request_wire.specs.Reply.{reply_line};
 ghost use Rattle.promise_spec.specs.Programs.{Program, IsChecked, shape_in, program_in};
 ghost use Rattle.promise_spec.specs.Records.{Commit, new_silo, standing_of};
 ghost use Rattle.promise_spec.specs.Serial.{IsSerial};
-ghost use Rattle.promise_spec.specs.Logs.{magic, IsLog, IsKept, body_of, live_slot};
+ghost use Rattle.promise_spec.specs.Logs.{magic, IsLog, IsKept, body_of};
 ghost use Rattle.promise_spec.specs.Courses.{Observed, lines, moments, seen_at_entry, core_end};
 ghost use Rattle.promise_spec.specs.Promise.{Keeps, IsSoundFolder, Promises};
 ghost use Rattle.promise_laws.specs.Obligations.{Shows};
@@ -58,8 +58,8 @@ pub fn first_deposit_reads()
     ensures version { spelling_of_version first_version ≡ grain_bytes }
     ensures block { block_of (body_of (first_commit ∷ [])) ≡ block_bytes }
     ensures size { length (manager_bytes 1) ≡ 89 }
-    ensures log { IsLog live_slot (shape_in account_program) (folder 1 grain_bytes) (first_commit ∷ []) }
-    ensures closed { IsLog live_slot (shape_in account_program) (folder 0 grain_bytes) [] }
+    ensures log { IsLog 0 (shape_in account_program) (folder 1 grain_bytes) (first_commit ∷ []) }
+    ensures closed { IsLog 0 (shape_in account_program) (folder 0 grain_bytes) [] }
     ensures stands { (standing_of accounts (first_commit ∷ [])).states account_1 ≡ Int (pos 5) ∷ [] }
     ensures reply { reply_line (shape_in account_program) first_entry ≡ codes "{\"n\":1,\"reply\":5,\"unit\":1}\n" }
 {}
@@ -73,8 +73,8 @@ pub fn reports_tell_the_first_deposit()
 
 /// A folder whose open block is cut has no log, and one whose grain file is cut within a version doesn't keep the record.
 pub fn torn_folders_have_no_log()
-    ensures block { (log : List Commit) → IsLog live_slot (shape_in account_program) (torn_folder 80) log → ⊥ }
-    ensures version { (states : List (List Value)) → IsKept live_slot (shape_in account_program) (folder 1 (take 10 grain_bytes)) (record { logged = deposit; states = states }) → ⊥ }
+    ensures block { (log : List Commit) → IsLog 0 (shape_in account_program) (torn_folder 80) log → ⊥ }
+    ensures version { (states : List (List Value)) → IsKept 0 (shape_in account_program) (folder 1 (take 10 grain_bytes)) (record { logged = deposit; states = states }) → ⊥ }
 {}
 
 /// A deposit of 5 and one of 4 that leaves 9 are serial, and not where the second leaves 4.
@@ -90,7 +90,7 @@ pub fn transfers_read()
     ensures source { spelling_of_version (balance 2 70) ≡ version_of_source }
     ensures target { spelling_of_version (balance 2 30) ≡ version_of_target }
     ensures body { body_of (moved 70 30 ∷ []) ≡ transfer_body }
-    ensures log { IsLog live_slot (shape_in bank_program) bank_folder (paid_in ∷ moved 70 30 ∷ []) }
+    ensures log { IsLog 0 (shape_in bank_program) bank_folder (paid_in ∷ moved 70 30 ∷ []) }
     ensures one { (standing_of bank (paid_in ∷ moved 70 30 ∷ [])).states (at 0 1) ≡ int 70 ∷ [] }
     ensures other { (standing_of bank (paid_in ∷ moved 70 30 ∷ [])).states (at 0 2) ≡ int 30 ∷ [] }
     ensures serial { IsSerial bank (new_silo bank).states (paid_in ∷ moved 70 30 ∷ []) }
@@ -170,7 +170,7 @@ pub fn a_doubt_is_written_out()
 /// the deposit's line is told to be in doubt all the same. It shows what a run has to show.
 pub fn an_unbegun_doubt_is_written_out()
     ensures none { (m : Moment) (image : Image) → Member m (moments unbegun unbegun_course) → IsImage m.disk image
-        → IsLog live_slot (shape_in account_program) image [] }
+        → IsLog 0 (shape_in account_program) image [] }
     ensures shown { Shows account_program unbegun unbegun_course }
     ensures kept { Keeps account_program unbegun unbegun_course }
     ensures promised { Promises pair_manner unbegun }
@@ -210,95 +210,95 @@ pub fn a_run_shows_enough()
 /// gate is closed; and where a byte or a file is another, which file is damaged, and at which place of the tables in
 /// `docs/FORMATS.md`.
 pub fn folders_read_so()
-    ensures logged { opened_as live_slot (folder 1 grain_bytes) ≡ Reads account_program (first_commit ∷ []) }
-    ensures closed { opened_as live_slot (folder 0 grain_bytes) ≡ Reads account_program [] }
+    ensures logged { opened_as (folder 1 grain_bytes) ≡ Reads 0 account_program (first_commit ∷ []) }
+    ensures closed { opened_as (folder 0 grain_bytes) ≡ Reads 0 account_program [] }
 
     // no silo: the manager file is too short, or has another header gate or magic
-    ensures short { opened_as live_slot (log_folder (take 15 (manager_bytes 1))) ≡ NoSilo }
-    ensures header_gate { (byte : ℕ) → byte ≢ 1 → opened_as live_slot (log_changed 0 byte) ≡ NoSilo }
+    ensures short { opened_as (log_folder (take 15 (manager_bytes 1))) ≡ NoSilo }
+    ensures header_gate { (byte : ℕ) → byte ≢ 1 → opened_as (log_changed 0 byte) ≡ NoSilo }
     ensures other_magic { (name : List ℕ) → length name ≡ 8 → name ≢ magic
-        → opened_as live_slot (log_folder (1 ∷ (name ++ drop 9 (manager_bytes 1)))) ≡ NoSilo }
+        → opened_as (log_folder (1 ∷ (name ++ drop 9 (manager_bytes 1)))) ≡ NoSilo }
 
     // a header that has another byte than 0 in front of the first gate, which comes before any block
-    ensures header_byte { (byte : ℕ) → byte ≢ 0 → opened_as live_slot (log_changed 13 byte) ≡ DamagedAt manager 13 }
-    ensures next_header_byte { (byte : ℕ) → byte ≢ 0 → opened_as live_slot (log_changed 14 byte) ≡ DamagedAt manager 14 }
-    ensures header_first { opened_as live_slot (log_folder (changed 14 1 (take 80 (manager_bytes 1)))) ≡ DamagedAt manager 14 }
+    ensures header_byte { (byte : ℕ) → byte ≢ 0 → opened_as (log_changed 13 byte) ≡ DamagedAt manager 13 }
+    ensures next_header_byte { (byte : ℕ) → byte ≢ 0 → opened_as (log_changed 14 byte) ≡ DamagedAt manager 14 }
+    ensures header_first { opened_as (log_folder (changed 14 1 (take 80 (manager_bytes 1)))) ≡ DamagedAt manager 14 }
 
     // a block that isn't whole
-    ensures torn { opened_as live_slot (torn_folder 80) ≡ DamagedAt manager 16 }
-    ensures cut { opened_as live_slot (torn_folder 16) ≡ DamagedAt manager 16 }
+    ensures torn { opened_as (torn_folder 80) ≡ DamagedAt manager 16 }
+    ensures cut { opened_as (torn_folder 16) ≡ DamagedAt manager 16 }
 
     // a body: the count of its records; the unit's number, 0 or 2 to the 63; the origin's tag; the call's type, method and count
     // of arguments, another one or one above 8; an argument's tag; the result's tag, and that of its value; a write's type; a
     // second write on the same grain; a body that is a byte too short, or too long
-    ensures count { opened_as live_slot (log_changed 20 65) ≡ DamagedAt manager 20 }
-    ensures unit { opened_as live_slot (log_changed 24 0) ≡ DamagedAt manager 24 }
-    ensures great_unit { opened_as live_slot (log_changed 31 128) ≡ DamagedAt manager 24 }
-    ensures origin { opened_as live_slot (log_changed 32 2) ≡ DamagedAt manager 32 }
-    ensures called_type { opened_as live_slot (log_changed 37 1) ≡ DamagedAt manager 37 }
-    ensures method { opened_as live_slot (log_changed 43 2) ≡ DamagedAt manager 43 }
-    ensures params { opened_as live_slot (log_changed 45 2) ≡ DamagedAt manager 45 }
-    ensures arguments { opened_as live_slot (log_changed 45 9) ≡ DamagedAt manager 45 }
-    ensures argument { opened_as live_slot (log_changed 47 2) ≡ DamagedAt manager 47 }
-    ensures outcome { opened_as live_slot (log_changed 58 0) ≡ DamagedAt manager 58 }
-    ensures value { opened_as live_slot (log_changed 59 2) ≡ DamagedAt manager 59 }
-    ensures written_type { opened_as live_slot (log_changed 70 1) ≡ DamagedAt manager 70 }
-    ensures order { opened_as live_slot (log_folder two_writes) ≡ DamagedAt manager 88 }
-    ensures less { opened_as live_slot (log_changed 16 67) ≡ DamagedAt manager 84 }
-    ensures trailing { opened_as live_slot (log_folder (changed 16 69 (manager_bytes 1) ++ 0 ∷ [])) ≡ DamagedAt manager 88 }
+    ensures count { opened_as (log_changed 20 65) ≡ DamagedAt manager 20 }
+    ensures unit { opened_as (log_changed 24 0) ≡ DamagedAt manager 24 }
+    ensures great_unit { opened_as (log_changed 31 128) ≡ DamagedAt manager 24 }
+    ensures origin { opened_as (log_changed 32 2) ≡ DamagedAt manager 32 }
+    ensures called_type { opened_as (log_changed 37 1) ≡ DamagedAt manager 37 }
+    ensures method { opened_as (log_changed 43 2) ≡ DamagedAt manager 43 }
+    ensures params { opened_as (log_changed 45 2) ≡ DamagedAt manager 45 }
+    ensures arguments { opened_as (log_changed 45 9) ≡ DamagedAt manager 45 }
+    ensures argument { opened_as (log_changed 47 2) ≡ DamagedAt manager 47 }
+    ensures outcome { opened_as (log_changed 58 0) ≡ DamagedAt manager 58 }
+    ensures value { opened_as (log_changed 59 2) ≡ DamagedAt manager 59 }
+    ensures written_type { opened_as (log_changed 70 1) ≡ DamagedAt manager 70 }
+    ensures order { opened_as (log_folder two_writes) ≡ DamagedAt manager 88 }
+    ensures less { opened_as (log_changed 16 67) ≡ DamagedAt manager 84 }
+    ensures trailing { opened_as (log_folder (changed 16 69 (manager_bytes 1) ++ 0 ∷ [])) ≡ DamagedAt manager 88 }
 
     // two blocks, of which the second is damaged, or both are
-    ensures second_block { opened_as live_slot (log_folder (changed 93 65 same_account)) ≡ DamagedAt manager 93 }
-    ensures first_block { opened_as live_slot (log_folder (changed 24 0 (changed 93 65 same_account))) ≡ DamagedAt manager 24 }
+    ensures second_block { opened_as (log_folder (changed 93 65 same_account)) ≡ DamagedAt manager 93 }
+    ensures first_block { opened_as (log_folder (changed 24 0 (changed 93 65 same_account))) ≡ DamagedAt manager 24 }
 
     // a version: it's cut, it's another unit's, it has another count of fields, or another tag
-    ensures version_cut { opened_as live_slot (grain_folder (take 10 grain_bytes)) ≡ DamagedAt (Grain 0 account_1) 0 }
-    ensures other_unit { opened_as live_slot (grain_folder (version_by 2)) ≡ DamagedAt (Grain 0 account_1) 0 }
-    ensures fields { opened_as live_slot (grain_folder (changed 8 2 grain_bytes)) ≡ DamagedAt (Grain 0 account_1) 8 }
-    ensures tag { opened_as live_slot (grain_folder (changed 10 2 grain_bytes)) ≡ DamagedAt (Grain 0 account_1) 10 }
+    ensures version_cut { opened_as (grain_folder (take 10 grain_bytes)) ≡ DamagedAt (Grain 0 account_1) 0 }
+    ensures other_unit { opened_as (grain_folder (version_by 2)) ≡ DamagedAt (Grain 0 account_1) 0 }
+    ensures fields { opened_as (grain_folder (changed 8 2 grain_bytes)) ≡ DamagedAt (Grain 0 account_1) 8 }
+    ensures tag { opened_as (grain_folder (changed 10 2 grain_bytes)) ≡ DamagedAt (Grain 0 account_1) 10 }
 
     // two versions of one grain, of which the second is damaged, or both are
-    ensures second_cut { opened_as live_slot (folder_of program_bytes same_account (version_by 1 ++ take 10 (version_by 2)))
+    ensures second_cut { opened_as (folder_of program_bytes same_account (version_by 1 ++ take 10 (version_by 2)))
         ≡ DamagedAt (Grain 0 account_1) 19 }
-    ensures second_tag { opened_as live_slot (folder_of program_bytes same_account (version_by 1 ++ changed 10 2 (version_by 2)))
+    ensures second_tag { opened_as (folder_of program_bytes same_account (version_by 1 ++ changed 10 2 (version_by 2)))
         ≡ DamagedAt (Grain 0 account_1) 29 }
-    ensures first_version { opened_as live_slot (folder_of program_bytes same_account (changed 10 2 (version_by 1)))
+    ensures first_version { opened_as (folder_of program_bytes same_account (changed 10 2 (version_by 1)))
         ≡ DamagedAt (Grain 0 account_1) 10 }
 
     // versions of two grains: where both are damaged the lower grain is named, though its record is the later one
-    ensures lower_grain { opened_as live_slot (two_folder (changed 10 2 (version_by 2)) (take 10 (version_by 1)))
+    ensures lower_grain { opened_as (two_folder (changed 10 2 (version_by 2)) (take 10 (version_by 1)))
         ≡ DamagedAt (Grain 0 account_1) 10 }
-    ensures upper_grain { opened_as live_slot (two_folder (version_by 2) (changed 10 2 (version_by 1)))
+    ensures upper_grain { opened_as (two_folder (version_by 2) (changed 10 2 (version_by 1)))
         ≡ DamagedAt (Grain 0 account_2) 10 }
 
     // the program file: it's too short for its length field, or for its text, or the text would be too long
-    ensures program_short { opened_as live_slot (program_folder (take 3 program_bytes)) ≡ DamagedAt program_file 3 }
-    ensures program_cut { opened_as live_slot (program_folder (take 100 program_bytes)) ≡ DamagedAt program_file 100 }
-    ensures program_less { opened_as live_slot (program_folder (changed 0 180 program_bytes)) ≡ DamagedAt program_file 183 }
-    ensures program_long { opened_as live_slot (program_folder (1 ∷ 0 ∷ 4 ∷ 0 ∷ [])) ≡ DamagedAt program_file 0 }
+    ensures program_short { opened_as (program_folder (take 3 program_bytes)) ≡ DamagedAt program_file 3 }
+    ensures program_cut { opened_as (program_folder (take 100 program_bytes)) ≡ DamagedAt program_file 100 }
+    ensures program_less { opened_as (program_folder (changed 0 180 program_bytes)) ≡ DamagedAt program_file 183 }
+    ensures program_long { opened_as (program_folder (1 ∷ 0 ∷ 4 ∷ 0 ∷ [])) ≡ DamagedAt program_file 0 }
 
     // its text is no program, at the places that `docs/LANGUAGE.md` has: 5, 20, 8 and 16
-    ensures bad_token { opened_as live_slot (program_folder (program_with (codes "type A { }"))) ≡ DamagedAt program_file 9 }
-    ensures unexpected { opened_as live_slot (program_folder (program_with (codes "type a { field x = 01; }")))
+    ensures bad_token { opened_as (program_folder (program_with (codes "type A { }"))) ≡ DamagedAt program_file 9 }
+    ensures unexpected { opened_as (program_folder (program_with (codes "type a { field x = 01; }")))
         ≡ DamagedAt program_file 24 }
-    ensures ended { opened_as live_slot (program_folder (program_with (codes "type a {"))) ≡ DamagedAt program_file 12 }
-    ensures twice { opened_as live_slot (program_folder (program_with (codes "type a { } type a { }")))
+    ensures ended { opened_as (program_folder (program_with (codes "type a {"))) ≡ DamagedAt program_file 12 }
+    ensures twice { opened_as (program_folder (program_with (codes "type a { } type a { }")))
         ≡ DamagedAt program_file 20 }
 
     // several files: that the folder is no silo comes first, then the program file, the manager file and the grains' files
-    ensures silo_first { opened_as live_slot (folder_of (take 3 program_bytes) (take 15 (manager_bytes 1)) grain_bytes) ≡ NoSilo }
-    ensures program_first { opened_as live_slot (folder_of (take 3 program_bytes) (take 80 (manager_bytes 1)) (take 10 grain_bytes))
+    ensures silo_first { opened_as (folder_of (take 3 program_bytes) (take 15 (manager_bytes 1)) grain_bytes) ≡ NoSilo }
+    ensures program_first { opened_as (folder_of (take 3 program_bytes) (take 80 (manager_bytes 1)) (take 10 grain_bytes))
         ≡ DamagedAt program_file 3 }
-    ensures program_before_header { opened_as live_slot (folder_of (take 3 program_bytes) (changed 13 255 (manager_bytes 1)) grain_bytes)
+    ensures program_before_header { opened_as (folder_of (take 3 program_bytes) (changed 13 255 (manager_bytes 1)) grain_bytes)
         ≡ DamagedAt program_file 3 }
-    ensures block_first { opened_as live_slot (folder_of program_bytes (take 80 (manager_bytes 1)) (take 10 grain_bytes))
+    ensures block_first { opened_as (folder_of program_bytes (take 80 (manager_bytes 1)) (take 10 grain_bytes))
         ≡ DamagedAt manager 16 }
 {}
 
 /// A refusal is written out: the first deposit's block is cut, and the run answers that the manager file is damaged at the
 /// block's length field.
 pub fn a_refusal_is_written_out()
-    ensures reads { opened_as live_slot (seen_at_entry refused) ≡ DamagedAt manager 16 }
+    ensures reads { opened_as (seen_at_entry refused) ≡ DamagedAt manager 16 }
     ensures promised { Promises plain_manner refused }
     ensures hosted { IsHosted refused refused_steps }
 {}

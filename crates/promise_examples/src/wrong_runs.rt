@@ -27,6 +27,7 @@ ghost use Rattle.request_wire.specs.Lines.{lines_of};
 ghost use Rattle.request_wire.specs.Reply.{reply_line};
 ghost use Rattle.script_meaning.specs.Play.{IsTransaction};
 ghost use Rattle.silo_spec.specs.Silos.{manager, program_file, IsSilo, HasProgram};
+ghost use Rattle.silo_spec.specs.Slots.{IsLive};
 ghost use Rattle.promise_spec.specs.Programs.{Program, ProgramFault, IsChecked, shape_in, program_in};
 ghost use Rattle.promise_spec.specs.Images.{IsSound};
 ghost use Rattle.promise_spec.specs.Openings.{DamagedAt, opened_as};
@@ -34,7 +35,7 @@ ghost use Rattle.promise_spec.specs.Words.{Command, Manner};
 ghost use Rattle.promise_spec.specs.Refusals.{IsUnopened, IsNamedIn};
 ghost use Rattle.promise_spec.specs.Records.{Commit, States, AreRecordsOf};
 ghost use Rattle.promise_spec.specs.Serial.{played};
-ghost use Rattle.promise_spec.specs.Logs.{live_slot, magic, IsLog, IsPrefix, body_of};
+ghost use Rattle.promise_spec.specs.Logs.{magic, IsLog, IsPrefix, body_of};
 ghost use Rattle.promise_spec.specs.Moments.{IsImageOf};
 ghost use Rattle.promise_spec.specs.Lines.{IsLineCall};
 ghost use Rattle.promise_spec.specs.Cores.{AppliesAt, how_many, state_before};
@@ -59,18 +60,18 @@ ghost use Rattle.two_silos.specs.Summaries.{summary_of, line_of};
 /// that opens or closes a gate of a batch left in doubt before the log is synced.
 pub fn the_opening_log_is_the_disks()
     ensures entry { (p : Program) (r : Observed) (c : Course) (log : List Commit) → Keeps p r c
-        → IsLog live_slot (shape_in p) (seen_at_entry r) log → c.opening ≡ log }
+        → IsLog c.live (shape_in p) (seen_at_entry r) log → c.opening ≡ log }
     ensures synced { (p : Program) (r : Observed) (c : Course) (image : Image) (log : List Commit) → Keeps p r c
-        → IsImage (last_of (moment_of r.old) c.early).disk image → IsLog live_slot (shape_in p) image log → c.opening ≡ log }
+        → IsImage (last_of (moment_of r.old) c.early).disk image → IsLog c.live (shape_in p) image log → c.opening ≡ log }
 {}
 
 /// No run keeps the promise that at some moment may leave a log without all that it opened with, as where an earlier gate is
 /// closed for a moment, or that leaves a folder that is no silo.
 pub fn logs_are_not_lost()
     ensures shorter { (p : Program) (r : Observed) (c : Course) (image : Image) (log : List Commit) → Keeps p r c
-        → IsImageOf (moments r c) image → IsLog live_slot (shape_in p) image log → (IsPrefix c.opening log → ⊥) → ⊥ }
+        → IsImageOf (moments r c) image → IsLog c.live (shape_in p) image log → (IsPrefix c.opening log → ⊥) → ⊥ }
     ensures closed { (p : Program) (r : Observed) (c : Course) (image : Image) → Keeps p r c
-        → IsImage r.new.disk image → (IsSilo magic (image manager) → ⊥) → ⊥ }
+        → IsImage r.new.disk image → (IsLive magic c.live image → ⊥) → ⊥ }
 {}
 
 /// No run keeps the promise that at some moment may leave a part of a batch: a log with more records behind the opening log than
@@ -78,10 +79,10 @@ pub fn logs_are_not_lost()
 /// where the first batch has two.
 pub fn batches_are_whole()
     ensures part { (p : Program) (r : Observed) (c : Course) (image : Image) (more : List Commit) (n : ℕ) → Keeps p r c
-        → IsImageOf (moments r c) image → IsLog live_slot (shape_in p) image (c.opening ++ more)
+        → IsImageOf (moments r c) image → IsLog c.live (shape_in p) image (c.opening ++ more)
         → length (kept_by (core_end p c) n) < length more → length more < length (kept_by (core_end p c) (n + 1)) → ⊥ }
     ensures one { (p : Program) (r : Observed) (c : Course) (image : Image) (l : Commit) → Keeps p r c
-        → IsImageOf (moments r c) image → IsLog live_slot (shape_in p) image (c.opening ++ (l ∷ []))
+        → IsImageOf (moments r c) image → IsLog c.live (shape_in p) image (c.opening ++ (l ∷ []))
         → 2 ≤ length (kept_by (core_end p c) 1) → ⊥ }
 {}
 
@@ -108,19 +109,21 @@ pub fn syncs_are_bounded()
 {}
 
 /// No run or load keeps the promise in which no batch failed to be sealed and that leaves anything behind the log's closed gate in
-/// an image, though the manager file read as no longer than this at the entry; as one that wrote 8 bytes more would.
+/// an image, though the live manager file read as no longer than this at the entry; as one that wrote 8 bytes more would.
 pub fn nothing_stands_behind_the_log()
     ensures run { (p : Program) (r : Observed) (c : Course) (image : Image) → Keeps p r c → how_many is_unsealed (core_run p c) ≡ 0 → IsImage r.new.disk image
-        → length (seen_at_entry r manager) ≤ gate_of (image manager) + 1 → gate_of (image manager) + 1 < length (image manager) → ⊥ }
+        → length (seen_at_entry r (file.Manager c.live)) ≤ gate_of (image (file.Manager c.live)) + 1
+        → gate_of (image (file.Manager c.live)) + 1 < length (image (file.Manager c.live)) → ⊥ }
     ensures load { (p : Program) (r : Observed) (c : Course) (image : Image) (n seed : ℕ) → KeepsLoad p n seed r c → how_many is_unsealed (core_run p c) ≡ 0 → IsImage r.new.disk image
-        → length (seen_at_entry r manager) ≤ gate_of (image manager) + 1 → gate_of (image manager) + 1 < length (image manager) → ⊥ }
+        → length (seen_at_entry r (file.Manager c.live)) ≤ gate_of (image (file.Manager c.live)) + 1
+        → gate_of (image (file.Manager c.live)) + 1 < length (image (file.Manager c.live)) → ⊥ }
 {}
 
 /// Over any folder that opens, sound or not: no run keeps the promise that writes a grain's file on which no event votes, that
 /// answers a line twice, or that names a lock as the cause of an abort where the core refused the unit no lock.
 pub fn any_folder_is_served_truly()
     ensures unvoted { (p : Program) (r : Observed) (c : Course) (g : GrainId) (m : Moment) → KeepsAnywhere p r c → how_many (is_vote_of g) (core_run p c) ≡ 0
-        → Member m (moments r c) → m.disk (file.Grain live_slot g) ≢ r.old.disk (file.Grain live_slot g) → ⊥ }
+        → Member m (moments r c) → m.disk (file.Grain c.live g) ≢ r.old.disk (file.Grain c.live g) → ⊥ }
     ensures twice { (p : Program) (r : Observed) (c : Course) (front between back : List Entry) (d e : Entry) → KeepsAnywhere p r c
         → c.entries ≡ front ++ (d ∷ (between ++ (e ∷ back))) → d.line ≡ e.line → ⊥ }
     ensures lock { (p : Program) (r : Observed) (c : Course) (e : Entry) (by : UnitNo) (grain : GrainId) → KeepsAnywhere p r c
@@ -132,15 +135,15 @@ pub fn any_folder_is_served_truly()
 /// header before the first gate.
 pub fn other_files_stay()
     ensures aside { (p : Program) (r : Observed) (c : Course) (m : Moment) (f : FileId) → Keeps p r c → Member m (moments r c)
-        → IsAside live_slot f → m.disk f ≢ r.old.disk f → ⊥ }
+        → IsAside c.live f → m.disk f ≢ r.old.disk f → ⊥ }
     ensures header { (p : Program) (r : Observed) (c : Course) (m : Moment) (image : Image) → Keeps p r c → Member m (moments r c)
-        → IsImage m.disk image → take 15 (image manager) ≢ take 15 (seen_at_entry r manager) → ⊥ }
+        → IsImage m.disk image → take 15 (image (file.Manager c.live)) ≢ take 15 (seen_at_entry r (file.Manager c.live)) → ⊥ }
 {}
 
 /// No run keeps the promise that writes a reply before its record is in every image.
 pub fn replies_come_after_records()
     ensures { (p : Program) (r : Observed) (c : Course) (m : Moment) (image : Image) (more : List ℕ) → Keeps p r c
-        → Member m (moments r c) → IsImage m.disk image → IsLog live_slot (shape_in p) image c.opening
+        → Member m (moments r c) → IsImage m.disk image → IsLog c.live (shape_in p) image c.opening
         → m.output ≡ r.old.output ++ more → Member 10 more
         → ((e : Entry) → Member e c.entries → (l : Commit) × Member l c.added × Acknowledges e l × (Member l c.opening → ⊥)) → ⊥ }
 {}
@@ -170,7 +173,7 @@ pub fn aborted_units_have_no_record()
     ensures lock { (p : Program) (r : Observed) (c : Course) (e : Entry) (l : Commit) (by : UnitNo) (grain : GrainId) → Keeps p r c
         → Member e c.entries → e.what ≡ settled.Lock by grain → Member l c.added → l.logged.unit ≡ e.unit → ⊥ }
     ensures doubt { (p : Program) (r : Observed) (c : Course) (e : Entry) (l : Commit) (image : Image) (log : List Commit) → Keeps p r c
-        → Member e c.entries → e.what ≡ settled.Disk → IsImage r.new.disk image → IsLog live_slot (shape_in p) image log → Member l log
+        → Member e c.entries → e.what ≡ settled.Disk → IsImage r.new.disk image → IsLog c.live (shape_in p) image log → Member l log
         → (Member l c.opening → ⊥) → l.logged.unit ≡ e.unit → ⊥ }
 {}
 
@@ -179,7 +182,7 @@ pub fn aborted_units_have_no_record()
 pub fn the_block_in_doubt_is_the_batchs()
     ensures { (p : Program) (r : Observed) (c : Course) (image : Image) → Keeps p r c → RunHasDoubt (core_run p c) → IsImage r.new.disk image
         → ((gate : ℕ) (batch : List Commit) (batches : List (List Commit)) → AreRecordsOf (chosen (core_end p c)) batch
-        → HasBlocks (map body_of batches) gate (image manager) → HasBlock live_slot gate batch image → ⊥) → ⊥ }
+        → HasBlocks (map body_of batches) gate (image (file.Manager c.live)) → HasBlock c.live gate batch image → ⊥) → ⊥ }
 {}
 
 /// No run keeps the promise that adds a record of a line that isn't there, or of a child for which its parent's play doesn't
@@ -232,20 +235,20 @@ pub fn endings_are_true()
 /// the input shows that it read; or that writes something and ends as none does of which a line has begun.
 pub fn refusals_are_true()
     ensures place { (m : Manner) (r : Observed) (f : FileId) (place : ℕ) → Promises m r → r.ending ≡ ending.Damaged f place
-        → opened_as live_slot (seen_at_entry r) ≢ DamagedAt f place → ⊥ }
-    ensures sound { (m : Manner) (r : Observed) (p : Program) (f : FileId) (place : ℕ) → Promises m r → IsChecked p → IsSound live_slot p (seen_at_entry r)
+        → opened_as (seen_at_entry r) ≢ DamagedAt f place → ⊥ }
+    ensures sound { (m : Manner) (r : Observed) (live : ℕ) (p : Program) (f : FileId) (place : ℕ) → Promises m r → IsChecked p → IsSound live p (seen_at_entry r)
         → r.ending ≡ ending.Damaged f place → ⊥ }
-    ensures silo { (m : Manner) (r : Observed) → Promises m r → IsSilo magic (seen_at_entry r manager) → r.ending ≡ ending.NotASilo → ⊥ }
-    ensures opened { (m : Manner) (r : Observed) → Promises m r → (IsSilo magic (seen_at_entry r manager) → ⊥) → r.ending ≡ ending.Done → ⊥ }
-    ensures carried { (m : Manner) (r : Observed) (f : FileId) (place : ℕ) → Promises m r → opened_as live_slot (seen_at_entry r) ≡ DamagedAt f place
+    ensures silo { (m : Manner) (r : Observed) (live : ℕ) → Promises m r → IsLive magic live (seen_at_entry r) → r.ending ≡ ending.NotASilo → ⊥ }
+    ensures opened { (m : Manner) (r : Observed) → Promises m r → ((live : ℕ) → IsLive magic live (seen_at_entry r) → ⊥) → r.ending ≡ ending.Done → ⊥ }
+    ensures carried { (m : Manner) (r : Observed) (f : FileId) (place : ℕ) → Promises m r → opened_as (seen_at_entry r) ≡ DamagedAt f place
         → r.new.input ≢ r.old.input → ⊥ }
     ensures bad_use { (m : Manner) (r : Observed) → Promises m r → r.ending ≡ ending.BadUse → ⊥ }
-    ensures blamed { (m : Manner) (r : Observed) (slot : ℕ) (grain : GrainId) → Promises m r → (IsSilo magic (seen_at_entry r manager) → ⊥)
+    ensures blamed { (m : Manner) (r : Observed) (slot : ℕ) (grain : GrainId) → Promises m r → ((live : ℕ) → IsLive magic live (seen_at_entry r) → ⊥)
         → r.ending ≡ ending.DiskFault (file.Grain slot grain) → ⊥ }
-    ensures unnamed { (m : Manner) (r : Observed) (slot : ℕ) (grain : GrainId) → Promises m r → (IsNamedIn (seen_at_entry r) grain → ⊥)
+    ensures unnamed { (m : Manner) (r : Observed) (slot : ℕ) (grain : GrainId) → Promises m r → (IsNamedIn slot (seen_at_entry r) grain → ⊥)
         → r.ending ≡ ending.DiskFault (file.Grain slot grain) → ⊥ }
-    ensures behind { (m : Manner) (r : Observed) (last grain : GrainId) (place slot : ℕ) → Promises m r
-        → opened_as live_slot (seen_at_entry r) ≡ DamagedAt (file.Grain 0 last) place → is_before last grain ≡ true
+    ensures behind { (m : Manner) (r : Observed) (last grain : GrainId) (live place slot : ℕ) → Promises m r
+        → opened_as (seen_at_entry r) ≡ DamagedAt (file.Grain live last) place → is_before last grain ≡ true
         → r.ending ≡ ending.DiskFault (file.Grain slot grain) → ⊥ }
     ensures unread { (m : Manner) (r : Observed) → Promises m r → r.ending ≡ ending.Done → r.new.input ≢ [] → ⊥ }
     ensures unanswered { (m : Manner) (r : Observed) → Promises m r → r.ending ≡ ending.Done → 1 ≤ length (lines_of r.old.input)
@@ -308,13 +311,14 @@ pub fn lines_begin_after_the_input()
 /// No report of a folder prints the text of another log than the one that it reads as, or may leave what couldn't stand there
 /// before, or prints while a crash may take back what it tells.
 pub fn reports_tell_the_folder()
-    ensures text { (text : Program → List Commit → List ℕ) (r : Observed) (p : Program) (log : List Commit) → Reports text r → r.ending ≡ ending.Done
-        → IsChecked p → HasProgram p.text (seen_at_entry r program_file) → IsLog live_slot (shape_in p) (seen_at_entry r) log
+    ensures text { (text : Program → List Commit → List ℕ) (r : Observed) (live : ℕ) (p : Program) (log : List Commit) → Reports text r → r.ending ≡ ending.Done
+        → IsChecked p → HasProgram p.text (seen_at_entry r (file.Program live)) → IsLog live (shape_in p) (seen_at_entry r) log
         → r.new.output ≢ r.old.output ++ text p log → ⊥ }
     ensures changed { (text : Program → List Commit → List ℕ) (r : Observed) (image : Image) → Reports text r
         → IsImage r.new.disk image → (IsImage r.old.disk image → ⊥) → ⊥ }
     ensures taken { (text : Program → List Commit → List ℕ) (r : Observed) (image : Image) → Reports text r → IsImage r.new.disk image
-        → r.new.output ≢ r.old.output → image manager ≢ seen_at_entry r manager → ⊥ }
+        → r.new.output ≢ r.old.output
+        → ((live : ℕ) → IsLive magic live (seen_at_entry r) → image (file.Manager live) ≢ seen_at_entry r (file.Manager live)) → ⊥ }
 {}
 
 /// No `init` makes a silo of another program than its input, or of a text that is no program, or in place of a silo; refuses a
@@ -346,7 +350,7 @@ pub fn loads_tell_their_summary()
     ensures fault { (p : Program) (n seed : ℕ) (r : Observed) (c : Course) → KeepsLoad p n seed r c → RunHasDoubt (core_run p c)
         → r.ending ≡ ending.WriteFault → ⊥ }
     ensures soon { (p : Program) (n seed : ℕ) (r : Observed) (c : Course) (m : Moment) (image : Image) → KeepsLoad p n seed r c
-        → Member m (moments r c) → IsImage m.disk image → (IsLog live_slot (shape_in p) image (order c) → ⊥) → m.output ≢ r.old.output → ⊥ }
+        → Member m (moments r c) → IsImage m.disk image → (IsLog c.live (shape_in p) image (order c) → ⊥) → m.output ≢ r.old.output → ⊥ }
 {}
 
 /// No check keeps its promise that is done and prints anything but the line of its world, as one that prints nothing, or the line of
@@ -366,8 +370,8 @@ pub fn checks_tell_their_world()
         → r.faults_after Output ≡ r.faults_before Output → ⊥ }
 {}
 
-/// A manager file with a block of 65 records has no log.
+/// A live manager file with a block of 65 records has no log.
 pub fn batches_are_small()
-    ensures { (shape : Shape) (image : Image) (records : List CommitRecord) (gate : ℕ) (log : List Commit) → length records ≡ 65
-        → LogsUpTo (spelling_of_body records ∷ []) gate (image manager) → IsLog live_slot shape image log → ⊥ }
+    ensures { (live : ℕ) (shape : Shape) (image : Image) (records : List CommitRecord) (gate : ℕ) (log : List Commit) → length records ≡ 65
+        → LogsUpTo (spelling_of_body records ∷ []) gate (image (file.Manager live)) → IsLog live shape image log → ⊥ }
 {}

@@ -368,10 +368,10 @@ closed-of : (s : Basis) (r : Run) → 0 < r.base → KeepsUnitRule s r → AreCl
 closed-of s r above keeps = subst (AreClosed r.opening) (ends_alike r) (closed-ends (is_play s.types) (applied_run r) (legal s r above keeps))
 
 -- the moments of a run
-pub moments-stay : (s : Basis) (p : Program) (r : Run) (more : List CoreEvent) (first : List Commit) (old new : List Moment) → 0 < r.base → KeepsUnitRule s (extended r more)
-    → Passes (AllEnd p (ends r) first) old new → Passes (AllEnd p (ends (extended r more)) first) old new
-moments-stay s p r more first old new above keeps passes =
-    weaker (AllEnd p (ends r) first) (AllEnd p (ends (extended r more)) first) (λ m all image log left is. batch-stays-run s r more first log above keeps (all image log left is)) passes
+pub moments-stay : (live : ℕ) (s : Basis) (p : Program) (r : Run) (more : List CoreEvent) (first : List Commit) (old new : List Moment) → 0 < r.base → KeepsUnitRule s (extended r more)
+    → Passes (AllEnd live p (ends r) first) old new → Passes (AllEnd live p (ends (extended r more)) first) old new
+moments-stay live s p r more first old new above keeps passes =
+    weaker (AllEnd live p (ends r) first) (AllEnd live p (ends (extended r more)) first) (λ m all image log left is. batch-stays-run s r more first log above keeps (all image log left is)) passes
 
 -- ---- a batch in doubt is the last one
 

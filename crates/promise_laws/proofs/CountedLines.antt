@@ -24,7 +24,7 @@ use Rattle.script_meaning.proofs.Plays.{plays_are_orderly_lem}
 use Rattle.promise_spec.specs.Programs.{Program, shape_in}
 use Rattle.promise_spec.specs.Records.{Commit, States, new_silo, log_start, after_writes}
 use Rattle.promise_spec.specs.Serial.{depth_of, IsSerial}
-use Rattle.promise_spec.specs.Logs.{IsPrefix, live_slot}
+use Rattle.promise_spec.specs.Logs.{IsPrefix}
 use Rattle.promise_spec.specs.Images.{IsWholeSilo, AreNumbered}
 use Rattle.promise_spec.specs.Lines.{IsBadLine}
 use Rattle.promise_spec.specs.Cores.{AppliesAt, state_before}
@@ -250,9 +250,9 @@ module _ (p : Program) (n seed : ℕ) (r : Observed) (c : Course) (keeps : Keeps
   opening_numbered : AreNumbered (log_start p.types).next c.opening
   opening_numbered =
       let longest = keeps.ordered.longest in
-      let whole : IsWholeSilo live_slot p longest.image = keeps.crashes.whole longest.image longest.left longest.log.silo in
+      let whole : IsWholeSilo c.live p longest.image = keeps.crashes.whole longest.image longest.left c.live longest.log.is_live in
       numbered_front (log_start p.types).next c.opening c.added
-      (subst (AreNumbered (log_start p.types).next) (one_log (shape_in p) longest.image whole.log (order c) whole.is longest.log) whole.numbered)
+      (subst (AreNumbered (log_start p.types).next) (one_log c.live c.live (shape_in p) longest.image whole.log (order c) whole.is longest.log) whole.numbered)
 
   -- no batch is in doubt
   undoubted : (r.ending ≡ ending.Done) ⊎ (r.ending ≡ ending.WriteFault) → RunHasDoubt (core_run p c) → ⊥

@@ -3,17 +3,21 @@ use Rattle.std.proofs.Common.{◌≡◌, inl, inr, ℕ, List, [], ◌∷◌, ◌
 use Rattle.base_types.specs.declared.entries.Entry.{Entry}
 use Rattle.core_model.specs.CoreState.{Member}
 use Rattle.host_trait.specs.World.{Moment, Image}
+use Rattle.host_trait.specs.declared.channels.FileId.TheVariants.{Program as ProgramFile}
 use Rattle.script_tree.specs.Programs.{ProgramTree}
-use Rattle.silo_spec.specs.Silos.{program_file, HasProgram}
+use Rattle.base_types.specs.declared.shapes.Shape.{Shape}
+use Rattle.silo_spec.specs.Slots.{IsLive}
+use Rattle.silo_spec.specs.Silos.{HasProgram}
 use Rattle.promise_spec.specs.Programs.{Program, shape_in}
 use Rattle.promise_spec.specs.Records.{Commit, States, after_writes, new_silo}
 use Rattle.promise_spec.specs.Serial.{IsSerial}
-use Rattle.promise_spec.specs.Logs.{IsLog, IsPrefix, live_slot}
-use Rattle.promise_spec.specs.Images.{AreChained, AreNumbered, IsWholeIfSilo, IsSoundIfSilo}
+use Rattle.promise_spec.specs.Logs.{magic, IsLog, IsPrefix}
+use Rattle.promise_spec.specs.Images.{AreChained, AreNumbered, IsWholeSilo, IsSound, IsWholeIfSilo, IsSoundIfSilo}
 use Rattle.promise_spec.specs.Moments.{IsImageOf, IsLongest}
 use Rattle.promise_spec.specs.Courses.{Observed, Course}
 use Rattle.promise_spec.specs.Crashes.{Holds}
 use Rattle.promise_spec.specs.Journals.{Settlement, KeepsJournal, AllKeep, Backs, commits_of, entries_of}
+use Rattle.promise_spec.proofs.Slots.{one_slot}
 use Rattle.promise_spec.proofs.Lists.{fronts, in_append, either_in, parts_of}
 
 pub commits_of-append : (a b : List Settlement) → commits_of (a ++ b) ≡ commits_of a ++ commits_of b
@@ -23,16 +27,20 @@ commits_of-append (s ∷ a) b = ap (λ (l : List Commit). s.commits ++ l) (commi
 longer : (opening : List Commit) (a c : List Settlement) → IsPrefix a c → IsPrefix (opening ++ commits_of a) (opening ++ commits_of c)
 longer opening a c p = (commits_of p.0, ap (λ (l : List Settlement). opening ++ commits_of l) p.1 ∙ ap (λ (l : List Commit). opening ++ l) (commits_of-append a p.0) ∙ sym (append_assoc opening (commits_of a) (commits_of p.0)))
 
-module _ (p : Program) (opening : List Commit) (before : List ℕ) (journal : List Settlement) where
+module _ (live : ℕ) (p : Program) (opening : List Commit) (before : List ℕ) (journal : List Settlement) where
+  -- a log of an image is the log of whichever slot is live
+  logged_in : (shape : Shape) (image : Image) (log : List Commit) → IsLog live shape image log → (slot : ℕ) → IsLive magic slot image → IsLog slot shape image log
+  logged_in shape image log is slot is_live = subst (λ (n : ℕ). IsLog n shape image log) (one_slot live slot image is.is_live is_live) is
+
   -- images of two moments are a chain
-  pub chained : (m n : Moment) (a b : Image) → KeepsJournal p opening before journal m a → KeepsJournal p opening before journal n b → AreChained live_slot p a b
-  chained m n a b ka kb silo =
+  pub chained : (m n : Moment) (a b : Image) → KeepsJournal live p opening before journal m a → KeepsJournal live p opening before journal n b → AreChained p a b
+  chained m n a b ka kb first is_first =
       let order = fronts (ka.said ++ ka.unsaid) (kb.said ++ kb.unsaid) ka.later kb.later (sym ka.split ∙ kb.split) in (
         opening ++ commits_of (ka.said ++ ka.unsaid),
-        ka.log,
-        λ other_silo. (
+        logged_in (shape_in p) a (opening ++ commits_of (ka.said ++ ka.unsaid)) ka.log first is_first,
+        λ second is_second. (
           opening ++ commits_of (kb.said ++ kb.unsaid),
-          kb.log,
+          logged_in (shape_in p) b (opening ++ commits_of (kb.said ++ kb.unsaid)) kb.log second is_second,
           elim order [
             | inl q ↦ inl (longer opening (ka.said ++ ka.unsaid) (kb.said ++ kb.unsaid) q)
             | inr q ↦ inr (longer opening (kb.said ++ kb.unsaid) (ka.said ++ ka.unsaid) q)
@@ -41,15 +49,15 @@ module _ (p : Program) (opening : List Commit) (before : List ℕ) (journal : Li
       )
 
   -- the order is the opening log with the journal's records, where some image has it
-  pub longest : (moments : List Moment) (image : Image) → IsImageOf moments image → IsLog live_slot (shape_in p) image (opening ++ commits_of journal)
-      → ((m : Moment) → Member m moments → AllKeep p opening before journal m) → IsLongest p moments (opening ++ commits_of journal)
+  pub longest : (moments : List Moment) (image : Image) → IsImageOf moments image → IsLog live (shape_in p) image (opening ++ commits_of journal)
+      → ((m : Moment) → Member m moments → AllKeep live p opening before journal m) → IsLongest live p moments (opening ++ commits_of journal)
   longest moments image left log all = record {
     image = image;
     left = left;
     log = log;
-    longest = λ other is silo.
+    longest = λ other is slot is_live.
         let k = all is.moment is.member other is.left in
-        (opening ++ commits_of (k.said ++ k.unsaid), k.log, longer opening (k.said ++ k.unsaid) journal (k.later, k.split));
+        (opening ++ commits_of (k.said ++ k.unsaid), logged_in (shape_in p) other (opening ++ commits_of (k.said ++ k.unsaid)) k.log slot is_live, longer opening (k.said ++ k.unsaid) journal (k.later, k.split));
   }
 
 -- the settlement of an entry, and where it stands
@@ -71,7 +79,7 @@ find e (s ∷ journal) there = elim (either_in e s.entries (entries_of journal) 
 
 -- an image holds the record of each reply that was written by then
 pub holds : (p : Program) (r : Observed) (c : Course) (journal : List Settlement) (m : Moment) (image : Image) → Backs journal c.added
-    → (k : KeepsJournal p c.opening r.old.output journal m image) → IsPrefix (entries_of k.said) c.entries → Holds p r c m image
+    → (k : KeepsJournal c.live p c.opening r.old.output journal m image) → IsPrefix (entries_of k.said) c.entries → Holds p r c m image
 holds p r c journal m image backs k written = record {
   written = entries_of k.said;
   rest = k.rest;
@@ -101,30 +109,30 @@ numbered_front first [] b numbered = tt
 numbered_front first (c ∷ a) b numbered = (numbered.0, numbered.1, (parts_of _ a b numbered.2).0, numbered_front first a b numbered.3)
 
 -- where the order's units are numbered, each image of each moment is whole
-pub whole : (p : Program) (opening : List Commit) (before : List ℕ) (journal : List Settlement) (m : Moment) (image : Image) → KeepsJournal p opening before journal m image → HasProgram p.text (image program_file)
-    → AreNumbered 1 (opening ++ commits_of journal) → IsWholeIfSilo live_slot p image
+pub whole : (live : ℕ) (p : Program) (opening : List Commit) (before : List ℕ) (journal : List Settlement) (m : Moment) (image : Image) → KeepsJournal live p opening before journal m image → HasProgram p.text (image (ProgramFile live))
+    → AreNumbered 1 (opening ++ commits_of journal) → IsWholeIfSilo p image
 unfolding longer
-whole p opening before journal m image k program numbered silo =
+whole live p opening before journal m image k program numbered slot is_live =
     let front : List Commit = opening ++ commits_of (k.said ++ k.unsaid) in
     let all : opening ++ commits_of journal ≡ front ++ commits_of k.later = (longer opening (k.said ++ k.unsaid) journal (k.later, k.split)).1 in
-    record {
+    subst (λ (n : ℕ). IsWholeSilo n p image) (one_slot live slot image k.log.is_live is_live) (record {
       log = front;
       is = k.log;
       program = program;
       numbered = numbered_front 1 front (commits_of k.later) (subst (λ (l : List Commit). AreNumbered 1 l) all numbered);
-    }
+    })
 
 -- where the order is serial, each image of each moment is sound
-pub sound : (p : Program) (opening : List Commit) (before : List ℕ) (journal : List Settlement) (m : Moment) (image : Image) → KeepsJournal p opening before journal m image → HasProgram p.text (image program_file)
-    → IsSerial p.types (new_silo p.types).states (opening ++ commits_of journal) → AreNumbered 1 (opening ++ commits_of journal) → IsSoundIfSilo live_slot p image
+pub sound : (live : ℕ) (p : Program) (opening : List Commit) (before : List ℕ) (journal : List Settlement) (m : Moment) (image : Image) → KeepsJournal live p opening before journal m image → HasProgram p.text (image (ProgramFile live))
+    → IsSerial p.types (new_silo p.types).states (opening ++ commits_of journal) → AreNumbered 1 (opening ++ commits_of journal) → IsSoundIfSilo p image
 unfolding longer
-sound p opening before journal m image k program serial numbered silo =
+sound live p opening before journal m image k program serial numbered slot is_live =
     let front : List Commit = opening ++ commits_of (k.said ++ k.unsaid) in
     let whole : opening ++ commits_of journal ≡ front ++ commits_of k.later = (longer opening (k.said ++ k.unsaid) journal (k.later, k.split)).1 in
-    record {
+    subst (λ (n : ℕ). IsSound n p image) (one_slot live slot image k.log.is_live is_live) (record {
       log = front;
       is = k.log;
       program = program;
       serial = serial_front p.types (new_silo p.types).states front (commits_of k.later) (subst (λ (l : List Commit). IsSerial p.types (new_silo p.types).states l) whole serial);
       numbered = numbered_front 1 front (commits_of k.later) (subst (λ (l : List Commit). AreNumbered 1 l) whole numbered);
-    }
+    })

@@ -10,11 +10,10 @@ use Rattle.host_trait.specs.World.{World, Moment, Image, IsImage, Passes, moment
 use Rattle.host_trait.proofs.Crashes.{settled_only}
 use Rattle.core_model.specs.CoreState as core
 use Rattle.core_model.specs.CoreState.{Member}
-use Rattle.silo_spec.specs.Silos.{manager}
 use Rattle.silo_spec.specs.Moments.{IsAsAtEntry}
 use Rattle.promise_spec.specs.Programs.{Program, IsChecked, shape_in}
 use Rattle.promise_spec.specs.Records.{Commit}
-use Rattle.promise_spec.specs.Logs.{live_slot, IsLog}
+use Rattle.promise_spec.specs.Logs.{IsLog}
 use Rattle.promise_spec.specs.Images.{IsWholeSilo, IsWholeFolder}
 use Rattle.promise_spec.specs.Outputs.{IsProper, Grew}
 use Rattle.promise_spec.specs.Courses.{Observed, Course, order, moments, seen_at_entry, core_end}
@@ -26,7 +25,7 @@ use Rattle.promise_spec.specs.Promise.{Promises}
 use Rattle.promise_spec.specs.Replies.{HasNoRecord}
 use Rattle.promise_spec.proofs.Lists.{each_of, in_append, either_in}
 use Rattle.promise_spec.proofs.OneLog.{one_log}
-use Rattle.promise_spec.proofs.Openings.{silo_reads, log_is_read, reads_is}
+use Rattle.promise_spec.proofs.Openings.{reads_is_live, log_is_read, reads_is}
 use Rattle.promise_laws.proofs.SettledLogs.{settled_logs}
 use Rattle.promise_laws.proofs.Stepping.{entries_of-append, joined_logs, begins_at, now_says, keep_more, say_more, cut_says}
 use Rattle.promise_laws.specs.Closings.{ReadsMayStay, IsBehind, AllEnd, Carries}
@@ -36,13 +35,13 @@ use Rattle.promise_spec.specs.Words.{Manner}
 
 -- ---- the opening
 
-module _ (p : Program) (r : Observed) (c : Course) (mid : World) (b : IsBehind live_slot p r c mid) where
+module _ (p : Program) (r : Observed) (c : Course) (mid : World) (b : IsBehind p r c mid) where
   -- a program for which the folder is whole is the one that it reads as
-  pub same_program : (q : Program) → IsChecked q → IsWholeFolder q r.old → ReadsMayStay r.old → (q ≡ p) × IsLog live_slot (shape_in q) (seen_at_entry r) c.opening
+  pub same_program : (q : Program) → IsChecked q → IsWholeFolder q r.old → ReadsMayStay r.old → (q ≡ p) × IsLog c.live (shape_in q) (seen_at_entry r) c.opening
   same_program q checked whole stay =
-      let s : IsWholeSilo live_slot q (seen_at_entry r) = whole.whole (seen_at_entry r) stay (silo_reads (seen_at_entry r) p c.opening b.reads) in
-      let both = reads_is q p s.log c.opening (sym (log_is_read (seen_at_entry r) q s.log checked s.program s.is) ∙ b.reads) in
-      (both.0, subst (IsLog live_slot (shape_in q) (seen_at_entry r)) both.1 s.is)
+      let s : IsWholeSilo c.live q (seen_at_entry r) = whole.whole (seen_at_entry r) stay c.live (reads_is_live (seen_at_entry r) c.live p c.opening b.reads) in
+      let both = reads_is c.live c.live q p s.log c.opening (sym (log_is_read (seen_at_entry r) c.live q s.log checked s.program s.is) ∙ b.reads) in
+      (both.1, subst (IsLog c.live (shape_in q) (seen_at_entry r)) both.2 s.is)
 
   -- the early moments are those of the opening
   early_is : b.untouched.moments.more ≡ c.early
@@ -53,17 +52,17 @@ module _ (p : Program) (r : Observed) (c : Course) (mid : World) (b : IsBehind l
   as_entry m there = each_of (IsAsAtEntry r.old) b.untouched.moments.more m b.untouched.moments.each (subst (λ (l : List Moment). Member m l) (sym early_is) there)
 
   -- each image behind the opening is one of entry, with the manager file as it read
-  stays_sound : (image : Image) → IsImage mid.disk image → IsImage r.old.disk image × (image manager ≡ (r.old.disk manager).seen)
-  stays_sound image left = (b.untouched.now.images image left, settled_only (seen_at_entry r manager) (image manager) (subst (λ (f : FileState). MayLeave f (image manager)) b.settled (left manager)))
+  stays_sound : (image : Image) → IsImage mid.disk image → IsImage r.old.disk image × (image (Manager c.live) ≡ (r.old.disk (Manager c.live)).seen)
+  stays_sound image left = (b.untouched.now.images image left, settled_only (seen_at_entry r (Manager c.live)) (image (Manager c.live)) (subst (λ (f : FileState). MayLeave f (image (Manager c.live))) b.settled (left (Manager c.live))))
 
   -- over a folder that is whole for the program that it reads as
-  pub opens : IsWholeFolder p r.old → ReadsMayStay r.old → ReadsMayStay mid → IsLog live_slot (shape_in p) (seen_at_entry r) c.opening → Opens p r c
+  pub opens : IsWholeFolder p r.old → ReadsMayStay r.old → ReadsMayStay mid → IsLog c.live (shape_in p) (seen_at_entry r) c.opening → Opens p r c
   opens whole stay stay_mid read =
-      let all : AllLog p c.opening mid.disk = settled_logs p r.old mid.disk c.opening whole stay stays_sound read in
+      let all : AllLog c.live p c.opening mid.disk = settled_logs c.live p r.old mid.disk c.opening whole stay stays_sound read in
       record {
         folder = whole;
         read = read;
-        opened = subst (λ (m : Moment). AllLog p c.opening m.disk) (sym b.last) all;
+        opened = subst (λ (m : Moment). AllLog c.live p c.opening m.disk) (sym b.last) all;
         some = λ file. (mid.disk file).seen;
         possible = subst (λ (m : Moment). IsImage m.disk (λ file. (mid.disk file).seen)) (sym b.last) stay_mid;
         past = b.late ∙ ap (λ (l : List Moment). l ++ c.late) b.early ∙ append_assoc r.old.past c.early c.late;
@@ -75,11 +74,11 @@ module _ (p : Program) (r : Observed) (c : Course) (mid : World) (b : IsBehind l
   pub opens_whole : (q : Program) → IsChecked q → IsWholeFolder q r.old → ReadsMayStay r.old → ReadsMayStay mid → Opens p r c
   opens_whole q checked whole stay stay_mid =
       let t = same_program q checked whole stay in
-      opens (subst (λ (x : Program). IsWholeFolder x r.old) t.0 whole) stay stay_mid (subst (λ (x : Program). IsLog live_slot (shape_in x) (seen_at_entry r) c.opening) t.0 t.1)
+      opens (subst (λ (x : Program). IsWholeFolder x r.old) t.0 whole) stay stay_mid (subst (λ (x : Program). IsLog c.live (shape_in x) (seen_at_entry r) c.opening) t.0 t.1)
 
   -- each image behind the opening has the opening log
-  opened_at : Opens p r c → AllLog p c.opening mid.disk
-  opened_at o = subst (λ (m : Moment). AllLog p c.opening m.disk) b.last o.opened
+  opened_at : Opens p r c → AllLog c.live p c.opening mid.disk
+  opened_at o = subst (λ (m : Moment). AllLog c.live p c.opening m.disk) b.last o.opened
 
   -- ---- the moments
 
@@ -98,32 +97,32 @@ module _ (p : Program) (r : Observed) (c : Course) (mid : World) (b : IsBehind l
       late_is = append_cancel_left mid.past passes.more c.late (sym passes.past ∙ b.late)
 
   -- behind the opening each log is the opening log: no batch
-  first_ends : Opens p r c → AllEnd p (core_end p c) c.opening (moment_of mid)
+  first_ends : Opens p r c → AllEnd c.live p (core_end p c) c.opening (moment_of mid)
   first_ends o image log left is = record {
     batches = 0;
     more = [];
-    split = one_log (shape_in p) image log c.opening is (opened_at o image left) ∙ sym (append-nil c.opening);
+    split = one_log c.live c.live (shape_in p) image log c.opening is (opened_at o image left) ∙ sym (append-nil c.opening);
     records = tt;
   }
 
   -- and files and header are as they were
-  first_alone : LeavesAlone live_slot r (moment_of mid)
+  first_alone : LeavesAlone c.live r (moment_of mid)
   first_alone = record {
     aside = λ file is. b.others file (apart file is);
     header = λ image left. ap (take 15) (stays_sound image left).1;
   }
     where
-      apart : (file : FileId) → IsAside live_slot file → file ≢ manager
+      apart : (file : FileId) → IsAside c.live file → file ≢ Manager c.live
       apart (ProgramFile slot) is same = absurd (cc same)
       apart (Manager slot) is same = is (cc same)
       apart (Grain slot grain) is same = absurd (cc same)
 
   module _ (o : Opens p r c) (said journal : List Settlement) (entries : c.entries ≡ entries_of said) where
     -- what an image keeps was said in the entries
-    says_in : (m : Moment) → AllSay p c.opening mid.output said journal m → SaysIn p r c journal m
+    says_in : (m : Moment) → AllSay c.live p c.opening mid.output said journal m → SaysIn p r c journal m
     says_in m all image left =
         let t = all image left in
-        let k : KeepsJournal p c.opening mid.output journal m image = t.0 in
+        let k : KeepsJournal c.live p c.opening mid.output journal m image = t.0 in
         let quiet : mid.output ≡ r.old.output = b.untouched.now.quiet in
         let more : entries_of said ≡ entries_of k.said ++ entries_of t.1.0 = ap entries_of t.1.1 ∙ entries_of-append k.said t.1.0 in (
           record {
@@ -139,22 +138,22 @@ module _ (p : Program) (r : Observed) (c : Course) (mid : World) (b : IsBehind l
         )
 
     -- at the return of the opening's last sync
-    first_says : AllSay p c.opening mid.output said journal (moment_of mid)
+    first_says : AllSay c.live p c.opening mid.output said journal (moment_of mid)
     first_says =
-        keep_more p c.opening mid.output said [] journal (moment_of mid)
-        (say_more p c.opening mid.output [] said [] (moment_of mid)
-        (now_says p c.opening mid [] [] mid tt (begins_at p c.opening mid mid refl refl (opened_at o))))
+        keep_more c.live p c.opening mid.output said [] journal (moment_of mid)
+        (say_more c.live p c.opening mid.output [] said [] (moment_of mid)
+        (now_says c.live p c.opening mid [] [] mid tt (begins_at c.live p c.opening mid mid refl refl (opened_at o))))
 
     -- so it is at each moment that counts
-    pub says_all : Passes (AllSay p c.opening mid.output said journal) mid.past r.new.past → AllSay p c.opening mid.output said journal (moment_of r.new)
+    pub says_all : Passes (AllSay c.live p c.opening mid.output said journal) mid.past r.new.past → AllSay c.live p c.opening mid.output said journal (moment_of r.new)
         → (m : Moment) → Member m (moments r c) → SaysIn p r c journal m
-    says_all passes now m there = says_in m (gather (AllSay p c.opening mid.output said journal) first_says passes now m there)
+    says_all passes now m there = says_in m (gather (AllSay c.live p c.opening mid.output said journal) first_says passes now m there)
 
   -- ---- the end
 
-  module _ (o : Opens p r c) (said unsaid later : List Settlement) (cut : CutAt p c.opening mid said unsaid later c.rest r.new) (entries : c.entries ≡ entries_of said)
+  module _ (o : Opens p r c) (said unsaid later : List Settlement) (cut : CutAt c.live p c.opening mid said unsaid later c.rest r.new) (entries : c.entries ≡ entries_of said)
       (proper : AllByRecursion (IsProper (shape_in p)) (entries_of said)) (carries : Carries p r c mid ((said ++ unsaid) ++ later))
-      (last : Image) (left : IsImage r.new.disk last) (has : IsLog live_slot (shape_in p) last (order c)) where
+      (last : Image) (left : IsImage r.new.disk last) (has : IsLog c.live (shape_in p) last (order c)) where
     order_is : order c ≡ c.opening ++ commits_of ((said ++ unsaid) ++ later)
     order_is = ap (λ (l : List Commit). c.opening ++ l) carries.commits
 
@@ -164,24 +163,24 @@ module _ (p : Program) (r : Observed) (c : Course) (mid : World) (b : IsBehind l
       journal = (said ++ unsaid) ++ later;
       commits = carries.commits;
       backs = carries.backs;
-      kept = says_all o said ((said ++ unsaid) ++ later) entries cut.moments (cut_says p c.opening mid said unsaid later c.rest r.new proper cut);
-      batches = λ image log of is. gather (AllEnd p (core_end p c) c.opening) (first_ends o) carries.batches carries.batches_now of.moment of.member image log of.left is;
+      kept = says_all o said ((said ++ unsaid) ++ later) entries cut.moments (cut_says c.live p c.opening mid said unsaid later c.rest r.new proper cut);
+      batches = λ image log of is. gather (AllEnd c.live p (core_end p c) c.opening) (first_ends o) carries.batches carries.batches_now of.moment of.member image log of.left is;
       last = last;
       left = record { moment = moment_of r.new; member = inr (in_append (moment_of r.new) c.late (moment_of r.new ∷ []) (inr (inl refl))); left = left };
       longest = has;
-      alone = gather (LeavesAlone live_slot r) first_alone carries.alone carries.alone_now;
+      alone = gather (LeavesAlone c.live r) first_alone carries.alone carries.alone_now;
     }
 
     -- an image with all that is in the journal has the whole order
-    whole_order : (image : Image) → IsLog live_slot (shape_in p) image (c.opening ++ commits_of ((said ++ unsaid) ++ later)) → HasLogAtExit p c (core_end p c) image
-    whole_order image is = record { log = order c; is = subst (IsLog live_slot (shape_in p) image) (sym order_is) is; which = inl refl }
+    whole_order : (image : Image) → IsLog c.live (shape_in p) image (c.opening ++ commits_of ((said ++ unsaid) ++ later)) → HasLogAtExit p c (core_end p c) image
+    whole_order image is = record { log = order c; is = subst (IsLog c.live (shape_in p) image) (sym order_is) is; which = inl refl }
 
     -- a unit that no image has is in no record
-    nowhere : (e : Entry) → IsNowhere p r e.unit → HasNoRecord c e.unit
+    nowhere : (e : Entry) → IsNowhere c.live p r e.unit → HasNoRecord c e.unit
     nowhere e none l there = none last (order c) l left has (in_append l c.opening c.added (inr there))
 
     -- and what its images hold, where those that lack the last batch are explained
-    lasts : ((image : Image) → IsLog live_slot (shape_in p) image (c.opening ++ commits_of (said ++ unsaid)) → HasLogAtExit p c (core_end p c) image) → Lasts p r c
+    lasts : ((image : Image) → IsLog c.live (shape_in p) image (c.opening ++ commits_of (said ++ unsaid)) → HasLogAtExit p c (core_end p c) image) → Lasts p r c
     lasts short = record {
       opens = o;
       journals = journals;
@@ -194,24 +193,24 @@ module _ (p : Program) (r : Observed) (c : Course) (mid : World) (b : IsBehind l
     }
 
   -- no batch is in doubt, or none that an image may have
-  pub whole_lasts : (said unsaid : List Settlement) → Opens p r c → ReadsMayStay r.new → CutAt p c.opening mid said unsaid [] c.rest r.new → c.entries ≡ entries_of said
+  pub whole_lasts : (said unsaid : List Settlement) → Opens p r c → ReadsMayStay r.new → CutAt c.live p c.opening mid said unsaid [] c.rest r.new → c.entries ≡ entries_of said
       → AllByRecursion (IsProper (shape_in p)) (entries_of said) → Carries p r c mid (said ++ unsaid) → Lasts p r c
   whole_lasts said unsaid o stay cut entries proper carries =
       lasts o said unsaid [] cut entries proper (subst (Carries p r c mid) (sym (append-nil (said ++ unsaid))) carries) (λ file. (r.new.disk file).seen) stay (all (λ file. (r.new.disk file).seen) (short (λ file. (r.new.disk file).seen) stay))
       (λ image is. record { log = order c; is = all image is; which = inl refl })
     where
-      short : (image : Image) → IsImage r.new.disk image → IsLog live_slot (shape_in p) image (c.opening ++ commits_of (said ++ unsaid))
+      short : (image : Image) → IsImage r.new.disk image → IsLog c.live (shape_in p) image (c.opening ++ commits_of (said ++ unsaid))
       short image left = elim (cut.log image left) [
         | inl was ↦ was
-        | inr is ↦ subst (λ (l : List Settlement). IsLog live_slot (shape_in p) image (c.opening ++ commits_of l)) (append-nil (said ++ unsaid)) is
+        | inr is ↦ subst (λ (l : List Settlement). IsLog c.live (shape_in p) image (c.opening ++ commits_of l)) (append-nil (said ++ unsaid)) is
       ]
 
-      all : (image : Image) → IsLog live_slot (shape_in p) image (c.opening ++ commits_of (said ++ unsaid)) → IsLog live_slot (shape_in p) image (order c)
-      all image is = subst (λ (l : List Commit). IsLog live_slot (shape_in p) image (c.opening ++ l)) (sym carries.commits) is
+      all : (image : Image) → IsLog c.live (shape_in p) image (c.opening ++ commits_of (said ++ unsaid)) → IsLog c.live (shape_in p) image (order c)
+      all image is = subst (λ (l : List Commit). IsLog c.live (shape_in p) image (c.opening ++ l)) (sym carries.commits) is
 
   -- a batch is in doubt, and an image has it
-  pub doubt_lasts : (said unsaid : List Settlement) (batch : Settlement) (last : Image) (begins : ℕ) → Opens p r c → CutAt p c.opening mid said unsaid (batch ∷ []) c.rest r.new → c.entries ≡ entries_of said
-      → AllByRecursion (IsProper (shape_in p)) (entries_of said) → Carries p r c mid ((said ++ unsaid) ++ batch ∷ []) → IsImage r.new.disk last → IsLog live_slot (shape_in p) last (order c)
+  pub doubt_lasts : (said unsaid : List Settlement) (batch : Settlement) (last : Image) (begins : ℕ) → Opens p r c → CutAt c.live p c.opening mid said unsaid (batch ∷ []) c.rest r.new → c.entries ≡ entries_of said
+      → AllByRecursion (IsProper (shape_in p)) (entries_of said) → Carries p r c mid ((said ++ unsaid) ++ batch ∷ []) → IsImage r.new.disk last → IsLog c.live (shape_in p) last (order c)
       → (core_end p c).manager.doubt ≡ Some begins → AreOf (units_in_doubt (core_end p c)) (commits_of (batch ∷ [])) → Lasts p r c
   doubt_lasts said unsaid batch last begins o cut entries proper carries left has doubt units =
       lasts o said unsaid (batch ∷ []) cut entries proper carries last left has
@@ -230,7 +229,7 @@ module _ (p : Program) (r : Observed) (c : Course) (mid : World) (b : IsBehind l
 -- ---- the promise
 
 -- what a run answers, and what lasts where its folder was opened so, is the whole promise
-pub carried_promised : (m : Manner) (p : Program) (r : Observed) (c : Course) (mid : World) → ShowsAnywhere p r c → r.manner ≡ m → IsChecked p → IsBehind live_slot p r c mid → ReadsMayStay r.old → ReadsMayStay mid
+pub carried_promised : (m : Manner) (p : Program) (r : Observed) (c : Course) (mid : World) → ShowsAnywhere p r c → r.manner ≡ m → IsChecked p → IsBehind p r c mid → ReadsMayStay r.old → ReadsMayStay mid
     → (Opens p r c → Lasts p r c) → Promises m r
 carried_promised m p r c mid answers is checked behind stay stay_mid lasts =
     answered_promised p r c answers m is checked behind.reads (λ q checked_too whole. lasts (opens_whole p r c mid behind q checked_too whole stay stay_mid))
@@ -238,17 +237,17 @@ carried_promised m p r c mid answers is checked behind stay stay_mid lasts =
 -- ---- batches at the moments of a step
 
 -- another log of the image is the same, and ends so too
-same_ends : (p : Program) (w : core.CoreState) (opening log other : List Commit) (image : Image) → EndsABatch w opening log → IsLog live_slot (shape_in p) image log → IsLog live_slot (shape_in p) image other → EndsABatch w opening other
-same_ends p w opening log other image ends is is_too = subst (EndsABatch w opening) (one_log (shape_in p) image log other is is_too) ends
+same_ends : (live : ℕ) (p : Program) (w : core.CoreState) (opening log other : List Commit) (image : Image) → EndsABatch w opening log → IsLog live (shape_in p) image log → IsLog live (shape_in p) image other → EndsABatch w opening other
+same_ends live p w opening log other image ends is is_too = subst (EndsABatch w opening) (one_log live live (shape_in p) image log other is is_too) ends
 
 -- where each image has one log
-pub logged_ends : (p : Program) (w : core.CoreState) (opening log : List Commit) (m : Moment) → AllLog p log m.disk → EndsABatch w opening log → AllEnd p w opening m
-logged_ends p w opening log m all ends image other left is = same_ends p w opening log other image ends (all image left) is
+pub logged_ends : (live : ℕ) (p : Program) (w : core.CoreState) (opening log : List Commit) (m : Moment) → AllLog live p log m.disk → EndsABatch w opening log → AllEnd live p w opening m
+logged_ends live p w opening log m all ends image other left is = same_ends live p w opening log other image ends (all image left) is
 
 -- while a batch is sealed, by whichever state both logs end so
-pub sealing_ends : (p : Program) (w : core.CoreState) (opening before : List Commit) (batch : List Settlement) (mid : World) (m : Moment) → IsSealing p before batch mid m
-    → EndsABatch w opening before → EndsABatch w opening (before ++ commits_of batch) → AllEnd p w opening m
-sealing_ends p w opening before batch mid m s first second image log left is = elim (s.log image left) [
-  | inl was ↦ same_ends p w opening before log image first was is
-  | inr has ↦ same_ends p w opening (before ++ commits_of batch) log image second has is
+pub sealing_ends : (live : ℕ) (p : Program) (w : core.CoreState) (opening before : List Commit) (batch : List Settlement) (mid : World) (m : Moment) → IsSealing live p before batch mid m
+    → EndsABatch w opening before → EndsABatch w opening (before ++ commits_of batch) → AllEnd live p w opening m
+sealing_ends live p w opening before batch mid m s first second image log left is = elim (s.log image left) [
+  | inl was ↦ same_ends live p w opening before log image first was is
+  | inr has ↦ same_ends live p w opening (before ++ commits_of batch) log image second has is
 ]

@@ -1,5 +1,4 @@
 -- What a run answers, over any folder, and what it promises with what lasts.
-use Rattle.promise_spec.specs.Logs.{live_slot}
 use Rattle.std.proofs.Common.{◌≡◌, inl, inr, ℕ, ◌≤◌, List, [], ◌∷◌, ◌++◌, length, refl, sym, ap, subst, ◌∙◌}
 use Rattle.std.proofs.lemmas.List.{append-nil}
 use Rattle.base_types.specs.declared.entries.Entry.{Entry}
@@ -17,7 +16,7 @@ use Rattle.promise_spec.specs.Words.{Manner}
 use Rattle.promise_spec.specs.Promise.{Keeps, KeepsAnywhere, Promises}
 use Rattle.promise_spec.proofs.Lists.{in_append}
 use Rattle.promise_spec.proofs.Openings.{one_program}
-use Rattle.silo_spec.specs.Silos.{program_file}
+use Rattle.host_trait.specs.declared.channels.FileId.TheVariants.{Program as ProgramFile}
 use Rattle.promise_laws.specs.Answered.{HasAnswered, HasOpened}
 use Rattle.promise_laws.specs.Obligations.{ShowsAnywhere, Lasts, Shows}
 use Rattle.promise_laws.proofs.OneFamily.{explained_family}
@@ -70,9 +69,9 @@ module _ (p : Program) (r : Observed) (c : Course) (k : KeepsAnywhere p r c) whe
       ∙ ap (λ (rest : List ℕ). r.old.output ++ rest) whole
       ∙ append-nil r.old.output
 
-  pub anywhere_opened : HasOpened live_slot r
+  pub anywhere_opened : HasOpened r
   anywhere_opened = record {
-    openable = record { program = p; log = c.opening; reads = k.reads };
+    openable = record { live = c.live; program = p; log = c.opening; reads = k.reads };
     carried = k.ended.carried;
     risen = k.ended.risen;
     file = λ f is. (k.explained.doubted f is).0;
@@ -85,7 +84,7 @@ module _ (p : Program) (r : Observed) (c : Course) (k : KeepsAnywhere p r c) whe
 
 module _ (p : Program) (r : Observed) (c : Course) (a : ShowsAnywhere p r c) where
   -- what it shows is what it keeps over any folder
-  pub shown_anywhere : opened_as live_slot (seen_at_entry r) ≡ Reads p c.opening → KeepsAnywhere p r c
+  pub shown_anywhere : opened_as (seen_at_entry r) ≡ Reads c.live p c.opening → KeepsAnywhere p r c
   shown_anywhere reads =
       let is = explained p r c a.explains in
       record {
@@ -111,8 +110,8 @@ module _ (p : Program) (r : Observed) (c : Course) (a : ShowsAnywhere p r c) whe
   one_whole checked q checked_too folder l =
       let o = l.opens in
       let left = at_entry p r c o o.some o.possible in
-      let silo = (o.opened o.some o.possible).silo in
-      one_program (o.some program_file) p q checked checked_too (o.folder.whole o.some left silo).program (folder.whole o.some left silo).program
+      let silo = (o.opened o.some o.possible).is_live in
+      one_program (o.some (ProgramFile c.live)) p q checked checked_too (o.folder.whole o.some left c.live silo).program (folder.whole o.some left c.live silo).program
 
   -- so it keeps all clauses for such a program
   pub kept_over : IsChecked p → ((q : Program) → IsChecked q → IsWholeFolder q r.old → Lasts p r c) → (q : Program) → IsChecked q → IsWholeFolder q r.old → Keeps q r c
@@ -121,7 +120,7 @@ module _ (p : Program) (r : Observed) (c : Course) (a : ShowsAnywhere p r c) whe
       subst (λ (x : Program). Keeps x r c) (one_whole checked q checked_too folder l) (shown p r c (with_images l))
 
   -- and the whole promise
-  pub answered_promised : (m : Manner) → r.manner ≡ m → IsChecked p → opened_as live_slot (seen_at_entry r) ≡ Reads p c.opening
+  pub answered_promised : (m : Manner) → r.manner ≡ m → IsChecked p → opened_as (seen_at_entry r) ≡ Reads c.live p c.opening
       → ((q : Program) → IsChecked q → IsWholeFolder q r.old → Lasts p r c) → Promises m r
   answered_promised m is checked reads lasts = record {
     manner = is;

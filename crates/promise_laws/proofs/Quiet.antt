@@ -5,7 +5,7 @@ use Rattle.core_model.specs.CoreState.{Member, CoreState}
 use Rattle.host_trait.specs.World.{Disk, Moment, Image, IsImage, moment_of, last_of}
 use Rattle.promise_spec.specs.Programs.{Program, shape_in}
 use Rattle.promise_spec.specs.Records.{Commit}
-use Rattle.promise_spec.specs.Logs.{IsLog, live_slot}
+use Rattle.promise_spec.specs.Logs.{IsLog}
 use Rattle.promise_spec.specs.Causes.{syncs_of, most_syncs_of}
 use Rattle.promise_spec.specs.Moments.{IsImageOf}
 use Rattle.promise_spec.specs.Endings.{Done, WriteFault, CountsSyncs, IsBegun, IsAllWritten, EndingMayDoubt}
@@ -198,15 +198,15 @@ module _ (p : Program) (r s : Observed) (c : Course) (told : List Moment) (told_
     faults = k.faults;
     doubted = k.doubted;
     doubt_ends = k.doubt_ends;
-    unvoted = λ g m none there. (let h = to_run m there in ap (λ (d : Disk). d (Grain live_slot g)) h.disk ∙ k.unvoted g h.moment none h.member);
+    unvoted = λ g m none there. (let h = to_run m there in ap (λ (d : Disk). d (Grain c.live g)) h.disk ∙ k.unvoted g h.moment none h.member);
   }
 
   -- where the run is done, each image that it left has the whole order
-  whole_order : Keeps p r c → r.ending ≡ Done → (image : Image) → IsImage r.new.disk image → IsLog live_slot (shape_in p) image (order c)
+  whole_order : Keeps p r c → r.ending ≡ Done → (image : Image) → IsImage r.new.disk image → IsLog c.live (shape_in p) image (order c)
   whole_order k done image left =
       let o = k.exit.logs image left in
       elim o.which [
-        | inl whole ↦ subst (λ (l : List Commit). IsLog live_slot (shape_in p) image l) whole o.is
+        | inl whole ↦ subst (λ (l : List Commit). IsLog c.live (shape_in p) image l) whole o.is
         | inr lack ↦ absurd (subst EndingMayDoubt done (k.explained.doubt_ends (doubt_left (core_run p c) lack.begins lack.doubt)))
       ]
 
@@ -223,7 +223,7 @@ module _ (p : Program) (r s : Observed) (c : Course) (told : List Moment) (told_
         | inr x ↦ inr (elim x [ inl here ↦ ap (λ (n : Moment). n.disk) here | inr none ↦ absurd none ])
       ]
 
-  lasting : Keeps p r c → r.ending ≡ Done → (m : Moment) (image : Image) → Member m (moments (alike r s) (quiet_course r c told)) → IsImage m.disk image → m.output ≢ r.old.output → IsLog live_slot (shape_in p) image (order c)
+  lasting : Keeps p r c → r.ending ≡ Done → (m : Moment) (image : Image) → Member m (moments (alike r s) (quiet_course r c told)) → IsImage m.disk image → m.output ≢ r.old.output → IsLog c.live (shape_in p) image (order c)
   lasting k done m image there left said = elim (unsaid_or_left k.headline.crashes m there) [
     | inl quiet ↦ absurd (said quiet)
     | inr same ↦ whole_order k done image (subst (λ d. IsImage d image) same left)

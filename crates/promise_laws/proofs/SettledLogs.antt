@@ -5,6 +5,7 @@ use Rattle.std.proofs.lemmas.List.{length-map}
 use Rattle.base_types.specs.declared.shapes.Shape.{Shape}
 use Rattle.host_trait.specs.Disk.{MayLeave}
 use Rattle.host_trait.specs.declared.channels.FileId.{FileId}
+use Rattle.host_trait.specs.declared.channels.FileId.TheVariants.{Manager}
 use Rattle.host_trait.specs.World.{World, Disk, Image, IsImage}
 use Rattle.field_codec.proofs.Readers.{apart}
 use Rattle.field_codec.specs.declared.units.Numbers.TheVariants.{Logged}
@@ -14,10 +15,11 @@ use Rattle.commit_log.specs.Spelling.{spelling_of_body}
 use Rattle.commit_log.specs.Bodies.{IsRecordIn}
 use Rattle.commit_log.specs.Fields.{records_in}
 use Rattle.commit_log.proofs.Fields.{records_reads}
-use Rattle.silo_spec.specs.Silos.{manager, IsSilo}
+use Rattle.silo_spec.specs.Silos.{IsSilo}
+use Rattle.silo_spec.specs.Slots.{IsLive}
 use Rattle.promise_spec.specs.Programs.{Program, shape_in}
 use Rattle.promise_spec.specs.Records.{Commit}
-use Rattle.promise_spec.specs.Logs.{magic, IsKept, body_of, IsLog, IsPrefix, live_slot}
+use Rattle.promise_spec.specs.Logs.{magic, IsKept, body_of, IsLog, IsPrefix}
 use Rattle.promise_spec.specs.Images.{AreChained, IsWholeFolder}
 use Rattle.promise_spec.specs.Journals.{AllLog}
 use Rattle.promise_spec.proofs.Lists.{head_of, tail_of, none_is, parts_of}
@@ -28,9 +30,9 @@ abbrev pub Fits : Shape → Commit → Type 0
 Fits shape c = IsRecordIn Logged shape c.logged
 
 -- the records of a log fit, whatever image keeps them
-pub fits_of : (shape : Shape) (image : Image) (cs : List Commit) → AllByRecursion (IsKept live_slot shape image) cs → AllByRecursion (Fits shape) cs
-fits_of shape image [] all = tt
-fits_of shape image (c ∷ cs) all = (all.0.fits, fits_of shape image cs all.1)
+pub fits_of : (live : ℕ) (shape : Shape) (image : Image) (cs : List Commit) → AllByRecursion (IsKept live shape image) cs → AllByRecursion (Fits shape) cs
+fits_of live shape image [] all = tt
+fits_of live shape image (c ∷ cs) all = (all.0.fits, fits_of live shape image cs all.1)
 
 -- so do they without their states
 logged_fit : (shape : Shape) (cs : List Commit) → AllByRecursion (Fits shape) cs → AllByRecursion (IsRecordIn Logged shape) (map (λ (c : Commit). c.logged) cs)
@@ -63,13 +65,13 @@ sizes_same shape (x ∷ xs) (y ∷ ys) few few_too a b e =
     let more : length (flat_map (λ (batch : List Commit). batch) xs) ≡ length (flat_map (λ (batch : List Commit). batch) ys) = sizes_same shape xs ys few.1 few_too.1 p.1 q.1 (tail_of (body_of x) (body_of y) (map body_of xs) (map body_of ys) e) in
     length-append x (flat_map (λ batch. batch) xs) ∙ (λ i. here i + more i) ∙ sym (length-append y (flat_map (λ batch. batch) ys))
 
--- images with one manager file have logs of one length
-pub length_same : (shape : Shape) (one other : Image) (a b : List Commit) → one manager ≡ other manager → IsLog live_slot shape one a → IsLog live_slot shape other b → length a ≡ length b
-length_same shape one other a b same x y =
-    let moved : LogsUpTo (map body_of y.batches) y.gate (one manager) = subst (λ (f : List ℕ). LogsUpTo (map body_of y.batches) y.gate f) (sym same) y.blocks in
-    let bodies : map body_of x.batches ≡ map body_of y.batches = (blocks.one_log (map body_of x.batches) (map body_of y.batches) x.gate y.gate (one manager) x.blocks moved).0 in
-    let all = subst (λ (l : List Commit). AllByRecursion (Fits shape) l) x.commits (fits_of shape one a x.kept) in
-    let all_too = subst (λ (l : List Commit). AllByRecursion (Fits shape) l) y.commits (fits_of shape other b y.kept) in
+-- images with one (Manager live) file have logs of one length
+pub length_same : (live : ℕ) (shape : Shape) (one other : Image) (a b : List Commit) → one (Manager live) ≡ other (Manager live) → IsLog live shape one a → IsLog live shape other b → length a ≡ length b
+length_same live shape one other a b same x y =
+    let moved : LogsUpTo (map body_of y.batches) y.gate (one (Manager live)) = subst (λ (f : List ℕ). LogsUpTo (map body_of y.batches) y.gate f) (sym same) y.blocks in
+    let bodies : map body_of x.batches ≡ map body_of y.batches = (blocks.one_log (map body_of x.batches) (map body_of y.batches) x.gate y.gate (one (Manager live)) x.blocks moved).0 in
+    let all = subst (λ (l : List Commit). AllByRecursion (Fits shape) l) x.commits (fits_of live shape one a x.kept) in
+    let all_too = subst (λ (l : List Commit). AllByRecursion (Fits shape) l) y.commits (fits_of live shape other b y.kept) in
     ap length x.commits ∙ sizes_same shape x.batches y.batches x.sizes y.sizes all all_too bodies ∙ sym (ap length y.commits)
 
 -- a first part that is no shorter is all
@@ -82,23 +84,24 @@ front_is a b front same = go front.0 front.1
         let long : length b ≡ length a + length (c ∷ rest) = ap length e ∙ length-append a (c ∷ rest) in
         absurd (omega (arith, long, same))
 
--- chained images with one manager file have one log
-pub chained_same : (p : Program) (one other : Image) (log : List Commit) → AreChained live_slot p one other → one manager ≡ other manager → IsLog live_slot (shape_in p) one log → IsLog live_slot (shape_in p) other log
-chained_same p one other log chain same is =
-    let silo : IsSilo magic (other manager) = subst (IsSilo magic) same is.silo in
-    let a = chain is.silo in
-    let b = a.2 silo in
-    let first : log ≡ a.0 = one_log (shape_in p) one log a.0 is a.1 in
-    let sizes : length a.0 ≡ length b.0 = length_same (shape_in p) one other a.0 b.0 same a.1 b.1 in
+-- chained images with one (Manager live) file have one log
+pub chained_same : (live : ℕ) (p : Program) (one other : Image) (log : List Commit) → AreChained p one other → one (Manager live) ≡ other (Manager live) → IsLog live (shape_in p) one log → IsLog live (shape_in p) other log
+chained_same live p one other log chain same is =
+    let silo : IsSilo magic (other (Manager live)) = subst (IsSilo magic) same is.is_live.silo in
+    let too : IsLive magic live other = record { slot = is.is_live.slot; silo = silo } in
+    let a = chain live is.is_live in
+    let b = a.2 live too in
+    let first : log ≡ a.0 = one_log live live (shape_in p) one log a.0 is a.1 in
+    let sizes : length a.0 ≡ length b.0 = length_same live (shape_in p) one other a.0 b.0 same a.1 b.1 in
     let all : a.0 ≡ b.0 = elim b.2 [
       | inl f ↦ front_is a.0 b.0 f sizes
       | inr f ↦ sym (front_is b.0 a.0 f (sym sizes))
     ] in
-    subst (IsLog live_slot (shape_in p) other) (sym (first ∙ all)) b.1
+    subst (IsLog live (shape_in p) other) (sym (first ∙ all)) b.1
 
 -- The files as they read have this log; each image of the disk is one of the folder's, with the manager file as it reads.
-pub settled_logs : (p : Program) (w : World) (disk : Disk) (log : List Commit) → IsWholeFolder p w → ((file : FileId) → MayLeave (w.disk file) (w.disk file).seen)
-    → ((image : Image) → IsImage disk image → IsImage w.disk image × (image manager ≡ (w.disk manager).seen)) → IsLog live_slot (shape_in p) (λ file. (w.disk file).seen) log → AllLog p log disk
-settled_logs p w disk log whole seen stays is image left =
+pub settled_logs : (live : ℕ) (p : Program) (w : World) (disk : Disk) (log : List Commit) → IsWholeFolder p w → ((file : FileId) → MayLeave (w.disk file) (w.disk file).seen)
+    → ((image : Image) → IsImage disk image → IsImage w.disk image × (image (Manager live) ≡ (w.disk (Manager live)).seen)) → IsLog live (shape_in p) (λ file. (w.disk file).seen) log → AllLog live p log disk
+settled_logs live p w disk log whole seen stays is image left =
     let t = stays image left in
-    chained_same p (λ file. (w.disk file).seen) image log (whole.chain (λ file. (w.disk file).seen) image seen t.0) (sym t.1) is
+    chained_same live p (λ file. (w.disk file).seen) image log (whole.chain (λ file. (w.disk file).seen) image seen t.0) (sym t.1) is

@@ -1,7 +1,7 @@
 -- What a run shows is enough for what is promised of it over any folder.
-use Rattle.promise_spec.specs.Logs.{live_slot}
 use Rattle.std.proofs.Common.{◌≡◌, inr, subst}
-use Rattle.silo_spec.specs.Silos.{program_file, HasProgram}
+use Rattle.host_trait.specs.declared.channels.FileId.TheVariants.{Program as ProgramFile}
+use Rattle.silo_spec.specs.Silos.{HasProgram}
 use Rattle.promise_spec.specs.Programs.{Program, IsChecked}
 use Rattle.promise_spec.specs.Words.{Manner}
 use Rattle.promise_spec.specs.Openings.{Reads, opened_as}
@@ -18,14 +18,14 @@ module _ (p : Program) (r : Observed) (c : Course) (checked : IsChecked p) (s : 
   one_whole : (q : Program) → IsChecked q → IsWholeFolder q r.old → p ≡ q
   one_whole q checked_too folder =
       let left = at_entry p r c s.opens s.opens.some s.opens.possible in
-      let silo = (s.opens.opened s.opens.some s.opens.possible).silo in
-      one_program (s.opens.some program_file) p q checked checked_too (s.opens.folder.whole s.opens.some left silo).program (folder.whole s.opens.some left silo).program
+      let silo = (s.opens.opened s.opens.some s.opens.possible).is_live in
+      one_program (s.opens.some (ProgramFile c.live)) p q checked checked_too (s.opens.folder.whole s.opens.some left c.live silo).program (folder.whole s.opens.some left c.live silo).program
 
   -- the files read as the program and the log that it opened
-  reads : HasProgram p.text (seen_at_entry r program_file) → opened_as live_slot (seen_at_entry r) ≡ Reads p c.opening
-  reads has = log_is_read (seen_at_entry r) p c.opening checked has s.opens.read
+  reads : HasProgram p.text (seen_at_entry r (ProgramFile c.live)) → opened_as (seen_at_entry r) ≡ Reads c.live p c.opening
+  reads has = log_is_read (seen_at_entry r) c.live p c.opening checked has s.opens.read
 
-  pub promised : (m : Manner) → r.manner ≡ m → HasProgram p.text (seen_at_entry r program_file) → Promises m r
+  pub promised : (m : Manner) → r.manner ≡ m → HasProgram p.text (seen_at_entry r (ProgramFile c.live)) → Promises m r
   promised m is has =
       let keeps : Keeps p r c = shown p r c s in
       record {

@@ -7,11 +7,12 @@ use Rattle.host_trait.specs.declared.channels.FileId.TheVariants.{Program as Pro
 use Rattle.host_trait.specs.Faults.{Rose}
 use Rattle.host_trait.specs.Disk.{MayLeave}
 use Rattle.host_trait.specs.World.{Moment, Image, IsImage, moment_of, last_of}
-use Rattle.silo_spec.specs.Silos.{program_file, HasProgram}
+use Rattle.silo_spec.specs.Silos.{HasProgram}
 use Rattle.promise_spec.specs.Programs.{Program, shape_in}
 use Rattle.promise_spec.specs.Records.{Commit, new_silo}
 use Rattle.promise_spec.specs.Serial.{IsSerial}
-use Rattle.promise_spec.specs.Logs.{live_slot, IsLog}
+use Rattle.silo_spec.specs.Slots.{IsLive}
+use Rattle.promise_spec.specs.Logs.{magic, IsLog}
 use Rattle.promise_spec.specs.Images.{AreNumbered, IsWholeSilo, IsSound, IsSoundFolder}
 use Rattle.promise_spec.specs.Moments.{IsImageOf, IsLongest}
 use Rattle.promise_spec.specs.Causes.{NoneRose, RunHasDoubt}
@@ -70,16 +71,16 @@ at_entry p r c o image is = elim (last-in (moment_of r.old) c.early) [
 -- the opening log's units are numbered
 pub opening_numbered : (p : Program) (r : Observed) (c : Course) → Opens p r c → AreNumbered (new_silo p.types).next c.opening
 opening_numbered p r c o =
-    let log : IsLog live_slot (shape_in p) o.some c.opening = o.opened o.some o.possible in
-    let s : IsWholeSilo live_slot p o.some = o.folder.whole o.some (at_entry p r c o o.some o.possible) log.silo in
-    subst (AreNumbered (new_silo p.types).next) (one_log (shape_in p) o.some s.log c.opening s.is log) s.numbered
+    let log : IsLog c.live (shape_in p) o.some c.opening = o.opened o.some o.possible in
+    let s : IsWholeSilo c.live p o.some = o.folder.whole o.some (at_entry p r c o o.some o.possible) c.live log.is_live in
+    subst (AreNumbered (new_silo p.types).next) (one_log c.live c.live (shape_in p) o.some s.log c.opening s.is log) s.numbered
 
 -- and over a sound folder it is serial from a new silo
 pub opening_serial : (p : Program) (r : Observed) (c : Course) → Opens p r c → IsSoundFolder p r.old → IsSerial p.types (new_silo p.types).states c.opening
 opening_serial p r c o folder =
-    let log : IsLog live_slot (shape_in p) o.some c.opening = o.opened o.some o.possible in
-    let s : IsSound live_slot p o.some = folder.sound o.some (at_entry p r c o o.some o.possible) log.silo in
-    subst (IsSerial p.types (new_silo p.types).states) (one_log (shape_in p) o.some s.log c.opening s.is log) s.serial
+    let log : IsLog c.live (shape_in p) o.some c.opening = o.opened o.some o.possible in
+    let s : IsSound c.live p o.some = folder.sound o.some (at_entry p r c o o.some o.possible) c.live log.is_live in
+    subst (IsSerial p.types (new_silo p.types).states) (one_log c.live c.live (shape_in p) o.some s.log c.opening s.is log) s.serial
 
 -- one image with the program file of another
 with_program : Image → Image → Image
@@ -88,11 +89,14 @@ with_program image other (Manager slot) = image (Manager slot)
 with_program image other (Grain slot grain) = image (Grain slot grain)
 
 -- each image has the program, as the program file is left alone
-has_program : (p : Program) (r : Observed) (c : Course) → Opens p r c → Journals p r c → (image : Image) → IsImageOf (moments r c) image → HasProgram p.text (image program_file)
+has_program : (p : Program) (r : Observed) (c : Course) → Opens p r c → Journals p r c → (image : Image) → IsImageOf (moments r c) image → HasProgram p.text (image (ProgramFile c.live))
 unfolding with_program
 has_program p r c o j image of =
-    (o.folder.whole (with_program o.some image) mixed (o.opened o.some o.possible).silo).program
+    (o.folder.whole (with_program o.some image) mixed c.live live).program
   where
+    live : IsLive magic c.live (with_program o.some image)
+    live = record { slot = (o.opened o.some o.possible).is_live.slot; silo = (o.opened o.some o.possible).is_live.silo }
+
     mixed : IsImage r.old.disk (with_program o.some image)
     mixed (ProgramFile slot) = subst (λ file. MayLeave file (image (ProgramFile slot))) ((j.alone of.moment of.member).aside (ProgramFile slot) tt) (of.left (ProgramFile slot))
     mixed (Manager slot) = at_entry p r c o o.some o.possible (Manager slot)
@@ -143,7 +147,7 @@ answers_of p r c s = record { explains = s.explains; settled = s.settled; output
 -- ---- clauses
 
 -- what each image keeps of the journal
-kept_in : (p : Program) (r : Observed) (c : Course) → (j : Journals p r c) → (image : Image) → (of : IsImageOf (moments r c) image) → KeepsJournal p c.opening r.old.output j.journal of.moment image
+kept_in : (p : Program) (r : Observed) (c : Course) → (j : Journals p r c) → (image : Image) → (of : IsImageOf (moments r c) image) → KeepsJournal c.live p c.opening r.old.output j.journal of.moment image
 kept_in p r c j image of = (j.kept of.moment of.member image of.left).0
 
 -- the order is the opening log with the journal's records
@@ -166,8 +170,8 @@ module _ (p : Program) (r : Observed) (c : Course) (s : Shows p r c) where
     read = o.read;
     opened = λ image possible. record { entry = at_entry p r c o image possible; log = o.opened image possible };
     longest =
-        subst (IsLongest p (moments r c)) (sym (order_is p r c j))
-        (journaled.longest p c.opening r.old.output j.journal (moments r c) j.last j.left (subst (IsLog live_slot (shape_in p) j.last) (order_is p r c j) j.longest)
+        subst (IsLongest c.live p (moments r c)) (sym (order_is p r c j))
+        (journaled.longest c.live p c.opening r.old.output j.journal (moments r c) j.last j.left (subst (IsLog c.live (shape_in p) j.last) (order_is p r c j) j.longest)
         (λ m there image left. (j.kept m there image left).0));
     serial = explained_serial p r c is;
   }
@@ -193,8 +197,8 @@ module _ (p : Program) (r : Observed) (c : Course) (s : Shows p r c) where
     past = o.past;
     quiet = o.quiet;
     before = o.before;
-    chain = λ one other of_one of_other. journaled.chained p c.opening r.old.output j.journal of_one.moment of_other.moment one other (kept_in p r c j one of_one) (kept_in p r c j other of_other);
-    whole = λ image of. journaled.whole p c.opening r.old.output j.journal of.moment image (kept_in p r c j image of) (has_program p r c o j image of) numbered;
+    chain = λ one other of_one of_other. journaled.chained c.live p c.opening r.old.output j.journal of_one.moment of_other.moment one other (kept_in p r c j one of_one) (kept_in p r c j other of_other);
+    whole = λ image of. journaled.whole c.live p c.opening r.old.output j.journal of.moment image (kept_in p r c j image of) (has_program p r c o j image of) numbered;
     keeps = λ image of.
         (let k = kept_in p r c j image of in
         record { log = c.opening ++ commits_of (k.said ++ k.unsaid); is = k.log; longer = (commits_of (k.said ++ k.unsaid), refl) });
@@ -204,7 +208,7 @@ module _ (p : Program) (r : Observed) (c : Course) (s : Shows p r c) where
   -- and is sound where the folder was
   sound : IsSoundFolder p r.old → StaySound p r c
   sound folder image of =
-      journaled.sound p c.opening r.old.output j.journal of.moment image (kept_in p r c j image of) (has_program p r c o j image of)
+      journaled.sound c.live p c.opening r.old.output j.journal of.moment image (kept_in p r c j image of) (has_program p r c o j image of)
       (subst (IsSerial p.types (new_silo p.types).states) (order_is p r c j) (order_serial p r c is (opening_serial p r c o folder))) numbered
 
   -- the records come from the lines, and each image's log ends where a batch does
@@ -217,21 +221,21 @@ module _ (p : Program) (r : Observed) (c : Course) (s : Shows p r c) where
       journaled.holds p r c j.journal m image j.backs k.0 k.1
 
   -- where images have different logs, one lacks the batch in doubt
-  doubtful_batch : (one other : Image) (a b : List Commit) → IsImage r.new.disk one → IsImage r.new.disk other → IsLog live_slot (shape_in p) one a → IsLog live_slot (shape_in p) other b → a ≢ b
+  doubtful_batch : (one other : Image) (a b : List Commit) → IsImage r.new.disk one → IsImage r.new.disk other → IsLog c.live (shape_in p) one a → IsLog c.live (shape_in p) other b → a ≢ b
       → (begins : ℕ) × ((core_end p c).manager.doubt ≡ Some begins)
   doubtful_batch one other a b left left_too is_a is_b differ =
       let x = s.leaves.logs one left in
       let y = s.leaves.logs other left_too in
       elim x.which [
         | inl whole ↦ elim y.which [
-          | inl whole_too ↦ absurd (differ (one_log (shape_in p) one a x.log is_a x.is ∙ whole ∙ sym whole_too ∙ one_log (shape_in p) other y.log b y.is is_b))
+          | inl whole_too ↦ absurd (differ (one_log c.live c.live (shape_in p) one a x.log is_a x.is ∙ whole ∙ sym whole_too ∙ one_log c.live c.live (shape_in p) other y.log b y.is is_b))
           | inr lacks ↦ (lacks.begins, lacks.doubt)
         ]
         | inr lacks ↦ (lacks.begins, lacks.doubt)
       ]
 
   -- so the manager file failed, and who is in the batch was told of the doubt
-  doubted : (begins : ℕ) → (core_end p c).manager.doubt ≡ Some begins → ImagesMayDiffer live_slot r c (core_end p c)
+  doubted : (begins : ℕ) → (core_end p c).manager.doubt ≡ Some begins → ImagesMayDiffer c.live r c (core_end p c)
   doubted begins d =
       let left : RunHasDoubt (core_run p c) = doubt_left (core_run p c) begins d in
       record {

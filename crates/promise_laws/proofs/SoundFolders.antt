@@ -10,12 +10,13 @@ use Rattle.gate_block.specs.Log.{LogsUpTo, first_gate}
 use Rattle.gate_block.proofs.Logs.{no_blocks}
 use Rattle.core_model.specs.CoreState.{Member}
 use Rattle.log_reading.specs.Blocks.{header_damage}
+use Rattle.silo_spec.specs.Slots.{IsLive}
 use Rattle.silo_spec.specs.Silos.{manager, IsSilo, IsNewSilo, new_header}
 use Rattle.silo_spec.specs.Moments.{IsAsAtEntry, IsUntouched}
 use Rattle.silo_spec.specs.Making.{CameThisFar, IsEarly, FromFirstSync, IsNewAt}
 use Rattle.promise_spec.specs.Programs.{Program, IsChecked, shape_in}
 use Rattle.promise_spec.specs.Records.{Commit}
-use Rattle.promise_spec.specs.Logs.{magic, body_of, IsLog, live_slot}
+use Rattle.promise_spec.specs.Logs.{magic, body_of, IsLog}
 use Rattle.promise_spec.specs.Images.{IsSound}
 use Rattle.promise_spec.specs.Moments.{IsImageOf}
 use Rattle.promise_spec.specs.Endings as ending
@@ -31,6 +32,7 @@ use Rattle.promise_spec.specs.Calls.{Obeys, IsBadUse}
 use Rattle.promise_spec.specs.Images.{IsSoundFolder}
 use Rattle.promise_spec.specs.Promise.{Promises}
 use Rattle.promise_laws.specs.SoundMoments.{shown_at, IsSoundAt, IsRestarted}
+use Rattle.promise_spec.proofs.Slots.{first_silo, first_live}
 use Rattle.promise_spec.proofs.Lists.{all_of, in_append, either_in}
 use Rattle.promise_spec.proofs.Openings.{program_checked}
 use Rattle.promise_spec.proofs.WholeFolders.{whole_folder}
@@ -97,9 +99,9 @@ checks_keep n seed p r checks sound = same_files p r.old r.new checks.files soun
 -- ---- new silos
 
 -- a new silo has the empty log
-pub new_log : (p : Program) (image : Image) → IsNewSilo magic p.text image → IsLog live_slot (shape_in p) image []
+pub new_log : (p : Program) (image : Image) → IsNewSilo magic p.text image → IsLog 0 (shape_in p) image []
 new_log p image new = record {
-  silo = new.silo;
+  is_live = first_live image new.silo;
   header = whole;
   batches = [];
   gate = first_gate;
@@ -125,21 +127,24 @@ new_log p image new = record {
     shut open_gate = omega (arith, byte, open_gate)
 
 -- a new silo is sound, with an empty log
-new_sound : (p : Program) (image : Image) → IsNewSilo magic p.text image → IsSound live_slot p image
+new_sound : (p : Program) (image : Image) → IsNewSilo magic p.text image → IsSound 0 p image
 new_sound p image new = record { log = []; is = new_log p image new; program = new.program; serial = tt; numbered = tt }
 
 -- images that are new silos of this program, or none, are a sound folder of it
 pub new_folder : (p : Program) (w : World) → IsNewAt magic p.text (moment_of w) → IsSoundFolder p w
 new_folder p w new = record {
-  chain = λ one other left left_too silo. ([], new_log p one (new one left silo), λ silo_too. ([], new_log p other (new other left_too silo_too), inl ([], refl)));
-  sound = λ image left silo. new_sound p image (new image left silo);
+  chain = λ one other left left_too live is. ([], log_in one left live is, λ live_too is_too. ([], log_in other left_too live_too is_too, inl ([], refl)));
+  sound = λ image left live is. subst (λ (slot : ℕ). IsSound slot p image) (sym is.slot) (new_sound p image (new image left (first_silo live image is)));
 }
+  where
+    log_in : (image : Image) → IsImage w.disk image → (live : ℕ) → IsLive magic live image → IsLog live (shape_in p) image []
+    log_in image left live is = subst (λ (slot : ℕ). IsLog slot (shape_in p) image []) (sym is.slot) (new_log p image (new image left (first_silo live image is)))
 
 -- where no image is a silo the folder is sound for every program
 no_silos : (p : Program) (w : World) → ((image : Image) → IsImage w.disk image → IsSilo magic (image manager) → ⊥) → IsSoundFolder p w
 no_silos p w none = record {
-  chain = λ one other left left_too silo. absurd (none one left silo);
-  sound = λ image left silo. absurd (none image left silo);
+  chain = λ one other left left_too live is. absurd (none one left (first_silo live one is));
+  sound = λ image left live is. absurd (none image left (first_silo live image is));
 }
 
 -- ---- before the first sync
@@ -172,7 +177,7 @@ torn_damaged bodies gate logs =
 -- over a sound folder whose manager file reads as empty no image has 16 bytes there
 short_files : (p : Program) (w : World) → IsSoundFolder p w → MayLeave (w.disk manager) (w.disk manager).seen → (w.disk manager).seen ≡ [] → (image : Image) → IsImage w.disk image → 16 ≤ length (image manager) → ⊥
 short_files p w sound seen empty image left long =
-    let s = sound.sound (with_bytes image manager torn) possible (subst (IsSilo magic) (sym (with_bytes-there image manager torn)) torn_silo) in
+    let s = sound.sound (with_bytes image manager torn) possible 0 (first_live (with_bytes image manager torn) (subst (IsSilo magic) (sym (with_bytes-there image manager torn)) torn_silo)) in
     torn_damaged (map body_of s.is.batches) s.is.gate (subst (LogsUpTo (map body_of s.is.batches) s.is.gate) (with_bytes-there image manager torn) s.is.blocks)
   where
     base : length (w.disk manager).base ≤ 0
@@ -325,12 +330,12 @@ run_moments m p r checked promises sound = elim (promises.over_whole p checked (
 -- of a report
 report_moments : (text : Program → List Commit → List ℕ) (p : Program) (r : Observed) → IsChecked p → Reports text r → IsSoundFolder p r.old → Passes IsSoundAt r.old.past r.new.past
 report_moments text p r checked (inl unopened) sound = untouched_moments p r.old r.new checked unopened.untouched sound
-report_moments text p r checked (inr is) sound = weaker (LeavesAsBefore r.old) IsSoundAt (λ m before. entry_moment p r.old m checked sound (λ image left. (before image left).0)) is.moments
+report_moments text p r checked (inr is) sound = weaker (LeavesAsBefore is.live r.old) IsSoundAt (λ m before. entry_moment p r.old m checked sound (λ image left. (before image left).0)) is.moments
 
 -- of an audit
 audit_moments : (p : Program) (r : Observed) → IsChecked p → Audits r → IsSoundFolder p r.old → Passes IsSoundAt r.old.past r.new.past
 audit_moments p r checked (inl unopened) sound = untouched_moments p r.old r.new checked unopened.untouched sound
-audit_moments p r checked (inr is) sound = weaker (LeavesAsBefore r.old) IsSoundAt (λ m before. entry_moment p r.old m checked sound (λ image left. (before image left).0)) is.report.moments
+audit_moments p r checked (inr is) sound = weaker (LeavesAsBefore is.report.live r.old) IsSoundAt (λ m before. entry_moment p r.old m checked sound (λ image left. (before image left).0)) is.report.moments
 
 -- a moment before the first sync of an `init`
 early_moment : (p : Program) (old : World) (m : Moment) → IsChecked p → MayLeave (old.disk manager) (old.disk manager).seen → IsSoundFolder p old → IsEarly old m → IsSoundAt m

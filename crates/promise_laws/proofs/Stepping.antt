@@ -16,7 +16,7 @@ use Rattle.request_wire.proofs.Cuts.{slice_split-cons, keeps_first}
 use Rattle.request_wire.proofs.OneLine.{reply_line-first}
 use Rattle.promise_spec.specs.Programs.{Program, shape_in}
 use Rattle.promise_spec.specs.Records.{Commit}
-use Rattle.promise_spec.specs.Logs.{IsLog, IsPrefix, live_slot}
+use Rattle.promise_spec.specs.Logs.{IsLog, IsPrefix}
 use Rattle.promise_spec.specs.Outputs.{IsProper, reply_lines}
 use Rattle.promise_spec.specs.Journals.{Settlement, KeepsJournal, AllSay, AllLog, JournalAt, DoubtAt, CutAt, IsSealing, Seals, Doubts, commits_of, entries_of}
 use Rattle.promise_spec.proofs.Lists.{head_of, parts_of}
@@ -114,22 +114,22 @@ joined_logs opening j batch = append_assoc opening (commits_of j) (commits_of ba
 pub same_log : (opening : List Commit) (j more : List Settlement) → commits_of more ≡ [] → opening ++ commits_of (j ++ more) ≡ opening ++ commits_of j
 same_log opening j more none = ap (λ (l : List Commit). opening ++ l) (commits_of-append j more ∙ ap (λ (l : List Commit). commits_of j ++ l) none ∙ append-nil (commits_of j))
 
-module _ (p : Program) (opening : List Commit) where
+module _ (live : ℕ) (p : Program) (opening : List Commit) where
   -- what an image keeps of a journal, and how much was said
   abbrev Says : List ℕ → List Settlement → List Settlement → Moment → Image → Type 0
-  Says before said journal m image = (k : KeepsJournal p opening before journal m image) × IsPrefix k.said said
+  Says before said journal m image = (k : KeepsJournal live p opening before journal m image) × IsPrefix k.said said
 
   -- an image that has what is settled
   here : (before : List ℕ) (said unsaid later : List Settlement) (rest : List ℕ) (m : Moment) (image : Image)
       → m.output ≡ before ++ (reply_lines (shape_in p) (entries_of said) ++ rest) → NoFeed rest → AllByRecursion (IsProper (shape_in p)) (entries_of said)
-      → IsLog live_slot (shape_in p) image (opening ++ commits_of (said ++ unsaid)) → Says before said ((said ++ unsaid) ++ later) m image
+      → IsLog live (shape_in p) image (opening ++ commits_of (said ++ unsaid)) → Says before said ((said ++ unsaid) ++ later) m image
   here before said unsaid later rest m image output unended proper log = (
     record { said = said; unsaid = unsaid; later = later; rest = rest; split = refl; log = log; output = record { output = output; unended = unended; proper = proper } },
     ([], sym (append-nil said)),
   )
 
   -- the same of a longer journal
-  pub keep_more : (before : List ℕ) (said journal more : List Settlement) (m : Moment) → AllSay p opening before said journal m → AllSay p opening before said (journal ++ more) m
+  pub keep_more : (before : List ℕ) (said journal more : List Settlement) (m : Moment) → AllSay live p opening before said journal m → AllSay live p opening before said (journal ++ more) m
   keep_more before said journal more m all image left =
       let t = all image left in
       let k = t.0 in (
@@ -146,14 +146,14 @@ module _ (p : Program) (opening : List Commit) where
       )
 
   -- and where more was said
-  pub say_more : (before : List ℕ) (said moved journal : List Settlement) (m : Moment) → AllSay p opening before said journal m → AllSay p opening before (said ++ moved) journal m
+  pub say_more : (before : List ℕ) (said moved journal : List Settlement) (m : Moment) → AllSay live p opening before said journal m → AllSay live p opening before (said ++ moved) journal m
   say_more before said moved journal m all image left =
       let t = all image left in
       (t.0, (t.1.0 ++ moved, ap (λ (l : List Settlement). l ++ moved) t.1.1 ∙ append_assoc t.0.said t.1.0 moved))
 
   -- the same journal, written otherwise
-  as_journal : (before : List ℕ) (said j k : List Settlement) (m : Moment) → j ≡ k → AllSay p opening before said j m → AllSay p opening before said k m
-  as_journal before said j k m same all = subst (λ (l : List Settlement). AllSay p opening before said l m) same all
+  as_journal : (before : List ℕ) (said j k : List Settlement) (m : Moment) → j ≡ k → AllSay live p opening before said j m → AllSay live p opening before said k m
+  as_journal before said j k m same all = subst (λ (l : List Settlement). AllSay live p opening before said l m) same all
 
   module _ (old : World) where
     -- nothing else is written behind whole lines
@@ -164,16 +164,16 @@ module _ (p : Program) (opening : List Commit) where
     -- ---- before a doubt
 
     -- the world behind the opening
-    pub begins_at : (now : World) → now.output ≡ old.output → now.past ≡ old.past → AllLog p opening now.disk → JournalAt p opening old [] [] now
+    pub begins_at : (now : World) → now.output ≡ old.output → now.past ≡ old.past → AllLog live p opening now.disk → JournalAt live p opening old [] [] now
     begins_at now output past log = record {
       output = output ∙ sym (append-nil old.output);
-      log = λ image left. subst (IsLog live_slot (shape_in p) image) (sym (append-nil opening)) (log image left);
+      log = λ image left. subst (IsLog live (shape_in p) image) (sym (append-nil opening)) (log image left);
       moments = record { more = []; past = past ∙ sym (append-nil old.past); each = tt };
     }
 
     module _ (said unsaid : List Settlement) where
       -- the moment that is now
-      pub now_says : (now : World) → AllByRecursion (IsProper (shape_in p)) (entries_of said) → JournalAt p opening old said unsaid now → AllSay p opening old.output said (said ++ unsaid) (moment_of now)
+      pub now_says : (now : World) → AllByRecursion (IsProper (shape_in p)) (entries_of said) → JournalAt live p opening old said unsaid now → AllSay live p opening old.output said (said ++ unsaid) (moment_of now)
       now_says now proper at =
           as_journal old.output said ((said ++ unsaid) ++ []) (said ++ unsaid) (moment_of now) (append-nil (said ++ unsaid))
           (λ image left. here old.output said unsaid [] [] (moment_of now) image (whole said (moment_of now) now at.output refl) tt proper (at.log image left))
@@ -183,7 +183,7 @@ module _ (p : Program) (opening : List Commit) where
         ends = sym (append_assoc said unsaid batch)
 
         sealing : (mid : World) (m : Moment) → AllByRecursion (IsProper (shape_in p)) (entries_of said) → mid.output ≡ old.output ++ reply_lines (shape_in p) (entries_of said)
-            → IsSealing p (opening ++ commits_of (said ++ unsaid)) batch mid m → AllSay p opening old.output said (said ++ (unsaid ++ batch)) m
+            → IsSealing live p (opening ++ commits_of (said ++ unsaid)) batch mid m → AllSay live p opening old.output said (said ++ (unsaid ++ batch)) m
         sealing mid m proper output s image left = elim (s.log image left) [
           | inl was ↦
               subst (λ (l : List Settlement). Says old.output said l m image) (sym ends)
@@ -191,39 +191,39 @@ module _ (p : Program) (opening : List Commit) where
           | inr has ↦
               subst (λ (l : List Settlement). Says old.output said l m image) (append-nil (said ++ (unsaid ++ batch)))
               (here old.output said (unsaid ++ batch) [] [] m image (whole said m mid output s.output) tt proper
-              (subst (IsLog live_slot (shape_in p) image) (joined_logs opening (said ++ unsaid) batch ∙ ap (λ (l : List Settlement). opening ++ commits_of l) (sym ends)) has))
+              (subst (IsLog live (shape_in p) image) (joined_logs opening (said ++ unsaid) batch ∙ ap (λ (l : List Settlement). opening ++ commits_of l) (sym ends)) has))
         ]
 
-        further : (m : Moment) → AllSay p opening old.output said (said ++ unsaid) m → AllSay p opening old.output said (said ++ (unsaid ++ batch)) m
+        further : (m : Moment) → AllSay live p opening old.output said (said ++ unsaid) m → AllSay live p opening old.output said (said ++ (unsaid ++ batch)) m
         further m all = as_journal old.output said ((said ++ unsaid) ++ batch) (said ++ (unsaid ++ batch)) m (sym ends) (keep_more old.output said (said ++ unsaid) batch m all)
 
         -- a seal
-        pub seals_on : (mid new : World) → AllByRecursion (IsProper (shape_in p)) (entries_of said) → JournalAt p opening old said unsaid mid
-            → Seals p (opening ++ commits_of (said ++ unsaid)) batch mid new → JournalAt p opening old said (unsaid ++ batch) new
+        pub seals_on : (mid new : World) → AllByRecursion (IsProper (shape_in p)) (entries_of said) → JournalAt live p opening old said unsaid mid
+            → Seals live p (opening ++ commits_of (said ++ unsaid)) batch mid new → JournalAt live p opening old said (unsaid ++ batch) new
         seals_on mid new proper at s = record {
           output = s.output ∙ at.output;
-          log = λ image left. subst (IsLog live_slot (shape_in p) image) (joined_logs opening (said ++ unsaid) batch ∙ ap (λ (l : List Settlement). opening ++ commits_of l) (sym ends)) (s.log image left);
+          log = λ image left. subst (IsLog live (shape_in p) image) (joined_logs opening (said ++ unsaid) batch ∙ ap (λ (l : List Settlement). opening ++ commits_of l) (sym ends)) (s.log image left);
           moments = both _
-              (weaker (AllSay p opening old.output said (said ++ unsaid)) (AllSay p opening old.output said (said ++ (unsaid ++ batch))) (λ m all. further m all) at.moments)
-              (weaker (IsSealing p (opening ++ commits_of (said ++ unsaid)) batch mid) (AllSay p opening old.output said (said ++ (unsaid ++ batch))) (λ m is. sealing mid m proper at.output is) s.moments);
+              (weaker (AllSay live p opening old.output said (said ++ unsaid)) (AllSay live p opening old.output said (said ++ (unsaid ++ batch))) (λ m all. further m all) at.moments)
+              (weaker (IsSealing live p (opening ++ commits_of (said ++ unsaid)) batch mid) (AllSay live p opening old.output said (said ++ (unsaid ++ batch))) (λ m is. sealing mid m proper at.output is) s.moments);
         }
 
         -- settlements without records, and no call
-        pub settles_on : (now : World) → commits_of batch ≡ [] → JournalAt p opening old said unsaid now → JournalAt p opening old said (unsaid ++ batch) now
+        pub settles_on : (now : World) → commits_of batch ≡ [] → JournalAt live p opening old said unsaid now → JournalAt live p opening old said (unsaid ++ batch) now
         settles_on now none at = record {
           output = at.output;
-          log = λ image left. subst (IsLog live_slot (shape_in p) image) (sym (same_log opening (said ++ unsaid) batch none) ∙ ap (λ (l : List Settlement). opening ++ commits_of l) (sym ends)) (at.log image left);
-          moments = weaker (AllSay p opening old.output said (said ++ unsaid)) (AllSay p opening old.output said (said ++ (unsaid ++ batch))) (λ m all. further m all) at.moments;
+          log = λ image left. subst (IsLog live (shape_in p) image) (sym (same_log opening (said ++ unsaid) batch none) ∙ ap (λ (l : List Settlement). opening ++ commits_of l) (sym ends)) (at.log image left);
+          moments = weaker (AllSay live p opening old.output said (said ++ unsaid)) (AllSay live p opening old.output said (said ++ (unsaid ++ batch))) (λ m all. further m all) at.moments;
         }
 
       -- calls that leave output and logs alone
-      pub stays_on : (mid new : World) → AllByRecursion (IsProper (shape_in p)) (entries_of said) → JournalAt p opening old said unsaid mid
-          → Seals p (opening ++ commits_of (said ++ unsaid)) [] mid new → JournalAt p opening old said unsaid new
-      stays_on mid new proper at s = subst (λ (l : List Settlement). JournalAt p opening old said l new) (append-nil unsaid) (seals_on [] mid new proper at s)
+      pub stays_on : (mid new : World) → AllByRecursion (IsProper (shape_in p)) (entries_of said) → JournalAt live p opening old said unsaid mid
+          → Seals live p (opening ++ commits_of (said ++ unsaid)) [] mid new → JournalAt live p opening old said unsaid new
+      stays_on mid new proper at s = subst (λ (l : List Settlement). JournalAt live p opening old said l new) (append-nil unsaid) (seals_on [] mid new proper at s)
 
       -- a doubt in which no image has the batch, at no moment: the names alone
-      pub unbegun_on : (names : List Settlement) (mid new : World) → commits_of names ≡ [] → AllByRecursion (IsProper (shape_in p)) (entries_of said) → JournalAt p opening old said unsaid mid
-          → Seals p (opening ++ commits_of (said ++ unsaid)) [] mid new → JournalAt p opening old said (unsaid ++ names) new
+      pub unbegun_on : (names : List Settlement) (mid new : World) → commits_of names ≡ [] → AllByRecursion (IsProper (shape_in p)) (entries_of said) → JournalAt live p opening old said unsaid mid
+          → Seals live p (opening ++ commits_of (said ++ unsaid)) [] mid new → JournalAt live p opening old said (unsaid ++ names) new
       unbegun_on names mid new none proper at s = settles_on names new none (stays_on mid new proper at s)
 
     -- ---- entries are written
@@ -269,28 +269,28 @@ module _ (p : Program) (opening : List Commit) where
       before_proper = (parts_of (IsProper (shape_in p)) (entries_of said) (entries_of moved) (subst (AllByRecursion (IsProper (shape_in p))) (entries_of-append said moved) proper)).0
 
       -- an entry is written
-      pub emits_on : (mid new : World) → JournalAt p opening old said (moved ++ unsaid) mid → IsEmitted (reply_line (shape_in p) e) mid new → JournalAt p opening old (said ++ moved) unsaid new
+      pub emits_on : (mid new : World) → JournalAt live p opening old said (moved ++ unsaid) mid → IsEmitted (reply_line (shape_in p) e) mid new → JournalAt live p opening old (said ++ moved) unsaid new
       emits_on mid new at emitted =
-          let log : AllLog p (opening ++ commits_of ((said ++ moved) ++ unsaid)) new.disk =
-          subst (λ (d : Disk). AllLog p (opening ++ commits_of ((said ++ moved) ++ unsaid)) d) (sym emitted.disk)
-          (subst (λ (l : List Settlement). AllLog p (opening ++ commits_of l) mid.disk) moves at.log) in
+          let log : AllLog live p (opening ++ commits_of ((said ++ moved) ++ unsaid)) new.disk =
+          subst (λ (d : Disk). AllLog live p (opening ++ commits_of ((said ++ moved) ++ unsaid)) d) (sym emitted.disk)
+          (subst (λ (l : List Settlement). AllLog live p (opening ++ commits_of l) mid.disk) moves at.log) in
           let output : new.output ≡ old.output ++ reply_lines (shape_in p) (entries_of (said ++ moved)) = told said moved e mid new one_entry at.output emitted in
           record {
             output = output;
             log = log;
             moments = both _
-                (weaker (AllSay p opening old.output said (said ++ (moved ++ unsaid))) (AllSay p opening old.output (said ++ moved) ((said ++ moved) ++ unsaid))
+                (weaker (AllSay live p opening old.output said (said ++ (moved ++ unsaid))) (AllSay live p opening old.output (said ++ moved) ((said ++ moved) ++ unsaid))
                 (λ m all. as_journal old.output (said ++ moved) (said ++ (moved ++ unsaid)) ((said ++ moved) ++ unsaid) m moves (say_more old.output said moved (said ++ (moved ++ unsaid)) m all)) at.moments)
-                (one (AllSay p opening old.output (said ++ moved) ((said ++ moved) ++ unsaid)) mid new emitted.past
+                (one (AllSay live p opening old.output (said ++ moved) ((said ++ moved) ++ unsaid)) mid new emitted.past
                 (as_journal old.output (said ++ moved) (((said ++ moved) ++ unsaid) ++ []) ((said ++ moved) ++ unsaid) (moment_of new) (append-nil ((said ++ moved) ++ unsaid))
                 (λ image left. here old.output (said ++ moved) unsaid [] [] (moment_of new) image (whole (said ++ moved) (moment_of new) new output refl) tt proper (log image left))));
           }
 
       -- or a part of its line, after which nothing is written
-      pub cuts_on : (n : ℕ) (mid new : World) → JournalAt p opening old said (moved ++ unsaid) mid → Emitted n (reply_line (shape_in p) e) mid new → n < length (reply_line (shape_in p) e)
-          → CutAt p opening old said (moved ++ unsaid) [] (take n (reply_line (shape_in p) e)) new
+      pub cuts_on : (n : ℕ) (mid new : World) → JournalAt live p opening old said (moved ++ unsaid) mid → Emitted n (reply_line (shape_in p) e) mid new → n < length (reply_line (shape_in p) e)
+          → CutAt live p opening old said (moved ++ unsaid) [] (take n (reply_line (shape_in p) e)) new
       cuts_on n mid new at emitted low =
-          let log : AllLog p (opening ++ commits_of (said ++ (moved ++ unsaid))) new.disk = subst (λ (d : Disk). AllLog p (opening ++ commits_of (said ++ (moved ++ unsaid))) d) (sym emitted.disk) at.log in
+          let log : AllLog live p (opening ++ commits_of (said ++ (moved ++ unsaid))) new.disk = subst (λ (d : Disk). AllLog live p (opening ++ commits_of (said ++ (moved ++ unsaid))) d) (sym emitted.disk) at.log in
           let output = part_told said n (reply_line (shape_in p) e) mid new at.output emitted in
           let unended = cut-no_feed (shape_in p) e n low in
           record {
@@ -298,15 +298,15 @@ module _ (p : Program) (opening : List Commit) where
             unended = unended;
             log = λ image left. inl (log image left);
             moments = both _
-                (weaker (AllSay p opening old.output said (said ++ (moved ++ unsaid))) (AllSay p opening old.output said ((said ++ (moved ++ unsaid)) ++ []))
+                (weaker (AllSay live p opening old.output said (said ++ (moved ++ unsaid))) (AllSay live p opening old.output said ((said ++ (moved ++ unsaid)) ++ []))
                 (λ m all. keep_more old.output said (said ++ (moved ++ unsaid)) [] m all) at.moments)
-                (one (AllSay p opening old.output said ((said ++ (moved ++ unsaid)) ++ [])) mid new emitted.past
+                (one (AllSay live p opening old.output said ((said ++ (moved ++ unsaid)) ++ [])) mid new emitted.past
                 (λ image left. here old.output said (moved ++ unsaid) [] (take n (reply_line (shape_in p) e)) (moment_of new) image output unended before_proper (log image left)));
           }
 
       -- a call on the output that failed: the line is whole, or cut
-      pub fails_on : (n : ℕ) (mid new : World) → JournalAt p opening old said (moved ++ unsaid) mid → Emitted n (reply_line (shape_in p) e) mid new
-          → JournalAt p opening old (said ++ moved) unsaid new ⊎ CutAt p opening old said (moved ++ unsaid) [] (take n (reply_line (shape_in p) e)) new
+      pub fails_on : (n : ℕ) (mid new : World) → JournalAt live p opening old said (moved ++ unsaid) mid → Emitted n (reply_line (shape_in p) e) mid new
+          → JournalAt live p opening old (said ++ moved) unsaid new ⊎ CutAt live p opening old said (moved ++ unsaid) [] (take n (reply_line (shape_in p) e)) new
       fails_on n mid new at emitted = elim (whole_or_part n (reply_line (shape_in p) e) mid new emitted) [
         | inl low ↦ inr (cuts_on n mid new at emitted low)
         | inr all ↦ inl (emits_on mid new at all)
@@ -317,27 +317,27 @@ module _ (p : Program) (opening : List Commit) where
     module _ (said unsaid : List Settlement) (batch : Settlement) (proper : AllByRecursion (IsProper (shape_in p)) (entries_of said)) where
       -- an image that has the journal, or it with the batch
       either_says : (rest : List ℕ) (m : Moment) (image : Image) → m.output ≡ old.output ++ (reply_lines (shape_in p) (entries_of said) ++ rest) → NoFeed rest
-          → IsLog live_slot (shape_in p) image (opening ++ commits_of (said ++ unsaid)) ⊎ IsLog live_slot (shape_in p) image (opening ++ commits_of ((said ++ unsaid) ++ batch ∷ []))
+          → IsLog live (shape_in p) image (opening ++ commits_of (said ++ unsaid)) ⊎ IsLog live (shape_in p) image (opening ++ commits_of ((said ++ unsaid) ++ batch ∷ []))
           → Says old.output said ((said ++ unsaid) ++ batch ∷ []) m image
       either_says rest m image output unended (inl was) = here old.output said unsaid (batch ∷ []) rest m image output unended proper was
       either_says rest m image output unended (inr has) =
           subst (λ (l : List Settlement). Says old.output said l m image) (append-nil (said ++ (unsaid ++ batch ∷ [])) ∙ sym (append_assoc said unsaid (batch ∷ [])))
           (here old.output said (unsaid ++ batch ∷ []) [] rest m image output unended proper
-          (subst (λ (l : List Settlement). IsLog live_slot (shape_in p) image (opening ++ commits_of l)) (append_assoc said unsaid (batch ∷ [])) has))
+          (subst (λ (l : List Settlement). IsLog live (shape_in p) image (opening ++ commits_of l)) (append_assoc said unsaid (batch ∷ [])) has))
 
       -- the moment that is now
-      pub doubt_says : (now : World) → DoubtAt p opening old said unsaid batch now → AllSay p opening old.output said ((said ++ unsaid) ++ batch ∷ []) (moment_of now)
+      pub doubt_says : (now : World) → DoubtAt live p opening old said unsaid batch now → AllSay live p opening old.output said ((said ++ unsaid) ++ batch ∷ []) (moment_of now)
       doubt_says now at image left = either_says [] (moment_of now) image (whole said (moment_of now) now at.output refl) tt (at.log image left)
 
     -- a batch is in doubt; its units' names come before it
-    pub doubts_on : (said unsaid names : List Settlement) (batch : Settlement) (mid new : World) → commits_of names ≡ [] → AllByRecursion (IsProper (shape_in p)) (entries_of said) → JournalAt p opening old said unsaid mid
-        → Doubts p (opening ++ commits_of (said ++ unsaid)) batch mid new → DoubtAt p opening old said (unsaid ++ names) batch new
+    pub doubts_on : (said unsaid names : List Settlement) (batch : Settlement) (mid new : World) → commits_of names ≡ [] → AllByRecursion (IsProper (shape_in p)) (entries_of said) → JournalAt live p opening old said unsaid mid
+        → Doubts live p (opening ++ commits_of (said ++ unsaid)) batch mid new → DoubtAt live p opening old said (unsaid ++ names) batch new
     doubts_on said unsaid names batch mid new none proper at d = record {
       output = d.output ∙ at.output;
       log = λ image left. either image (d.log image left);
       moments = both _
-          (weaker (AllSay p opening old.output said (said ++ unsaid)) (AllSay p opening old.output said ((said ++ (unsaid ++ names)) ++ batch ∷ [])) (λ m all. further m all) at.moments)
-          (weaker (IsSealing p (opening ++ commits_of (said ++ unsaid)) (batch ∷ []) mid) (AllSay p opening old.output said ((said ++ (unsaid ++ names)) ++ batch ∷ []))
+          (weaker (AllSay live p opening old.output said (said ++ unsaid)) (AllSay live p opening old.output said ((said ++ (unsaid ++ names)) ++ batch ∷ [])) (λ m all. further m all) at.moments)
+          (weaker (IsSealing live p (opening ++ commits_of (said ++ unsaid)) (batch ∷ []) mid) (AllSay live p opening old.output said ((said ++ (unsaid ++ names)) ++ batch ∷ []))
           (λ m is image left. either_says said (unsaid ++ names) batch proper [] m image (whole said m mid at.output is.output) tt (either image (is.log image left))) d.moments);
     }
       where
@@ -350,25 +350,25 @@ module _ (p : Program) (opening : List Commit) where
         longer_logs : (opening ++ commits_of (said ++ unsaid)) ++ commits_of (batch ∷ []) ≡ opening ++ commits_of ((said ++ (unsaid ++ names)) ++ batch ∷ [])
         longer_logs = ap (λ (l : List Commit). l ++ commits_of (batch ∷ [])) logs ∙ joined_logs opening (said ++ (unsaid ++ names)) (batch ∷ [])
 
-        either : (image : Image) → IsLog live_slot (shape_in p) image (opening ++ commits_of (said ++ unsaid)) ⊎ IsLog live_slot (shape_in p) image ((opening ++ commits_of (said ++ unsaid)) ++ commits_of (batch ∷ []))
-            → IsLog live_slot (shape_in p) image (opening ++ commits_of (said ++ (unsaid ++ names))) ⊎ IsLog live_slot (shape_in p) image (opening ++ commits_of ((said ++ (unsaid ++ names)) ++ batch ∷ []))
-        either image (inl was) = inl (subst (IsLog live_slot (shape_in p) image) logs was)
-        either image (inr has) = inr (subst (IsLog live_slot (shape_in p) image) longer_logs has)
+        either : (image : Image) → IsLog live (shape_in p) image (opening ++ commits_of (said ++ unsaid)) ⊎ IsLog live (shape_in p) image ((opening ++ commits_of (said ++ unsaid)) ++ commits_of (batch ∷ []))
+            → IsLog live (shape_in p) image (opening ++ commits_of (said ++ (unsaid ++ names))) ⊎ IsLog live (shape_in p) image (opening ++ commits_of ((said ++ (unsaid ++ names)) ++ batch ∷ []))
+        either image (inl was) = inl (subst (IsLog live (shape_in p) image) logs was)
+        either image (inr has) = inr (subst (IsLog live (shape_in p) image) longer_logs has)
 
-        further : (m : Moment) → AllSay p opening old.output said (said ++ unsaid) m → AllSay p opening old.output said ((said ++ (unsaid ++ names)) ++ batch ∷ []) m
+        further : (m : Moment) → AllSay live p opening old.output said (said ++ unsaid) m → AllSay live p opening old.output said ((said ++ (unsaid ++ names)) ++ batch ∷ []) m
         further m all =
             keep_more old.output said (said ++ (unsaid ++ names)) (batch ∷ []) m
             (as_journal old.output said ((said ++ unsaid) ++ names) (said ++ (unsaid ++ names)) m (sym named) (keep_more old.output said (said ++ unsaid) names m all))
 
     -- calls that leave all as it is, after a doubt
-    pub doubt_stays_on : (said unsaid : List Settlement) (batch : Settlement) (mid new : World) → AllByRecursion (IsProper (shape_in p)) (entries_of said) → DoubtAt p opening old said unsaid batch mid
-        → Passes (λ m. m ≡ moment_of mid) mid.past new.past → moment_of new ≡ moment_of mid → DoubtAt p opening old said unsaid batch new
+    pub doubt_stays_on : (said unsaid : List Settlement) (batch : Settlement) (mid new : World) → AllByRecursion (IsProper (shape_in p)) (entries_of said) → DoubtAt live p opening old said unsaid batch mid
+        → Passes (λ m. m ≡ moment_of mid) mid.past new.past → moment_of new ≡ moment_of mid → DoubtAt live p opening old said unsaid batch new
     doubt_stays_on said unsaid batch mid new proper at moments now = record {
       output = ap (λ (m : Moment). m.output) now ∙ at.output;
       log = λ image left. at.log image (subst (λ (m : Moment). IsImage m.disk image) now left);
       moments = both _ at.moments
-          (weaker (λ m. m ≡ moment_of mid) (AllSay p opening old.output said ((said ++ unsaid) ++ batch ∷ []))
-          (λ m same. subst (AllSay p opening old.output said ((said ++ unsaid) ++ batch ∷ [])) (sym same) (doubt_says said unsaid batch proper mid at)) moments);
+          (weaker (λ m. m ≡ moment_of mid) (AllSay live p opening old.output said ((said ++ unsaid) ++ batch ∷ []))
+          (λ m same. subst (AllSay live p opening old.output said ((said ++ unsaid) ++ batch ∷ [])) (sym same) (doubt_says said unsaid batch proper mid at)) moments);
     }
 
     module _ (said moved unsaid : List Settlement) (batch : Settlement) (e : Entry) (one_entry : entries_of moved ≡ e ∷ []) (proper : AllByRecursion (IsProper (shape_in p)) (entries_of (said ++ moved))) where
@@ -377,30 +377,30 @@ module _ (p : Program) (opening : List Commit) where
       doubt_moves = ap (λ (l : List Settlement). l ++ batch ∷ []) (moves said moved unsaid e one_entry proper)
 
       -- an entry is written after a doubt
-      pub doubt_emits_on : (mid new : World) → DoubtAt p opening old said (moved ++ unsaid) batch mid → IsEmitted (reply_line (shape_in p) e) mid new → DoubtAt p opening old (said ++ moved) unsaid batch new
+      pub doubt_emits_on : (mid new : World) → DoubtAt live p opening old said (moved ++ unsaid) batch mid → IsEmitted (reply_line (shape_in p) e) mid new → DoubtAt live p opening old (said ++ moved) unsaid batch new
       doubt_emits_on mid new at emitted =
           let output : new.output ≡ old.output ++ reply_lines (shape_in p) (entries_of (said ++ moved)) = told said moved e mid new one_entry at.output emitted in
           record {
             output = output;
             log = either;
             moments = both _
-                (weaker (AllSay p opening old.output said ((said ++ (moved ++ unsaid)) ++ batch ∷ [])) (AllSay p opening old.output (said ++ moved) (((said ++ moved) ++ unsaid) ++ batch ∷ []))
+                (weaker (AllSay live p opening old.output said ((said ++ (moved ++ unsaid)) ++ batch ∷ [])) (AllSay live p opening old.output (said ++ moved) (((said ++ moved) ++ unsaid) ++ batch ∷ []))
                 (λ m all. as_journal old.output (said ++ moved) ((said ++ (moved ++ unsaid)) ++ batch ∷ []) (((said ++ moved) ++ unsaid) ++ batch ∷ []) m doubt_moves
                 (say_more old.output said moved ((said ++ (moved ++ unsaid)) ++ batch ∷ []) m all)) at.moments)
-                (one (AllSay p opening old.output (said ++ moved) (((said ++ moved) ++ unsaid) ++ batch ∷ [])) mid new emitted.past
+                (one (AllSay live p opening old.output (said ++ moved) (((said ++ moved) ++ unsaid) ++ batch ∷ [])) mid new emitted.past
                 (λ image left. either_says (said ++ moved) unsaid batch proper [] (moment_of new) image (whole (said ++ moved) (moment_of new) new output refl) tt (either image left)));
           }
         where
           either : (image : Image) → IsImage new.disk image
-              → IsLog live_slot (shape_in p) image (opening ++ commits_of ((said ++ moved) ++ unsaid)) ⊎ IsLog live_slot (shape_in p) image (opening ++ commits_of (((said ++ moved) ++ unsaid) ++ batch ∷ []))
+              → IsLog live (shape_in p) image (opening ++ commits_of ((said ++ moved) ++ unsaid)) ⊎ IsLog live (shape_in p) image (opening ++ commits_of (((said ++ moved) ++ unsaid) ++ batch ∷ []))
           either image left = elim (at.log image (subst (λ (d : Disk). IsImage d image) emitted.disk left)) [
-            | inl was ↦ inl (subst (λ (l : List Settlement). IsLog live_slot (shape_in p) image (opening ++ commits_of l)) (moves said moved unsaid e one_entry proper) was)
-            | inr has ↦ inr (subst (λ (l : List Settlement). IsLog live_slot (shape_in p) image (opening ++ commits_of l)) doubt_moves has)
+            | inl was ↦ inl (subst (λ (l : List Settlement). IsLog live (shape_in p) image (opening ++ commits_of l)) (moves said moved unsaid e one_entry proper) was)
+            | inr has ↦ inr (subst (λ (l : List Settlement). IsLog live (shape_in p) image (opening ++ commits_of l)) doubt_moves has)
           ]
 
       -- or cut
-      pub doubt_cuts_on : (n : ℕ) (mid new : World) → DoubtAt p opening old said (moved ++ unsaid) batch mid → Emitted n (reply_line (shape_in p) e) mid new → n < length (reply_line (shape_in p) e)
-          → CutAt p opening old said (moved ++ unsaid) (batch ∷ []) (take n (reply_line (shape_in p) e)) new
+      pub doubt_cuts_on : (n : ℕ) (mid new : World) → DoubtAt live p opening old said (moved ++ unsaid) batch mid → Emitted n (reply_line (shape_in p) e) mid new → n < length (reply_line (shape_in p) e)
+          → CutAt live p opening old said (moved ++ unsaid) (batch ∷ []) (take n (reply_line (shape_in p) e)) new
       doubt_cuts_on n mid new at emitted low =
           let output = part_told said n (reply_line (shape_in p) e) mid new at.output emitted in
           let unended = cut-no_feed (shape_in p) e n low in
@@ -409,57 +409,57 @@ module _ (p : Program) (opening : List Commit) where
             unended = unended;
             log = either;
             moments = both _ at.moments
-                (one (AllSay p opening old.output said ((said ++ (moved ++ unsaid)) ++ batch ∷ [])) mid new emitted.past
+                (one (AllSay live p opening old.output said ((said ++ (moved ++ unsaid)) ++ batch ∷ [])) mid new emitted.past
                 (λ image left. either_says said (moved ++ unsaid) batch (before_proper said moved unsaid e one_entry proper) (take n (reply_line (shape_in p) e)) (moment_of new) image output unended (either image left)));
           }
         where
           either : (image : Image) → IsImage new.disk image
-              → IsLog live_slot (shape_in p) image (opening ++ commits_of (said ++ (moved ++ unsaid))) ⊎ IsLog live_slot (shape_in p) image (opening ++ commits_of ((said ++ (moved ++ unsaid)) ++ batch ∷ []))
+              → IsLog live (shape_in p) image (opening ++ commits_of (said ++ (moved ++ unsaid))) ⊎ IsLog live (shape_in p) image (opening ++ commits_of ((said ++ (moved ++ unsaid)) ++ batch ∷ []))
           either image left = at.log image (subst (λ (d : Disk). IsImage d image) emitted.disk left)
 
       -- an emit that failed wrote the line whole, or a part of it
-      pub doubt_fails_on : (n : ℕ) (mid new : World) → DoubtAt p opening old said (moved ++ unsaid) batch mid → Emitted n (reply_line (shape_in p) e) mid new
-          → DoubtAt p opening old (said ++ moved) unsaid batch new ⊎ CutAt p opening old said (moved ++ unsaid) (batch ∷ []) (take n (reply_line (shape_in p) e)) new
+      pub doubt_fails_on : (n : ℕ) (mid new : World) → DoubtAt live p opening old said (moved ++ unsaid) batch mid → Emitted n (reply_line (shape_in p) e) mid new
+          → DoubtAt live p opening old (said ++ moved) unsaid batch new ⊎ CutAt live p opening old said (moved ++ unsaid) (batch ∷ []) (take n (reply_line (shape_in p) e)) new
       doubt_fails_on n mid new at emitted = elim (whole_or_part n (reply_line (shape_in p) e) mid new emitted) [
         | inl low ↦ inr (doubt_cuts_on n mid new at emitted low)
         | inr all ↦ inl (doubt_emits_on mid new at all)
       ]
 
     -- the moment of a cut
-    pub cut_says : (said unsaid later : List Settlement) (rest : List ℕ) (now : World) → AllByRecursion (IsProper (shape_in p)) (entries_of said) → CutAt p opening old said unsaid later rest now
-        → AllSay p opening old.output said ((said ++ unsaid) ++ later) (moment_of now)
+    pub cut_says : (said unsaid later : List Settlement) (rest : List ℕ) (now : World) → AllByRecursion (IsProper (shape_in p)) (entries_of said) → CutAt live p opening old said unsaid later rest now
+        → AllSay live p opening old.output said ((said ++ unsaid) ++ later) (moment_of now)
     cut_says said unsaid later rest now proper at image left = elim (at.log image left) [
       | inl was ↦ here old.output said unsaid later rest (moment_of now) image at.output at.unended proper was
       | inr has ↦
           subst (λ (l : List Settlement). Says old.output said l (moment_of now) image) (append-nil (said ++ (unsaid ++ later)) ∙ sym (append_assoc said unsaid later))
           (here old.output said (unsaid ++ later) [] rest (moment_of now) image at.output at.unended proper
-          (subst (λ (l : List Settlement). IsLog live_slot (shape_in p) image (opening ++ commits_of l)) (append_assoc said unsaid later) has))
+          (subst (λ (l : List Settlement). IsLog live (shape_in p) image (opening ++ commits_of l)) (append_assoc said unsaid later) has))
     ]
 
     -- whole lines are a cut without a rest
-    pub whole_cut : (said unsaid : List Settlement) (now : World) → JournalAt p opening old said unsaid now → CutAt p opening old said unsaid [] [] now
+    pub whole_cut : (said unsaid : List Settlement) (now : World) → JournalAt live p opening old said unsaid now → CutAt live p opening old said unsaid [] [] now
     whole_cut said unsaid now at = record {
       output = whole said (moment_of now) now at.output refl;
       unended = tt;
       log = λ image left. inl (at.log image left);
-      moments = weaker (AllSay p opening old.output said (said ++ unsaid)) (AllSay p opening old.output said ((said ++ unsaid) ++ [])) (λ m all. keep_more old.output said (said ++ unsaid) [] m all) at.moments;
+      moments = weaker (AllSay live p opening old.output said (said ++ unsaid)) (AllSay live p opening old.output said ((said ++ unsaid) ++ [])) (λ m all. keep_more old.output said (said ++ unsaid) [] m all) at.moments;
     }
 
     -- and so they are after a doubt
-    pub doubt_cut : (said unsaid : List Settlement) (batch : Settlement) (now : World) → DoubtAt p opening old said unsaid batch now → CutAt p opening old said unsaid (batch ∷ []) [] now
+    pub doubt_cut : (said unsaid : List Settlement) (batch : Settlement) (now : World) → DoubtAt live p opening old said unsaid batch now → CutAt live p opening old said unsaid (batch ∷ []) [] now
     doubt_cut said unsaid batch now at = record { output = whole said (moment_of now) now at.output refl; unended = tt; log = at.log; moments = at.moments }
 
 -- calls that only asked leave each log as it was
-pub asked_seals : (p : Program) (before : List Commit) (mid new : World) → OnlyAsked mid new → AllLog p before mid.disk → Seals p before [] mid new
-asked_seals p before mid new asked all = record {
-  moments = weaker (λ m. m ≡ moment_of mid) (IsSealing p before [] mid)
+pub asked_seals : (live : ℕ) (p : Program) (before : List Commit) (mid new : World) → OnlyAsked mid new → AllLog live p before mid.disk → Seals live p before [] mid new
+asked_seals live p before mid new asked all = record {
+  moments = weaker (λ m. m ≡ moment_of mid) (IsSealing live p before [] mid)
       (λ m same. record {
         output = ap (λ (n : Moment). n.output) same;
         log = λ image left. inl (all image (subst (λ (n : Moment). IsImage n.disk image) same left));
       })
       asked.moments;
   output = asked.output;
-  log = λ image left. subst (IsLog live_slot (shape_in p) image) (sym (append-nil before)) (all image (subst (λ (d : Disk). IsImage d image) asked.disk left));
+  log = λ image left. subst (IsLog live (shape_in p) image) (sym (append-nil before)) (all image (subst (λ (d : Disk). IsImage d image) asked.disk left));
 }
 
 -- what was written of a cut line is a first part of it

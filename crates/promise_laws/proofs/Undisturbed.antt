@@ -9,7 +9,7 @@ use Rattle.cell_model.specs.Decisions.{is_commit, decision, all_decided, and_its
 use Rattle.cell_model.proofs.Decisions.{commits-exactly}
 use Rattle.cell_model.proofs.Units.{same_unit-false, same_grain-is, cases_unit, Member-append, any-none, filter-member, oldest-some}
 use Rattle.host_trait.specs.declared.channels.Channel.TheVariants.{File}
-use Rattle.host_trait.specs.declared.channels.FileId.TheVariants.{Grain}
+use Rattle.host_trait.specs.declared.channels.FileId.TheVariants.{Manager, Grain}
 use Rattle.core_model.specs.declared.phases.Phase.{Phase}
 use Rattle.core_model.specs.declared.phases.Phase.TheVariants.{Unborn, Running, Finished, Refused, Ended}
 use Rattle.core_model.specs.declared.phases.Verdict.{Verdict}
@@ -40,7 +40,6 @@ use Rattle.promise_spec.specs.Causes.{NoneRose, RoseBy, is_no, is_unsealed, RunH
 use Rattle.promise_spec.specs.Courses.{Observed, Course, basis, core_run, core_end}
 use Rattle.promise_spec.specs.Explained.{IsExplained}
 use Rattle.promise_spec.specs.Promise.{IsUndisturbed}
-use Rattle.silo_spec.specs.Silos.{manager}
 use Rattle.promise_spec.proofs.Lists.{some_is}
 use Rattle.promise_laws.proofs.SerialRecords.{above_records}
 use Rattle.promise_laws.proofs.Applied.{AllFit, keeps-run, none-applies}
@@ -311,10 +310,10 @@ quiet-events : (p : Program) (r : Observed) (c : Course) → IsExplained p r c �
 quiet-events p r c is none at e there a = quiet e (record { there = there; applied = a }) (is.units at e (record { there = there; applied = a }))
   where
     no_vote : (g : GrainId) → how_many (is_no g) (core_run p c) ≡ 0
-    no_vote g = none-rose _ _ _ (is.faults.votes g) (none (File (Grain 0 g)))
+    no_vote g = none-rose _ _ _ (is.faults.votes g) (none (File (Grain c.live g)))
 
     all_sealed : how_many is_unsealed (core_run p c) ≡ 0
-    all_sealed = none-rose _ _ _ is.faults.seals (none (File manager))
+    all_sealed = none-rose _ _ _ is.faults.seals (none (File (Manager c.live)))
 
     quiet : (e : CoreEvent) → AppliesAt (core_run p c) at e → IsDue (basis p r c) (state_before (core_run p c) at) (got_from (begins (core_run p c)) (take at c.events)) e → IsQuiet e
     quiet (Vote number g true) applied due = refl

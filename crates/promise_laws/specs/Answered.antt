@@ -13,11 +13,12 @@ use Rattle.promise_spec.specs.Openings.{Reads, opened_as}
 use Rattle.promise_spec.specs.Endings.{Done, DiskFault, HasRisen, HasLength, IsCarried, IsBegun}
 use Rattle.promise_spec.specs.Courses.{Observed, seen_at_entry}
 
--- the folder reads as a silo of this program with this log, where the live files are of this slot
-pub record IsOpenable (live : ℕ) (r : Observed) : Type 0 where
+-- the folder reads as a silo of this program with this log, in this slot
+pub record IsOpenable (r : Observed) : Type 0 where
+  pub live : ℕ
   pub program : Program
   pub log : List Commit
-  pub reads : opened_as live (seen_at_entry r) ≡ Reads program log
+  pub reads : opened_as (seen_at_entry r) ≡ Reads live program log
 
 -- the input was read to its end, and what was written is one entry for each line
 pub record HasAnswered (p : Program) (r : Observed) : Type 0 where
@@ -29,13 +30,13 @@ pub record HasAnswered (p : Program) (r : Observed) : Type 0 where
   pub each : (n : ℕ) → 1 ≤ n → n ≤ length (lines_of r.old.input) → (e : Entry) × Member e entries × (e.line ≡ n)
 
 -- A run opened the folder, sound or not: it reads as a silo. A fault is shown by its count, and is one of the input, the
--- output or the manager file; an input that is too long is so by its length; done means that the input was read to its end
+-- output or the live manager file; an input that is too long is so by its length; done means that the input was read to its end
 -- and each line answered; and nothing is written where no line may have begun.
-pub record HasOpened (live : ℕ) (r : Observed) : Type 0 where
-  pub openable : IsOpenable live r
+pub record HasOpened (r : Observed) : Type 0 where
+  pub openable : IsOpenable r
   pub carried : IsCarried r.ending
   pub risen : HasRisen r.ending r.faults_before r.faults_after
-  pub file : (f : FileId) → r.ending ≡ DiskFault f → f ≡ Manager live
+  pub file : (f : FileId) → r.ending ≡ DiskFault f → f ≡ Manager openable.live
   pub long : HasLength r.ending (length r.old.input)
   pub done : r.ending ≡ Done → HasAnswered openable.program r
   pub unbegun : (IsBegun r.ending → ⊥) → r.new.output ≡ r.old.output

@@ -8,7 +8,7 @@ use Rattle.core_model.specs.CoreState.{Member}
 use Rattle.request_wire.specs.Lines.{lines_of}
 use Rattle.promise_spec.specs.Programs.{Program, shape_in}
 use Rattle.promise_spec.specs.Records.{Commit}
-use Rattle.promise_spec.specs.Logs.{live_slot, IsLog, IsPrefix}
+use Rattle.promise_spec.specs.Logs.{IsLog, IsPrefix}
 use Rattle.promise_spec.specs.Moments.{IsImageOf}
 use Rattle.promise_spec.specs.Outputs.{Grew}
 use Rattle.promise_spec.specs.UnitRule.{KeepsUnitRule}
@@ -30,8 +30,8 @@ use Rattle.promise_spec.specs.Promise.{HasReadAll, IsDone}
 -- sync has it; there is one. Until then nothing was written, and each image was one of those at entry.
 pub record Opens (p : Program) (r : Observed) (c : Course) : Type 0 where
   pub folder : IsWholeFolder p r.old
-  pub read : IsLog live_slot (shape_in p) (seen_at_entry r) c.opening
-  pub opened : AllLog p c.opening (last_of (moment_of r.old) c.early).disk
+  pub read : IsLog c.live (shape_in p) (seen_at_entry r) c.opening
+  pub opened : AllLog c.live p c.opening (last_of (moment_of r.old) c.early).disk
   pub some : Image
   pub possible : IsImage (last_of (moment_of r.old) c.early).disk some
   pub past : r.new.past ≡ r.old.past ++ (c.early ++ c.late)
@@ -41,7 +41,7 @@ pub record Opens (p : Program) (r : Observed) (c : Course) : Type 0 where
 -- what an image keeps of a journal was said in these entries
 abbrev pub SaysIn : Program → Observed → Course → List Settlement → Moment → Type 0
 SaysIn p r c journal m = (image : Image) → IsImage m.disk image →
-    (k : KeepsJournal p c.opening r.old.output journal m image) × IsPrefix (entries_of k.said) c.entries
+    (k : KeepsJournal c.live p c.opening r.old.output journal m image) × IsPrefix (entries_of k.said) c.entries
 
 -- The run kept a journal, whose records are those that were added and back what they acknowledge: each image of each
 -- moment has a first part of it, which ends where a batch does, and one has the whole of it. Other files and the header
@@ -51,12 +51,12 @@ pub record Journals (p : Program) (r : Observed) (c : Course) : Type 0 where
   pub commits : c.added ≡ commits_of journal
   pub backs : Backs journal c.added
   pub kept : (m : Moment) → Member m (moments r c) → SaysIn p r c journal m
-  pub batches : (image : Image) (log : List Commit) → IsImageOf (moments r c) image → IsLog live_slot (shape_in p) image log →
+  pub batches : (image : Image) (log : List Commit) → IsImageOf (moments r c) image → IsLog c.live (shape_in p) image log →
       EndsABatch (core_end p c) c.opening log
   pub last : Image
   pub left : IsImageOf (moments r c) last
-  pub longest : IsLog live_slot (shape_in p) last (order c)
-  pub alone : (m : Moment) → Member m (moments r c) → LeavesAlone live_slot r m
+  pub longest : IsLog c.live (shape_in p) last (order c)
+  pub alone : (m : Moment) → Member m (moments r c) → LeavesAlone c.live r m
 
 -- The records are those of the core's committed units. The events keep the unit rule, and on one thread the turn rule.
 -- No more faults show than were counted. Of files the manager file alone may end a run, and only with a batch in doubt;
@@ -65,19 +65,19 @@ pub record ExplainsEvents (p : Program) (r : Observed) (c : Course) : Type 0 whe
   pub records : AreAdded (core_end p c) c.added
   pub units : KeepsUnitRule (basis p r c) (core_run p c)
   pub turns : r.manner.threaded ≡ false → KeepsTurnRule p.types (length (lines r)) r.manner.width r.manner.picks (core_run p c)
-  pub faults : AreFaults live_slot (core_run p c) r.faults_before r.faults_after
-  pub doubted : (file : FileId) → r.ending ≡ DiskFault file → FileMayEndInDoubt live_slot (core_run p c) file
+  pub faults : AreFaults c.live (core_run p c) r.faults_before r.faults_after
+  pub doubted : (file : FileId) → r.ending ≡ DiskFault file → FileMayEndInDoubt c.live (core_run p c) file
   pub ended : RunHasDoubt (core_run p c) → EndingMayDoubt r.ending
-  pub unvoted : LeavesUnvoted live_slot p r c
+  pub unvoted : LeavesUnvoted c.live p r c
 
 -- The log at the exit: each image has the whole order, or lacks the records of the batch in doubt. A unit that is told to
 -- be in doubt and that no image has is in no record, and the block of a batch in doubt stands behind its gate. Where no batch
 -- failed to be sealed, nothing was left behind the log.
 pub record LeavesAtExit (p : Program) (r : Observed) (c : Course) : Type 0 where
   pub logs : (image : Image) → IsImage r.new.disk image → HasLogAtExit p c (core_end p c) image
-  pub nowhere : (e : Entry) → Member e c.entries → e.what ≡ InDoubt → IsNowhere p r e.unit → HasNoRecord c e.unit
-  pub block : RunHasDoubt (core_run p c) → BlockInDoubt live_slot r c (core_end p c)
-  pub behind : how_many is_unsealed (core_run p c) ≡ 0 → (image : Image) → IsImage r.new.disk image → EndsAsRead live_slot r image
+  pub nowhere : (e : Entry) → Member e c.entries → e.what ≡ InDoubt → IsNowhere c.live p r e.unit → HasNoRecord c e.unit
+  pub block : RunHasDoubt (core_run p c) → BlockInDoubt c.live r c (core_end p c)
+  pub behind : how_many is_unsealed (core_run p c) ≡ 0 → (image : Image) → IsImage r.new.disk image → EndsAsRead c.live r image
 
 -- How it ended: its lines are the input's, nothing began before the input was read whole, and done means that each line
 -- has its entry; a fault is shown by its count, and an input that is too long by its length. Where nothing failed, so many

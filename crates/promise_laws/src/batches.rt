@@ -1,4 +1,4 @@
-ghost use Rattle.std.specs.Prelude.{◌++◌, ◌<◌, List};
+ghost use Rattle.std.specs.Prelude.{◌++◌, ◌<◌, ℕ, List};
 ghost use Rattle.host_trait.specs.World as host;
 ghost use Rattle.host_trait.specs.World.{Moment, Passes};
 ghost use Rattle.core_model.specs.CoreState.{CoreState};
@@ -21,9 +21,9 @@ pub fn batches_stay_whole()
         → KeepsUnitRule s r → EndsABatch (ends r) opening log → EndsABatch (step (ends r) e) opening log }
     ensures run { (s : Basis) (r : Run) (more : List CoreEvent) (opening log : List Commit) → 0 < r.base
         → KeepsUnitRule s (extended r more) → EndsABatch (ends r) opening log → EndsABatch (ends (extended r more)) opening log }
-    ensures moments { (s : Basis) (p : Program) (r : Run) (more : List CoreEvent) (opening : List Commit) (old new : List Moment)
-        → 0 < r.base → KeepsUnitRule s (extended r more) → Passes (AllEnd p (ends r) opening) old new
-        → Passes (AllEnd p (ends (extended r more)) opening) old new }
+    ensures moments { (live : ℕ) (s : Basis) (p : Program) (r : Run) (more : List CoreEvent) (opening : List Commit) (old new : List Moment)
+        → 0 < r.base → KeepsUnitRule s (extended r more) → Passes (AllEnd live p (ends r) opening) old new
+        → Passes (AllEnd live p (ends (extended r more)) opening) old new }
 {}
 
 /// What a run adds, the records of its committed units, and with them those of a batch in doubt where an image has it, ends
@@ -35,7 +35,7 @@ pub fn records_are_whole_batches()
 
 /// At the moments of a step: where each image has one log that ends so, and while a batch is sealed, where both logs do.
 pub fn moments_end_batches()
-    ensures logged { (p : Program) (w : CoreState) (opening log : List Commit) (m : Moment) → AllLog p log m.disk → EndsABatch w opening log → AllEnd p w opening m }
-    ensures sealing { (p : Program) (w : CoreState) (opening before : List Commit) (batch : List Settlement) (mid : host.World) (m : Moment) → IsSealing p before batch mid m
-        → EndsABatch w opening before → EndsABatch w opening (before ++ commits_of batch) → AllEnd p w opening m }
+    ensures logged { (live : ℕ) (p : Program) (w : CoreState) (opening log : List Commit) (m : Moment) → AllLog live p log m.disk → EndsABatch w opening log → AllEnd live p w opening m }
+    ensures sealing { (live : ℕ) (p : Program) (w : CoreState) (opening before : List Commit) (batch : List Settlement) (mid : host.World) (m : Moment) → IsSealing live p before batch mid m
+        → EndsABatch w opening before → EndsABatch w opening (before ++ commits_of batch) → AllEnd live p w opening m }
 {}

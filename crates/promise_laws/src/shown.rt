@@ -1,5 +1,6 @@
 ghost use Rattle.std.specs.Prelude.{◌≡◌};
-ghost use Rattle.silo_spec.specs.Silos.{program_file, HasProgram};
+ghost use Rattle.host_trait.specs.declared.channels.FileId.TheVariants.{Program as ProgramFile};
+ghost use Rattle.silo_spec.specs.Silos.{HasProgram};
 ghost use Rattle.promise_spec.specs.Programs.{Program, IsChecked};
 ghost use Rattle.promise_spec.specs.Words.{Manner};
 ghost use Rattle.promise_spec.specs.Courses.{Observed, Course, seen_at_entry};
@@ -14,5 +15,5 @@ pub fn shown_runs_keep()
 /// And it promises so, in the manner of its words, where its files read as a checked program at entry.
 pub fn shown_runs_promise()
     ensures { (m : Manner) (p : Program) (r : Observed) (c : Course) → r.manner ≡ m → IsChecked p
-        → HasProgram p.text (seen_at_entry r program_file) → Shows p r c → Promises m r }
+        → HasProgram p.text (seen_at_entry r (ProgramFile c.live)) → Shows p r c → Promises m r }
 {}

@@ -1,4 +1,5 @@
 pub mod Lists
+pub mod Slots
 pub mod OneLog
 pub mod EntryLines
 pub mod PlainNames

@@ -21,8 +21,8 @@ use Rattle.commit_log.specs.Bodies.{IsRecordIn}
 use Rattle.commit_log.specs.Fields.{records_in}
 use Rattle.commit_log.proofs.Fields.{records_reads}
 use Rattle.promise_spec.specs.Records.{Commit}
-use Rattle.promise_spec.specs.Logs.{magic, WriteStands, WritesStand, IsKept, body_of, IsLog}
-use Rattle.silo_spec.specs.Slots.{IsLive}
+use Rattle.promise_spec.specs.Logs.{WriteStands, WritesStand, IsKept, body_of, IsLog}
+use Rattle.promise_spec.proofs.Slots.{one_slot}
 use Rattle.promise_spec.proofs.Lists.{head_of, tail_of, none_is, parts_of}
 
 versions_same : (v w : Version) → VersionFits v → VersionFits w → spelling_of_version v ≡ spelling_of_version w → v ≡ w
@@ -90,10 +90,6 @@ module _ (live : ℕ) (shape : Shape) (image : Image) where
       let all = subst (λ (l : List Commit). AllByRecursion (IsKept live shape image) l) x.commits x.kept in
       let all_too = subst (λ (l : List Commit). AllByRecursion (IsKept live shape image) l) y.commits y.kept in
       x.commits ∙ ap (flat_map (λ batch. batch)) (batches_same x.batches y.batches x.sizes y.sizes all all_too bodies) ∙ sym y.commits
-
--- One slot of an image is live.
-pub one_slot : (one other : ℕ) (image : Image) → IsLive magic one image → IsLive magic other image → one ≡ other
-one_slot one other image is too = is.slot ∙ sym too.slot
 
 -- An image has one log, whichever slots are said to be live.
 pub one_log : (one other : ℕ) (shape : Shape) (image : Image) (a b : List Commit) → IsLog one shape image a → IsLog other shape image b → a ≡ b

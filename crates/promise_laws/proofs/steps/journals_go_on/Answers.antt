@@ -2,19 +2,19 @@ use Rattle.promise_laws.proofs.Stepping.{asked_seals, begins_at, stays_on, seals
 use Rattle.promise_laws.proofs.steps.journals_go_on.Goals as goal
 
 pub returns-clause-begins : goal.returns-clause-begins
-returns-clause-begins c p opening old now output past log = begins_at p opening old now output past log
+returns-clause-begins c live p opening old now output past log = begins_at live p opening old now output past log
 
 pub returns-clause-stays : goal.returns-clause-stays
-returns-clause-stays c p opening old mid new said unsaid proper at s = stays_on p opening old said unsaid mid new proper at s
+returns-clause-stays c live p opening old mid new said unsaid proper at s = stays_on live p opening old said unsaid mid new proper at s
 
 pub returns-clause-seals : goal.returns-clause-seals
-returns-clause-seals c p opening old mid new said unsaid batch proper at s = seals_on p opening old said unsaid batch mid new proper at s
+returns-clause-seals c live p opening old mid new said unsaid batch proper at s = seals_on live p opening old said unsaid batch mid new proper at s
 
 pub returns-clause-settles : goal.returns-clause-settles
-returns-clause-settles c p opening old now said unsaid more none at = settles_on p opening old said unsaid more now none at
+returns-clause-settles c live p opening old now said unsaid more none at = settles_on live p opening old said unsaid more now none at
 
 pub returns-clause-asked : goal.returns-clause-asked
 returns-clause-asked c = asked_seals
 
 pub returns-clause-kept : goal.returns-clause-kept
-returns-clause-kept c p opening before said journal m all image left = (all image left).0
+returns-clause-kept c live p opening before said journal m all image left = (all image left).0
