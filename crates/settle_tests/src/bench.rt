@@ -32,7 +32,7 @@ pub fn new_bench(alloc: Global, quiet: bool) -> Result<Bench, AllocError> {
     let shape = new_shape(alloc)?;
     let core = new_core(alloc)?;
     let host = new_recorder(alloc)?;
-    let settler = Settler::new(alloc, 15, Ends::new(alloc), quiet)?;
+    let settler = Settler::new(alloc, 0, 15, Ends::new(alloc), quiet)?;
     Ok(Bench {
         alloc,
         shape,
