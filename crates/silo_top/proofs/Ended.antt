@@ -164,7 +164,7 @@ module _ {T : Type 0} (m : Manner) (x : Opened) (old mid now new : World) (befor
 
     pub follows : FollowsOpening seen c mid x.slot log
     follows = record {
-      live_is = refl;
+      live = refl;
       opening = refl;
       run = is.run;
       settled = is.settled;

@@ -269,7 +269,7 @@ module _ {T : Type 0} (n seed : ℕ) (m : Manner) (x : Opened) (st : Started) (o
     }
 
     follows : FollowsOpening seen c0 mid x.slot log
-    follows = record { live_is = refl; opening = refl; run = is.run; settled = is.settled; early = is.run.clock.past; late = later.1 }
+    follows = record { live = refl; opening = refl; run = is.run; settled = is.settled; early = is.run.clock.past; late = later.1 }
 
     stands : IsBehind p seen c0 mid
     stands = behind x seen c0 mid is.opened follows
@@ -339,7 +339,7 @@ module _ {T : Type 0} (n seed : ℕ) (m : Manner) (x : Opened) (st : Started) (o
       -- it stands behind the opening, and the files are as the turns left them
       still_behind : IsBehind p r c mid
       still_behind = behind x r c mid is.opened (record {
-        live_is = refl;
+        live = refl;
         opening = refl;
         run = is.run;
         settled = is.settled;

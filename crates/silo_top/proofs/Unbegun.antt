@@ -72,7 +72,7 @@ module _ (m : Manner) (o : Opened) (old mid new : World) (before after : Channel
   c = record { live = o.slot; opening = is.opened.log; added = []; early = is.run.clock.more; late = pulled.moments.more; events = []; entries = []; rest = [] }
 
   follows : FollowsOpening r c mid o.slot is.opened.log
-  follows = record { live_is = refl; opening = refl; run = is.run; settled = is.settled; early = is.run.clock.past; late = pulled.moments.past }
+  follows = record { live = refl; opening = refl; run = is.run; settled = is.settled; early = is.run.clock.past; late = pulled.moments.past }
 
   stands : IsBehind p r c mid
   stands = behind o r c mid is.opened follows
