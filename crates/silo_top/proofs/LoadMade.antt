@@ -138,11 +138,11 @@ starved_carries n seed m asked x old mid before after reads is none = record {
   program = bank_of (program_tree x.checked);
   checked = bank_checked (program_tree x.checked) reads;
   text = refl;
-  carried = inl (record { untouched = asked_untouched x.slot old mid is.run; unread = is.run.input; syncs = is.run.syncs; refused = tt; failed = none });
+  carried = inl (record { untouched = asked_untouched old mid is.run; unread = is.run.input; syncs = is.run.syncs; refused = tt; failed = none });
 }
 
 -- what was opened lies in the files as they read behind the opening
 pub lies_within : (x : Opened) (bank : Tree) (old mid : World) → IsBehindOpening old mid x → LiesWithin (seen_in mid.disk) (with_checked x bank)
 lies_within x bank old mid is =
-    subst (λ (image : Image). LiesWithin image (with_checked x bank)) (λ i file. sym ((asked_untouched x.slot old mid is.run).seen file) i)
+    subst (λ (image : Image). LiesWithin image (with_checked x bank)) (λ i file. sym ((asked_untouched old mid is.run).seen file) i)
     (record { within = is.opened.within; closed = is.opened.closed })

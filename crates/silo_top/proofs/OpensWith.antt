@@ -8,9 +8,7 @@ use Rattle.base_types.specs.declared.calls.Value.{Value}
 use Rattle.std.specs.List.{AllByRecursion}
 use Rattle.host_trait.specs.declared.channels.FileId.TheVariants.{Manager, Grain}
 use Rattle.host_trait.specs.declared.channels.FileId.{FileId}
-use Rattle.host_trait.specs.World.{World, Image, Disk}
-use Rattle.host_trait.specs.Runs.{RunsOnFile}
-use Rattle.silo_spec.specs.Slots.{IsLive}
+use Rattle.host_trait.specs.World.{Image, Disk}
 use Rattle.gate_block.specs.Gates.{IsClosedAt}
 use Rattle.batch_disk.specs.Resting.{Voted, write_end}
 use Rattle.batch_disk.specs.Writers.{FitsSlot, FitsDisk}
@@ -19,11 +17,9 @@ use Rattle.script_tree.specs.Programs.{TypeTree, ProgramTree, program_tree}
 use Rattle.script_check.specs.Shapes.{type_shape, type_shapes}
 use Rattle.script_meaning.specs.Play.{initial_of}
 use Rattle.promise_spec.specs.Records.{standing_of}
-use Rattle.promise_spec.specs.Logs.{magic}
-use Rattle.promise_spec.proofs.Openings.{reads_is_live}
 use Rattle.promise_spec.specs.Cores.{core_from}
 use Rattle.history_core.specs.Cores.{run_of}
-use Rattle.silo_opening.specs.Opened.{Stays, IsOpenedFrom}
+use Rattle.silo_opening.specs.Opened.{IsOpenedFrom}
 use Rattle.silo_opening.specs.declared.open.Opened.{Opened}
 use Rattle.log_reading.specs.Steps.{seen_in}
 use Rattle.silo_top.specs.Loading.{LiesWithin}
@@ -65,12 +61,6 @@ start_is image o s is start = start.run ∙ (λ i. record {
 })
 
 -- ---- the files
-
--- the slot that is live is that of the files that an opening asks
-pub in_slot : (x : Opened) (old mid : World) → IsOpenedFrom (seen_in old.disk) x → RunsOnFile (Manager 0) Stays 1 old mid → RunsOnFile (Manager x.slot) Stays 1 old mid
-in_slot x old mid is run =
-    let live : IsLive magic x.slot (seen_in old.disk) = reads_is_live (seen_in old.disk) x.slot (record { text = is.text; types = program_tree x.checked }) is.log is.reads in
-    subst (λ (slot : ℕ). RunsOnFile (Manager slot) Stays 1 old mid) (sym live.slot) run
 
 -- the settler's ends lie in the files, as they read
 ends_within : (image : Image) (o : Opened) (g : GrainId) (end : Option ℕ) → end_in o.ends g ≡ end → IsOpenedFrom image o → unwrap_or end 0 ≤ length (image (Grain o.slot g))

@@ -20,7 +20,7 @@ use Rattle.silo_top.proofs.LoadBegun.{bank_of, bank_checked, same_behind, with_c
 use Rattle.silo_top.proofs.LoadGoneOn.{load_carries, load_answers}
 use Rattle.silo_top.proofs.LoadLines.{AreReadBy, lines_read, numbered_many, texts_ask}
 use Rattle.silo_top.proofs.LoadMade.{uncreated, uncreated_answers, made_from, made_loads, unopened_carries, unopened_answers, starved_carries, lies_within}
-use Rattle.silo_top.proofs.OpensWith.{fits_within, in_slot}
+use Rattle.silo_top.proofs.OpensWith.{fits_within}
 use Rattle.silo_top.proofs.Read.{AreReadFrom}
 use Rattle.silo_top.proofs.loading.begin_load.Goals as goal
 
@@ -62,7 +62,7 @@ returns-in-Err-start-clause-loads g c = λ told m.
       opened = c.in-Ok-open_silo.ensures.opened told;
       settled = c.in-Ok-open_silo.ensures.settled told;
       count = c.in-Ok-open_silo.ensures.count told;
-      run = in_slot c.in-Ok-open_silo.opened (g.H.Host.world c.create.new.host) (g.H.Host.world c.open_silo.new.host) (c.in-Ok-open_silo.ensures.opened told) (c.open_silo.ensures.run told);
+      run = c.open_silo.ensures.run told;
       stays = λ file. g.met.H.Host.seen_may_stay c.create.new.host file told;
     } in
     let behind_bank : IsBehindOpening (g.H.Host.world c.create.new.host) (g.H.Host.world c.open_silo.new.host) (with_checked c.in-Ok-open_silo.opened c.in-Ok.bank) = same_behind c.in-Ok-open_silo.opened c.in-Ok.bank (g.H.Host.world c.create.new.host) (g.H.Host.world c.open_silo.new.host) bank_is new_bank (λ file. g.met.H.Host.seen_may_stay c.create.new.host file told) behind in
@@ -84,7 +84,7 @@ returns-in-Err-load_lines-clause-loads g c = λ told m.
       opened = c.in-Ok-open_silo.ensures.opened told;
       settled = c.in-Ok-open_silo.ensures.settled told;
       count = c.in-Ok-open_silo.ensures.count told;
-      run = in_slot c.in-Ok-open_silo.opened (g.H.Host.world c.create.new.host) (g.H.Host.world c.open_silo.new.host) (c.in-Ok-open_silo.ensures.opened told) (c.open_silo.ensures.run told);
+      run = c.open_silo.ensures.run told;
       stays = λ file. g.met.H.Host.seen_may_stay c.create.new.host file told;
     } in
     let behind_bank : IsBehindOpening (g.H.Host.world c.create.new.host) (g.H.Host.world c.open_silo.new.host) (with_checked c.in-Ok-open_silo.opened c.in-Ok.bank) = same_behind c.in-Ok-open_silo.opened c.in-Ok.bank (g.H.Host.world c.create.new.host) (g.H.Host.world c.open_silo.new.host) bank_is new_bank (λ file. g.met.H.Host.seen_may_stay c.create.new.host file told) behind in
@@ -101,7 +101,7 @@ returns-in-Ok-load_lines-clause-can g c = can_carry g.H.Host.tells (with_checked
       opened = c.in-Ok-open_silo.ensures.opened told;
       settled = c.in-Ok-open_silo.ensures.settled told;
       count = c.in-Ok-open_silo.ensures.count told;
-      run = in_slot c.in-Ok-open_silo.opened (g.H.Host.world c.create.new.host) (g.H.Host.world c.open_silo.new.host) (c.in-Ok-open_silo.ensures.opened told) (c.open_silo.ensures.run told);
+      run = c.open_silo.ensures.run told;
       stays = λ file. g.met.H.Host.seen_may_stay c.create.new.host file told;
     } in
     fits_within (with_checked c.in-Ok-open_silo.opened c.in-Ok.bank) c.in-Ok-start.started (g.H.Host.world c.open_silo.new.host).disk (lies_within c.in-Ok-open_silo.opened c.in-Ok.bank (g.H.Host.world c.create.new.host) (g.H.Host.world c.open_silo.new.host) behind) c.in-Ok-start.ensures.start)
@@ -118,7 +118,7 @@ returns-in-Ok-load_lines-clause-keeps g c = λ told m settler' after new result 
       opened = c.in-Ok-open_silo.ensures.opened told;
       settled = c.in-Ok-open_silo.ensures.settled told;
       count = c.in-Ok-open_silo.ensures.count told;
-      run = in_slot c.in-Ok-open_silo.opened (g.H.Host.world c.create.new.host) (g.H.Host.world c.open_silo.new.host) (c.in-Ok-open_silo.ensures.opened told) (c.open_silo.ensures.run told);
+      run = c.open_silo.ensures.run told;
       stays = λ file. g.met.H.Host.seen_may_stay c.create.new.host file told;
     } in
     let behind_bank : IsBehindOpening (g.H.Host.world c.create.new.host) (g.H.Host.world c.open_silo.new.host) (with_checked c.in-Ok-open_silo.opened c.in-Ok.bank) = same_behind c.in-Ok-open_silo.opened c.in-Ok.bank (g.H.Host.world c.create.new.host) (g.H.Host.world c.open_silo.new.host) bank_is new_bank (λ file. g.met.H.Host.seen_may_stay c.create.new.host file told) behind in
