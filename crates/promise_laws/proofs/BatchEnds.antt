@@ -34,7 +34,6 @@ use Rattle.core_laws.proofs.Ends.{kept-ends, split-ends}
 use Rattle.core_laws.proofs.Consistency.{consistent-ends}
 use Rattle.core_laws.proofs.Voted.{follows-ends}
 use Rattle.promise_spec.specs.Records.{Commit, AreRecordsOf}
-use Rattle.script_tree.specs.Programs.{ProgramTree}
 use Rattle.promise_spec.specs.UnitRule.{Basis, IsDue, KeepsUnitRule}
 use Rattle.promise_laws.specs.Legality.{is_play, applied_run}
 use Rattle.promise_laws.proofs.Legal.{ends_alike, legal}

@@ -1,12 +1,11 @@
 -- The lines of a load are counted, each once.
-use Rattle.std.proofs.Common.{◌≡◌, ◌≢◌, ◌⊎◌, inl, inr, ℕ, zero, suc, ◌+◌, ◌<◌, ◌≤◌, ◌==◌, Bool, true, false, List, [], ◌∷◌, ◌++◌, length, take, Some, refl, sym, ap, subst, ◌∙◌, arith, append-nil, eq-eqb}
+use Rattle.std.proofs.Common.{◌≡◌, ◌≢◌, ◌⊎◌, inl, inr, ℕ, zero, suc, ◌+◌, ◌<◌, ◌≤◌, ◌==◌, Bool, true, false, List, [], ◌∷◌, length, take, Some, refl, sym, ap, subst, ◌∙◌, arith, append-nil, eq-eqb}
 use Rattle.std.specs.Prelude.{slice_get, count_by, nat_le, if◌then◌else◌}
 use Rattle.std.proofs.Math.Seq.{take-append_seam}
 use Rattle.std.proofs.lemmas.Bool.{cases_lt}
 use Rattle.std.proofs.lemmas.Bool.Decides.{nat_tests}
 use Rattle.std.proofs.lemmas.List.Sums.{sum_by-cons}
 use Rattle.std.proofs.lemmas.Option.{slice_get_within}
-use Rattle.base_types.specs.declared.calls.Outcome.{Outcome}
 use Rattle.base_types.specs.declared.calls.Outcome.TheVariants as outcome
 use Rattle.base_types.specs.declared.entries.BadRequest.{BadRequest}
 use Rattle.base_types.specs.declared.entries.Entry.{Entry}
@@ -15,7 +14,7 @@ use Rattle.base_types.specs.declared.entries.Settled.TheVariants as settled
 use Rattle.core_model.specs.CoreState.{Member}
 use Rattle.core_model.specs.Causes.{HasCause, IsCaused}
 use Rattle.core_model.specs.declared.events.CoreEvent.{CoreEvent}
-use Rattle.core_model.specs.declared.events.CoreEvent.TheVariants.{Bad, Doubt}
+use Rattle.core_model.specs.declared.events.CoreEvent.TheVariants.{Bad}
 use Rattle.core_model.specs.Events.{applies, run, step}
 use Rattle.core_model.specs.Legal.{Run, begins}
 use Rattle.core_model.specs.Lines.{DifferInLine}
@@ -27,14 +26,14 @@ use Rattle.promise_spec.specs.Serial.{depth_of, IsSerial}
 use Rattle.promise_spec.specs.Logs.{IsPrefix}
 use Rattle.promise_spec.specs.Images.{IsWholeSilo, AreNumbered}
 use Rattle.promise_spec.specs.Lines.{IsBadLine}
-use Rattle.promise_spec.specs.Cores.{AppliesAt, state_before}
+use Rattle.promise_spec.specs.Cores.{AppliesAt}
 use Rattle.promise_spec.specs.Causes.{RunHasDoubt}
 use Rattle.promise_spec.specs.Endings as ending
 use Rattle.promise_spec.specs.Courses.{Observed, Course, order, lines, opening_standing, core_run, core_end}
 use Rattle.promise_spec.specs.Explained.{IsExplained}
 use Rattle.promise_spec.specs.Promise.{IsAnswered}
 use Rattle.promise_spec.specs.Replies.{IsTrueOf}
-use Rattle.promise_spec.specs.Loads.{load_calls, AskFor, line_valued, is_faulted, line_aborted, how_many_lines, KeepsLoad}
+use Rattle.promise_spec.specs.Loads.{load_calls, line_valued, is_faulted, line_aborted, how_many_lines, KeepsLoad}
 use Rattle.promise_spec.proofs.Lists.{get_seam}
 use Rattle.promise_spec.proofs.OneLog.{one_log}
 use Rattle.promise_laws.proofs.Journaled.{numbered_front}

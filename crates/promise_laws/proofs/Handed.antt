@@ -6,13 +6,13 @@ use Rattle.base_types.specs.declared.calls.Outcome.{Outcome}
 use Rattle.core_model.specs.CoreState.{UnitNo, nobody, CoreState}
 use Rattle.core_model.specs.Tests.{outcome_of}
 use Rattle.script_tree.specs.Programs.{ProgramTree}
-use Rattle.script_meaning.specs.Play.{GrainState, Want, WantLock, WantRaise, WantUnit, next}
+use Rattle.script_meaning.specs.Play.{GrainState, Want, next}
 use Rattle.script_meaning.specs.Trails.{Given, GivenLock, GivenRaise, GivenOutcome, wanted, locks_of, answers_of, reads_of, IsTrail}
 use Rattle.script_meaning.proofs.Plays.{trails_grow_lem}
 use Rattle.promise_spec.specs.Serial.{depth_of}
 use Rattle.promise_spec.specs.Gotten.{Got, GotLock, GotRaise, GotChild, and_given, given_by, wanted_by, kids_got}
 use Rattle.promise_spec.proofs.Lists.{head_of, tail_of, none_is, none_at, some_is}
-use Rattle.promise_laws.specs.Handed.{IsGiven, AreGiven, want_of, reads_got, IsNamed, AreNamed}
+use Rattle.promise_laws.specs.Handed.{IsGiven, AreGiven, want_of, reads_got, AreNamed}
 
 -- those of two lists
 pub reads_got-append : (xs ys : List Got) → reads_got (xs ++ ys) ≡ reads_got xs ++ reads_got ys

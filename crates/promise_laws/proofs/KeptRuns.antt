@@ -3,7 +3,7 @@ use Rattle.std.proofs.Common.{◌≡◌, ◌≢◌, take, inl, inr, ℕ, Some, L
 use Rattle.std.specs.List.{AllByRecursion}
 use Rattle.std.proofs.lemmas.List.{append_cancel_left}
 use Rattle.base_types.specs.declared.entries.Entry.{Entry}
-use Rattle.host_trait.specs.Disk.{FileState, MayLeave, settled}
+use Rattle.host_trait.specs.Disk.{FileState, MayLeave}
 use Rattle.host_trait.specs.declared.channels.FileId.{FileId}
 use Rattle.host_trait.specs.declared.channels.FileId.TheVariants.{Program as ProgramFile, Manager, Grain}
 use Rattle.host_trait.specs.World.{World, Moment, Image, IsImage, Passes, moment_of}

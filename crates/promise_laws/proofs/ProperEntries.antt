@@ -1,6 +1,5 @@
 -- Settled entries can be written as lines, where the events carry what fits.
-use Rattle.std.proofs.Common.{◌≡◌, ◌⊎◌, inl, inr, ℕ, ◌^◌, ◌<◌, ◌≤◌, Bool, true, false, List, [], ◌∷◌, ◌++◌, length, Option, Some, None, refl, sym, ap, subst, ◌∙◌, arith, lit<}
-use Rattle.std.specs.Prelude.{if◌then◌else◌}
+use Rattle.std.proofs.Common.{◌≡◌, ◌⊎◌, inl, inr, ℕ, ◌^◌, ◌<◌, ◌≤◌, Bool, List, [], ◌∷◌, length, Option, Some, None, refl, sym, ap, subst, ◌∙◌, arith, lit<}
 use Rattle.std.specs.List.{AllByRecursion}
 use Rattle.std.proofs.lemmas.Bool.{and_parts, cond_both, cases_lt}
 use Rattle.base_types.specs.declared.entries.Entry.{Entry}
@@ -13,10 +12,10 @@ use Rattle.field_codec.specs.Spelling.{ResultFits}
 use Rattle.core_model.specs.declared.effects.Effect.{Effect}
 use Rattle.core_model.specs.declared.effects.Read.{Read}
 use Rattle.core_model.specs.declared.events.CoreEvent.{CoreEvent}
-use Rattle.core_model.specs.declared.events.CoreEvent.TheVariants.{Bad, Refuse, Decide}
+use Rattle.core_model.specs.declared.events.CoreEvent.TheVariants.{Decide}
 use Rattle.core_model.specs.declared.phases.Phase.{Phase}
 use Rattle.core_model.specs.declared.phases.Phase.TheVariants.{Unborn, Running, Finished, Refused, Ended}
-use Rattle.core_model.specs.declared.phases.Verdict.TheVariants.{Open, Committed, Aborted}
+use Rattle.core_model.specs.declared.phases.Verdict.TheVariants.{Open, Aborted}
 use Rattle.core_model.specs.Causes.{HasCause, HasLine, IsCaused, decided_state}
 use Rattle.core_model.specs.Chains.{WroteGrain}
 use Rattle.core_model.specs.Changes.{new_unit, swept, swept_by}

@@ -1,12 +1,12 @@
 -- A load that follows a run keeps what is promised of a load.
-use Rattle.std.proofs.Common.{◌≡◌, ◌≢◌, ◌⊎◌, inl, inr, ℕ, ◌+◌, ◌≤◌, List, [], ◌∷◌, ◌++◌, map, refl, sym, ap, subst, ◌∙◌, arith}
+use Rattle.std.proofs.Common.{◌≡◌, ◌≢◌, ◌⊎◌, inl, inr, ℕ, ◌+◌, List, [], ◌∷◌, ◌++◌, map, refl, sym, ap, subst, ◌∙◌, arith}
 use Rattle.std.proofs.lemmas.List.{append-nil}
 use Rattle.core_model.specs.CoreState.{Member, CoreState}
 use Rattle.host_trait.specs.World.{Disk, Moment, Image, IsImage, moment_of, last_of}
 use Rattle.promise_spec.specs.Programs.{Program, shape_in}
 use Rattle.promise_spec.specs.Records.{Commit}
 use Rattle.promise_spec.specs.Logs.{IsLog}
-use Rattle.promise_spec.specs.Causes.{syncs_of, most_syncs_of}
+use Rattle.promise_spec.specs.Causes.{syncs_of}
 use Rattle.promise_spec.specs.Moments.{IsImageOf}
 use Rattle.promise_spec.specs.Endings.{Done, WriteFault, CountsSyncs, IsBegun, IsAllWritten, EndingMayDoubt}
 use Rattle.promise_spec.specs.Courses.{Observed, Course, order, moments, lines, core_run, core_end}
