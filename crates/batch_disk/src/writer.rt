@@ -222,12 +222,12 @@ impl BatchWriter {
     {
         let alloc = *self.kept.allocator();
         let at = self.file_end(grain);
-        self.go_to(batch);
-        self.make_room(grain, versions.len())?;
         let file = FileId::Grain {
             slot: self.slot,
             grain,
         };
+        self.go_to(batch);
+        self.make_room(grain, versions.len())?;
         match write_versions(alloc, host, file, at, versions) {
             Ok(places) => {
                 let written = versions.as_slice();

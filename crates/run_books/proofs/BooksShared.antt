@@ -375,7 +375,7 @@ module _ {H : Type 0} (tells : Bool) (world : H → World) (faults : H → Chann
   answers after new (Err lack) (inr (inl y)) =
       let g : Went (run_seen t) before old = looked y.looked in
       let h = lacks-at tells world faults o g.0.books (run_seen t) before old (can-at t (looked-to y.looked)) g.1 g.0.kept after new y.n y.g y.votes
-          (subst (λ (live : ℕ). LacksRoom tells world faults live y.n y.g (versions_to_write (ends (run_seen t)) (ends (run_seen t)).manager.batch y.g) before.writer after.writer old new) k.slot y.lacks) y.settler in
+      (subst (λ (live : ℕ). LacksRoom tells world faults live y.n y.g (versions_to_write (ends (run_seen t)) (ends (run_seen t)).manager.batch y.g) before.writer after.writer old new) k.slot y.lacks) y.settler in
       (go-both tells o b (run_seen s) (run_seen t) (run_seen t) before before after (faults old) (faults new) (world old) (world old) (world new) g.0 h.0, h.1.rest)
   answers after new (Err lack) (inr (inr (inl y))) = (let g = not-taken after new y.0 y.1 in (g.0, g.1.rest))
   answers after new (Err lack) (inr (inr (inr y))) =
