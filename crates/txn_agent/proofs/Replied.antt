@@ -1,5 +1,5 @@
 -- What a reply was, by what it says.
-use Rattle.std.proofs.Common.{◌≡◌, List, Bool, true, false, true≢false, refl, sym, ap, ◌∙◌, Option, Some, None}
+use Rattle.std.proofs.Common.{◌≡◌, List, true, false, true≢false, refl, sym, ap, Option, Some, None}
 use Rattle.std.specs.Prelude.{is_some}
 use Rattle.core_model.specs.CoreState.{UnitNo, Value}
 use Rattle.core_model.specs.declared.events.CoreReply.{CoreReply}
