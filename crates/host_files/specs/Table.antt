@@ -82,8 +82,8 @@ abbrev pub SameLost : BTreeMap FileId Named → BTreeMap FileId Named → Type 0
 SameLost old new = (file : FileId) → is_lost new file ≡ is_lost old file
 
 -- of no file it is known otherwise than before whether it was seen to have bytes
-abbrev pub SameBytes : BTreeMap FileId Named → BTreeMap FileId Named → Type 0
-SameBytes old new = (file : FileId) → had_bytes_in new file ≡ had_bytes_in old file
+abbrev pub SameHadBytes : BTreeMap FileId Named → BTreeMap FileId Named → Type 0
+SameHadBytes old new = (file : FileId) → had_bytes_in new file ≡ had_bytes_in old file
 
 -- each file of which a sync has failed is known as such still
 abbrev pub StayLost : BTreeMap FileId Named → BTreeMap FileId Named → Type 0

@@ -21,6 +21,10 @@ use system_calls::SystemCalls;
 /// it, each call on a file fails. Files are looked for in the folder that was taken, also where it is renamed, or another one
 /// comes to stand at its path.
 ///
+/// So a call answers Ok only where the system refused nothing in it (`calm`); and it does so wherever nothing was refused, fewer
+/// than 2 to the 63 calls were interrupted, and none of those things is so, nor is the folder missing where a file has to be made,
+/// nor was a sync of the folder refused before a sync (`fine`).
+///
 /// Where no file may be written, they are read all the same, so that a folder on a medium that may only be read can be asked.
 ///
 /// Each file has one name: `program-S.otx`, `manager-S.otx` or `grain-S-K-Y.otx`, with slot, type and key in decimal. The names

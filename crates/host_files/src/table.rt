@@ -4,7 +4,7 @@ ghost use Rattle.host_trait.specs.Files.{HasSlot, MayAsk, StaysReady, name_of};
 ghost use Rattle.host_trait.specs.Faults.{Rose, Counted};
 ghost use Rattle.host_trait.specs.declared.channels.FileId.{FileId};
 ghost use Rattle.host_trait.specs.declared.channels.Channel.TheVariants.{File};
-ghost use Rattle.host_files.specs.Table.{faults_in, is_lost, is_named, had_bytes_in, counts_of, HaveOwnNames, AreAlwaysNamed, SameNames, SameLost, SameBytes, StayLost};
+ghost use Rattle.host_files.specs.Table.{faults_in, is_lost, is_named, had_bytes_in, counts_of, HaveOwnNames, AreAlwaysNamed, SameNames, SameLost, SameHadBytes, StayLost};
 
 use host_trait::{Failed, FileId, file_name};
 use std::alloc::{AllocError, Global};
@@ -38,7 +38,7 @@ fn enter(alloc: Global, files: &mut BTreeMap<FileId, Named>, file: FileId) -> Re
     ensures stays { StaysReady (is_named files.old) (is_named files.new) }
     ensures faults { (other : FileId) → faults_in files.new other ≡ faults_in files.old other }
     ensures lost { (other : FileId) → is_lost files.new other ≡ is_lost files.old other }
-    ensures bytes { SameBytes files.old files.new }
+    ensures bytes { SameHadBytes files.old files.new }
 {
     if files.contains_key(&file) {
         return Ok(());
@@ -71,7 +71,7 @@ fn raise(files: &mut BTreeMap<FileId, Named>, file: FileId)
     ensures later { faults_in files.old file ≤ faults_in files.new file }
     ensures others { (other : FileId) → other ≢ file → faults_in files.new other ≡ faults_in files.old other }
     ensures lost { (other : FileId) → is_lost files.new other ≡ is_lost files.old other }
-    ensures bytes { SameBytes files.old files.new }
+    ensures bytes { SameHadBytes files.old files.new }
     ensures names { SameNames files.old files.new }
 {
     if let Some(named) = files.get_mut(&file) {
@@ -85,7 +85,7 @@ fn lose(files: &mut BTreeMap<FileId, Named>, file: FileId)
     ensures lost { IsTrue (is_lost files.new file) }
     ensures others { (other : FileId) → other ≢ file → is_lost files.new other ≡ is_lost files.old other }
     ensures stay { StayLost files.old files.new }
-    ensures bytes { SameBytes files.old files.new }
+    ensures bytes { SameHadBytes files.old files.new }
     ensures faults { (other : FileId) → faults_in files.new other ≡ faults_in files.old other }
     ensures names { SameNames files.old files.new }
 {
@@ -203,7 +203,7 @@ impl Table {
         ensures stays { StaysReady (is_named self.old.files) (is_named self.new.files) }
         ensures faults { (other : FileId) → faults_in self.new.files other ≡ faults_in self.old.files other }
         ensures lost { (other : FileId) → is_lost self.new.files other ≡ is_lost self.old.files other }
-        ensures bytes { SameBytes self.old.files self.new.files }
+        ensures bytes { SameHadBytes self.old.files self.new.files }
     {
         enter(self.alloc, &mut self.files, file)?;
         Ok(())
@@ -221,8 +221,8 @@ impl Table {
         ensures ok { IfOk result (λ value. answer ≡ Ok value) }
         ensures answer { is_ok result ≡ is_ok answer }
         ensures noted { OnOk result (IsTrue has_bytes → IsTrue (had_bytes_in self.new.files file)) }
-        ensures unnoted { has_bytes ≡ false → SameBytes self.old.files self.new.files }
-        ensures failed { OnErr result (SameBytes self.old.files self.new.files) }
+        ensures unnoted { has_bytes ≡ false → SameHadBytes self.old.files self.new.files }
+        ensures failed { OnErr result (SameHadBytes self.old.files self.new.files) }
         ensures others { (other : FileId) → other ≢ file → had_bytes_in self.new.files other ≡ had_bytes_in self.old.files other }
         ensures lost { SameLost self.old.files self.new.files }
         ensures faults { (input output : ℕ) → Counted (File file) result
@@ -253,7 +253,7 @@ impl Table {
         ensures lost { OnErr result (IsTrue (is_lost self.new.files file)) }
         ensures calm { OnOk result (SameLost self.old.files self.new.files) }
         ensures others { (other : FileId) → other ≢ file → is_lost self.new.files other ≡ is_lost self.old.files other }
-        ensures bytes { SameBytes self.old.files self.new.files }
+        ensures bytes { SameHadBytes self.old.files self.new.files }
         ensures stay { StayLost self.old.files self.new.files }
         ensures stays { StaysReady (is_named self.old.files) (is_named self.new.files) }
     {
