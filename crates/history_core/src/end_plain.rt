@@ -48,6 +48,7 @@ impl Parts {
     }
 
     // The plain run has ended, and its line is settled.
+    #[inline(never)]
     pub(crate) fn end_plain(
         &mut self,
         unit: UnitNo,

@@ -41,6 +41,7 @@ impl Parts {
 
     // The unit locks the grain, or raises its lock: first all room and all copies, then what is aborted goes off the
     // stack, then the lock is given.
+    #[inline(never)]
     pub(crate) fn grant(
         &mut self,
         unit: UnitNo,

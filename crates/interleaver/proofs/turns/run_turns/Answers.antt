@@ -31,6 +31,7 @@ loop-turn-init g c = record {
   carried = subst (λ (l : List Agent). AreCarried (program_tree c.args.checked.now) none_comes (own_sight (run_of c.args.core.now)) l) (sym c.new.ensures)
       (none-carried (program_tree c.args.checked.now) (run_of c.args.core.now) c.requires.legal c.requires.loads);
   looked = tt;
+  freed = tt;
   shape = c.in_ok-shape.ensures;
   turns = refl;
   lines = refl;
@@ -84,6 +85,7 @@ pub loop-turn-preserved : goal.loop-turn-preserved
 loop-turn-preserved g c = record {
   carried = c.in_ok-turn.ensures.carried;
   looked = c.in_ok-turn.ensures.looked;
+  freed = c.in_ok-turn.ensures.freed;
   shape = ap (λ (x : Shape). x.types) c.turn.ensures.shape ∙ c.loop-turn.invariant.shape;
   turns = c.in_ok-turn.ensures.goes c.if-not-branch.false ∙ ap (λ (n : ℕ). n + 1) c.loop-turn.invariant.turns;
   lines = c.turn.ensures.same ∙ c.loop-turn.invariant.lines;

@@ -6,7 +6,7 @@ use Rattle.history_core.specs.Cores.{run_of}
 use Rattle.script_tree.specs.Programs.{program_tree}
 use Rattle.script_check.specs.Shapes.{type_shapes}
 use Rattle.batch_disk.specs.Writers.{IsInBounds, FitsDisk}
-use Rattle.unit_carrier.specs.Carrying.{AreCarried, units_carried}
+use Rattle.unit_carrier.specs.Carrying.{AreCarried, AreFreed, units_carried}
 use Rattle.run_books.specs.Beginnings.{Outset, CanTurn, IsOutset}
 use Rattle.run_books.specs.Beside.{TurnsBeside}
 use Rattle.run_books.specs.Books.{Books}
@@ -19,6 +19,7 @@ abbrev pub invariant-loop-turn : goal.invariant-loop-turn
 invariant-loop-turn g l = record {
   carried : AreCarried (program_tree l.checked) none_comes (own_sight (run_of l.core)) l.state.agents.list.items;
   looked : IsLooked l.state.looked (run_of l.core) (units_carried l.state.agents.list.items);
+  freed : AreFreed l.state.front l.state.agents.list.items;
   shape : l.state.shape.types ≡ type_shapes (program_tree l.checked);
   turns : l.state.begun + l.state.used ≡ l._turn;
   lines : g.L.Lines.lines l.lines ≡ g.L.Lines.lines l.fn.lines;
