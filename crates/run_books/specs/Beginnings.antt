@@ -5,6 +5,7 @@ use Rattle.host_trait.specs.World.{World}
 use Rattle.request_wire.specs.declared.requests.Line.{Line}
 use Rattle.core_model.specs.Asked.{IsGoing}
 use Rattle.core_model.specs.Legal.{Run, ends}
+use Rattle.core_model.specs.Settler.{settler_step, Rests}
 use Rattle.script_tree.specs.Programs.{ProgramTree}
 use Rattle.promise_spec.specs.Programs.{Program}
 use Rattle.promise_spec.specs.Records.{Commit, standing_of}
@@ -18,11 +19,12 @@ abbrev pub GoUpFrom : ℕ → List Line → Type 0
 GoUpFrom n [] = ⊤
 GoUpFrom n (line ∷ lines) = (line.number ≡ n + 1) × GoUpFrom (n + 1) lines
 
--- So far all is settled and written, no lock is held, nothing is in doubt and no stop stands. The lines go on behind those so
--- far, and the settler has written as many entries as there were lines.
+-- So far all is settled and written, no lock is held, nothing is in doubt and no stop stands, and the settler has nothing to do: so
+-- nobody can move. The lines go on behind those so far, and the settler has written as many entries as there were lines.
 pub record CanTurn (r : Run) (settler : Settler) (lines : List Line) : Type 0 where
   pub quiet : IsQuiet (ends r)
   pub going : IsGoing (ends r)
+  pub rests : settler_step (ends r) ≡ Rests
   pub numbers : GoUpFrom (ends r).units.lines lines
   pub sure : settler.doubted ≡ false
   pub written : settler.written ≡ (ends r).units.lines

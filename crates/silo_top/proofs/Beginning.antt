@@ -107,6 +107,7 @@ module _ (base kinds : ℕ) (opening : GrainId → List Value) where
       written = omega arith;
     };
     going = (refl, refl);
+    rests = refl;
     numbers = go_up types 0 texts lines are;
     sure = sure;
     written = written;
