@@ -108,10 +108,11 @@ module _ (tells : Bool) (o : Outset) (types : ProgramTree) (lines : List Line) (
     turning = record {
       first = k.above;
       unit_rule = k.units;
+      unstopped = can.going.1;
       turn_rule = k.turns;
       kept = kept-none o r k.above k.units can.quiet;
       older = tt;
-      count = sym fresh.picks;
+      count = λ ruled. sym (fresh.picks ruled);
     };
     books = k.books;
     even = even-at-rest tells o b r settler counts now can.quiet.written fresh.rest k.books;

@@ -1,5 +1,5 @@
 -- What a run begins with, and what its record is told of from outside.
-use Rattle.std.specs.Prelude.{◌≡◌, ◌+◌, ◌<◌, ℕ, List, [], ◌∷◌, length, slice_get, Some, false, ⊤}
+use Rattle.std.specs.Prelude.{◌≡◌, ◌+◌, ◌<◌, ℕ, List, [], ◌∷◌, length, slice_get, Some, Bool, false, ⊤}
 use Rattle.host_trait.specs.declared.channels.Channel.{Channel}
 use Rattle.host_trait.specs.World.{World}
 use Rattle.request_wire.specs.declared.requests.Line.{Line}
@@ -29,12 +29,14 @@ pub record CanTurn (r : Run) (settler : Settler) (lines : List Line) : Type 0 wh
   pub sure : settler.doubted ≡ false
   pub written : settler.written ≡ (ends r).units.lines
 
--- What a run's record is told of from outside: the program, all lines that are asked, the log with which the run opened, the
--- width and the picks, the counts of faults where the run began, and the world behind the opening.
+-- What a run's record is told of from outside: the program, all lines that are asked, the log with which the run opened, whether the
+-- run is of turns alone, as on one thread, the width and the picks, the counts of faults where the run began, and the world behind the
+-- opening.
 pub record Outset : Type 0 where
   pub program : Program
   pub asked : List (List ℕ)
   pub opening : List Commit
+  pub ruled : Bool
   pub width : ℕ
   pub picks : List ℕ
   pub faults : Channel → ℕ

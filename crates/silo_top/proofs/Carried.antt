@@ -62,7 +62,7 @@ module _ {T : Type 0} (tells : Bool) (types : ProgramTree) (lines : List Line) (
       let g = turns o b st.outset st.can st.fresh st.kept in
       record {
         on = record { books = g.books; record_kept = turns-record g.record_kept; lasts = g.lasts; ended = ends_so o g.books r' s' f' core result g.ended };
-        turns = λ one. g.record_kept.turns;
+        turns = λ one. g.record_kept.turns st.ruled;
       }
 
 -- ---- by workers
