@@ -20,9 +20,9 @@ pub record KeepsTurns (tells : Bool) (o : Outset) (b : Books) (r : Run) (settler
   pub turns : o.ruled ≡ true → KeepsTurnRule o.program.types (length o.asked) o.width o.picks r
   pub books : KeepsBooks tells o b r settler counts now
 
--- Nothing is in doubt and no line is cut off; and where the run is of turns alone, no pick was used yet.
-pub record IsFreshRecord (o : Outset) (b : Books) (r : Run) : Type 0 where
-  pub picks : o.ruled ≡ true → picks_used r (length r.events) ≡ 0
+-- Nothing is in doubt and no line is cut off; and where the run is of turns alone, so many picks were used by now.
+pub record IsFreshRecord (o : Outset) (b : Books) (used : ℕ) (r : Run) : Type 0 where
+  pub picks : o.ruled ≡ true → picks_used r (length r.events) ≡ used
   pub doubted : b.doubted ≡ []
   pub rest : b.rest ≡ []
 

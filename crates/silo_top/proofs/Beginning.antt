@@ -113,7 +113,7 @@ module _ (base kinds : ℕ) (opening : GrainId → List Value) where
     written = written;
   }
 
-  pub starts_fresh : (o : Outset) → IsFreshRecord o no_books r
+  pub starts_fresh : (o : Outset) → IsFreshRecord o no_books 0 r
   starts_fresh o = record { picks = λ ruled. refl; doubted = refl; rest = refl }
 
   -- and what is told from outside is theirs

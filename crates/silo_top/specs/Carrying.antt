@@ -23,7 +23,7 @@ pub record StartsRun (tells : Bool) (m : Manner) (o : Outset) (b : Books) (types
   pub outset : IsOutset o types r lines m.width m.picks
   pub can : CanTurn r settler lines
   pub ruled : o.ruled ≡ not m.threaded
-  pub fresh : IsFreshRecord o b r
+  pub fresh : IsFreshRecord o b 0 r
   pub kept : KeepsTurns tells o b r settler counts now
 
 -- The record went on, however it ended; on one thread the run keeps the turn rule too.
