@@ -176,7 +176,9 @@ module _ (tells : Bool) (o : Outset) (lines : List Line) (b : Books) (s : TurnSt
         none = no-doubt;
         never = λ d. absurd (true≢false (sym (doubted-now s.run d) ∙ ap is_some no-doubt));
         unstopped = way-unstopped way;
-        rests = no-step (settler_step w) (empty-append (if is_some w.manager.doubt then [] else map OfUnit (filter (can_move o.program.types w (got_in s.run)) (units_carried s.agents))) (if has_step (settler_step w) then OfSettler ∷ [] else []) nobody).1;
+        rests = no-step (settler_step (ends s.run))
+            (empty-append (if is_some (ends s.run).manager.doubt then [] else map OfUnit (filter (can_move o.program.types (ends s.run) (got_in s.run)) (units_carried s.agents)))
+            (if has_step (settler_step (ends s.run)) then OfSettler ∷ [] else []) nobody).1;
         written = way.books.written ∙ (let x : (ends s.run).manager.emitted ≡ (ends s.run).units.lines = omega (arith, le, ge, many) in x);
       }
 
