@@ -31,7 +31,7 @@ nobody-moves types o r settler lines above units can =
 -- the books have no batch in doubt where there is no doubt
 none-doubted : (w : CoreState) (batches : List Settlement) → AreInDoubt w batches → w.manager.doubt ≡ None → batches ≡ []
 none-doubted w [] are none = refl
-none-doubted w (batch ∷ []) are none = absurd (apart are.0 (sym are.1.0 ∙ none))
+none-doubted w (batch ∷ []) are none = absurd (apart are.0 (sym are.1 ∙ none))
   where
     apart : (n : ℕ) → Some n ≡ None → ⊥
     apart n q = absurd cc

@@ -33,6 +33,7 @@ loop-turn-init g c = record {
   looked = tt;
   shape = c.in_ok-shape.ensures;
   turns = omega arith;
+  unused = refl;
   lines = refl;
   bounds = c.requires.bounds;
   fits = c.requires.fits;
@@ -55,6 +56,11 @@ returns-in_err-turn-clause-record_kept g c = λ o b is can fresh kept.
     (stage_of (run_of c.turn.new.core) c.turn.new.settler (g.H.Host.faults c.turn.new.host) (g.H.Host.world c.turn.new.host) c.turn.new.self)
     c.loop-turn.invariant.lines c.as_slice.ensures (c.loop-turn.invariant.went o b is can fresh kept) c.turn.result (c.turn.ensures.turns o)
     p.0 (c.in_err-turn.was ∙ ap Err (sym p.2)))
+
+pub returns-in_err-turn-clause-unused : goal.returns-in_err-turn-clause-unused
+returns-in_err-turn-clause-unused g c =
+    let p = err_from_is_err_and c.from_residual-in_err-turn.result c.from_residual-in_err-turn.ensures.1 in
+    rw p.1 c.loop-turn.invariant.unused
 
 pub returns-in_err-turn-clause-beside : goal.returns-in_err-turn-clause-beside
 returns-in_err-turn-clause-beside g c =
@@ -95,6 +101,7 @@ loop-turn-preserved g c = record {
   looked = c.in_ok-turn.ensures.looked;
   shape = ap (λ (x : Shape). x.types) c.turn.ensures.shape ∙ c.loop-turn.invariant.shape;
   turns = c.in_ok-turn.ensures.goes c.if-not-branch.false ∙ ap (λ (n : ℕ). n + 1) c.loop-turn.invariant.turns;
+  unused = c.loop-turn.invariant.unused;
   lines = c.turn.ensures.same ∙ c.loop-turn.invariant.lines;
   bounds = c.turn.ensures.bounds;
   fits = c.turn.ensures.fits;
@@ -118,6 +125,9 @@ returns-clause-record_kept g c = λ o b is can fresh kept.
     (record { run = run_of c.args.core.now; settler = c.args.settler.now; counts = g.H.Host.faults c.args.host.now; world = g.H.Host.world c.args.host.now; agents = []; begun = 0; used = c.args.used.now })
     (stage_of (run_of c.loop-turn.core) c.loop-turn.settler (g.H.Host.faults c.loop-turn.host) (g.H.Host.world c.loop-turn.host) c.loop-turn.state)
     (c.loop-turn.invariant.went o b is can fresh kept)
+
+pub returns-clause-unused : goal.returns-clause-unused
+returns-clause-unused g c = c.loop-turn.invariant.unused
 
 pub returns-clause-beside : goal.returns-clause-beside
 returns-clause-beside g c =

@@ -21,6 +21,7 @@ invariant-loop-turn g l = record {
   looked : IsLooked l.state.looked (run_of l.core) (units_carried l.state.agents.list.items);
   shape : l.state.shape.types ≡ type_shapes (program_tree l.checked);
   turns : l.state.begun + l.state.used ≡ l._turn;
+  unused : l.used ≡ l.fn.used;
   lines : g.L.Lines.lines l.lines ≡ g.L.Lines.lines l.fn.lines;
   bounds : IsInBounds l.settler.writer;
   fits : IsTrue g.H.Host.tells → FitsDisk l.settler.writer (g.H.Host.world l.host).disk;
