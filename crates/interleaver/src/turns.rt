@@ -9,6 +9,7 @@ ghost use Rattle.core_access.specs.Sights.{Looks};
 ghost use Rattle.history_core.specs.Cores.{run_of};
 ghost use Rattle.script_tree.specs.Programs.{ProgramTree, program_tree};
 ghost use Rattle.script_check.specs.Shapes.{type_shapes};
+ghost use Rattle.promise_spec.specs.TurnRule.{picks_used};
 ghost use Rattle.turn_rules.specs.Turning.{has_room};
 ghost use Rattle.txn_agent.specs.declared.agent.Agent.{Agent as AnAgent};
 ghost use Rattle.txn_agent.specs.Linked.{IsLegalRun};
@@ -345,13 +346,17 @@ impl Turns {
 /// are the units that can move, in number order, children among them, and after them the settler where it has a step. A unit
 /// makes its next event, the settler its next step. After a doubt the settler alone moves. Without a mover the run has ended.
 ///
+/// How many picks calls before this one used is told by `used`, 0 where there was none, and where it answers `Ok` that goes on by those
+/// of this call: so a later call's picks begin where these ended.
+///
 /// It answers `Ok` where each line has its entry, all is written and nobody can move.
 ///
 /// # Errors
 ///
 /// - `InDoubt`: a batch was left in doubt, and all that is settled is written.
 /// - `WriteFault`: the output failed.
-/// - `Memory`: memory ran out. So is told a run that hasn't ended by 2 to the 64 less one turns, in each of which an event applied.
+/// - `Memory`: memory ran out. So is told a run that hasn't ended by 2 to the 64 less one turns, in each of which an event applied; the
+///   picks that were used before count among them.
 ///   What was put into the core and done to the host by then stands.
 pub fn run_turns<H: Host, G: Gate, L: Lines>(
     alloc: Global,
@@ -363,6 +368,7 @@ pub fn run_turns<H: Host, G: Gate, L: Lines>(
     gate: &G,
     width: u32,
     turns: &List<u32>,
+    used: &mut usize,
 ) -> Result<(), RunFault>
     requires legal { IsLegalRun (own_sight (run_of core.old)).first }
     requires loads { NoneLoads (own_sight (run_of core.old)).mine }
@@ -371,9 +377,16 @@ pub fn run_turns<H: Host, G: Gate, L: Lines>(
 
     // The run's record, however it ends.
     ensures record_kept { (o : Outset) (b : Books) → IsOutset o (program_tree checked.now) (run_of core.old) (L.lines lines.old) width turns.now
-        → CanTurn (run_of core.old) settler.old (L.lines lines.old) → IsFreshRecord o b (run_of core.old)
+        → CanTurn (run_of core.old) settler.old (L.lines lines.old) → IsFreshRecord o b used.old (run_of core.old)
         → KeepsTurns H.tells o b (run_of core.old) settler.old (H.faults host.old) (H.world host.old)
         → TurnsGoOn H.tells o b (run_of core.old) (run_of core.new) settler.old settler.new (H.faults host.new) (H.world host.old) (H.world host.new) result }
+
+    // How many picks were used by then, where all is done.
+    ensures used { (o : Outset) (b : Books) → IsOutset o (program_tree checked.now) (run_of core.old) (L.lines lines.old) width turns.now
+        → CanTurn (run_of core.old) settler.old (L.lines lines.old) → IsFreshRecord o b used.old (run_of core.old)
+        → KeepsTurns H.tells o b (run_of core.old) settler.old (H.faults host.old) (H.world host.old)
+        → o.ruled ≡ true → IfOk result (λ _. picks_used (run_of core.new) (length (run_of core.new).events) ≡ used.new) }
+    ensures unused { IfErr result (λ _. used.new ≡ used.old) }
 
     // And what it leaves beside that.
     ensures beside { TurnsBeside H.tells (run_of core.old) (run_of core.new) settler.old settler.new (H.faults host.old) (H.faults host.new) (H.world host.old) (H.world host.new) result }
@@ -392,9 +405,9 @@ pub fn run_turns<H: Host, G: Gate, L: Lines>(
         front: 0,
         looked: None,
         begun: 0,
-        used: 0,
+        used: *used,
     };
-    for _turn in 0..usize::MAX {
+    for _turn in *used..usize::MAX {
         if !state.turn(
             checked,
             core,
@@ -405,6 +418,7 @@ pub fn run_turns<H: Host, G: Gate, L: Lines>(
             width,
             turns.as_slice(),
         )? {
+            *used = state.used;
             return Ok(());
         }
     }

@@ -22,15 +22,16 @@ invariant-loop-turn g l = record {
   freed : AreFreed l.state.front l.state.agents.list.items;
   shape : l.state.shape.types ≡ type_shapes (program_tree l.checked);
   turns : l.state.begun + l.state.used ≡ l._turn;
+  unused : l.used ≡ l.fn.used;
   lines : g.L.Lines.lines l.lines ≡ g.L.Lines.lines l.fn.lines;
   bounds : IsInBounds l.settler.writer;
   fits : IsTrue g.H.Host.tells → FitsDisk l.settler.writer (g.H.Host.world l.host).disk;
   ready : StaysReady (g.H.Host.is_ready l.fn.host) (g.H.Host.is_ready l.host);
   beside : TurnsBeside {T = Bool} g.H.Host.tells (run_of l.fn.core) (run_of l.core) l.fn.settler l.settler (g.H.Host.faults l.fn.host) (g.H.Host.faults l.host) (g.H.Host.world l.fn.host) (g.H.Host.world l.host) (Ok true);
   went : (o : Outset) (b : Books) → IsOutset o (program_tree l.checked) (run_of l.fn.core) (g.L.Lines.lines l.fn.lines) l.width l.turns
-      → CanTurn (run_of l.fn.core) l.fn.settler (g.L.Lines.lines l.fn.lines) → IsFreshRecord o b (run_of l.fn.core)
+      → CanTurn (run_of l.fn.core) l.fn.settler (g.L.Lines.lines l.fn.lines) → IsFreshRecord o b l.fn.used (run_of l.fn.core)
       → KeepsRecord g.H.Host.tells o b (run_of l.fn.core) l.fn.settler (g.H.Host.faults l.fn.host) (g.H.Host.world l.fn.host)
       → WentOn g.H.Host.tells o (program_tree l.checked) (g.L.Lines.lines l.fn.lines) l.width l.turns b
-      (record { run = run_of l.fn.core; settler = l.fn.settler; counts = g.H.Host.faults l.fn.host; world = g.H.Host.world l.fn.host; agents = []; begun = 0; used = 0 })
+      (record { run = run_of l.fn.core; settler = l.fn.settler; counts = g.H.Host.faults l.fn.host; world = g.H.Host.world l.fn.host; agents = []; begun = 0; used = l.fn.used })
       (stage_of (run_of l.core) l.settler (g.H.Host.faults l.host) (g.H.Host.world l.host) l.state);
 }
