@@ -12,9 +12,14 @@ none-some : {A : Type 0} (x : A) → None ≡ Some x → ⊥
 none-some x e = true≢false (sym (ap is_some e))
 
 -- what something is
-abbrev from_some : {A : Type 0} → A → Option A → A
+from_some : {A : Type 0} → A → Option A → A
 from_some x None = x
 from_some x (Some y) = y
+
+-- it is one thing
+some_same : {A : Type 0} (x y : A) → Some x ≡ Some y → x ≡ y
+unfolding from_some
+some_same x y e = ap (from_some x) e
 
 -- the event was done
 pub was-done : (y : CoreReply) → true ≡ is_done y → y ≡ reply.Done
@@ -31,7 +36,7 @@ was-done (reply.Decided n) e = absurd (true≢false e)
 
 -- this unit began
 pub was-began : (y : CoreReply) (u : UnitNo) → began_by y ≡ Some u → y ≡ reply.Began u
-was-began (reply.Began v) u e = ap (λ o. reply.Began (from_some v o)) e
+was-began (reply.Began v) u e = ap reply.Began (some_same v u e)
 was-began reply.Done u e = absurd (none-some u e)
 was-began reply.Unapplied u e = absurd (none-some u e)
 was-began (reply.Granted s x) u e = absurd (none-some u e)
@@ -57,7 +62,7 @@ not-began (reply.Decided n) e = refl
 
 -- the lock was granted, with this
 pub was-granted : (y : CoreReply) (s : List Value) (x : UnitNo) → granted_by y ≡ Some (s, x) → y ≡ reply.Granted s x
-was-granted (reply.Granted r v) s x e = ap (λ o. let found = from_some (r, v) o in reply.Granted found.0 found.1) e
+was-granted (reply.Granted r v) s x e = ap (λ (p : List Value × UnitNo). reply.Granted p.0 p.1) (some_same (r, v) (s, x) e)
 was-granted reply.Done s x e = absurd (none-some (s, x) e)
 was-granted reply.Unapplied s x e = absurd (none-some (s, x) e)
 was-granted (reply.Began u) s x e = absurd (none-some (s, x) e)
