@@ -28,7 +28,6 @@ impl Parts {
     }
 
     // The line is settled.
-    #[inline(never)]
     pub(crate) fn bad(&mut self, line: u32, why: BadRequest) -> Result<CoreReply, AllocError>
         requires can { CanDo self.old (Bad line why) }
         ensures ok { IfOk result (λ reply. Does self.old (Bad line why) reply self.new) }

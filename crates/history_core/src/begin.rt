@@ -53,7 +53,6 @@ impl Parts {
     }
 
     // The next number becomes a running unit.
-    #[inline(never)]
     pub(crate) fn begin(
         &mut self,
         origin: Origin,

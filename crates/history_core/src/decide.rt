@@ -39,7 +39,6 @@ impl Parts {
     }
 
     // The batch is decided; with nothing to commit it closes at once. Takes no memory.
-    #[inline(never)]
     pub(crate) fn decide(&mut self, number: u64) -> CoreReply
         requires can { CanDo self.old (Decide number) }
         ensures ok { Does self.old (Decide number) result self.new }

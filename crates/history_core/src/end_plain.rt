@@ -48,7 +48,6 @@ impl Parts {
     }
 
     // The plain run has ended, and its line is settled.
-    #[inline(never)]
     pub(crate) fn end_plain(
         &mut self,
         unit: UnitNo,

@@ -33,7 +33,6 @@ impl Parts {
     }
 
     // The plain run has ended, and its line is settled. How many records it saw isn't kept.
-    #[inline(never)]
     pub(crate) fn end_snapshot(
         &mut self,
         unit: UnitNo,

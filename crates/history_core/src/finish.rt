@@ -61,7 +61,6 @@ impl Parts {
     }
 
     // The transaction takes the last place in the finish order, and what it wrote is kept until its locks are given back.
-    #[inline(never)]
     pub(crate) fn finish(
         &mut self,
         unit: UnitNo,

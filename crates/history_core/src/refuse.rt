@@ -22,7 +22,6 @@ impl Parts {
     }
 
     // The unit is aborted, and its line is settled.
-    #[inline(never)]
     pub(crate) fn refuse(
         &mut self,
         unit: UnitNo,

@@ -30,7 +30,6 @@ impl Parts {
     }
 
     // The batch is on disk: who was to commit is committed. Takes no memory.
-    #[inline(never)]
     pub(crate) fn seal(&mut self, number: u64) -> CoreReply
         requires can { CanDo self.old (Sealed number) }
         ensures ok { Does self.old (Sealed number) result self.new }
@@ -41,7 +40,6 @@ impl Parts {
     }
 
     // The batch isn't on disk and never will be: all of it is aborted. Takes no memory.
-    #[inline(never)]
     pub(crate) fn not_seal(&mut self, number: u64) -> CoreReply
         requires can { CanDo self.old (NotSealed number) }
         ensures ok { Does self.old (NotSealed number) result self.new }
@@ -52,7 +50,6 @@ impl Parts {
     }
 
     // Nobody knows whether the batch is on disk: who was to commit stays undecided. Takes no memory.
-    #[inline(never)]
     pub(crate) fn doubt(&mut self, number: u64) -> CoreReply
         requires can { CanDo self.old (Doubt number) }
         ensures ok { Does self.old (Doubt number) result self.new }

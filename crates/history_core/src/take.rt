@@ -74,7 +74,6 @@ impl Parts {
     }
 
     // The batch is opened, with all the room that it will need.
-    #[inline(never)]
     pub(crate) fn take(&mut self) -> Result<CoreReply, AllocError>
         requires can { CanDo self.old Take }
         ensures ok { IfOk result (λ reply. Does self.old Take reply self.new) }

@@ -43,7 +43,6 @@ impl Parts {
     }
 
     // The unit waits for the grain.
-    #[inline(never)]
     pub(crate) fn want(&mut self, unit: UnitNo, grain: GrainId) -> Result<CoreReply, AllocError>
         ensures ok { IfOk result (λ reply. Does self.old (Want unit grain) reply self.new) }
         ensures err { OnErr result (KeepsMeaning self.old self.new) }
