@@ -1,5 +1,5 @@
 -- Where a run can go on nobody can move, and from where all is carried it can go on.
-use Rattle.std.proofs.Common.{◌≡◌, ◌<◌, ℕ, Option, None, Some, List, [], ◌∷◌, ◌++◌, map, Bool, true, false, length, refl, sym, ap, ◌∙◌}
+use Rattle.std.proofs.Common.{◌≡◌, ◌<◌, ℕ, Option, None, Some, List, [], ◌∷◌, ◌++◌, map, Bool, true, length, refl, sym, ap, ◌∙◌}
 use Rattle.std.specs.Prelude.{is_some, filter, if◌then◌else◌}
 use Rattle.host_trait.specs.declared.channels.Channel.{Channel}
 use Rattle.host_trait.specs.World.{World}
