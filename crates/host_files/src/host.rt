@@ -82,13 +82,15 @@ impl<S: SystemCalls + Drop> FolderHost<S> {
 }
 
 impl<S: SystemCalls + Drop> Host for FolderHost<S> {
-    ghost use Rattle.std.specs.Prelude.{◌≡◌, ◌+◌, ◌^◌, ◌<◌, ◌≤◌, ℕ, false, length, is_ok, is_some, IsTrue, IsOk, IsErr, IfOk, OnOk, OnErr};
+    ghost use Rattle.std.specs.Prelude.{◌≡◌, ◌≢◌, ◌+◌, ◌^◌, ◌<◌, ◌≤◌, ℕ, false, length, is_ok, is_some, IsTrue, IsOk, IsErr, IfOk, OnOk, OnErr};
     ghost use Rattle.host_trait.specs.Disk.{Overwrote};
     ghost use Rattle.host_trait.specs.Files.{HasSlot, MayAsk, StaysReady};
     ghost use Rattle.host_trait.specs.World.{Asked, Pulled, Emitted, Filled, Written, Synced};
     ghost use Rattle.host_trait.specs.Faults.{Counted};
+    ghost use Rattle.host_trait.specs.declared.channels.FileId.{FileId};
+    ghost use Rattle.host_trait.specs.declared.channels.Channel.{Channel};
     ghost use Rattle.host_trait.specs.declared.channels.Channel.TheVariants.{Input, Output, File};
-    ghost use Rattle.host_files.specs.Table.{is_named, is_lost, had_bytes_in, counts_of};
+    ghost use Rattle.host_files.specs.Table.{is_named, is_lost, had_bytes_in, counts_of, SameLost};
     ghost use Rattle.host_files.specs.Clear.{WentWell, IsInPlace};
 
     ghost tells = { S.tells };
@@ -108,6 +110,7 @@ impl<S: SystemCalls + Drop> Host for FolderHost<S> {
         ensures faults { Counted Input result (counts_of self.old.input_faults self.old.output_faults self.old.table.files)
             (counts_of self.new.input_faults self.new.output_faults self.new.table.files) }
         ensures ready { StaysReady (is_named self.old.table.files) (is_named self.new.table.files) }
+        ensures believed { SameLost self.old.table.files self.new.table.files }
         ensures calm { OnOk result (IsTrue S.tells → (S.answered self.new.folder.system).refusals ≡ (S.answered self.old.folder.system).refusals) }
         ensures fine { IsTrue S.tells → WentWell (S.answered self.old.folder.system) (S.answered self.new.folder.system) → IsOk result }
     {
@@ -126,6 +129,7 @@ impl<S: SystemCalls + Drop> Host for FolderHost<S> {
         ensures faults { Counted Output result (counts_of self.old.input_faults self.old.output_faults self.old.table.files)
             (counts_of self.new.input_faults self.new.output_faults self.new.table.files) }
         ensures ready { StaysReady (is_named self.old.table.files) (is_named self.new.table.files) }
+        ensures believed { SameLost self.old.table.files self.new.table.files }
         ensures calm { OnOk result (IsTrue S.tells → (S.answered self.new.folder.system).refusals ≡ (S.answered self.old.folder.system).refusals) }
         ensures fine { IsTrue S.tells → WentWell (S.answered self.old.folder.system) (S.answered self.new.folder.system) → IsOk result }
     {
@@ -146,6 +150,7 @@ impl<S: SystemCalls + Drop> Host for FolderHost<S> {
         ensures faults { Counted (File file) result (counts_of self.old.input_faults self.old.output_faults self.old.table.files)
             (counts_of self.new.input_faults self.new.output_faults self.new.table.files) }
         ensures ready { StaysReady (is_named self.old.table.files) (is_named self.new.table.files) }
+        ensures believed { SameLost self.old.table.files self.new.table.files }
         ensures calm { OnOk result (IsTrue S.tells → (S.answered self.new.folder.system).refusals ≡ (S.answered self.old.folder.system).refusals) }
         ensures fine { IsTrue S.tells → WentWell (S.answered self.old.folder.system) (S.answered self.new.folder.system)
             → IsInPlace (is_lost self.old.table.files file) (had_bytes_in self.old.table.files file) (S.is_regular file) ((S.state self.old.folder.system).world.disk file).seen
@@ -170,6 +175,7 @@ impl<S: SystemCalls + Drop> Host for FolderHost<S> {
         ensures faults { Counted (File file) result (counts_of self.old.input_faults self.old.output_faults self.old.table.files)
             (counts_of self.new.input_faults self.new.output_faults self.new.table.files) }
         ensures ready { StaysReady (is_named self.old.table.files) (is_named self.new.table.files) }
+        ensures believed { SameLost self.old.table.files self.new.table.files }
         ensures calm { OnOk result (IsTrue S.tells → (S.answered self.new.folder.system).refusals ≡ (S.answered self.old.folder.system).refusals) }
         ensures fine { IsTrue S.tells → WentWell (S.answered self.old.folder.system) (S.answered self.new.folder.system)
             → IsInPlace (is_lost self.old.table.files file) (had_bytes_in self.old.table.files file) (S.is_regular file) ((S.state self.old.folder.system).world.disk file).seen
@@ -194,6 +200,7 @@ impl<S: SystemCalls + Drop> Host for FolderHost<S> {
         ensures faults { Counted (File file) result (counts_of self.old.input_faults self.old.output_faults self.old.table.files)
             (counts_of self.new.input_faults self.new.output_faults self.new.table.files) }
         ensures ready { StaysReady (is_named self.old.table.files) (is_named self.new.table.files) }
+        ensures believed { SameLost self.old.table.files self.new.table.files }
         ensures calm { OnOk result (IsTrue S.tells → (S.answered self.new.folder.system).refusals ≡ (S.answered self.old.folder.system).refusals) }
         ensures fine { IsTrue S.tells → WentWell (S.answered self.old.folder.system) (S.answered self.new.folder.system)
             → IsInPlace (is_lost self.old.table.files file) (had_bytes_in self.old.table.files file) (S.is_regular file) ((S.state self.old.folder.system).world.disk file).seen
@@ -208,7 +215,15 @@ impl<S: SystemCalls + Drop> Host for FolderHost<S> {
         Ok(())
     }
 
-    fn ready(&mut self, file: FileId) -> Result<(), AllocError> {
+    fn ready(&mut self, file: FileId) -> Result<(), AllocError>
+        requires { HasSlot file }
+        ensures told { IsTrue S.tells → (S.state self.new.folder.system).world ≡ (S.state self.old.folder.system).world }
+        ensures ok { OnOk result (IsTrue (is_named self.new.table.files file)) }
+        ensures faults { (channel : Channel) → counts_of self.new.input_faults self.new.output_faults self.new.table.files channel
+            ≡ counts_of self.old.input_faults self.old.output_faults self.old.table.files channel }
+        ensures ready { StaysReady (is_named self.old.table.files) (is_named self.new.table.files) }
+        ensures believed { SameLost self.old.table.files self.new.table.files }
+    {
         self.table.ready(file)?;
         Ok(())
     }
@@ -220,6 +235,8 @@ impl<S: SystemCalls + Drop> Host for FolderHost<S> {
         ensures faults { Counted (File file) result (counts_of self.old.input_faults self.old.output_faults self.old.table.files)
             (counts_of self.new.input_faults self.new.output_faults self.new.table.files) }
         ensures ready { StaysReady (is_named self.old.table.files) (is_named self.new.table.files) }
+        ensures believed { OnOk result (SameLost self.old.table.files self.new.table.files) }
+        ensures others { (other : FileId) → other ≢ file → is_lost self.new.table.files other ≡ is_lost self.old.table.files other }
         ensures calm { OnOk result (IsTrue S.tells → (S.answered self.new.folder.system).refusals ≡ (S.answered self.old.folder.system).refusals) }
         ensures fine { IsTrue S.tells → WentWell (S.answered self.old.folder.system) (S.answered self.new.folder.system)
             → IsInPlace (is_lost self.old.table.files file) (had_bytes_in self.old.table.files file) (S.is_regular file) ((S.state self.old.folder.system).world.disk file).seen
