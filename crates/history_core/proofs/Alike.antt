@@ -1,16 +1,17 @@
 -- What stands for the same.
-use Rattle.std.proofs.Common.{◌≡◌, ◌≤◌, sym, ap, ◌∙◌, arith, Result, Ok, Err, OnOk, OnErr, IfOk}
+use Rattle.std.proofs.Common.{◌≡◌, ℕ, ◌≤◌, List, Bool, true, refl, sym, ap, ◌∙◌, subst, arith, Option, Some, None, length, Result, Ok, Err, OnOk, OnErr, IfOk}
 use Rattle.cell_model.specs.Cells.{Cell}
-use Rattle.core_model.specs.CoreState.{GrainId}
-use Rattle.core_lists.specs.Room.{EntriesInRoom}
+use Rattle.core_model.specs.CoreState.{UnitNo, GrainId, Units, CoreState}
+use Rattle.core_lists.specs.Room.{EntriesInRoom, PairsInRoom}
 use Rattle.cell_table.specs.Table.{cell_in}
 use Rattle.cell_table.specs.declared.table.CellTable.{CellTable}
+use Rattle.unit_table.specs.Table.{units_of, verdict_in, result_in}
 use Rattle.unit_table.specs.Rooms.{SameUnits}
 use Rattle.unit_table.specs.declared.table.UnitTable.{UnitTable}
 use Rattle.core_model.specs.declared.events.CoreEvent.{CoreEvent}
 use Rattle.core_model.specs.declared.events.CoreReply.{CoreReply}
 use Rattle.history_core.specs.declared.parts.Parts.{Parts}
-use Rattle.history_core.specs.Kept.{cells_of}
+use Rattle.history_core.specs.Kept.{PartsStand, cells_of}
 use Rattle.history_core.specs.Steps.{KeepsMeaning, Does}
 
 pub keeps-units : (p : Parts) (units : UnitTable) → SameUnits p.units units → KeepsMeaning p (record p { units = units })

@@ -1,21 +1,25 @@
 -- The state after a unit has begun.
-use Rattle.std.proofs.Common.{◌≡◌, ℕ, ◌+◌, ◌<◌, ◌^◌, Bool, true, ◌&&◌, sym, ap, ◌∙◌, arith, eqb-true, Option, length, is_some, le_refl}
+use Rattle.std.proofs.Common.{◌≡◌, ℕ, ◌+◌, ◌<◌, ◌≤◌, ◌^◌, List, [], ◌∷◌, Bool, true, false, ◌&&◌, refl, sym, ap, ◌∙◌, subst, arith, eqb-true, Option, Some, None, length, map, is_some, le_refl}
 use Rattle.std.specs.Prelude.{◌==◌}
 use Rattle.std.specs.List.{list_all as all}
 use Rattle.std.proofs.lemmas.Bool.{and_parts}
 use Rattle.base_types.specs.declared.calls.Origin.TheVariants.{Line, Child}
 use Rattle.cell_model.specs.Locks.{holds_lock}
-use Rattle.core_model.specs.CoreState.{UnitNo, Call, Origin, Units, CoreState}
+use Rattle.core_model.specs.CoreState.{UnitNo, GrainId, Member, Call, Origin, Units, CoreState, put}
+use Rattle.core_model.specs.declared.phases.Phase.{Phase}
 use Rattle.core_model.specs.declared.phases.Phase.TheVariants.{Unborn, Running, Finished}
+use Rattle.core_model.specs.declared.effects.Effect.{Effect}
 use Rattle.core_model.specs.Tests.{is_running, is_decided, outcome_in, state_written, waiting}
 use Rattle.core_model.specs.Answers.{effect_of}
 use Rattle.core_model.specs.Changes.{begun, new_unit}
 use Rattle.core_model.specs.Events.{can_begin}
 use Rattle.core_model.specs.declared.events.CoreEvent.TheVariants.{Begin}
+use Rattle.core_model.specs.declared.events.CoreReply.{CoreReply}
 use Rattle.core_model.specs.declared.events.CoreReply.TheVariants as reply
+use Rattle.core_laws.proofs.Basics.{is_running-true}
 use Rattle.core_laws.proofs.Puts.{put-from, put-other}
 use Rattle.unit_table.specs.Parts.{units_begun}
-use Rattle.unit_table.specs.Table.{units_of, verdict_in, result_in, next_in}
+use Rattle.unit_table.specs.Table.{units_of, verdict_in, result_in, next_in, phase_in}
 use Rattle.unit_table.specs.Rooms.{ParentRuns, LineIsCounted}
 use Rattle.unit_table.specs.declared.table.UnitTable.{UnitTable}
 use Rattle.history_core.specs.declared.parts.Parts.{Parts}

@@ -1,5 +1,5 @@
 -- Whether what a unit says that it did is what it did: by what is kept, and in the model.
-use Rattle.std.proofs.Common.{◌≡◌, suc, List, [], ◌∷◌, Bool, true, false, ◌&&◌, not, refl, sym, ap, ◌∙◌, Option, length}
+use Rattle.std.proofs.Common.{◌≡◌, suc, List, [], ◌∷◌, Bool, true, false, ◌&&◌, not, refl, sym, ap, ◌∙◌, Option, Some, None, length}
 use Rattle.std.specs.List.{list_all as all}
 use Rattle.base_types.specs.declared.calls.Outcome.TheVariants.{Aborted as aborted}
 use Rattle.core_model.specs.CoreState.{UnitNo, Outcome, same_unit, CoreState}

@@ -1,17 +1,21 @@
 -- The state after a batch has closed.
-use Rattle.std.proofs.Common.{◌≡◌, ◌+◌, ◌≤◌, List, [], ◌∷◌, ◌++◌, Bool, true, false, not, ◌⊎◌, inl, inr, refl, sym, ap, ◌∙◌, subst, arith, None, length, take, drop, map, filter}
-use Rattle.std.specs.Prelude.{flat_map}
+use Rattle.std.proofs.Common.{◌≡◌, ℕ, zero, suc, ◌+◌, ◌<◌, ◌≤◌, List, [], ◌∷◌, ◌++◌, Bool, true, false, not, ◌⊎◌, inl, inr, refl, sym, ap, ◌∙◌, subst, arith, Option, Some, None, length, take, drop, map, filter, length-drop}
+use Rattle.std.specs.Prelude.{if◌then◌else◌, flat_map}
 use Rattle.cell_model.specs.Units.{Member}
 use Rattle.cell_model.proofs.Units.{filter-member}
-use Rattle.core_model.specs.CoreState.{UnitNo, GrainId, Write, Settled, Batch, Decision, CoreState}
+use Rattle.core_model.specs.CoreState.{UnitNo, GrainId, Value, Write, Outcome, Entry, Settled, Batch, Decision, CoreState}
+use Rattle.core_model.specs.declared.effects.Effect.{Effect}
 use Rattle.core_model.specs.declared.phases.Verdict.{Verdict}
-use Rattle.core_model.specs.Tests.{is_final, is_committed, members, waiting}
+use Rattle.core_model.specs.declared.phases.Verdict.TheVariants.{Open}
+use Rattle.core_model.specs.Tests.{is_final, is_committed, members, waiting, state_written}
 use Rattle.core_model.specs.Told.{IsSteady}
+use Rattle.core_model.specs.Learning.{to_learn}
 use Rattle.core_model.specs.Answers.{effect_of}
 use Rattle.core_model.specs.Changes.{closed, entries_in}
 use Rattle.core_laws.proofs.Plans.{flat-member}
 use Rattle.core_lists.specs.States.{last_in, has_place, handed_in}
-use Rattle.unit_table.specs.Table.{verdict_in}
+use Rattle.unit_table.specs.Table.{units_of, verdict_in, result_in}
+use Rattle.open_batch.specs.declared.members.FinishedUnit.{FinishedUnit}
 use Rattle.open_batch.specs.Members.{effect_in, sources_in}
 use Rattle.open_batch.proofs.Linked.{units-left}
 use Rattle.history_core.specs.declared.parts.Parts.{Parts}
@@ -20,8 +24,8 @@ use Rattle.history_core.specs.Closing.{last_among, last_state, unlearnt, grains_
 use Rattle.history_core.specs.Closes.{Closes}
 use Rattle.history_core.specs.Fronts.{ends_as, told_as, verdicts_after, entries_after, pairs_after, last_after}
 use Rattle.cell_table.specs.Table.{cell_in}
-use Rattle.history_core.specs.Kept.{PartsStand, ShowsOpen, EachPlaced, cells_of, owed_in, writes_in}
-use Rattle.history_core.proofs.Shows.{from-cases}
+use Rattle.history_core.specs.Kept.{PartsStand, IsCoreReached, ShowsOpen, ShowsTakenBatch, AllPlaced, EachPlaced, cells_of, owed_in, writes_in}
+use Rattle.history_core.proofs.Shows.{to-cases, from-cases, each-placed, placed-each}
 use Rattle.history_core.proofs.Lists.{filter-agree, last-agree}
 use Rattle.history_core.proofs.Fronts.{ends-open, ends-final, mapped-is, verdicts-link, entries-link, pairs-link, last-link, last-append, take-more, drop-more, filter-append, flat-append, filter-whole}
 use Rattle.history_core.proofs.Takes.{are-units}

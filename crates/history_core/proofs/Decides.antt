@@ -1,20 +1,21 @@
 -- The state after a batch was decided.
-use Rattle.std.proofs.Common.{◌≡◌, ℕ, ◌≤◌, List, [], ◌∷◌, true, false, ◌&&◌, not, inl, inr, refl, sym, ap, ◌∙◌, subst, arith, Option, Some, None, length, take, map, is_none, nat_lt, filter, Vec, Global}
-use Rattle.std.specs.Prelude.{◌==◌, flat_map}
+use Rattle.std.proofs.Common.{◌≡◌, ℕ, zero, suc, ◌+◌, ◌<◌, ◌≤◌, List, [], ◌∷◌, ◌++◌, Bool, true, false, ◌&&◌, not, ◌⊎◌, inl, inr, refl, sym, ap, ◌∙◌, subst, arith, Option, Some, None, length, take, drop, map, is_none, nat_lt, filter, Vec, Global}
+use Rattle.std.specs.Prelude.{◌==◌, if◌then◌else◌, flat_map}
 use Rattle.std.specs.List.{list_any as any}
-use Rattle.std.proofs.lemmas.Bool.{and_parts, cond-true, cond-false}
+use Rattle.std.proofs.lemmas.Bool.{and_parts, cond-true, cond-false, cases_Bool}
 use Rattle.std.proofs.lemmas.List.{length-map}
 use Rattle.cell_model.specs.Units.{Member}
 use Rattle.cell_model.specs.Decisions.{is_commit}
 use Rattle.cell_model.proofs.Decisions.{decided-length}
 use Rattle.core_model.specs.CoreState.{UnitNo, GrainId, Write, Batch, Decision, CoreState, put}
+use Rattle.core_model.specs.declared.effects.Effect.{Effect}
 use Rattle.core_model.specs.declared.phases.Verdict.{Verdict}
 use Rattle.core_model.specs.declared.events.CoreEvent.TheVariants.{Decide}
 use Rattle.core_model.specs.declared.events.CoreReply.TheVariants as reply
 use Rattle.core_model.specs.Told.{IsSteady}
-use Rattle.core_model.specs.Tests.{is_bad, is_final, is_committed, is_over, is_voted, members, waiting, prepared}
+use Rattle.core_model.specs.Tests.{is_bad, is_final, is_committed, is_over, is_voted, is_empty, members, waiting, prepared}
 use Rattle.core_model.specs.Answers.{effect_of}
-use Rattle.core_model.specs.Changes.{sealed, verdict_of, judged, decisions_of, with_decisions, decided, decided_by, on_batch}
+use Rattle.core_model.specs.Changes.{closed, sealed, seal, verdict_of, judged, decisions_of, with_decisions, decided, decided_by, on_batch}
 use Rattle.core_model.specs.Events.{applies, does, is_open, decided_reply}
 use Rattle.core_laws.proofs.Decoded.{Change, decide_some, decide_none, decode, none-true}
 use Rattle.core_laws.proofs.Orders.{Member-take, judged-other}
@@ -23,11 +24,12 @@ use Rattle.core_lists.specs.Room.{EntriesInRoom, PairsInRoom}
 use Rattle.core_lists.specs.States.{last_in, has_place, handed_in}
 use Rattle.cell_table.specs.Table.{cell_in}
 use Rattle.unit_table.specs.Table.{units_of, verdict_in, result_in, phase_in}
+use Rattle.unit_table.specs.declared.table.UnitTable.{UnitTable}
 use Rattle.open_batch.specs.declared.members.FinishedUnit.{FinishedUnit}
 use Rattle.open_batch.specs.Members.{effect_in, sources_in, decisions_by}
 use Rattle.open_batch.specs.Taken as taken
 use Rattle.open_batch.specs.Taken.{TakenBatch, IsOf, commits_in}
-use Rattle.open_batch.specs.Shown.{ShowsBatch}
+use Rattle.open_batch.specs.Shown.{ShowsBatch, AreUnits}
 use Rattle.open_batch.proofs.Linked.{units-taken, decisions-link}
 use Rattle.open_batch.proofs.Stages.{shows-decided, voted-link, commits-some}
 use Rattle.history_core.specs.declared.parts.Parts.{Parts}
@@ -37,9 +39,9 @@ use Rattle.history_core.specs.Closes.{Closes, IsReadyToClose, decisions_in}
 use Rattle.history_core.specs.Deciding.{judged_after, decisions_now, IsUndecided}
 use Rattle.history_core.specs.Closing.{unlearnt, last_state}
 use Rattle.history_core.specs.Fronts.{AreOver}
-use Rattle.history_core.specs.Kept.{PartsStand, IsCoreReached, HasRoom, ShowsOpen, EachPlaced, cells_of, owed_in, writes_in}
+use Rattle.history_core.specs.Kept.{PartsStand, IsCoreReached, HasRoom, ShowsOpen, ShowsTakenBatch, AllPlaced, EachPlaced, cells_of, owed_in, writes_in}
 use Rattle.history_core.specs.Steps.{CanDo, Does}
-use Rattle.history_core.proofs.Shows.{to-cases, from-cases}
+use Rattle.history_core.proofs.Shows.{to-cases, from-cases, each-placed, placed-each}
 use Rattle.history_core.proofs.Stepping.{can-is, allowed-is, allowed-going}
 use Rattle.history_core.proofs.Closed.{CanClose, stands-closed}
 use Rattle.history_core.proofs.Lists.{filter-agree, last-agree}

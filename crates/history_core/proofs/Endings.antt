@@ -1,9 +1,10 @@
 -- The state after a unit was refused, or a plain run has ended.
-use Rattle.std.proofs.Common.{◌≡◌, ℕ, ◌≤◌, List, ◌++◌, true, not, refl, sym, ap, ◌∙◌, subst, Option, Some, None, is_some, take, map, filter}
-use Rattle.std.specs.Prelude.{flat_map}
+use Rattle.std.proofs.Common.{◌≡◌, ℕ, ◌+◌, ◌<◌, ◌≤◌, List, [], ◌∷◌, ◌++◌, Bool, true, false, ◌&&◌, not, inl, inr, refl, sym, ap, ◌∙◌, subst, arith, Option, Some, None, is_some, take, map, filter}
+use Rattle.std.specs.Prelude.{if◌then◌else◌, flat_map}
+use Rattle.cell_model.specs.Units.{Member}
 use Rattle.cell_model.specs.Locks.{holds_lock}
 use Rattle.base_types.specs.declared.entries.Settled.TheVariants as settled
-use Rattle.core_model.specs.CoreState.{UnitNo, GrainId, Mode, Write, Outcome, Origin, Settled, Units, CoreState, put}
+use Rattle.core_model.specs.CoreState.{UnitNo, GrainId, Mode, Write, Outcome, Origin, Entry, Settled, Units, CoreState, put}
 use Rattle.core_model.specs.declared.effects.Effect.{Effect}
 use Rattle.core_model.specs.declared.phases.Phase.TheVariants.{Running, Finished, Refused, Ended}
 use Rattle.core_model.specs.declared.phases.Verdict.{Verdict}

@@ -1,20 +1,22 @@
 -- The state after a transaction has finished.
-use Rattle.std.proofs.Common.{◌≡◌, ℕ, ◌≤◌, List, [], ◌∷◌, ◌++◌, Bool, true, false, ◌&&◌, not, inl, inr, refl, sym, ap, ◌∙◌, subst, arith, Option, Some, None, length, take, map, filter, length-take, Vec, Global}
+use Rattle.std.proofs.Common.{◌≡◌, ℕ, zero, suc, ◌+◌, ◌<◌, ◌≤◌, List, [], ◌∷◌, ◌++◌, Bool, true, false, ◌&&◌, not, ◌⊎◌, inl, inr, refl, sym, ap, ◌∙◌, subst, arith, Option, Some, None, length, take, drop, map, filter, length-take, Vec, Global}
 use Rattle.std.specs.Prelude.{if◌then◌else◌, flat_map}
 use Rattle.std.proofs.lemmas.Bool.{and_from, cases_Bool}
 use Rattle.cell_model.specs.Units.{Member, same_unit, same_grain}
 use Rattle.cell_model.specs.Locks.{holds_lock, is_hold_of}
-use Rattle.cell_model.proofs.Units.{any-true, same_unit-true, same_unit-is, same_unit-not, same_grain-true, same_grain-is, cases_unit, cases_grain}
+use Rattle.cell_model.specs.declared.locks.Hold.{Hold}
+use Rattle.cell_model.proofs.Units.{any-true, same_unit-true, same_unit-is, same_unit-not, same_grain-true, same_grain-is, cases_unit, cases_grain, Member-append}
 use Rattle.core_model.specs.CoreState.{UnitNo, GrainId, Value, Write, Outcome, Batch, Units, CoreState, put}
 use Rattle.core_model.specs.declared.effects.Read.{Read}
 use Rattle.core_model.specs.declared.effects.Effect.{Effect}
 use Rattle.core_model.specs.declared.phases.Phase.TheVariants.{Running, Finished}
 use Rattle.core_model.specs.declared.events.CoreEvent.TheVariants.{Finish}
 use Rattle.core_model.specs.declared.events.CoreReply.TheVariants as reply
-use Rattle.core_model.specs.Tests.{is_final, is_running, waiting, state_written}
+use Rattle.core_model.specs.Tests.{is_final, is_committed, is_running, waiting, state_written}
+use Rattle.core_model.specs.Learning.{to_learn}
 use Rattle.core_model.specs.Answers.{effect_of}
 use Rattle.core_model.specs.Changes.{finished}
-use Rattle.core_laws.proofs.Puts.{put-is, put-same, put-other}
+use Rattle.core_laws.proofs.Puts.{put-at, put-is, put-from, put-same, put-other}
 use Rattle.core_laws.proofs.Decoded.{Change, finish, decode}
 use Rattle.core_laws.proofs.Played.{parts-of}
 use Rattle.core_model.specs.Events.{applies, does}
@@ -31,12 +33,12 @@ use Rattle.open_batch.specs.Shown.{ShowsBatch}
 use Rattle.history_core.specs.declared.parts.Parts.{Parts}
 use Rattle.history_core.specs.Closing.{unlearnt, last_state, last_among}
 use Rattle.history_core.specs.Handing.{put_handed, cleared, with_writes}
-use Rattle.history_core.specs.Kept.{PartsStand, IsCoreReached, ShowsOpen, ShowsTakenBatch, EachPlaced, owed_in, members_in, writes_in}
+use Rattle.history_core.specs.Kept.{PartsStand, IsCoreReached, ShowsOpen, ShowsTakenBatch, HasRoom, AllPlaced, EachPlaced, owed_in, members_in, writes_in}
 use Rattle.history_core.specs.Steps.{CanDo, KeepsMeaning, Does}
 use Rattle.history_core.proofs.Stepping.{can-is}
-use Rattle.history_core.proofs.Shows.{to-cases, from-cases}
+use Rattle.history_core.proofs.Shows.{to-cases, from-cases, each-placed, placed-each}
 use Rattle.history_core.proofs.Lists.{map-agree, flat-agree, filter-in, map-last, drop-last, take-last, last-agree}
-use Rattle.history_core.proofs.Reached.{rests, waits-not, closes-not, closed-within}
+use Rattle.history_core.proofs.Reached.{rests, waits, waits-not, closes-not, closed-within}
 
 -- ---- what is kept of the writes
 

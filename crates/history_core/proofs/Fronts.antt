@@ -1,14 +1,16 @@
 -- What a batch that closes leaves, by the front of those that wait, is what the model leaves.
-use Rattle.std.proofs.Common.{◌≡◌, ℕ, zero, suc, ◌+◌, List, [], ◌∷◌, ◌++◌, Bool, true, false, ◌⊎◌, inl, inr, refl, sym, ap, ◌∙◌, arith, Option, length, take, drop, map, filter}
+use Rattle.std.proofs.Common.{◌≡◌, ℕ, zero, suc, ◌+◌, ◌<◌, ◌≤◌, List, [], ◌∷◌, ◌++◌, Bool, true, false, not, ◌⊎◌, inl, inr, refl, sym, ap, ◌∙◌, subst, arith, Option, Some, None, length, take, drop, map, filter}
 use Rattle.std.specs.Prelude.{if◌then◌else◌, flat_map}
 use Rattle.cell_model.specs.Units.{Member}
-use Rattle.core_model.specs.CoreState.{UnitNo, GrainId, Value, Write, Decision, CoreState, put}
+use Rattle.cell_model.proofs.Units.{cases_unit}
+use Rattle.core_model.specs.CoreState.{UnitNo, GrainId, Value, Write, Outcome, Entry, Decision, CoreState, put}
+use Rattle.core_model.specs.declared.effects.Effect.{Effect}
 use Rattle.core_model.specs.declared.phases.Verdict.{Verdict}
 use Rattle.core_model.specs.declared.phases.Verdict.TheVariants.{Open, Chosen, Condemned, Committed, Aborted}
-use Rattle.core_model.specs.Tests.{is_final, is_committed, state_written}
+use Rattle.core_model.specs.Tests.{is_final, is_committed, is_over, state_written}
 use Rattle.core_model.specs.Answers.{effect_of}
-use Rattle.core_model.specs.Changes.{entries_in, entry_for, told}
-use Rattle.core_laws.proofs.Puts.{put-at, put-is}
+use Rattle.core_model.specs.Changes.{entries_in, entry_for, told, seal, spoil, leave}
+use Rattle.core_laws.proofs.Puts.{put-at, put-is, put-other}
 use Rattle.history_core.specs.declared.closing.Closing.{Closing}
 use Rattle.history_core.specs.declared.closing.Closing.TheVariants as how
 use Rattle.history_core.specs.Closing.{state_after, last_among, grains_with, mapped}

@@ -1,9 +1,9 @@
 -- Lists of units: functions that agree on them, what is added at the end, and what is taken from the front.
-use Rattle.std.proofs.Common.{◌≡◌, ℕ, zero, suc, ◌+◌, ◌≤◌, List, [], ◌∷◌, ◌++◌, Bool, true, false, inl, inr, refl, ap, ◌∙◌, arith, Option, length, take, drop, map, filter}
+use Rattle.std.proofs.Common.{◌≡◌, ℕ, zero, suc, ◌+◌, ◌<◌, ◌≤◌, List, [], ◌∷◌, ◌++◌, Bool, true, false, inl, inr, refl, sym, ap, ◌∙◌, arith, Option, Some, None, length, take, drop, map, filter}
 use Rattle.std.specs.Prelude.{if◌then◌else◌, flat_map}
-use Rattle.core_model.specs.CoreState.{UnitNo, GrainId, Member, Value, Write}
+use Rattle.core_model.specs.CoreState.{UnitNo, GrainId, Member, Value, Write, put}
 use Rattle.core_model.specs.declared.phases.Verdict.{Verdict}
-use Rattle.core_model.specs.Tests.{is_committed, state_written}
+use Rattle.core_model.specs.Tests.{is_committed, is_final, state_written}
 use Rattle.history_core.specs.Closing.{last_among, state_after}
 
 -- functions that agree on a list map it alike

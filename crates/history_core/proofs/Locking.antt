@@ -1,10 +1,10 @@
 -- The state after a grant.
-use Rattle.std.proofs.Common.{◌≡◌, ℕ, List, [], ◌∷◌, ◌++◌, Bool, true, false, ◌&&◌, ◌||◌, not, nat_lt, refl, sym, ap, ◌∙◌, subst, Option, Some, None, find, map, filter, inl, inr}
+use Rattle.std.proofs.Common.{◌≡◌, ℕ, List, [], ◌∷◌, ◌++◌, Bool, true, false, ◌&&◌, ◌||◌, not, nat_lt, refl, sym, ap, ◌∙◌, subst, Option, Some, None, find, map, filter, inl, inr, ◌⊎◌}
 use Rattle.std.specs.Prelude.{if◌then◌else◌}
 use Rattle.std.proofs.lemmas.Bool.{cond-true, cond-false, and_parts}
 use Rattle.cell_model.specs.Units.{same_unit, nobody, Member, oldest}
 use Rattle.cell_model.specs.declared.locks.Ask.TheVariants.{Free}
-use Rattle.cell_model.specs.Stacks.{top, cut}
+use Rattle.cell_model.specs.Stacks.{top, cut, removed}
 use Rattle.cell_model.specs.Sources.{with_source}
 use Rattle.cell_model.specs.Locks as locks
 use Rattle.cell_model.specs.Locks.{holds_lock, is_hold_of}
@@ -12,13 +12,14 @@ use Rattle.cell_model.specs.Cells as cells
 use Rattle.cell_model.specs.Cells.{Cell, with_reading}
 use Rattle.cell_model.specs.declared.locks.Hold.{Hold}
 use Rattle.cell_model.proofs.Asking.{granted-member}
-use Rattle.cell_model.proofs.Units.{any-true, any-member, same_unit-true}
-use Rattle.core_model.specs.CoreState.{UnitNo, GrainId, Version, Mode, Units, CoreState, put, put_grain}
+use Rattle.cell_model.proofs.Units.{any-true, any-member, same_unit-true, same_unit-is}
+use Rattle.core_model.specs.CoreState.{UnitNo, GrainId, Version, Mode, Cells, Units, CoreState, put, put_grain}
 use Rattle.core_model.specs.declared.effects.Read.{Read}
 use Rattle.core_model.specs.declared.phases.Phase.TheVariants.{Running, Finished}
+use Rattle.core_model.specs.declared.effects.Effect.{Effect}
 use Rattle.core_model.specs.Tests.{is_running, is_aborted, is_committed, ask_answer, ask_doom, ask_lock, waiting, state_written}
 use Rattle.core_model.specs.Answers.{effect_of}
-use Rattle.core_model.specs.Changes.{after_raise, after_lock, restacked, cleaned, touched, read_of, is_sure, deps_with, without_want}
+use Rattle.core_model.specs.Changes.{after_grant, after_raise, after_lock, restacked, cleaned, touched, read_of, is_sure, deps_with, without_want}
 use Rattle.core_model.specs.Events.{applies, read_reply}
 use Rattle.core_model.specs.declared.events.CoreEvent.TheVariants.{Grant}
 use Rattle.core_model.specs.declared.events.CoreReply.TheVariants as reply
@@ -41,7 +42,7 @@ use Rattle.history_core.specs.Asked.{ask_in}
 use Rattle.core_model.specs.declared.questions.AskAnswer.TheVariants as answer
 use Rattle.history_core.proofs.Stepping.{can-is}
 use Rattle.history_core.proofs.Lists.{map-agree}
-use Rattle.history_core.proofs.Reached.{waits}
+use Rattle.history_core.proofs.Reached.{waits, waits-not}
 
 -- what the oldest aborted writer takes off is what all of them would
 left-cleans : (test : UnitNo → Bool) (stack : List Version) (aborted : Option UnitNo) → aborted ≡ find test (writers stack) → without_aborted aborted stack ≡ cut (meets test) stack

@@ -1,5 +1,5 @@
 -- Steps of loops over what was written and read.
-use Rattle.std.proofs.Common.{◌≡◌, ℕ, zero, suc, ◌+◌, ◌<◌, ◌≤◌, List, [], ◌∷◌, ◌++◌, Bool, true, false, ◌⊎◌, inl, inr, refl, sym, ap, ◌∙◌, subst, arith, Option, Some, None, length, drop, get_or, map, length-drop}
+use Rattle.std.proofs.Common.{◌≡◌, ℕ, zero, suc, ◌+◌, ◌<◌, ◌≤◌, List, [], ◌∷◌, ◌++◌, Bool, true, false, ◌&&◌, ◌⊎◌, inl, inr, refl, sym, ap, ◌∙◌, subst, arith, Option, Some, None, length, drop, get_or, map, length-drop}
 use Rattle.std.specs.Prelude.{if◌then◌else◌}
 use Rattle.std.proofs.lemmas.Bool.{cases_Bool}
 use Rattle.cell_model.proofs.Units.{cases_unit, cases_grain, same_grain-true, same_grain-is}
@@ -8,13 +8,14 @@ use Rattle.core_model.specs.CoreState.{UnitNo, GrainId, Value, Write, Decision, 
 use Rattle.core_model.specs.declared.effects.Effect.{Effect}
 use Rattle.history_core.specs.Fronts.{AreOver, PlacedAfter, writes_after}
 use Rattle.core_model.specs.Tests.{state_written}
-use Rattle.core_lists.specs.States.{last_in, handed_in, PutsHanded, PutsLast}
+use Rattle.core_lists.specs.States.{last_in, has_place, handed_in, PutsHanded, PutsLast, KeepsPlaces}
 use Rattle.core_lists.specs.declared.handed_states.HandedStates.{HandedStates}
 use Rattle.core_lists.specs.declared.last_states.LastStates.{LastStates}
 use Rattle.open_batch.specs.declared.members.FinishedUnit.{FinishedUnit}
 use Rattle.open_batch.specs.Members.{effect_in}
 use Rattle.history_core.specs.Closing.{ArePlaced, or_else}
 use Rattle.history_core.specs.Handing.{put_handed}
+use Rattle.history_core.specs.Kept.{AllPlaced}
 use Rattle.history_core.proofs.Finishes.{put-handed-is, put-handed-grain, put-handed-unit}
 
 -- the item at an index, and those behind it

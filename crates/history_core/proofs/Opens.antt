@@ -1,8 +1,8 @@
 -- What is kept before any event.
-use Rattle.std.proofs.Common.{◌≡◌, ℕ, ◌≤◌, ◌^◌, [], false, sym, ap, arith, None, map, take, subst}
+use Rattle.std.proofs.Common.{◌≡◌, ℕ, ◌≤◌, ◌^◌, List, [], ◌∷◌, Bool, true, false, refl, sym, ap, ◌∙◌, arith, Option, Some, None, length, map, take, subst}
 use Rattle.base_types.specs.declared.calls.Outcome.TheVariants.{Aborted as aborted}
 use Rattle.cell_model.specs.Cells.{Cell, opened}
-use Rattle.core_model.specs.CoreState.{UnitNo, GrainId, Outcome}
+use Rattle.core_model.specs.CoreState.{UnitNo, GrainId, Value, Outcome}
 use Rattle.core_model.specs.declared.phases.Verdict.{Verdict}
 use Rattle.core_model.specs.declared.phases.Verdict.TheVariants.{Open}
 use Rattle.core_model.specs.Events.{start, first_units}
@@ -10,9 +10,9 @@ use Rattle.core_lists.specs.States.{last_in, has_place}
 use Rattle.cell_table.specs.Table.{cell_in, opens_with}
 use Rattle.unit_table.specs.Table.{units_of, verdict_in, result_in}
 use Rattle.open_batch.specs.Members.{effect_in, sources_in}
-use Rattle.history_core.proofs.Shows.{from-cases}
+use Rattle.history_core.proofs.Shows.{to-cases, from-cases, each-placed, placed-each}
 use Rattle.history_core.specs.declared.parts.Parts.{Parts}
-use Rattle.history_core.specs.Kept.{PartsStand, cells_of, ShowsOpen, owed_in, writes_in, EachPlaced}
+use Rattle.history_core.specs.Kept.{PartsStand, cells_of, ShowsOpen, ShowsTakenBatch, owed_in, writes_in, AllPlaced, EachPlaced}
 
 pub stands-new : (p : Parts) (base kinds : ℕ) → units_of p.units (λ u. None) ≡ first_units base kinds → ◌≡◌ {A = UnitNo → Verdict} (verdict_in p.units) (λ u. Open) → ◌≡◌ {A = UnitNo → Outcome} (result_in p.units) (λ u. aborted) →
     cell_in p.cells ≡ (λ (g : GrainId). opened (opens_with p.cells g)) → p.waiting.items ≡ [] → p.batches ≡ 0 → p.batch ≡ None → p.doubt ≡ false → p.entries.entries ≡ [] → p.entries.emitted ≡ 0 → p.learn.pairs ≡ [] →

@@ -1,22 +1,25 @@
 -- What holds of each state that a core can be in.
-use Rattle.std.proofs.Common.{◌≡◌, ℕ, zero, suc, ◌+◌, ◌<◌, ◌≤◌, List, [], ◌∷◌, Bool, true, false, inr, refl, sym, ap, ◌∙◌, subst, arith, None, length, get_or, take, length-drop, get_or-drop, get_or-take}
-use Rattle.core_model.specs.CoreState.{UnitNo, nobody, Member, CoreState}
+use Rattle.std.proofs.Common.{◌≡◌, ℕ, zero, suc, ◌+◌, ◌<◌, ◌≤◌, List, [], ◌∷◌, Bool, true, false, ◌⊎◌, inl, inr, refl, sym, ap, ◌∙◌, subst, arith, Option, Some, None, length, get_or, take, drop, length-drop, get_or-drop, get_or-take}
+use Rattle.core_model.specs.CoreState.{UnitNo, GrainId, nobody, Member, Batch, CoreState}
 use Rattle.core_model.specs.declared.effects.Effect.{Effect}
+use Rattle.core_model.specs.declared.phases.Phase.{Phase}
 use Rattle.core_model.specs.declared.phases.Phase.TheVariants.{Running, Finished}
+use Rattle.core_model.specs.declared.phases.Verdict.{Verdict}
 use Rattle.core_model.specs.declared.phases.Verdict.TheVariants.{Open, Committed}
-use Rattle.core_model.specs.Tests.{waiting, is_final}
+use Rattle.core_model.specs.Tests.{waiting, members, is_final}
 use Rattle.core_model.specs.declared.events.CoreEvent.{CoreEvent}
 use Rattle.core_model.specs.declared.events.CoreEvent.TheVariants.{Bad, Begin, Grant, Refuse, Finish, EndPlain, EndSnapshot, Release, Take, Vote, Decide, Sealed, NotSealed, Doubt, Learn, Emitted, Halt, Want, Load}
 use Rattle.core_model.specs.Serial.{Plays, AllPlay}
-use Rattle.core_model.specs.Legal.{Run, IsLegal}
-use Rattle.core_model.specs.Consistent.{ClosedBatchesArePrefix}
+use Rattle.core_model.specs.Legal.{Run, IsLegal, ends}
+use Rattle.core_model.specs.Consistent.{IsConsistent, ClosedBatchesArePrefix}
 use Rattle.core_model.specs.Batches.{BatchesFollow}
 use Rattle.core_laws.proofs.Voted.{follows-ends}
 use Rattle.core_model.specs.Holders.{HoldersHaveRead}
 use Rattle.core_model.specs.Laws.{NoLockIsHeldUntilCommit}
 use Rattle.core_laws.proofs.Further.{no-lock-ends}
 use Rattle.core_model.specs.Loadless.{HoldsWithoutLoads}
-use Rattle.core_laws.proofs.Orders.{Member-at}
+use Rattle.core_laws.proofs.Orders.{Member-at, Member-take}
+use Rattle.core_laws.proofs.Loadless.{LoadlessAt}
 use Rattle.core_laws.proofs.LoadlessRuns.{Steady, steady-ends}
 use Rattle.core_laws.proofs.Relied.{holds-ends}
 use Rattle.core_laws.proofs.WithoutLimit.{loads-without-limit}

@@ -1,15 +1,16 @@
 -- The state after a lock was given back.
-use Rattle.std.proofs.Common.{◌≡◌, List, true, false, ◌&&◌, ◌||◌, not, ◌⊎◌, inl, inr, refl, sym, ap, ◌∙◌, subst, Option, Some, None, IsSome}
+use Rattle.std.proofs.Common.{◌≡◌, ℕ, List, [], ◌∷◌, Bool, true, false, ◌&&◌, ◌||◌, not, ◌⊎◌, inl, inr, refl, sym, ap, ◌∙◌, subst, Option, Some, None, IsSome}
 use Rattle.std.specs.List.{list_any as any}
 use Rattle.std.proofs.lemmas.Bool.{and_parts, and_from}
 use Rattle.base_types.specs.declared.calls.Mode.TheVariants as mode
+use Rattle.cell_model.specs.Units.{Member}
 use Rattle.cell_model.specs.Locks.{holds_lock, is_hold_of, is_update, covers, dropped}
 use Rattle.cell_model.specs.Cells as cells
 use Rattle.cell_model.specs.Cells.{Cell, stacked, without_reading}
 use Rattle.cell_model.specs.declared.locks.Hold.{Hold}
 use Rattle.cell_model.proofs.Asking.{dropped-member, dropped-none}
 use Rattle.cell_model.proofs.Units.{any-true, any-member, same_unit-true, same_unit-is, cases_unit, cases_grain}
-use Rattle.core_model.specs.CoreState.{UnitNo, GrainId, Value, CoreState, put_grain}
+use Rattle.core_model.specs.CoreState.{UnitNo, GrainId, Value, Write, Cells, Units, CoreState, put_grain}
 use Rattle.core_model.specs.declared.phases.Phase.{Phase}
 use Rattle.core_model.specs.declared.phases.Phase.TheVariants.{Unborn, Running, Finished, Refused, Ended}
 use Rattle.core_model.specs.Tests.{is_over, state_written}

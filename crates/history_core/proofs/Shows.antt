@@ -1,5 +1,5 @@
 -- What is kept of the open batch, case by case.
-use Rattle.std.proofs.Common.{◌≡◌, List, [], ◌∷◌, Bool, true, false, refl, ap, ◌∙◌, subst, Option, Some, None, take, inl, inr}
+use Rattle.std.proofs.Common.{◌≡◌, List, [], ◌∷◌, Bool, true, false, refl, sym, ap, ◌∙◌, subst, Option, Some, None, take, inl, inr}
 use Rattle.cell_model.specs.Units.{Member}
 use Rattle.core_model.specs.CoreState.{GrainId, Write, Batch}
 use Rattle.open_batch.specs.declared.members.FinishedUnit.{FinishedUnit}

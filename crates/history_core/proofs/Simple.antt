@@ -1,9 +1,9 @@
 -- Bad lines, halts, waits and written entries.
-use Rattle.std.proofs.Common.{◌≡◌, ℕ, ◌+◌, ◌<◌, ◌≤◌, ◌^◌, List, [], ◌∷◌, ◌++◌, refl, sym, ap, ◌∙◌, subst, arith, eqb-true, Option, length}
+use Rattle.std.proofs.Common.{◌≡◌, ℕ, ◌+◌, ◌<◌, ◌≤◌, ◌^◌, List, [], ◌∷◌, ◌++◌, Bool, true, false, refl, sym, ap, ◌∙◌, subst, arith, eqb-true, Option, Some, None, length}
 use Rattle.std.proofs.lemmas.Bool.{ltb-true}
 use Rattle.base_types.specs.declared.entries.BadRequest.{BadRequest}
 use Rattle.base_types.specs.declared.entries.Settled.TheVariants as settled
-use Rattle.core_model.specs.CoreState.{UnitNo, GrainId, nobody, Entry, Units}
+use Rattle.core_model.specs.CoreState.{UnitNo, GrainId, nobody, Entry, Units, CoreState}
 use Rattle.core_model.specs.declared.events.CoreEvent.TheVariants.{Bad, Emitted, Halt, Want}
 use Rattle.core_model.specs.declared.events.CoreReply.TheVariants as reply
 use Rattle.core_lists.specs.Room.{EntriesInRoom}
@@ -11,7 +11,7 @@ use Rattle.unit_table.specs.Parts.{units_bad_line, units_halted, units_wanting}
 use Rattle.unit_table.specs.Table.{units_of, verdict_in, result_in}
 use Rattle.unit_table.specs.declared.table.UnitTable.{UnitTable}
 use Rattle.history_core.specs.declared.parts.Parts.{Parts}
-use Rattle.history_core.specs.Kept.{owed_in}
+use Rattle.history_core.specs.Kept.{PartsStand, owed_in}
 use Rattle.history_core.specs.Steps.{CanDo, Does}
 use Rattle.history_core.proofs.Stepping.{can-is}
 

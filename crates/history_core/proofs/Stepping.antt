@@ -1,17 +1,17 @@
 -- A state after one event more.
 use Rattle.std.proofs.Common.{◌≡◌, ℕ, List, [], ◌∷◌, ◌++◌, Bool, true, false, ◌&&◌, ◌||◌, not, refl, sym, ap, ◌∙◌, subst, Option, Some, None, is_some, is_none}
-use Rattle.std.specs.Prelude.{◌<◌}
+use Rattle.std.specs.Prelude.{if◌then◌else◌, ◌<◌}
 use Rattle.std.proofs.lemmas.Bool.{cond-true, cond-false, and_parts}
 use Rattle.core_model.specs.CoreState.{CoreState, Cells}
 use Rattle.core_model.specs.Changes.{swept, swept_by}
-use Rattle.core_model.specs.Events.{applies, can, is_allowed, is_after_doubt, is_after_halt, reply_with, reply_without, does, step, run, start}
+use Rattle.core_model.specs.Events.{applies, can, is_allowed, is_after_doubt, is_after_halt, reply_to, reply_with, reply_without, does, step, run, start}
 use Rattle.core_model.specs.declared.events.CoreEvent.{CoreEvent}
 use Rattle.core_model.specs.declared.events.CoreReply.{CoreReply}
-use Rattle.core_model.specs.Legal.{ends}
+use Rattle.core_model.specs.Legal.{Run, ends}
 use Rattle.cell_table.specs.Table.{opens_with}
 use Rattle.history_core.specs.declared.parts.Parts.{Parts}
-use Rattle.history_core.specs.Kept.{PartsStand, IsCoreReached}
-use Rattle.history_core.specs.Steps.{Tells, Does, Takes, is_going}
+use Rattle.history_core.specs.Kept.{PartsStand, IsCoreReached, StandsForReached}
+use Rattle.history_core.specs.Steps.{KeepsMeaning, Tells, Does, Takes, is_going}
 use Rattle.history_core.specs.Histories.{run_with}
 
 pub run-last : (w : CoreState) (es : List CoreEvent) (e : CoreEvent) → run w (es ++ e ∷ []) ≡ step (run w es) e

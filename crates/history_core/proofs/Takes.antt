@@ -1,34 +1,36 @@
 -- The size of the next batch, and the state after it was taken.
-use Rattle.std.proofs.Common.{◌≡◌, ℕ, zero, suc, ◌+◌, ◌≤◌, List, [], ◌∷◌, Bool, true, false, not, refl, sym, ap, ◌∙◌, subst, arith, Option, Some, None, length, take, map, nat_lt, is_none}
+use Rattle.std.proofs.Common.{◌≡◌, ℕ, zero, suc, ◌+◌, ◌<◌, ◌≤◌, List, [], ◌∷◌, ◌++◌, Bool, true, false, ◌&&◌, not, inl, inr, refl, sym, ap, ◌∙◌, subst, arith, Option, Some, None, length, take, drop, map, nat_lt, is_none, Vec, Global}
 use Rattle.std.specs.Prelude.{if◌then◌else◌, slice_get}
 use Rattle.std.specs.List.{list_all as all}
 use Rattle.std.proofs.lemmas.Bool.{and_parts, lt-ltb}
 use Rattle.std.proofs.lemmas.List.{take-map}
 use Rattle.cell_model.specs.Locks.{holds_lock}
 use Rattle.core_model.specs.CoreState.{UnitNo, GrainId, Batch, CoreState}
+use Rattle.core_model.specs.declared.effects.Effect.{Effect}
 use Rattle.core_model.specs.declared.effects.Read.{Read}
 use Rattle.core_model.specs.declared.events.CoreEvent.TheVariants.{Take}
 use Rattle.core_model.specs.declared.events.CoreReply.TheVariants as reply
 use Rattle.core_model.specs.Tests.{is_free, free_prefix, waiting, is_bad}
 use Rattle.core_model.specs.Answers.{effect_of}
 use Rattle.core_model.specs.Changes.{new_batch}
-use Rattle.core_model.specs.Events.{batch_size, does, reply_with}
+use Rattle.core_model.specs.Events.{batch_size, applies, does, reply_with}
 use Rattle.core_laws.proofs.Decoded.{none-true}
 use Rattle.core_lists.specs.Room.{EntriesInRoom, PairsInRoom}
 use Rattle.core_lists.specs.States.{last_in, has_place}
 use Rattle.core_lists.specs.declared.last_states.LastStates.{LastStates}
+use Rattle.cell_table.specs.Table.{cell_in}
 use Rattle.unit_table.specs.Table.{verdict_in}
 use Rattle.open_batch.specs.declared.members.FinishedUnit.{FinishedUnit}
-use Rattle.open_batch.specs.Members.{effect_in}
+use Rattle.open_batch.specs.Members.{effect_in, sources_in}
 use Rattle.open_batch.specs.Taken.{TakenBatch, first_batch}
 use Rattle.open_batch.specs.Shown.{AreUnits, ShowsBatch}
 use Rattle.open_batch.proofs.Linked.{units-taken}
 use Rattle.open_batch.proofs.Stages.{shows-taken}
 use Rattle.history_core.specs.declared.parts.Parts.{Parts}
-use Rattle.history_core.specs.Kept.{PartsStand, ShowsOpen, AllPlaced, EachPlaced, owed_in, writes_in}
+use Rattle.history_core.specs.Kept.{PartsStand, IsCoreReached, ShowsOpen, ShowsTakenBatch, HasRoom, AllPlaced, EachPlaced, owed_in, members_in, writes_in}
 use Rattle.history_core.specs.Taking.{is_free_by, front_by}
-use Rattle.history_core.specs.Steps.{CanDo, KeepsMeaning}
-use Rattle.history_core.proofs.Shows.{to-cases, from-cases, each-placed}
+use Rattle.history_core.specs.Steps.{CanDo, KeepsMeaning, Does}
+use Rattle.history_core.proofs.Shows.{to-cases, from-cases, each-placed, placed-each}
 use Rattle.history_core.proofs.Stepping.{can-is}
 
 pub are-units : (p : Parts) (w : CoreState) → PartsStand p w → AreUnits p.waiting.items w (waiting w)

@@ -1,22 +1,25 @@
 -- When a vote applies, and the state after it.
-use Rattle.std.proofs.Common.{◌≡◌, ℕ, ◌≤◌, List, [], ◌∷◌, ◌++◌, Bool, true, ◌&&◌, not, refl, sym, ap, ◌∙◌, subst, Option, Some, None, take, is_none}
+use Rattle.std.proofs.Common.{◌≡◌, ℕ, ◌≤◌, List, [], ◌∷◌, ◌++◌, Bool, true, false, ◌&&◌, not, refl, sym, ap, ◌∙◌, subst, Option, Some, None, take, is_none}
 use Rattle.std.specs.Prelude.{◌==◌}
 use Rattle.std.specs.List.{list_any as any}
-use Rattle.core_model.specs.CoreState.{GrainId, Batch, CoreState}
+use Rattle.std.proofs.lemmas.Bool.{and_parts}
+use Rattle.cell_model.specs.Units.{same_grain}
+use Rattle.core_model.specs.CoreState.{UnitNo, GrainId, Batch, CoreState}
 use Rattle.core_model.specs.declared.events.CoreEvent.TheVariants.{Vote}
 use Rattle.core_model.specs.declared.events.CoreReply.TheVariants as reply
 use Rattle.core_model.specs.Tests.{is_planned, is_vote_on}
 use Rattle.core_model.specs.Changes.{on_batch, voted}
-use Rattle.core_model.specs.Events.{does, is_open}
+use Rattle.core_model.specs.Events.{can, does, is_open}
 use Rattle.open_batch.specs.declared.members.FinishedUnit.{FinishedUnit}
 use Rattle.core_lists.specs.States.{has_place}
 use Rattle.open_batch.specs.Taken.{TakenBatch, with_vote}
+use Rattle.open_batch.specs.Shown.{ShowsBatch}
 use Rattle.open_batch.proofs.Stages.{shows-vote, may_vote-link}
 use Rattle.history_core.specs.declared.parts.Parts.{Parts}
 use Rattle.history_core.specs.Batches.{may_vote_in}
-use Rattle.history_core.specs.Kept.{PartsStand, ShowsOpen, EachPlaced, owed_in, writes_in}
+use Rattle.history_core.specs.Kept.{PartsStand, IsCoreReached, ShowsOpen, ShowsTakenBatch, AllPlaced, EachPlaced, owed_in, writes_in}
 use Rattle.history_core.specs.Steps.{CanDo, Does}
-use Rattle.history_core.proofs.Shows.{to-cases, from-cases}
+use Rattle.history_core.proofs.Shows.{to-cases, from-cases, each-placed, placed-each}
 use Rattle.history_core.proofs.Stepping.{can-is}
 
 pub may-vote-is : (o : Option TakenBatch) (ms : List FinishedUnit) (b : Option Batch) (n : ℕ) (g : GrainId) → ShowsOpen o ms b →

@@ -1,5 +1,5 @@
 -- What an event does, by which event it is.
-use Rattle.std.proofs.Common.{◌≡◌, Bool, true, refl, sym, subst, Ok, Err, IfOk, IfErr, OnErr, Result}
+use Rattle.std.proofs.Common.{◌≡◌, Bool, true, refl, sym, ap, ◌∙◌, subst, Ok, Err, IfOk, IfErr, OnErr, Result}
 use Rattle.std.specs.declared.alloc.AllocError.{AllocError}
 use Rattle.core_model.specs.declared.events.CoreEvent.{CoreEvent}
 use Rattle.core_model.specs.declared.events.CoreReply.{CoreReply}

@@ -2,7 +2,6 @@
 use Rattle.std.proofs.Common.{◌≡◌, ℕ, ◌+◌, ◌<◌, ◌≤◌, zero, suc, List, [], ◌∷◌, ◌++◌, length, Bool, true, refl, sym, ap, ◌∙◌, subst, arith, Some}
 use Rattle.std.specs.Prelude.{if◌then◌else◌, take, slice_get, slice_set}
 use Rattle.std.specs.List.{AllByRecursion}
-use Rattle.base_types.specs.declared.calls.UnitNo.{UnitNo}
 use Rattle.core_model.specs.declared.events.CoreEvent.{CoreEvent}
 use Rattle.core_access.specs.Sights.{Sight, run_seen}
 use Rattle.script_tree.specs.Programs.{ProgramTree}

@@ -1,4 +1,4 @@
-use Rattle.std.proofs.Common.{◌≡◌, ◌∙◌, ◌++◌, ◌+◌, List, sym, ap, drop, map, length, arith, length-drop, None, suc}
+use Rattle.std.proofs.Common.{◌≡◌, ◌∙◌, ◌++◌, ◌∷◌, ◌+◌, ◌<◌, ◌≤◌, List, Bool, sym, ap, subst, refl, drop, map, length, arith, length-drop, None, Option, suc, get_or}
 use Rattle.core_model.specs.CoreState.{UnitNo, Decision, Entry, Units, put}
 use Rattle.core_model.specs.declared.phases.Verdict.{Verdict}
 use Rattle.cell_model.specs.declared.outcomes.Decision.TheVariants.{Commit}

@@ -1,5 +1,5 @@
 use Rattle.std.proofs.Common.{◌≡◌, ◌∙◌, ◌++◌, ◌∷◌, [], sym, ap, subst, List}
-use Rattle.core_model.specs.CoreState.{Write}
+use Rattle.core_model.specs.CoreState.{Write, GrainId}
 use Rattle.core_model.specs.Tests.{state_written}
 use Rattle.core_lists.specs.States.{last_in, has_place}
 use Rattle.history_core.specs.Closing.{ArePlaced, or_else}

@@ -1,7 +1,8 @@
-use Rattle.std.proofs.Common.{◌≡◌, ◌∙◌, ◌∷◌, ◌+◌, List, sym, ap, subst, drop, map, arith, None, get_or}
+use Rattle.std.proofs.Common.{◌≡◌, ◌∙◌, ◌∷◌, ◌+◌, ◌<◌, List, sym, ap, subst, drop, map, length, arith, None, Bool, get_or}
 use Rattle.core_model.specs.CoreState.{UnitNo, Decision, Units, put}
 use Rattle.cell_model.specs.declared.outcomes.Decision.TheVariants.{Commit}
 use Rattle.core_model.specs.Tests.{is_over}
+use Rattle.core_model.specs.declared.effects.Effect.{Effect}
 use Rattle.core_model.specs.Changes.{verdict_of}
 use Rattle.open_batch.specs.declared.members.FinishedUnit.{FinishedUnit}
 use Rattle.open_batch.specs.Members.{effect_in}

@@ -1,4 +1,4 @@
-use Rattle.std.proofs.Common.{◌∙◌, sym, ap, None, drop, ◌+◌}
+use Rattle.std.proofs.Common.{◌≡◌, ◌∙◌, sym, ap, None, drop, ◌+◌, ◌∷◌, List}
 use Rattle.core_model.specs.declared.effects.Read.{Read}
 use Rattle.core_lists.specs.States.{handed_in}
 use Rattle.history_core.specs.Handing.{cleared}

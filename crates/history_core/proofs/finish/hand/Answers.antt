@@ -1,4 +1,4 @@
-use Rattle.std.proofs.Common.{◌≡◌, ◌∙◌, sym, ap, Some, drop, ◌+◌, ◌-◌, ◌∷◌, arith}
+use Rattle.std.proofs.Common.{◌≡◌, ◌∙◌, sym, ap, Some, drop, ◌+◌, ◌-◌, ◌∷◌, List, arith}
 use Rattle.core_model.specs.CoreState.{Write}
 use Rattle.core_lists.specs.States.{handed_in}
 use Rattle.history_core.specs.Handing.{with_writes, put_handed}

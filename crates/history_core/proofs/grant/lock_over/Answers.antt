@@ -1,4 +1,4 @@
-use Rattle.std.proofs.Common.{◌∙◌, sym, ap, false, Option}
+use Rattle.std.proofs.Common.{◌≡◌, ◌∙◌, sym, ap, false, Option}
 use Rattle.base_types.specs.declared.calls.GrainId.{GrainId}
 use Rattle.base_types.specs.declared.calls.UnitNo.{UnitNo}
 use Rattle.cell_model.specs.Cells.{Cell, cell_granted, cell_learned}

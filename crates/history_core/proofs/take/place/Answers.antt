@@ -1,4 +1,4 @@
-use Rattle.std.proofs.Common.{◌∙◌, sym, subst}
+use Rattle.std.proofs.Common.{◌≡◌, ◌∙◌, sym, subst}
 use Rattle.core_model.specs.CoreState.{Write}
 use Rattle.core_lists.specs.States.{has_place}
 use Rattle.history_core.specs.Closing.{ArePlaced}

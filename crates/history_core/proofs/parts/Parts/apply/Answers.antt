@@ -1,5 +1,6 @@
-use Rattle.std.proofs.Common.{refl}
+use Rattle.std.proofs.Common.{refl, sym}
 use Rattle.core_model.specs.declared.events.CoreEvent.TheVariants.{Bad, Begin, Grant, Refuse, Finish, EndPlain, EndSnapshot, Release, Take, Vote, Decide, Sealed, NotSealed, Doubt, Learn, Emitted, Halt, Want}
+use Rattle.history_core.specs.declared.parts.Parts.{Parts}
 use Rattle.history_core.proofs.Ways.{can-that, does-that, does-back, refused-back, does-own, refused-own}
 use Rattle.history_core.proofs.parts.Parts.apply.Goals as goal
 

@@ -1,4 +1,4 @@
-use Rattle.std.proofs.Common.{◌≡◌, ◌∙◌, ap, take, map, List, length, arith}
+use Rattle.std.proofs.Common.{◌≡◌, ◌∙◌, ap, take, map, List, length, arith, length-take}
 use Rattle.open_batch.specs.Members.{effect_in}
 use Rattle.open_batch.specs.declared.members.FinishedUnit.{FinishedUnit}
 use Rattle.history_core.specs.Taking.{front_by}

@@ -1,4 +1,5 @@
-use Rattle.std.proofs.Common.{◌∙◌, sym, ap, refl, ◌&&◌}
+use Rattle.std.proofs.Common.{◌≡◌, ◌∙◌, sym, ap, refl, ◌&&◌}
+use Rattle.core_model.specs.Events.{applies}
 use Rattle.core_lists.specs.Pairs.{has_pair}
 use Rattle.history_core.proofs.Learns.{can-learn-is}
 use Rattle.core_model.specs.declared.events.CoreEvent.TheVariants.{Learn}

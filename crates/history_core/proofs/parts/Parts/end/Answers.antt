@@ -1,4 +1,4 @@
-use Rattle.std.proofs.Common.{◌∙◌, ap, arith}
+use Rattle.std.proofs.Common.{◌≡◌, ◌∙◌, ◌++◌, sym, ap, arith}
 use Rattle.core_model.specs.CoreState.{put}
 use Rattle.unit_table.specs.Table.{result_in}
 use Rattle.history_core.proofs.Endings.{stands-ended}

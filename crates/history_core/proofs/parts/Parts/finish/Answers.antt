@@ -1,4 +1,4 @@
-use Rattle.std.proofs.Common.{◌∙◌, ap, refl}
+use Rattle.std.proofs.Common.{◌≡◌, ◌∙◌, sym, ap, refl, true}
 use Rattle.core_model.specs.CoreState.{put}
 use Rattle.core_model.specs.Tests.{is_running}
 use Rattle.core_model.specs.declared.events.CoreEvent.TheVariants.{Finish}

@@ -1,4 +1,4 @@
-use Rattle.std.proofs.Common.{◌∙◌, ap}
+use Rattle.std.proofs.Common.{◌≡◌, ◌∙◌, sym, ap, refl}
 use Rattle.cell_model.specs.Cells.{cell_learned}
 use Rattle.core_model.specs.CoreState.{put_grain}
 use Rattle.core_model.specs.Tests.{is_committed}

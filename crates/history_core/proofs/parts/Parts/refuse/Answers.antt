@@ -1,5 +1,7 @@
-use Rattle.std.proofs.Common.{◌∙◌, sym, ap, arith}
-use Rattle.core_model.specs.Changes.{refusal}
+use Rattle.std.proofs.Common.{◌≡◌, ◌∙◌, ◌++◌, sym, ap, arith, List, Some}
+use Rattle.core_model.specs.CoreState.{Entry}
+use Rattle.core_model.specs.Changes.{refusal, entry_for}
+use Rattle.core_model.specs.Tests.{ask_answer}
 use Rattle.core_model.specs.declared.events.CoreEvent.TheVariants.{Refuse}
 use Rattle.core_model.specs.declared.events.CoreReply.TheVariants as reply
 use Rattle.history_core.specs.declared.parts.Parts.{Parts}

@@ -1,7 +1,9 @@
-use Rattle.std.proofs.Common.{◌∙◌, ap, subst, IsSome}
+use Rattle.std.proofs.Common.{◌≡◌, ◌∙◌, sym, ap, refl, subst, Option, IsSome}
 use Rattle.cell_model.specs.Cells.{cell_released}
-use Rattle.core_model.specs.CoreState.{put_grain}
+use Rattle.core_model.specs.CoreState.{put_grain, Value}
 use Rattle.cell_table.specs.Table.{cell_in}
+use Rattle.core_lists.specs.States.{handed_in}
+use Rattle.unit_table.specs.Table.{phase_in}
 use Rattle.history_core.specs.Releasing.{if_finished}
 use Rattle.history_core.proofs.Releases.{does-release, has-alone}
 use Rattle.history_core.proofs.parts.Parts.release.Goals as goal

@@ -1,4 +1,5 @@
-use Rattle.std.proofs.Common.{◌∙◌, sym}
+use Rattle.std.proofs.Common.{◌≡◌, ◌∙◌, sym, refl}
+use Rattle.core_model.specs.CoreState.{CoreState}
 use Rattle.history_core.proofs.Stepping.{takes-done, takes-not}
 use Rattle.history_core.proofs.Alike.{if-ok}
 use Rattle.history_core.proofs.parts.Parts.step.Goals as goal

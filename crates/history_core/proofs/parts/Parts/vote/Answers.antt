@@ -1,11 +1,12 @@
-use Rattle.std.proofs.Common.{◌≡◌, sym, subst, true, ◌&&◌, Some, is_none}
+use Rattle.std.proofs.Common.{◌≡◌, ◌∙◌, sym, ap, subst, true, ◌&&◌, Some, is_none}
 use Rattle.std.specs.Prelude.{◌==◌}
 use Rattle.std.specs.List.{list_any as any}
 use Rattle.std.proofs.lemmas.Bool.{and_parts}
 use Rattle.cell_model.specs.Units.{same_grain}
-use Rattle.open_batch.specs.Taken.{TakenBatch}
+use Rattle.open_batch.specs.Taken.{TakenBatch, with_vote}
 use Rattle.core_model.specs.declared.events.CoreEvent.TheVariants.{Vote}
 use Rattle.core_model.specs.declared.events.CoreReply.TheVariants as reply
+use Rattle.history_core.specs.declared.parts.Parts.{Parts}
 use Rattle.history_core.specs.Batches.{may_vote_in}
 use Rattle.history_core.specs.Steps.{Does}
 use Rattle.history_core.proofs.Votes.{may-vote, stands-voted}
