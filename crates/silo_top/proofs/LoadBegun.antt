@@ -1,8 +1,8 @@
 -- What a load begins with: a silo of the bank program with an empty log.
-use Rattle.std.proofs.Common.{◌≡◌, List, [], Ok, refl, sym, ap, ◌∙◌, subst, lit≤, unwrap_or}
+use Rattle.std.proofs.Common.{◌≡◌, [], Ok, sym, ap, ◌∙◌, subst, lit≤, unwrap_or}
 use Rattle.base_types.specs.Stores.{state_in}
 use Rattle.base_types.specs.declared.calls.GrainId.{GrainId}
-use Rattle.host_trait.specs.World.{World, Image, IsImage}
+use Rattle.host_trait.specs.World.{World, Image}
 use Rattle.log_reading.specs.Steps.{seen_in}
 use Rattle.program_file.specs.Programs.{program_in}
 use Rattle.script_tree.specs.Programs.{ProgramTree, program_tree}
