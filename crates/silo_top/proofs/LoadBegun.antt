@@ -41,7 +41,9 @@ module _ (types : ProgramTree) (reads : program_in bank_text ≡ Ok types) where
 
   -- what was opened is it
   pub opened_same : (x : Opened) (seen : Image) → IsNewSilo magic bank_text seen → (is : IsOpenedFrom seen x) → (program_of is ≡ bank_of types) × (is.log ≡ [])
-  opened_same x seen new is = (reads_is x.slot 0 (program_of is) (bank_of types) is.log [] (sym is.reads ∙ reads_new seen new)).1
+  opened_same x seen new is =
+      let same = reads_is x.slot 0 (program_of is) (bank_of types) is.log [] (sym is.reads ∙ reads_new seen new) in
+      (same.1, same.2)
 
 -- ---- with the program that was accepted
 
