@@ -1,5 +1,6 @@
 pub mod Lists
 pub mod Slots
+pub mod Batched
 pub mod OneLog
 pub mod EntryLines
 pub mod PlainNames
@@ -9,6 +10,7 @@ pub mod Openings
 pub mod Doubts
 pub mod Words
 pub mod Standings
+pub mod Prefixes
 pub mod Opened
 pub mod CountedSyncs
 pub mod WholeFolders
